@@ -1,0 +1,13 @@
+pub mod Reading
+pub mod Numbers
+pub mod Places
+pub mod Patterns
+pub mod Parts
+pub mod Kinds
+pub mod Terminals
+pub mod Graph
+pub mod Environment
+pub mod Document
+pub mod Showing
+pub mod ShownParts
+pub mod ShownKinds

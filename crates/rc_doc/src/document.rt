@@ -1,0 +1,58 @@
+//! The whole document, and what is read from a value without one.
+
+ghost use Rattle.std.specs.Prelude.{◌≡◌, IfOk};
+ghost use Rattle.serde_json.specs.View.{view};
+ghost use Rattle.rc_doc.specs.Document.{doc_of};
+ghost use Rattle.rc_doc.specs.Kinds.{instruction_value_of};
+ghost use Rattle.rc_doc.specs.Reading.{Gives};
+
+use crate::fields::{Read, required};
+use crate::known::known_names;
+use crate::refusal::Refusal;
+use rc_hir::{Environment, HirFunction, InstructionValue};
+use serde_json::Value;
+use std::alloc::{AllocError, Global};
+
+/// A function, and the environment whose tables its numbers name.
+#[derive(Drop)]
+pub struct Doc {
+    pub hir: HirFunction,
+    pub env: Environment,
+}
+
+impl Read for Doc {
+    ghost reads = { doc_of };
+
+    #[tactic(auto, unfolding(crate::specs::Document::doc_of))]
+    fn read(alloc: Global, value: &Value) -> Result<Doc, Refusal> {
+        known_names(value, &["env", "hir"])?;
+        let hir = required(alloc, value, "hir")?;
+        let env = required(alloc, value, "env")?;
+        Ok(Doc { hir, env })
+    }
+}
+
+/// The document that a value is; none where it isn't one. The only error is want of memory.
+pub fn read_doc(alloc: Global, value: &Value) -> Result<Option<Doc>, AllocError>
+    ensures { IfOk result (λ found. found ≡ doc_of (view value.now)) }
+{
+    match Doc::read(alloc, value) {
+        Ok(doc) => Ok(Some(doc)),
+        Err(Refusal::NotDoc) => Ok(None),
+        Err(Refusal::Memory) => Err(AllocError),
+    }
+}
+
+/// The instruction value that a value is; none where it isn't one. The only error is want of memory.
+pub fn read_instruction_value(
+    alloc: Global,
+    value: &Value,
+) -> Result<Option<InstructionValue>, AllocError>
+    ensures { IfOk result (λ found. found ≡ instruction_value_of (view value.now)) }
+{
+    match InstructionValue::read(alloc, value) {
+        Ok(read) => Ok(Some(read)),
+        Err(Refusal::NotDoc) => Ok(None),
+        Err(Refusal::Memory) => Err(AllocError),
+    }
+}

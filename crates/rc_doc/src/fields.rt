@@ -1,0 +1,181 @@
+//! How a value is read in parts: `Read` for what stands alone, and a function for each way a field may stand in an
+//! object. `specs/Reading.antt` has the same words.
+
+ghost use Rattle.std.specs.Prelude.{◌≡◌, Option, option_map};
+ghost use Rattle.serde_json.specs.Data.{Data};
+ghost use Rattle.serde_json.specs.View.{view, items_view};
+ghost use Rattle.rc_doc.specs.Reading.{Gives, all_items, array_len, field, flag_field, flag_of, item_at, list_field, list_of, number_of, option_field, table_field, table_of, tag_of, text_of};
+
+use crate::refusal::Refusal;
+use rc_names::{List, Name, Table, Text};
+use serde_json::Value;
+use std::alloc::Global;
+
+/// A type that a document is made of.
+pub(crate) trait Read: Sized {
+    /// What a value is read as.
+    ghost reads: { Data → Option Self };
+
+    /// Reads the value. The refusals are want of memory, and that the value isn't of this type.
+    fn read(alloc: Global, value: &Value) -> Result<Self, Refusal>
+        ensures { Gives result (reads (view value.now)) };
+}
+
+/// What was found; the refusal where nothing was.
+pub(crate) fn or_refuse<T>(found: Option<T>) -> Result<T, Refusal>
+    ensures { Gives result found }
+{
+    found.ok_or(Refusal::NotDoc)
+}
+
+/// A whole number below 2^32.
+pub(crate) fn number(value: &Value) -> Option<u32>
+    ensures { result ≡ number_of (view value.now) }
+{
+    u32::try_from(value.as_u64()?).ok()
+}
+
+impl Read for u32 {
+    ghost reads = { number_of };
+
+    fn read(_alloc: Global, value: &Value) -> Result<u32, Refusal> {
+        or_refuse(number(value))
+    }
+}
+
+impl Read for bool {
+    ghost reads = { flag_of };
+
+    fn read(_alloc: Global, value: &Value) -> Result<bool, Refusal> {
+        or_refuse(value.as_bool())
+    }
+}
+
+impl Read for Text {
+    ghost reads = { text_of };
+
+    fn read(alloc: Global, value: &Value) -> Result<Text, Refusal> {
+        let text = or_refuse(value.as_str())?;
+        Ok(Text::from_str(alloc, text)?)
+    }
+}
+
+impl<T: Read + Drop> Read for List<T> {
+    ghost reads = { list_of T.reads };
+
+    fn read(alloc: Global, value: &Value) -> Result<List<T>, Refusal> {
+        let items = or_refuse(value.as_array())?;
+        list_of_items(alloc, items.as_slice())
+    }
+}
+
+fn list_of_items<T: Read + Drop>(alloc: Global, values: &[Value]) -> Result<List<T>, Refusal>
+    ensures { Gives result (all_items T.reads (items_view values.now)) }
+{
+    let mut items = List::new(alloc);
+    for value in values {
+        items.push(T::read(alloc, value)?)?;
+    }
+    Ok(items)
+}
+
+impl<I: Name, T: Read + Drop> Read for Table<I, T> {
+    ghost reads = { table_of T.reads };
+
+    fn read(alloc: Global, value: &Value) -> Result<Table<I, T>, Refusal> {
+        if array_len(value) >= 1 << 32 {
+            return Err(Refusal::NotDoc);
+        }
+        Ok(Table::from_list(List::read(alloc, value)?))
+    }
+}
+
+/// How many items an array has; anything else has none.
+pub(crate) fn array_len(value: &Value) -> usize
+    ensures { result ≡ array_len (view value.now) }
+{
+    match value.as_array() {
+        Some(items) => items.len(),
+        None => 0,
+    }
+}
+
+/// The item at a place, which must be there.
+pub(crate) fn item<T: Read>(alloc: Global, value: &Value, at: usize) -> Result<T, Refusal>
+    ensures { Gives result (item_at T.reads at (view value.now)) }
+{
+    match value.get(at) {
+        Some(found) => T::read(alloc, found),
+        None => Err(Refusal::NotDoc),
+    }
+}
+
+/// The name of an enum's variant that has fields.
+pub(crate) fn tag(value: &Value) -> Option<&str>
+    ensures { option_map (λ name. name.now) result ≡ tag_of (view value.now) }
+{
+    value.get("k").and_then(Value::as_str)
+}
+
+/// A field that must be there.
+pub(crate) fn required<T: Read>(alloc: Global, value: &Value, name: &str) -> Result<T, Refusal>
+    ensures { Gives result (field T.reads name.now (view value.now)) }
+{
+    match value.get(name) {
+        Some(found) => T::read(alloc, found),
+        None => Err(Refusal::NotDoc),
+    }
+}
+
+/// A field that is none where it is left out or null.
+pub(crate) fn optional<T: Read>(
+    alloc: Global,
+    value: &Value,
+    name: &str,
+) -> Result<Option<T>, Refusal>
+    ensures { Gives result (option_field T.reads name.now (view value.now)) }
+{
+    match value.get(name) {
+        Some(found) if found.is_null() => Ok(None),
+        Some(found) => Ok(Some(T::read(alloc, found)?)),
+        None => Ok(None),
+    }
+}
+
+/// A list that is empty where it is left out.
+pub(crate) fn list_or_empty<T: Read + Drop>(
+    alloc: Global,
+    value: &Value,
+    name: &str,
+) -> Result<List<T>, Refusal>
+    ensures { Gives result (list_field T.reads name.now (view value.now)) }
+{
+    match value.get(name) {
+        Some(found) => List::read(alloc, found),
+        None => Ok(List::new(alloc)),
+    }
+}
+
+/// A table that is empty where it is left out.
+pub(crate) fn table_or_empty<I: Name, T: Read + Drop>(
+    alloc: Global,
+    value: &Value,
+    name: &str,
+) -> Result<Table<I, T>, Refusal>
+    ensures { Gives result (table_field T.reads name.now (view value.now)) }
+{
+    match value.get(name) {
+        Some(found) => Table::read(alloc, found),
+        None => Ok(Table::new(alloc)),
+    }
+}
+
+/// A flag that is false where it is left out.
+pub(crate) fn flag(value: &Value, name: &str) -> Result<bool, Refusal>
+    ensures { Gives result (flag_field name.now (view value.now)) }
+{
+    match value.get(name) {
+        Some(found) => or_refuse(found.as_bool()),
+        None => Ok(false),
+    }
+}

@@ -1,0 +1,14 @@
+//! The document: a function and its environment, read from JSON exactly and printed exactly.
+#![tactic(auto)]
+
+mod document;
+mod fields;
+mod known;
+mod read;
+mod refusal;
+mod show;
+
+pub use document::{Doc, read_doc, read_instruction_value};
+pub use read::place::read_place;
+pub use show::instruction::value_json;
+pub use show::place::place_json;

@@ -1,0 +1,139 @@
+//! Readers of functions and their graphs.
+
+ghost use Rattle.std.specs.Prelude.{◌≡◌, option_and_then};
+ghost use Rattle.serde_json.specs.View.{view, items_view};
+ghost use Rattle.rc_doc.specs.Graph.{block_of, blocks_of, function_of, hir_of, if_distinct, instruction_of, keyed_block_of};
+ghost use Rattle.rc_doc.specs.Reading.{Gives, all_items};
+
+use crate::fields::{Read, flag, list_or_empty, optional, or_refuse, required};
+use crate::known::known_names;
+use crate::refusal::Refusal;
+use rc_hir::{BasicBlock, Hir, HirFunction, Instruction};
+use rc_names::{BlockId, Keyed};
+use serde_json::Value;
+use std::alloc::Global;
+
+impl Read for Instruction {
+    ghost reads = { instruction_of };
+
+    #[tactic(auto, unfolding(crate::specs::Graph::instruction_of))]
+    fn read(alloc: Global, from: &Value) -> Result<Instruction, Refusal> {
+        known_names(from, &["id", "lvalue", "span", "value"])?;
+        let id = required(alloc, from, "id")?;
+        let lvalue = required(alloc, from, "lvalue")?;
+        let value = required(alloc, from, "value")?;
+        let span = optional(alloc, from, "span")?;
+        Ok(Instruction {
+            id,
+            lvalue,
+            value,
+            span,
+        })
+    }
+}
+
+impl Read for BasicBlock {
+    ghost reads = { block_of };
+
+    #[tactic(auto, unfolding(crate::specs::Graph::block_of))]
+    fn read(alloc: Global, from: &Value) -> Result<BasicBlock, Refusal> {
+        known_names(from, &["id", "instructions", "key", "terminal"])?;
+        let id = required(alloc, from, "id")?;
+        let instructions = list_or_empty(alloc, from, "instructions")?;
+        let terminal = required(alloc, from, "terminal")?;
+        Ok(BasicBlock {
+            id,
+            instructions,
+            terminal,
+        })
+    }
+}
+
+#[tactic(auto, unfolding(crate::specs::Graph::keyed_block_of))]
+fn keyed_block(alloc: Global, from: &Value) -> Result<(BlockId, BasicBlock), Refusal>
+    ensures { Gives result (keyed_block_of (view from.now)) }
+{
+    let block = BasicBlock::read(alloc, from)?;
+    let key: Option<BlockId> = optional(alloc, from, "key")?;
+    Ok((key.unwrap_or(block.id), block))
+}
+
+fn distinct_blocks(alloc: Global, values: &[Value]) -> Result<Keyed<BlockId, BasicBlock>, Refusal>
+    ensures { Gives result (option_and_then if_distinct (all_items keyed_block_of (items_view values.now))) }
+{
+    let mut blocks = Keyed::new(alloc);
+    for value in values {
+        let (key, block) = keyed_block(alloc, value)?;
+        if blocks.insert(key, block)?.is_some() {
+            return Err(Refusal::NotDoc);
+        }
+    }
+    Ok(blocks)
+}
+
+impl Read for Keyed<BlockId, BasicBlock> {
+    ghost reads = { blocks_of };
+
+    #[tactic(auto, unfolding(crate::specs::Graph::blocks_of))]
+    fn read(alloc: Global, from: &Value) -> Result<Keyed<BlockId, BasicBlock>, Refusal> {
+        let values = or_refuse(from.as_array())?;
+        distinct_blocks(alloc, values.as_slice())
+    }
+}
+
+impl Read for Hir {
+    ghost reads = { hir_of };
+
+    #[tactic(auto, unfolding(crate::specs::Graph::hir_of))]
+    fn read(alloc: Global, from: &Value) -> Result<Hir, Refusal> {
+        known_names(from, &["blocks", "entry"])?;
+        let entry = required(alloc, from, "entry")?;
+        let blocks = required(alloc, from, "blocks")?;
+        Ok(Hir { entry, blocks })
+    }
+}
+
+impl Read for HirFunction {
+    ghost reads = { function_of };
+
+    #[tactic(auto, unfolding(crate::specs::Graph::function_of))]
+    fn read(alloc: Global, from: &Value) -> Result<HirFunction, Refusal> {
+        known_names(
+            from,
+            &[
+                "body",
+                "context",
+                "directives",
+                "generator",
+                "id",
+                "instructions",
+                "is_async",
+                "name_hint",
+                "params",
+                "span",
+            ],
+        )?;
+        let span = optional(alloc, from, "span")?;
+        let id = optional(alloc, from, "id")?;
+        let name_hint = optional(alloc, from, "name_hint")?;
+        let params = list_or_empty(alloc, from, "params")?;
+        let generator = flag(from, "generator")?;
+        let is_async = flag(from, "is_async")?;
+        let context = list_or_empty(alloc, from, "context")?;
+        let body = required(alloc, from, "body")?;
+        let instructions = list_or_empty(alloc, from, "instructions")?;
+        let directives = list_or_empty(alloc, from, "directives")?;
+        Ok(HirFunction {
+            span,
+            id,
+            name_hint,
+            params,
+            generator,
+            is_async,
+            context,
+            body,
+            instructions,
+            directives,
+        })
+    }
+}

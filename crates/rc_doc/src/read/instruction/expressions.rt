@@ -1,0 +1,183 @@
+//! Readers of the kinds that compute a value from texts and operands.
+
+ghost use Rattle.serde_json.specs.View.{view};
+ghost use Rattle.rc_doc.specs.Kinds.Expressions.{await_of, binary_expression_of, get_iterator_of, iterator_next_of, jsx_text_of, meta_property_of, next_property_of_of, primitive_of, regexp_literal_of, tagged_template_expression_of, template_literal_of, type_cast_expression_of, unary_expression_of};
+ghost use Rattle.rc_doc.specs.Reading.{Gives};
+
+use crate::fields::{list_or_empty, optional, required};
+use crate::known::known_names;
+use crate::refusal::Refusal;
+use rc_hir::InstructionValue;
+use serde_json::Value;
+use std::alloc::Global;
+
+#[tactic(auto, unfolding(crate::specs::Kinds::Expressions::primitive_of))]
+pub(super) fn primitive(alloc: Global, from: &Value) -> Result<InstructionValue, Refusal>
+    ensures { Gives result (primitive_of (view from.now)) }
+{
+    known_names(from, &["k", "span", "value"])?;
+    let value = required(alloc, from, "value")?;
+    let span = optional(alloc, from, "span")?;
+    Ok(InstructionValue::Primitive { value, span })
+}
+
+#[tactic(auto, unfolding(crate::specs::Kinds::Expressions::jsx_text_of))]
+pub(super) fn jsx_text(alloc: Global, from: &Value) -> Result<InstructionValue, Refusal>
+    ensures { Gives result (jsx_text_of (view from.now)) }
+{
+    known_names(from, &["k", "span", "value"])?;
+    let value = required(alloc, from, "value")?;
+    let span = optional(alloc, from, "span")?;
+    Ok(InstructionValue::JSXText { value, span })
+}
+
+#[tactic(auto, unfolding(crate::specs::Kinds::Expressions::binary_expression_of))]
+pub(super) fn binary_expression(alloc: Global, from: &Value) -> Result<InstructionValue, Refusal>
+    ensures { Gives result (binary_expression_of (view from.now)) }
+{
+    known_names(from, &["k", "left", "operator", "right", "span"])?;
+    let operator = required(alloc, from, "operator")?;
+    let left = required(alloc, from, "left")?;
+    let right = required(alloc, from, "right")?;
+    let span = optional(alloc, from, "span")?;
+    Ok(InstructionValue::BinaryExpression {
+        operator,
+        left,
+        right,
+        span,
+    })
+}
+
+#[tactic(auto, unfolding(crate::specs::Kinds::Expressions::unary_expression_of))]
+pub(super) fn unary_expression(alloc: Global, from: &Value) -> Result<InstructionValue, Refusal>
+    ensures { Gives result (unary_expression_of (view from.now)) }
+{
+    known_names(from, &["k", "operator", "span", "value"])?;
+    let operator = required(alloc, from, "operator")?;
+    let value = required(alloc, from, "value")?;
+    let span = optional(alloc, from, "span")?;
+    Ok(InstructionValue::UnaryExpression {
+        operator,
+        value,
+        span,
+    })
+}
+
+#[tactic(auto, unfolding(crate::specs::Kinds::Expressions::type_cast_expression_of))]
+pub(super) fn type_cast_expression(alloc: Global, from: &Value) -> Result<InstructionValue, Refusal>
+    ensures { Gives result (type_cast_expression_of (view from.now)) }
+{
+    known_names(from, &["annotation", "k", "span", "value"])?;
+    let value = required(alloc, from, "value")?;
+    let annotation = required(alloc, from, "annotation")?;
+    let span = optional(alloc, from, "span")?;
+    Ok(InstructionValue::TypeCastExpression {
+        value,
+        annotation,
+        span,
+    })
+}
+
+#[tactic(auto, unfolding(crate::specs::Kinds::Expressions::await_of))]
+pub(super) fn await_value(alloc: Global, from: &Value) -> Result<InstructionValue, Refusal>
+    ensures { Gives result (await_of (view from.now)) }
+{
+    known_names(from, &["k", "span", "value"])?;
+    let value = required(alloc, from, "value")?;
+    let span = optional(alloc, from, "span")?;
+    Ok(InstructionValue::Await { value, span })
+}
+
+#[tactic(auto, unfolding(crate::specs::Kinds::Expressions::regexp_literal_of))]
+pub(super) fn regexp_literal(alloc: Global, from: &Value) -> Result<InstructionValue, Refusal>
+    ensures { Gives result (regexp_literal_of (view from.now)) }
+{
+    known_names(from, &["flags", "k", "pattern", "span"])?;
+    let pattern = required(alloc, from, "pattern")?;
+    let flags = required(alloc, from, "flags")?;
+    let span = optional(alloc, from, "span")?;
+    Ok(InstructionValue::RegExpLiteral {
+        pattern,
+        flags,
+        span,
+    })
+}
+
+#[tactic(auto, unfolding(crate::specs::Kinds::Expressions::meta_property_of))]
+pub(super) fn meta_property(alloc: Global, from: &Value) -> Result<InstructionValue, Refusal>
+    ensures { Gives result (meta_property_of (view from.now)) }
+{
+    known_names(from, &["k", "meta", "property", "span"])?;
+    let meta = required(alloc, from, "meta")?;
+    let property = required(alloc, from, "property")?;
+    let span = optional(alloc, from, "span")?;
+    Ok(InstructionValue::MetaProperty {
+        meta,
+        property,
+        span,
+    })
+}
+
+#[tactic(auto, unfolding(crate::specs::Kinds::Expressions::tagged_template_expression_of))]
+pub(super) fn tagged_template_expression(
+    alloc: Global,
+    from: &Value,
+) -> Result<InstructionValue, Refusal>
+    ensures { Gives result (tagged_template_expression_of (view from.now)) }
+{
+    known_names(from, &["k", "quasi", "span", "tag"])?;
+    let tag = required(alloc, from, "tag")?;
+    let quasi = required(alloc, from, "quasi")?;
+    let span = optional(alloc, from, "span")?;
+    Ok(InstructionValue::TaggedTemplateExpression { tag, quasi, span })
+}
+
+#[tactic(auto, unfolding(crate::specs::Kinds::Expressions::template_literal_of))]
+pub(super) fn template_literal(alloc: Global, from: &Value) -> Result<InstructionValue, Refusal>
+    ensures { Gives result (template_literal_of (view from.now)) }
+{
+    known_names(from, &["k", "quasis", "span", "subexprs"])?;
+    let subexprs = list_or_empty(alloc, from, "subexprs")?;
+    let quasis = list_or_empty(alloc, from, "quasis")?;
+    let span = optional(alloc, from, "span")?;
+    Ok(InstructionValue::TemplateLiteral {
+        subexprs,
+        quasis,
+        span,
+    })
+}
+
+#[tactic(auto, unfolding(crate::specs::Kinds::Expressions::get_iterator_of))]
+pub(super) fn get_iterator(alloc: Global, from: &Value) -> Result<InstructionValue, Refusal>
+    ensures { Gives result (get_iterator_of (view from.now)) }
+{
+    known_names(from, &["collection", "k", "span"])?;
+    let collection = required(alloc, from, "collection")?;
+    let span = optional(alloc, from, "span")?;
+    Ok(InstructionValue::GetIterator { collection, span })
+}
+
+#[tactic(auto, unfolding(crate::specs::Kinds::Expressions::iterator_next_of))]
+pub(super) fn iterator_next(alloc: Global, from: &Value) -> Result<InstructionValue, Refusal>
+    ensures { Gives result (iterator_next_of (view from.now)) }
+{
+    known_names(from, &["collection", "iterator", "k", "span"])?;
+    let iterator = required(alloc, from, "iterator")?;
+    let collection = required(alloc, from, "collection")?;
+    let span = optional(alloc, from, "span")?;
+    Ok(InstructionValue::IteratorNext {
+        iterator,
+        collection,
+        span,
+    })
+}
+
+#[tactic(auto, unfolding(crate::specs::Kinds::Expressions::next_property_of_of))]
+pub(super) fn next_property_of(alloc: Global, from: &Value) -> Result<InstructionValue, Refusal>
+    ensures { Gives result (next_property_of_of (view from.now)) }
+{
+    known_names(from, &["k", "span", "value"])?;
+    let value = required(alloc, from, "value")?;
+    let span = optional(alloc, from, "span")?;
+    Ok(InstructionValue::NextPropertyOf { value, span })
+}

@@ -1,0 +1,153 @@
+//! Readers of the kinds that make objects, arrays and JSX, and that reach into them.
+
+ghost use Rattle.serde_json.specs.View.{view};
+ghost use Rattle.rc_doc.specs.Kinds.Objects.{array_expression_of, computed_delete_of, computed_load_of, computed_store_of, jsx_expression_of, jsx_fragment_of, object_expression_of, property_delete_of, property_load_of, property_store_of};
+ghost use Rattle.rc_doc.specs.Reading.{Gives};
+
+use crate::fields::{list_or_empty, optional, required};
+use crate::known::known_names;
+use crate::refusal::Refusal;
+use rc_hir::InstructionValue;
+use serde_json::Value;
+use std::alloc::Global;
+
+#[tactic(auto, unfolding(crate::specs::Kinds::Objects::object_expression_of))]
+pub(super) fn object_expression(alloc: Global, from: &Value) -> Result<InstructionValue, Refusal>
+    ensures { Gives result (object_expression_of (view from.now)) }
+{
+    known_names(from, &["k", "properties", "span"])?;
+    let properties = list_or_empty(alloc, from, "properties")?;
+    let span = optional(alloc, from, "span")?;
+    Ok(InstructionValue::ObjectExpression { properties, span })
+}
+
+#[tactic(auto, unfolding(crate::specs::Kinds::Objects::array_expression_of))]
+pub(super) fn array_expression(alloc: Global, from: &Value) -> Result<InstructionValue, Refusal>
+    ensures { Gives result (array_expression_of (view from.now)) }
+{
+    known_names(from, &["elements", "k", "span"])?;
+    let elements = list_or_empty(alloc, from, "elements")?;
+    let span = optional(alloc, from, "span")?;
+    Ok(InstructionValue::ArrayExpression { elements, span })
+}
+
+#[tactic(auto, unfolding(crate::specs::Kinds::Objects::jsx_expression_of))]
+pub(super) fn jsx_expression(alloc: Global, from: &Value) -> Result<InstructionValue, Refusal>
+    ensures { Gives result (jsx_expression_of (view from.now)) }
+{
+    known_names(from, &["children", "k", "props", "span", "tag"])?;
+    let tag = required(alloc, from, "tag")?;
+    let props = list_or_empty(alloc, from, "props")?;
+    let children = optional(alloc, from, "children")?;
+    let span = optional(alloc, from, "span")?;
+    Ok(InstructionValue::JsxExpression {
+        tag,
+        props,
+        children,
+        span,
+    })
+}
+
+#[tactic(auto, unfolding(crate::specs::Kinds::Objects::jsx_fragment_of))]
+pub(super) fn jsx_fragment(alloc: Global, from: &Value) -> Result<InstructionValue, Refusal>
+    ensures { Gives result (jsx_fragment_of (view from.now)) }
+{
+    known_names(from, &["children", "k", "span"])?;
+    let children = list_or_empty(alloc, from, "children")?;
+    let span = optional(alloc, from, "span")?;
+    Ok(InstructionValue::JsxFragment { children, span })
+}
+
+#[tactic(auto, unfolding(crate::specs::Kinds::Objects::property_load_of))]
+pub(super) fn property_load(alloc: Global, from: &Value) -> Result<InstructionValue, Refusal>
+    ensures { Gives result (property_load_of (view from.now)) }
+{
+    known_names(from, &["k", "object", "property", "span"])?;
+    let object = required(alloc, from, "object")?;
+    let property = required(alloc, from, "property")?;
+    let span = optional(alloc, from, "span")?;
+    Ok(InstructionValue::PropertyLoad {
+        object,
+        property,
+        span,
+    })
+}
+
+#[tactic(auto, unfolding(crate::specs::Kinds::Objects::property_delete_of))]
+pub(super) fn property_delete(alloc: Global, from: &Value) -> Result<InstructionValue, Refusal>
+    ensures { Gives result (property_delete_of (view from.now)) }
+{
+    known_names(from, &["k", "object", "property", "span"])?;
+    let object = required(alloc, from, "object")?;
+    let property = required(alloc, from, "property")?;
+    let span = optional(alloc, from, "span")?;
+    Ok(InstructionValue::PropertyDelete {
+        object,
+        property,
+        span,
+    })
+}
+
+#[tactic(auto, unfolding(crate::specs::Kinds::Objects::property_store_of))]
+pub(super) fn property_store(alloc: Global, from: &Value) -> Result<InstructionValue, Refusal>
+    ensures { Gives result (property_store_of (view from.now)) }
+{
+    known_names(from, &["k", "object", "property", "span", "value"])?;
+    let object = required(alloc, from, "object")?;
+    let property = required(alloc, from, "property")?;
+    let value = required(alloc, from, "value")?;
+    let span = optional(alloc, from, "span")?;
+    Ok(InstructionValue::PropertyStore {
+        object,
+        property,
+        value,
+        span,
+    })
+}
+
+#[tactic(auto, unfolding(crate::specs::Kinds::Objects::computed_load_of))]
+pub(super) fn computed_load(alloc: Global, from: &Value) -> Result<InstructionValue, Refusal>
+    ensures { Gives result (computed_load_of (view from.now)) }
+{
+    known_names(from, &["k", "object", "property", "span"])?;
+    let object = required(alloc, from, "object")?;
+    let property = required(alloc, from, "property")?;
+    let span = optional(alloc, from, "span")?;
+    Ok(InstructionValue::ComputedLoad {
+        object,
+        property,
+        span,
+    })
+}
+
+#[tactic(auto, unfolding(crate::specs::Kinds::Objects::computed_delete_of))]
+pub(super) fn computed_delete(alloc: Global, from: &Value) -> Result<InstructionValue, Refusal>
+    ensures { Gives result (computed_delete_of (view from.now)) }
+{
+    known_names(from, &["k", "object", "property", "span"])?;
+    let object = required(alloc, from, "object")?;
+    let property = required(alloc, from, "property")?;
+    let span = optional(alloc, from, "span")?;
+    Ok(InstructionValue::ComputedDelete {
+        object,
+        property,
+        span,
+    })
+}
+
+#[tactic(auto, unfolding(crate::specs::Kinds::Objects::computed_store_of))]
+pub(super) fn computed_store(alloc: Global, from: &Value) -> Result<InstructionValue, Refusal>
+    ensures { Gives result (computed_store_of (view from.now)) }
+{
+    known_names(from, &["k", "object", "property", "span", "value"])?;
+    let object = required(alloc, from, "object")?;
+    let property = required(alloc, from, "property")?;
+    let value = required(alloc, from, "value")?;
+    let span = optional(alloc, from, "span")?;
+    Ok(InstructionValue::ComputedStore {
+        object,
+        property,
+        value,
+        span,
+    })
+}

@@ -1,0 +1,152 @@
+//! Readers of the kinds that read, declare and write variables.
+
+ghost use Rattle.serde_json.specs.View.{view};
+ghost use Rattle.rc_doc.specs.Kinds.Variables.{declare_context_of, declare_local_of, destructure_of, load_context_of, load_global_of, load_local_of, postfix_update_of, prefix_update_of, store_context_of, store_global_of, store_local_of};
+ghost use Rattle.rc_doc.specs.Reading.{Gives};
+
+use crate::fields::{optional, required};
+use crate::known::known_names;
+use crate::refusal::Refusal;
+use rc_hir::InstructionValue;
+use serde_json::Value;
+use std::alloc::Global;
+
+#[tactic(auto, unfolding(crate::specs::Kinds::Variables::load_local_of))]
+pub(super) fn load_local(alloc: Global, from: &Value) -> Result<InstructionValue, Refusal>
+    ensures { Gives result (load_local_of (view from.now)) }
+{
+    known_names(from, &["k", "place", "span"])?;
+    let place = required(alloc, from, "place")?;
+    let span = optional(alloc, from, "span")?;
+    Ok(InstructionValue::LoadLocal { place, span })
+}
+
+#[tactic(auto, unfolding(crate::specs::Kinds::Variables::load_context_of))]
+pub(super) fn load_context(alloc: Global, from: &Value) -> Result<InstructionValue, Refusal>
+    ensures { Gives result (load_context_of (view from.now)) }
+{
+    known_names(from, &["k", "place", "span"])?;
+    let place = required(alloc, from, "place")?;
+    let span = optional(alloc, from, "span")?;
+    Ok(InstructionValue::LoadContext { place, span })
+}
+
+#[tactic(auto, unfolding(crate::specs::Kinds::Variables::declare_local_of))]
+pub(super) fn declare_local(alloc: Global, from: &Value) -> Result<InstructionValue, Refusal>
+    ensures { Gives result (declare_local_of (view from.now)) }
+{
+    known_names(from, &["k", "lvalue", "span"])?;
+    let lvalue = required(alloc, from, "lvalue")?;
+    let span = optional(alloc, from, "span")?;
+    Ok(InstructionValue::DeclareLocal { lvalue, span })
+}
+
+#[tactic(auto, unfolding(crate::specs::Kinds::Variables::declare_context_of))]
+pub(super) fn declare_context(alloc: Global, from: &Value) -> Result<InstructionValue, Refusal>
+    ensures { Gives result (declare_context_of (view from.now)) }
+{
+    known_names(from, &["k", "lvalue", "span"])?;
+    let lvalue = required(alloc, from, "lvalue")?;
+    let span = optional(alloc, from, "span")?;
+    Ok(InstructionValue::DeclareContext { lvalue, span })
+}
+
+#[tactic(auto, unfolding(crate::specs::Kinds::Variables::store_local_of))]
+pub(super) fn store_local(alloc: Global, from: &Value) -> Result<InstructionValue, Refusal>
+    ensures { Gives result (store_local_of (view from.now)) }
+{
+    known_names(from, &["k", "lvalue", "span", "value"])?;
+    let lvalue = required(alloc, from, "lvalue")?;
+    let value = required(alloc, from, "value")?;
+    let span = optional(alloc, from, "span")?;
+    Ok(InstructionValue::StoreLocal {
+        lvalue,
+        value,
+        span,
+    })
+}
+
+#[tactic(auto, unfolding(crate::specs::Kinds::Variables::store_context_of))]
+pub(super) fn store_context(alloc: Global, from: &Value) -> Result<InstructionValue, Refusal>
+    ensures { Gives result (store_context_of (view from.now)) }
+{
+    known_names(from, &["k", "lvalue", "span", "value"])?;
+    let lvalue = required(alloc, from, "lvalue")?;
+    let value = required(alloc, from, "value")?;
+    let span = optional(alloc, from, "span")?;
+    Ok(InstructionValue::StoreContext {
+        lvalue,
+        value,
+        span,
+    })
+}
+
+#[tactic(auto, unfolding(crate::specs::Kinds::Variables::destructure_of))]
+pub(super) fn destructure(alloc: Global, from: &Value) -> Result<InstructionValue, Refusal>
+    ensures { Gives result (destructure_of (view from.now)) }
+{
+    known_names(from, &["k", "lvalue", "span", "value"])?;
+    let lvalue = required(alloc, from, "lvalue")?;
+    let value = required(alloc, from, "value")?;
+    let span = optional(alloc, from, "span")?;
+    Ok(InstructionValue::Destructure {
+        lvalue,
+        value,
+        span,
+    })
+}
+
+#[tactic(auto, unfolding(crate::specs::Kinds::Variables::load_global_of))]
+pub(super) fn load_global(alloc: Global, from: &Value) -> Result<InstructionValue, Refusal>
+    ensures { Gives result (load_global_of (view from.now)) }
+{
+    known_names(from, &["binding", "k", "span"])?;
+    let binding = required(alloc, from, "binding")?;
+    let span = optional(alloc, from, "span")?;
+    Ok(InstructionValue::LoadGlobal { binding, span })
+}
+
+#[tactic(auto, unfolding(crate::specs::Kinds::Variables::store_global_of))]
+pub(super) fn store_global(alloc: Global, from: &Value) -> Result<InstructionValue, Refusal>
+    ensures { Gives result (store_global_of (view from.now)) }
+{
+    known_names(from, &["k", "name", "span", "value"])?;
+    let name = required(alloc, from, "name")?;
+    let value = required(alloc, from, "value")?;
+    let span = optional(alloc, from, "span")?;
+    Ok(InstructionValue::StoreGlobal { name, value, span })
+}
+
+#[tactic(auto, unfolding(crate::specs::Kinds::Variables::prefix_update_of))]
+pub(super) fn prefix_update(alloc: Global, from: &Value) -> Result<InstructionValue, Refusal>
+    ensures { Gives result (prefix_update_of (view from.now)) }
+{
+    known_names(from, &["k", "lvalue", "operation", "span", "value"])?;
+    let lvalue = required(alloc, from, "lvalue")?;
+    let operation = required(alloc, from, "operation")?;
+    let value = required(alloc, from, "value")?;
+    let span = optional(alloc, from, "span")?;
+    Ok(InstructionValue::PrefixUpdate {
+        lvalue,
+        operation,
+        value,
+        span,
+    })
+}
+
+#[tactic(auto, unfolding(crate::specs::Kinds::Variables::postfix_update_of))]
+pub(super) fn postfix_update(alloc: Global, from: &Value) -> Result<InstructionValue, Refusal>
+    ensures { Gives result (postfix_update_of (view from.now)) }
+{
+    known_names(from, &["k", "lvalue", "operation", "span", "value"])?;
+    let lvalue = required(alloc, from, "lvalue")?;
+    let operation = required(alloc, from, "operation")?;
+    let value = required(alloc, from, "value")?;
+    let span = optional(alloc, from, "span")?;
+    Ok(InstructionValue::PostfixUpdate {
+        lvalue,
+        operation,
+        value,
+        span,
+    })
+}

@@ -1,0 +1,127 @@
+//! Readers of what instruction values are made of besides places, patterns and texts.
+
+ghost use Rattle.serde_json.specs.View.{view};
+ghost use Rattle.rc_doc.specs.Parts.{binding_of, global_of, jsx_attribute_of, jsx_tag_of, lowered_function_of, module_name_of, named_attribute_of, primitive_content_of, primitive_value_of, spread_attribute_of};
+ghost use Rattle.rc_doc.specs.Reading.{Gives};
+
+use crate::fields::{Read, flag, required, tag};
+use crate::known::known_names;
+use crate::refusal::Refusal;
+use rc_hir::{JsxAttribute, JsxTag, LoweredFunction, NonLocalBinding, PrimitiveValue};
+use serde_json::Value;
+use std::alloc::Global;
+
+#[tactic(auto, unfolding(crate::specs::Parts::primitive_content_of))]
+fn primitive_content(alloc: Global, value: &Value) -> Result<PrimitiveValue, Refusal>
+    ensures { Gives result (primitive_content_of (view value.now)) }
+{
+    known_names(value, &["k", "v"])?;
+    match tag(value) {
+        Some("Boolean") => Ok(PrimitiveValue::Boolean(flag(value, "v")?)),
+        Some("Number") => Ok(PrimitiveValue::Number(required(alloc, value, "v")?)),
+        Some("String") => Ok(PrimitiveValue::String(required(alloc, value, "v")?)),
+        _ => Err(Refusal::NotDoc),
+    }
+}
+
+impl Read for PrimitiveValue {
+    ghost reads = { primitive_value_of };
+
+    fn read(alloc: Global, value: &Value) -> Result<PrimitiveValue, Refusal> {
+        match value.as_str() {
+            Some("Null") => Ok(PrimitiveValue::Null),
+            Some("Undefined") => Ok(PrimitiveValue::Undefined),
+            Some(_) => Err(Refusal::NotDoc),
+            None => primitive_content(alloc, value),
+        }
+    }
+}
+
+#[tactic(auto, unfolding(crate::specs::Parts::global_of))]
+fn global(alloc: Global, value: &Value) -> Result<NonLocalBinding, Refusal>
+    ensures { Gives result (global_of (view value.now)) }
+{
+    known_names(value, &["k", "name"])?;
+    let name = required(alloc, value, "name")?;
+    Ok(NonLocalBinding::Global { name })
+}
+
+#[tactic(auto, unfolding(crate::specs::Parts::module_name_of))]
+fn module_name(alloc: Global, value: &Value) -> Result<NonLocalBinding, Refusal>
+    ensures { Gives result (module_name_of (view value.now)) }
+{
+    known_names(value, &["k", "module", "name"])?;
+    let name = required(alloc, value, "name")?;
+    let module = required(alloc, value, "module")?;
+    Ok(NonLocalBinding::Module { name, module })
+}
+
+impl Read for NonLocalBinding {
+    ghost reads = { binding_of };
+
+    #[tactic(auto, unfolding(crate::specs::Parts::binding_of))]
+    fn read(alloc: Global, value: &Value) -> Result<NonLocalBinding, Refusal> {
+        match tag(value) {
+            Some("Global") => global(alloc, value),
+            Some("Module") => module_name(alloc, value),
+            _ => Err(Refusal::NotDoc),
+        }
+    }
+}
+
+impl Read for JsxTag {
+    ghost reads = { jsx_tag_of };
+
+    #[tactic(auto, unfolding(crate::specs::Parts::jsx_tag_of))]
+    fn read(alloc: Global, value: &Value) -> Result<JsxTag, Refusal> {
+        known_names(value, &["k", "v"])?;
+        match tag(value) {
+            Some("Place") => Ok(JsxTag::Place(required(alloc, value, "v")?)),
+            Some("Builtin") => Ok(JsxTag::Builtin(required(alloc, value, "v")?)),
+            _ => Err(Refusal::NotDoc),
+        }
+    }
+}
+
+#[tactic(auto, unfolding(crate::specs::Parts::named_attribute_of))]
+fn named_attribute(alloc: Global, value: &Value) -> Result<JsxAttribute, Refusal>
+    ensures { Gives result (named_attribute_of (view value.now)) }
+{
+    known_names(value, &["k", "name", "place"])?;
+    let name = required(alloc, value, "name")?;
+    let place = required(alloc, value, "place")?;
+    Ok(JsxAttribute::Attribute { name, place })
+}
+
+#[tactic(auto, unfolding(crate::specs::Parts::spread_attribute_of))]
+fn spread_attribute(alloc: Global, value: &Value) -> Result<JsxAttribute, Refusal>
+    ensures { Gives result (spread_attribute_of (view value.now)) }
+{
+    known_names(value, &["argument", "k"])?;
+    let argument = required(alloc, value, "argument")?;
+    Ok(JsxAttribute::SpreadAttribute { argument })
+}
+
+impl Read for JsxAttribute {
+    ghost reads = { jsx_attribute_of };
+
+    #[tactic(auto, unfolding(crate::specs::Parts::jsx_attribute_of))]
+    fn read(alloc: Global, value: &Value) -> Result<JsxAttribute, Refusal> {
+        match tag(value) {
+            Some("Attribute") => named_attribute(alloc, value),
+            Some("SpreadAttribute") => spread_attribute(alloc, value),
+            _ => Err(Refusal::NotDoc),
+        }
+    }
+}
+
+impl Read for LoweredFunction {
+    ghost reads = { lowered_function_of };
+
+    #[tactic(auto, unfolding(crate::specs::Parts::lowered_function_of))]
+    fn read(alloc: Global, value: &Value) -> Result<LoweredFunction, Refusal> {
+        known_names(value, &["func"])?;
+        let func = required(alloc, value, "func")?;
+        Ok(LoweredFunction { func })
+    }
+}

@@ -1,0 +1,135 @@
+//! How a value is printed in parts: `Show` for what stands alone, and `Fields` for an object, field by field.
+
+ghost use Rattle.std.specs.Prelude.{◌≡◌, IfOk, OnOk, Some};
+ghost use Rattle.serde_json.specs.Data.{Data, boolean, no_members, object, put, string};
+ghost use Rattle.serde_json.specs.View.{view};
+ghost use Rattle.rc_doc.specs.Showing.{list_data, members_so_far, number_data, put_some, SomeAgain, tagged, variant_data};
+
+use crate::fields::Read;
+use rc_names::{List, Text};
+use serde_json::{Map, Value};
+use std::alloc::{AllocError, Global};
+
+/// A type that is printed.
+pub(crate) trait Show: Read {
+    /// The printing form.
+    ghost shows: { Self → Data };
+
+    /// The printing form of a value, which reads as that value again. The only error is want of memory.
+    fn show(&self, alloc: Global) -> Result<Value, AllocError>
+        ensures value { IfOk result (λ shown. view shown ≡ shows self.now) }
+        ensures again { OnOk result (Self.reads (shows self.now) ≡ Some self.now) };
+}
+
+impl Show for u32 {
+    ghost shows = { number_data };
+
+    #[tactic(auto, using(crate::proofs::ReadsBack::number_again))]
+    fn show(&self, _alloc: Global) -> Result<Value, AllocError> {
+        let number = *self;
+        Ok(Value::from(number))
+    }
+}
+
+impl Show for bool {
+    ghost shows = { boolean };
+
+    fn show(&self, _alloc: Global) -> Result<Value, AllocError> {
+        Ok(Value::Bool(*self))
+    }
+}
+
+impl Show for Text {
+    ghost shows = { string };
+
+    fn show(&self, alloc: Global) -> Result<Value, AllocError> {
+        Value::try_from_str(alloc, self.as_str())
+    }
+}
+
+impl<T: Show + Drop> Show for List<T> {
+    ghost shows = { list_data T.shows };
+
+    fn show(&self, alloc: Global) -> Result<Value, AllocError> {
+        let mut items = Vec::new(alloc);
+        for x in self.as_slice() {
+            items.push(x.show(alloc)?)?;
+        }
+        Ok(Value::Array(items))
+    }
+}
+
+/// An object that is being written.
+#[derive(Drop)]
+pub(crate) struct Fields {
+    alloc: Global,
+    members: Map<String, Value>,
+}
+
+impl Fields {
+    /// No fields, which takes no memory.
+    pub(crate) fn new(alloc: Global) -> Fields
+        ensures { members_so_far result ≡ no_members }
+    {
+        Fields {
+            alloc,
+            members: Map::new(alloc),
+        }
+    }
+
+    /// The name of a variant. The only error is want of memory.
+    pub(crate) fn tagged(alloc: Global, name: &str) -> Result<Fields, AllocError>
+        ensures { IfOk result (λ fields. members_so_far fields ≡ tagged name.now) }
+    {
+        let name = Value::try_from_str(alloc, name)?;
+        Fields::new(alloc).put("k", name)
+    }
+
+    fn put(self, name: &str, value: Value) -> Result<Fields, AllocError>
+        ensures { IfOk result (λ fields. members_so_far fields ≡ put name.now (view value) (members_so_far self)) }
+    {
+        let Fields { alloc, mut members } = self;
+        serde_json::put(&mut members, alloc, name, value)?;
+        Ok(Fields { alloc, members })
+    }
+
+    /// One more field. The only error is want of memory.
+    pub(crate) fn with<T: Show>(self, name: &str, x: &T) -> Result<Fields, AllocError>
+        ensures value { IfOk result (λ fields. members_so_far fields ≡ put name.now (T.shows x.now) (members_so_far self)) }
+        ensures again { OnOk result (T.Read.reads (T.shows x.now) ≡ Some x.now) }
+    {
+        let value = x.show(self.alloc)?;
+        self.put(name, value)
+    }
+
+    /// One more field, if it isn't none. The only error is want of memory.
+    pub(crate) fn with_some<T: Show>(self, name: &str, x: &Option<T>) -> Result<Fields, AllocError>
+        ensures value { IfOk result (λ fields. members_so_far fields ≡ put_some T.shows name.now x.now (members_so_far self)) }
+        ensures again { OnOk result (SomeAgain T.Read.reads T.shows x.now) }
+    {
+        match x {
+            Some(x) => self.with(name, x),
+            None => Ok(self),
+        }
+    }
+
+    /// The object.
+    pub(crate) fn into_value(self) -> Value
+        ensures { view result ≡ object (members_so_far self) }
+    {
+        let Fields { alloc: _, members } = self;
+        Value::Object(members)
+    }
+}
+
+/// A variant whose one field has no name of its own. The only error is want of memory.
+pub(crate) fn variant<T: Show>(alloc: Global, name: &str, content: &T) -> Result<Value, AllocError>
+    ensures value { IfOk result (λ shown. view shown ≡ variant_data name.now (T.shows content.now)) }
+    ensures again { OnOk result (T.Read.reads (T.shows content.now) ≡ Some content.now) }
+{
+    Ok(
+        Fields::tagged(alloc, name)?
+            .with("v", content)?
+            .into_value(),
+    )
+}

@@ -1,0 +1,164 @@
+//! The printing form of patterns, and of the parts that they share with literals.
+
+ghost use Rattle.std.specs.Prelude.{◌≡◌};
+ghost use Rattle.rc_doc.specs.ShownParts.{element_data, kind_data, kind_name, lvalue_data, lvalue_pattern_data, object_property_data, pattern_data, pattern_element_data, property_data, property_key_data, property_literal_data};
+
+use super::fields::{Fields, Show, variant};
+use rc_hir::{
+    ArrayElement, ArrayPatternElement, InstructionKind, LValue, LValuePattern, ObjectProperty,
+    ObjectPropertyKey, ObjectPropertyOrSpread, Pattern, PropertyLiteral,
+};
+use serde_json::Value;
+use std::alloc::{AllocError, Global};
+
+fn kind_name(kind: InstructionKind) -> &'static str
+    ensures { result.now ≡ kind_name kind }
+{
+    match kind {
+        InstructionKind::Const => "Const",
+        InstructionKind::Let => "Let",
+        InstructionKind::Reassign => "Reassign",
+        InstructionKind::Catch => "Catch",
+        InstructionKind::Function => "Function",
+        InstructionKind::HoistedConst => "HoistedConst",
+        InstructionKind::HoistedLet => "HoistedLet",
+        InstructionKind::HoistedFunction => "HoistedFunction",
+    }
+}
+
+impl Show for InstructionKind {
+    ghost shows = { kind_data };
+
+    #[tactic(auto, using(crate::proofs::PartsReadBack::kind_again))]
+    fn show(&self, alloc: Global) -> Result<Value, AllocError> {
+        Value::try_from_str(alloc, kind_name(*self))
+    }
+}
+
+impl Show for LValue {
+    ghost shows = { lvalue_data };
+
+    #[tactic(auto, using(crate::proofs::PartsReadBack::lvalue_again), unfolding(crate::specs::ShownParts::lvalue_data))]
+    fn show(&self, alloc: Global) -> Result<Value, AllocError> {
+        Ok(
+            Fields::new(alloc)
+                .with("kind", &self.kind)?
+                .with("place", &self.place)?
+                .into_value(),
+        )
+    }
+}
+
+impl Show for PropertyLiteral {
+    ghost shows = { property_literal_data };
+
+    #[tactic(auto, using(crate::proofs::PartsReadBack::property_literal_again), unfolding(crate::specs::ShownParts::property_literal_data))]
+    fn show(&self, alloc: Global) -> Result<Value, AllocError> {
+        match self {
+            PropertyLiteral::String(name) => variant(alloc, "String", name),
+            PropertyLiteral::Number(name) => variant(alloc, "Number", name),
+        }
+    }
+}
+
+impl Show for ObjectPropertyKey {
+    ghost shows = { property_key_data };
+
+    #[tactic(auto, using(crate::proofs::PartsReadBack::property_key_again), unfolding(crate::specs::ShownParts::property_key_data))]
+    fn show(&self, alloc: Global) -> Result<Value, AllocError> {
+        match self {
+            ObjectPropertyKey::Identifier(name) => variant(alloc, "Identifier", name),
+            ObjectPropertyKey::String(name) => variant(alloc, "String", name),
+            ObjectPropertyKey::Number(name) => variant(alloc, "Number", name),
+            ObjectPropertyKey::Computed(place) => variant(alloc, "Computed", place),
+        }
+    }
+}
+
+impl Show for ObjectProperty {
+    ghost shows = { object_property_data };
+
+    #[tactic(auto, using(crate::proofs::PartsReadBack::object_property_again), unfolding(crate::specs::ShownParts::object_property_data))]
+    fn show(&self, alloc: Global) -> Result<Value, AllocError> {
+        Ok(
+            Fields::new(alloc)
+                .with("key", &self.key)?
+                .with("place", &self.place)?
+                .into_value(),
+        )
+    }
+}
+
+impl Show for ObjectPropertyOrSpread {
+    ghost shows = { property_data };
+
+    #[tactic(auto, using(crate::proofs::PartsReadBack::property_again), unfolding(crate::specs::ShownParts::property_data))]
+    fn show(&self, alloc: Global) -> Result<Value, AllocError> {
+        match self {
+            ObjectPropertyOrSpread::Property(property) => variant(alloc, "Property", property),
+            ObjectPropertyOrSpread::Spread(spread) => variant(alloc, "Spread", spread),
+        }
+    }
+}
+
+impl Show for ArrayPatternElement {
+    ghost shows = { pattern_element_data };
+
+    #[tactic(auto, using(crate::proofs::PartsReadBack::pattern_element_again), unfolding(crate::specs::ShownParts::pattern_element_data))]
+    fn show(&self, alloc: Global) -> Result<Value, AllocError> {
+        match self {
+            ArrayPatternElement::Place(place) => variant(alloc, "Place", place),
+            ArrayPatternElement::Spread(spread) => variant(alloc, "Spread", spread),
+            ArrayPatternElement::Hole => Value::try_from_str(alloc, "Hole"),
+        }
+    }
+}
+
+impl Show for ArrayElement {
+    ghost shows = { element_data };
+
+    #[tactic(auto, using(crate::proofs::PartsReadBack::element_again), unfolding(crate::specs::ShownParts::element_data))]
+    fn show(&self, alloc: Global) -> Result<Value, AllocError> {
+        match self {
+            ArrayElement::Place(place) => variant(alloc, "Place", place),
+            ArrayElement::Spread(spread) => variant(alloc, "Spread", spread),
+            ArrayElement::Hole => Value::try_from_str(alloc, "Hole"),
+        }
+    }
+}
+
+impl Show for Pattern {
+    ghost shows = { pattern_data };
+
+    #[tactic(auto, using(crate::proofs::PartsReadBack::pattern_again), unfolding(crate::specs::ShownParts::pattern_data))]
+    fn show(&self, alloc: Global) -> Result<Value, AllocError> {
+        match self {
+            Pattern::Array { items } => Ok(
+                Fields::tagged(alloc, "Array")?
+                    .with("items", items)?
+                    .into_value(),
+            ),
+            Pattern::Object { properties } => {
+                Ok(
+                    Fields::tagged(alloc, "Object")?
+                        .with("properties", properties)?
+                        .into_value(),
+                )
+            }
+        }
+    }
+}
+
+impl Show for LValuePattern {
+    ghost shows = { lvalue_pattern_data };
+
+    #[tactic(auto, using(crate::proofs::PartsReadBack::lvalue_pattern_again), unfolding(crate::specs::ShownParts::lvalue_pattern_data))]
+    fn show(&self, alloc: Global) -> Result<Value, AllocError> {
+        Ok(
+            Fields::new(alloc)
+                .with("kind", &self.kind)?
+                .with("pattern", &self.pattern)?
+                .into_value(),
+        )
+    }
+}

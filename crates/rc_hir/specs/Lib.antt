@@ -1,0 +1,9 @@
+pub mod Fault
+pub mod Types
+pub mod Operands
+pub mod Terminal
+pub mod TerminalOperands
+pub mod GraphNames
+pub mod EnvironmentNames
+pub mod Names
+pub mod Environment

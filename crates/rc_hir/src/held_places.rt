@@ -1,0 +1,145 @@
+//! Parts of values, patterns and terminals that hold places, and lists of the places that they hold.
+
+ghost use Rattle.std.specs.Prelude.{◌≡◌, ◌++◌, Ok, OnOk};
+ghost use Rattle.std.specs.List.{flat_map};
+ghost use Rattle.rc_hir.specs.Fault.{Reads};
+ghost use Rattle.rc_hir.specs.Operands.{argument_places, attribute_places, element_places, entry_places, item_places, key_places};
+ghost use Rattle.rc_hir.specs.TerminalOperands.{case_places};
+
+use crate::fault::Fault;
+use crate::instruction::JsxAttribute;
+use crate::pattern::{
+    ArrayElement, ArrayPatternElement, ObjectPropertyKey, ObjectPropertyOrSpread,
+};
+use crate::place::{Place, PlaceOrSpread};
+use crate::terminal::Case;
+use rc_names::List;
+use std::alloc::{AllocError, Global};
+
+/// A part that holds places.
+pub trait HoldsPlaces {
+    ghost use Rattle.std.specs.Prelude.{List as Entries};
+    ghost use Rattle.rc_hir.specs.declared.place.Place.{Place};
+
+    /// Its places, in order.
+    ghost held: { Self → Entries Place };
+
+    /// Puts its places at the end of a list. The only error is want of memory.
+    fn push_held(&self, places: &mut List<Place>) -> Result<(), AllocError>
+        ensures { OnOk result (places.new ≡ places.old ++ Self.held self.now) };
+}
+
+impl HoldsPlaces for PlaceOrSpread {
+    ghost held = { argument_places };
+
+    fn push_held(&self, places: &mut List<Place>) -> Result<(), AllocError> {
+        match self {
+            PlaceOrSpread::Place(place) => places.push(*place),
+            PlaceOrSpread::Spread(spread) => places.push(spread.place),
+        }
+    }
+}
+
+impl HoldsPlaces for ArrayElement {
+    ghost held = { element_places };
+
+    fn push_held(&self, places: &mut List<Place>) -> Result<(), AllocError> {
+        match self {
+            ArrayElement::Place(place) => places.push(*place),
+            ArrayElement::Spread(spread) => places.push(spread.place),
+            ArrayElement::Hole => Ok(()),
+        }
+    }
+}
+
+impl HoldsPlaces for ArrayPatternElement {
+    ghost held = { item_places };
+
+    fn push_held(&self, places: &mut List<Place>) -> Result<(), AllocError> {
+        match self {
+            ArrayPatternElement::Place(place) => places.push(*place),
+            ArrayPatternElement::Spread(spread) => places.push(spread.place),
+            ArrayPatternElement::Hole => Ok(()),
+        }
+    }
+}
+
+impl HoldsPlaces for ObjectPropertyOrSpread {
+    ghost held = { entry_places };
+
+    fn push_held(&self, places: &mut List<Place>) -> Result<(), AllocError> {
+        match self {
+            ObjectPropertyOrSpread::Property(property) => {
+                push_key(places, &property.key)?;
+                places.push(property.place)
+            }
+            ObjectPropertyOrSpread::Spread(spread) => places.push(spread.place),
+        }
+    }
+}
+
+fn push_key(places: &mut List<Place>, key: &ObjectPropertyKey) -> Result<(), AllocError>
+    ensures { OnOk result (places.new ≡ places.old ++ key_places key.now) }
+{
+    match key {
+        ObjectPropertyKey::Identifier(_)
+        | ObjectPropertyKey::String(_)
+        | ObjectPropertyKey::Number(_) => Ok(()),
+        ObjectPropertyKey::Computed(place) => places.push(*place),
+    }
+}
+
+impl HoldsPlaces for JsxAttribute {
+    ghost held = { attribute_places };
+
+    fn push_held(&self, places: &mut List<Place>) -> Result<(), AllocError> {
+        match self {
+            JsxAttribute::Attribute { place, .. } => places.push(*place),
+            JsxAttribute::SpreadAttribute { argument } => places.push(*argument),
+        }
+    }
+}
+
+impl HoldsPlaces for Case {
+    ghost held = { case_places };
+
+    fn push_held(&self, places: &mut List<Place>) -> Result<(), AllocError> {
+        match self.test {
+            Some(test) => places.push(test),
+            None => Ok(()),
+        }
+    }
+}
+
+/// These places, as a list. The only fault is `NoMemory`.
+pub fn listed(alloc: Global, places: &[Place]) -> Result<List<Place>, Fault>
+    ensures { Reads (Ok places.now) result }
+{
+    Ok(List::from_slice(alloc, places)?)
+}
+
+/// These places, and then those that each item holds. The only fault is `NoMemory`.
+pub fn gathered<T: HoldsPlaces>(
+    alloc: Global,
+    first: &[Place],
+    items: &List<T>,
+) -> Result<List<Place>, Fault>
+    ensures { Reads (Ok (first.now ++ flat_map T.held items.now)) result }
+{
+    let mut places = listed(alloc, first)?;
+    push_each(&mut places, items)?;
+    Ok(places)
+}
+
+/// Puts the places that each item holds at the end of a list. The only error is want of memory.
+pub fn push_each<T: HoldsPlaces>(
+    places: &mut List<Place>,
+    items: &List<T>,
+) -> Result<(), AllocError>
+    ensures { OnOk result (places.new ≡ places.old ++ flat_map T.held items.now) }
+{
+    for item in items.as_slice() {
+        item.push_held(places)?;
+    }
+    Ok(())
+}

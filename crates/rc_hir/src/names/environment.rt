@@ -1,0 +1,117 @@
+//! The numbers of the environment outside its functions.
+
+#![tactic(auto, using(crate::proofs::NamesLemmas::judging))]
+
+ghost use Rattle.std.specs.Prelude.{◌≡◌};
+ghost use Rattle.rc_hir.specs.EnvironmentNames.{declaration_name, declaration_names, dependency_names, early_return_names, environment_names, identifier_names, scope_names, shape_names, type_name, type_names};
+ghost use Rattle.rc_hir.specs.Names.{Judges};
+
+use super::Lengths;
+use super::parts::{HoldsNames, check_both, check_three};
+use crate::environment::{Environment, Identifier};
+use crate::fault::{Fault, TableName};
+use crate::scope::{
+    DeclarationEntry, ReactiveScope, ReactiveScopeDependency, ReactiveScopeEarlyReturn,
+};
+use crate::types::{HirType, Shape};
+use rc_names::{DeclarationId, TypeId};
+
+impl HoldsNames for DeclarationId {
+    ghost names = { declaration_name };
+
+    fn check(&self, tables: Lengths) -> Result<(), Fault> {
+        tables.check(TableName::Declarations, self.0)
+    }
+}
+
+impl HoldsNames for TypeId {
+    ghost names = { type_name };
+
+    fn check(&self, tables: Lengths) -> Result<(), Fault> {
+        tables.check(TableName::Types, self.0)
+    }
+}
+
+impl HoldsNames for Identifier {
+    ghost names = { identifier_names };
+
+    fn check(&self, tables: Lengths) -> Result<(), Fault> {
+        check_three(&self.declaration_id, &self.scope, &self.type_, tables)
+    }
+}
+
+impl HoldsNames for Shape {
+    ghost names = { shape_names };
+
+    fn check(&self, tables: Lengths) -> Result<(), Fault> {
+        match self {
+            Shape::Row(row) => tables.check(TableName::Shapes, *row),
+            Shape::Array
+            | Shape::Object
+            | Shape::Function
+            | Shape::Jsx
+            | Shape::UseRef
+            | Shape::SetState
+            | Shape::SetActionState
+            | Shape::Dispatch
+            | Shape::StartTransition
+            | Shape::SetOptimistic => Ok(()),
+        }
+    }
+}
+
+impl HoldsNames for HirType {
+    ghost names = { type_names };
+
+    fn check(&self, tables: Lengths) -> Result<(), Fault> {
+        match self {
+            HirType::Object { shape } | HirType::Function { shape } => shape.check(tables),
+            HirType::Primitive | HirType::Other => Ok(()),
+        }
+    }
+}
+
+impl HoldsNames for ReactiveScopeDependency {
+    ghost names = { dependency_names };
+
+    fn check(&self, tables: Lengths) -> Result<(), Fault> {
+        self.identifier.check(tables)
+    }
+}
+
+impl HoldsNames for DeclarationEntry {
+    ghost names = { declaration_names };
+
+    fn check(&self, tables: Lengths) -> Result<(), Fault> {
+        check_three(&self.key, &self.value.identifier, &self.value.scope, tables)
+    }
+}
+
+impl HoldsNames for ReactiveScopeEarlyReturn {
+    ghost names = { early_return_names };
+
+    fn check(&self, tables: Lengths) -> Result<(), Fault> {
+        self.value.check(tables)
+    }
+}
+
+impl HoldsNames for ReactiveScope {
+    ghost names = { scope_names };
+
+    fn check(&self, tables: Lengths) -> Result<(), Fault> {
+        check_both(&self.dependencies, &self.declarations, tables)?;
+        check_three(
+            &self.reassignments,
+            &self.early_return_value,
+            &self.merged,
+            tables,
+        )
+    }
+}
+
+/// Checks the numbers in the tables of identifiers, types and scopes.
+pub fn check_parts(env: &Environment, tables: Lengths) -> Result<(), Fault>
+    ensures { Judges tables (environment_names env.now) result }
+{
+    check_three(&env.identifiers, &env.types, &env.scopes, tables)
+}

@@ -1,0 +1,6 @@
+pub mod KnownBytes
+pub mod OneWord
+pub mod OutcomeLemmas
+mod BlankLemmas
+mod PlaceLemmas
+mod RefusalLemmas

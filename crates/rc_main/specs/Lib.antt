@@ -1,0 +1,10 @@
+pub mod Device
+pub mod Memory
+pub mod Blank
+pub mod LineText
+pub mod ValueLines
+pub mod Lines
+pub mod FunctionLines
+pub mod FaultLine
+pub mod Stopped
+pub mod Outcome

@@ -1,0 +1,65 @@
+-- The words that printed lines are made of. A line begins with spaces, two more for each level that it stands deeper.
+use Rattle.std.specs.Prelude.{ℕ, ◌+◌, Bool, List, [], ◌++◌, Option, Some, None, if◌then◌else◌, codes, decimal, replicate}
+use Rattle.serde_json.specs.Data.{string}
+use Rattle.serde_json.specs.Written.{compact_text}
+use Rattle.rc_names.specs.declared.span.Span.{Span}
+use Rattle.rc_names.specs.declared.numbers.EvaluationOrder.{EvaluationOrder}
+use Rattle.rc_hir.specs.declared.place.Place.{Place}
+use Rattle.rc_tree.specs.declared.kind.ReactiveTerminalTargetKind.{ReactiveTerminalTargetKind}
+use Rattle.rc_tree.specs.declared.kind.ReactiveTerminalTargetKind.TheVariants.{Implicit, Labeled, Unlabeled}
+use Rattle.rc_tree.specs.declared.terminal.ReactiveLabel.{ReactiveLabel}
+use Rattle.rc_doc.specs.ShownParts.{place_data}
+
+-- a text and then another
+infixr 6 ◌&◌
+abbrev pub ◌&◌ : List ℕ → List ℕ → List ℕ
+text & more = text ++ more
+
+-- the line with this text, behind so many spaces
+abbrev pub line : ℕ → List ℕ → List ℕ
+line indent text = replicate indent 32 & text & codes "\n"
+
+-- the spaces of a line one level below
+abbrev pub deeper : ℕ → ℕ
+deeper indent = indent + 2
+
+-- a truth value
+abbrev pub bool_text : Bool → List ℕ
+bool_text b = if b then codes "true" else codes "false"
+
+-- a text in JSON's quotes
+abbrev pub quoted_text : List ℕ → List ℕ
+quoted_text text = compact_text (string text)
+
+-- a text in JSON's quotes, or `null`
+abbrev pub json_text : Option (List ℕ) → List ℕ
+json_text None = codes "null"
+json_text (Some text) = quoted_text text
+
+-- the part of the source that something stands for, where it is known
+abbrev pub span_text : Option Span → List ℕ
+span_text None = []
+span_text (Some span) = codes " @" & decimal span.start & codes ".." & decimal span.end
+
+-- a place in the shortest of its three forms
+abbrev pub place_text : Place → List ℕ
+place_text place = compact_text (place_data place)
+
+-- the mark of a label that no labeled jump names
+abbrev pub implicit_text : Bool → List ℕ
+implicit_text implicit = if implicit then codes " implicit" else []
+
+-- a statement's label, where it has one
+abbrev pub label_text : Option ReactiveLabel → List ℕ
+label_text None = []
+label_text (Some label) = codes " as bb" & decimal label.id.0 & implicit_text label.implicit
+
+-- where a statement stands in the order of evaluation, and its label
+abbrev pub id_text : EvaluationOrder → Option ReactiveLabel → List ℕ
+id_text id label = codes " id " & decimal id.0 & label_text label
+
+-- which statement a jump leaves or goes on with
+abbrev pub kind_text : ReactiveTerminalTargetKind → List ℕ
+kind_text Implicit = codes "implicit"
+kind_text Labeled = codes "labeled"
+kind_text Unlabeled = codes "unlabeled"

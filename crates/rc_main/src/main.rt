@@ -1,0 +1,40 @@
+//! `rc tree`: reads a document from standard input and prints its tree, or why its graph is refused.
+#![tactic(auto)]
+
+mod answer;
+mod device;
+mod load;
+mod memory;
+mod printing;
+mod standard;
+mod status;
+mod stop;
+#[cfg(test)]
+mod tests;
+mod top;
+mod words;
+mod write;
+
+use standard::{StdSink, StdSource};
+use status::Status;
+use std::process::ExitCode;
+use std::{env, io};
+use top::program;
+use words::words;
+
+/// Runs the program over the real devices, says in one line what was wrong, and ends with the status.
+fn main(rt: HostRuntime) -> ExitCode {
+    let status = match words(rt.alloc(), env::args(&rt)) {
+        Ok(words) => {
+            let mut source = StdSource::new(rt.reader());
+            let mut sink = StdSink::new(io::writer(&rt));
+            program(rt.alloc(), &words, &mut source, &mut sink)
+        }
+        Err(stop) => Status::from(Err(stop)),
+    };
+    if let Some(complaint) = status.complaint() {
+        // Where standard error fails too, the status says it all.
+        let _ = eprintln!(rt; "{complaint}");
+    }
+    ExitCode::from(status.code())
+}

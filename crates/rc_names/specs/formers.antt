@@ -1,0 +1,3 @@
+-- Containers that a type may hold which holds itself.
+pub mod list
+pub mod boxed

@@ -1,0 +1,119 @@
+//! Values under keys, in the order of insertion.
+
+ghost use Rattle.std.specs.Prelude.{◌≡◌, ◌<◌, ◌^◌, [], length, position, slice_get, IfOk, OnOk, OnErr};
+ghost use Rattle.std.specs.Borrow.{sem};
+ghost use Rattle.std.specs.List.{IsDistinct};
+ghost use Rattle.std.specs.Map.{keys_of, lookup};
+ghost use Rattle.std.specs.Map.Iter.{ShowsInOrder, deref_pair};
+ghost use Rattle.std.specs.Option.{option_copied, option_copied_mut, option_map};
+ghost use Rattle.indexmap.specs.IndexMap.{insert_entry};
+ghost use Rattle.rc_names.specs.Lends.keyed.{lends_value};
+
+use crate::{CloneIn, Name};
+use indexmap::IndexMap;
+use indexmap::map::Iter;
+use std::alloc::{AllocError, Global};
+use std::marker::Model;
+
+/// An `IndexMap` that contracts see as the list of its pairs, whose keys are distinct.
+#[derive(Drop)]
+pub struct Keyed<K: Name, V> {
+    map: IndexMap<K, V>,
+}
+
+impl<K: Name, V> Model for Keyed<K, V> {
+    ghost use Rattle.std.specs.Prelude.{List};
+    ghost use Rattle.std.specs.List.{IsDistinct};
+    ghost use Rattle.std.specs.Coded.{coded_list, coded×};
+    ghost use Rattle.std.specs.Map.{keys_of};
+
+    ghost Value = { List (K × V) };
+
+    ghost coded = { coded_list (coded× K.code V.code) };
+
+    ghost view = { λ it. it.map.entries };
+
+    ghost invariant = { λ it. IsDistinct K.eq (keys_of it.map.entries) };
+}
+
+impl<K: Name, V> Keyed<K, V> {
+    /// No pairs, which takes no memory.
+    pub fn new(alloc: Global) -> Keyed<K, V>
+        ensures { result ≡ [] }
+    {
+        Keyed {
+            map: IndexMap::new(alloc),
+        }
+    }
+
+    /// How many pairs there are.
+    pub fn len(&self) -> usize
+        ensures value { result ≡ length self.now }
+        ensures distinct { IsDistinct K.eq (keys_of self.now) }
+    {
+        self.map.len()
+    }
+
+    /// The value under a key; none where the key isn't there.
+    pub fn get(&self, key: K) -> Option<&V>
+        ensures { option_copied result ≡ lookup (K.eq key) self.now }
+    {
+        self.map.get(&key)
+    }
+
+    /// The value under a key, to be changed in its place; none where the key isn't there.
+    pub fn get_mut(&mut self, key: K) -> Option<&mut V>
+        ensures* writes_back { sem 𝓛 (lends_value K.row V.row K.Name self.entry key result) }
+        ensures value { option_copied_mut result ≡ lookup (K.eq key) self.old }
+    {
+        self.map.get_mut(&key)
+    }
+
+    /// The place of a key among the pairs; none where the key isn't there.
+    pub fn position(&self, key: K) -> Option<usize>
+        ensures { result ≡ position (K.eq key) (keys_of self.now) }
+    {
+        self.map.get_index_of(&key)
+    }
+
+    /// The pairs in their order.
+    pub fn iter(&self) -> Iter<'_, K, V>
+        ensures rest { result ≡ self.now }
+        ensures runs { ShowsInOrder (deref_pair {K = K} {X = V}) }
+        ensures fits { length self.now < 2 ^ 63 }
+    {
+        self.map.iter()
+    }
+
+    /// The pair at a place; none past the end.
+    pub fn at(&self, i: usize) -> Option<(K, &V)>
+        ensures { option_map (λ p. (p.0, p.1.now)) result ≡ slice_get self.now i }
+    {
+        match self.map.get_index(i) {
+            Some((key, value)) => Some((*key, value)),
+            None => None,
+        }
+    }
+}
+
+impl<K: Name, V: Drop> Keyed<K, V> {
+    /// Puts a value under a key and answers the value that stood there. A new key goes last, one that is there keeps
+    /// its place. The only error is want of memory, after which nothing changed.
+    pub fn insert(&mut self, key: K, value: V) -> Result<Option<V>, AllocError>
+        ensures entries { OnOk result (self.new ≡ insert_entry K.eq self.old key value) }
+        ensures old { IfOk result (λ old. old ≡ lookup (K.eq key) self.old) }
+        ensures err { OnErr result (self.new ≡ self.old) }
+    {
+        Ok(self.map.insert(key, value)?)
+    }
+}
+
+impl<K: Name, V: CloneIn> CloneIn for Keyed<K, V> {
+    fn clone_in(&self, alloc: Global) -> Result<Keyed<K, V>, AllocError> {
+        let mut copy = Keyed::new(alloc);
+        for (key, value) in self.map.iter() {
+            copy.insert(*key, value.clone_in(alloc)?)?;
+        }
+        Ok(copy)
+    }
+}

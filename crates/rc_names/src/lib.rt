@@ -1,0 +1,33 @@
+//! Typed numbers, and the small containers that contracts see as lists.
+//!
+//! Every other crate stands on these: a table is looked up by a typed number, a tree is made of `List` and `Boxed`,
+//! and no contract above this crate speaks of a pointer or of a capacity.
+#![tactic(auto)]
+
+mod boxed;
+mod clone_in;
+mod key_set;
+mod keyed;
+mod list;
+mod name;
+mod numbers;
+mod span;
+mod table;
+mod text;
+
+pub use boxed::Boxed;
+pub use clone_in::CloneIn;
+pub use key_set::KeySet;
+pub use keyed::Keyed;
+pub use list::List;
+pub use name::Name;
+pub use numbers::{
+    BlockId, DeclarationId, EvaluationOrder, FunctionId, IdentifierId, InstructionId, ScopeId,
+    TypeId,
+};
+pub use span::Span;
+pub use table::Table;
+pub use text::Text;
+
+#[cfg(test)]
+mod tests;

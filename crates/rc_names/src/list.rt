@@ -1,0 +1,150 @@
+//! A list.
+
+ghost use Rattle.std.specs.Prelude.{◌≡◌, [], ◌∷◌, ◌++◌, ◌↔◌, length, slice_get, reverse, IsTrue, IsNone, IfOk, IfSome, IfNone, OnOk, OnErr};
+ghost use Rattle.std.specs.Borrow.{sem};
+ghost use Rattle.std.specs.Option.{option_copied, option_copied_mut};
+ghost use Rattle.rc_names.specs.Lends.list.{lends_item};
+
+use crate::CloneIn;
+use std::alloc::{AllocError, Global};
+use std::marker::Model;
+use std::mem;
+
+/// A `Vec` that contracts see as the list of its entries.
+#[derive(Debug, Drop)]
+pub struct List<T> {
+    items: Vec<T>,
+}
+
+impl<T> Model for List<T> {
+    ghost use Rattle.std.specs.Prelude.{List as Entries};
+    ghost use Rattle.std.specs.Coded.{coded_list};
+
+    ghost Value = { Entries T };
+
+    ghost coded = { coded_list T.code };
+
+    ghost view = { λ it. it.items.items };
+}
+
+impl<T> List<T> {
+    /// An empty list, which takes no memory.
+    pub fn new(alloc: Global) -> List<T>
+        ensures { result ≡ [] }
+    {
+        List {
+            items: Vec::new(alloc),
+        }
+    }
+
+    /// How many entries there are.
+    pub fn len(&self) -> usize
+        ensures { result ≡ length self.now }
+    {
+        self.items.len()
+    }
+
+    /// Whether there is no entry.
+    pub fn is_empty(&self) -> bool
+        ensures { IsTrue result ↔ (self.now ≡ []) }
+    {
+        self.items.is_empty()
+    }
+
+    /// The entry at a place; none past the end.
+    pub fn get(&self, i: usize) -> Option<&T>
+        ensures { option_copied result ≡ slice_get self.now i }
+    {
+        self.items.get(i)
+    }
+
+    /// The entry at a place, to be changed there; none past the end.
+    pub fn get_mut(&mut self, i: usize) -> Option<&mut T>
+        ensures* writes_back { sem 𝓛 (lends_item T.row self.entry i result) }
+        ensures value { option_copied_mut result ≡ slice_get self.old i }
+    {
+        self.items.get_mut(i)
+    }
+
+    /// Takes the last entry off; none where the list is empty.
+    pub fn pop(&mut self) -> Option<T>
+        ensures none { IsNone result ↔ (self.old ≡ []) }
+        ensures last { IfSome result (λ last. self.old ≡ self.new ++ last ∷ []) }
+        ensures empty { IfNone result (self.new ≡ []) }
+    {
+        self.items.pop()
+    }
+
+    /// Turns the list round.
+    pub fn reverse(&mut self)
+        ensures { self.new ≡ reverse self.old }
+    {
+        self.items.reverse()
+    }
+
+    /// Answers the whole list and leaves an empty one.
+    pub fn take(&mut self) -> List<T>
+        ensures list { result ≡ self.old }
+        ensures left { self.new ≡ [] }
+    {
+        let alloc = *self.items.allocator();
+        List {
+            items: mem::replace(&mut self.items, Vec::new(alloc)),
+        }
+    }
+
+    /// The entries, for a loop over them.
+    pub fn as_slice(&self) -> &[T]
+        ensures { result.now ≡ self.now }
+    {
+        self.items.as_slice()
+    }
+}
+
+impl<T: Drop> List<T> {
+    /// Puts an entry at the end. The only error is want of memory, after which nothing changed.
+    pub fn push(&mut self, t: T) -> Result<(), AllocError>
+        ensures ok { OnOk result (self.new ≡ self.old ++ t ∷ []) }
+        ensures err { OnErr result (self.new ≡ self.old) }
+    {
+        self.items.push(t)?;
+        Ok(())
+    }
+
+    /// Moves the entries of another list to the end. The only error is want of memory.
+    pub fn append(&mut self, more: List<T>) -> Result<(), AllocError>
+        ensures ok { OnOk result (self.new ≡ self.old ++ more) }
+        ensures err { OnErr result (self.new ≡ self.old) }
+    {
+        let List { mut items } = more;
+        self.items.append(&mut items)
+    }
+}
+
+impl<T: Copy> List<T> {
+    /// These entries. The only error is want of memory.
+    pub fn from_slice(alloc: Global, items: &[T]) -> Result<List<T>, AllocError>
+        ensures { IfOk result (λ list. list ≡ items.now) }
+    {
+        Ok(List {
+            items: Vec::from_slice(alloc, items)?,
+        })
+    }
+
+    /// A copy, taken in one piece. The only error is want of memory.
+    pub fn copy_in(&self, alloc: Global) -> Result<List<T>, AllocError>
+        ensures { IfOk result (λ copy. copy ≡ self.now) }
+    {
+        List::from_slice(alloc, self.as_slice())
+    }
+}
+
+impl<T: CloneIn> CloneIn for List<T> {
+    fn clone_in(&self, alloc: Global) -> Result<List<T>, AllocError> {
+        let mut copy = List::new(alloc);
+        for item in self.items.as_slice() {
+            copy.push(item.clone_in(alloc)?)?;
+        }
+        Ok(copy)
+    }
+}

@@ -1,0 +1,34 @@
+-- The rows of a block as the builder meets them.
+use Rattle.std.specs.Prelude.{◌≡◌, ◌++◌, true, false, List, Some, map}
+use Rattle.std.specs.List.{list_any}
+use Rattle.rc_names.specs.declared.numbers.InstructionId.{InstructionId}
+use Rattle.rc_hir.specs.declared.function.Instruction.{Instruction}
+use Rattle.rc_hir.specs.declared.function.BasicBlock.{BasicBlock}
+use Rattle.rc_hir.specs.declared.function.HirFunction.{HirFunction}
+use Rattle.rc_tree.specs.declared.statement.ReactiveStatement.{ReactiveStatement}
+use Rattle.rc_pipe.specs.Silent.{is_unset}
+use Rattle.rc_pipe.specs.Graph.{rows_of, has_all_ids}
+use Rattle.rc_pipe.specs.PlainTree.{Base, RowStatement}
+use Rattle.rc_pipe.specs.TreeOf.{statement_of}
+
+-- the statement of a row
+abbrev pub row_statement_of : Instruction → ReactiveStatement
+row_statement_of row = statement_of (RowStatement row.id (Some row.lvalue) (Base row.value) row.span)
+
+-- the block's rows are there, and no id of them or of its terminal is unset
+pub record HasIds (hir : HirFunction) (block : BasicBlock) : Type 0 where
+  pub rows : List Instruction
+  pub filled : rows_of hir.instructions block.instructions ≡ Some rows
+  pub set : has_all_ids (record { rows = rows; terminal = block.terminal }) ≡ true
+
+-- these rows are there, and none of their ids is unset
+pub record HaveIds (hir : HirFunction) (numbers : List InstructionId) : Type 0 where
+  pub rows : List Instruction
+  pub filled : rows_of hir.instructions numbers ≡ Some rows
+  pub set : list_any (λ row. is_unset row.id) rows ≡ false
+
+-- the statements of these rows stand behind the others
+pub record PutSoFar (hir : HirFunction) (numbers : List InstructionId) (out whole : List ReactiveStatement) : Type 0 where
+  pub rows : List Instruction
+  pub filled : rows_of hir.instructions numbers ≡ Some rows
+  pub put : whole ≡ out ++ map row_statement_of rows

@@ -1,0 +1,137 @@
+//! Statements with one part: labels, and the blocks of scopes, kept or pruned.
+
+ghost use Rattle.std.specs.Prelude.{◌≡◌, Err, IfOk, IfErr};
+ghost use Rattle.rc_names.specs.declared.numbers.BlockId.{BlockId};
+ghost use Rattle.rc_hir.specs.declared.fault.Fault.TheVariants as faults;
+ghost use Rattle.rc_hir.specs.declared.fault.Rule.{Rule};
+ghost use Rattle.rc_hir.specs.declared.terminal.Terminal.TheVariants as terminals;
+ghost use Rattle.rc_names.specs.declared.numbers.EvaluationOrder.{EvaluationOrder};
+ghost use Rattle.rc_names.specs.declared.span.Span.{Span};
+ghost use Rattle.rc_tree.specs.declared.statement.ReactiveStatement.TheVariants as statements;
+ghost use Rattle.rc_tree.specs.declared.terminal.ReactiveTerminal.TheVariants as tree;
+ghost use Rattle.rc_pipe.specs.Grammar.{SpellsTerminal};
+ghost use Rattle.rc_pipe.specs.RuleFacts.{FaultFact};
+ghost use Rattle.rc_pipe.specs.Built.{AtSome, GoesOn, Refused, terminal_statement};
+ghost use Rattle.std.specs.Prelude.{Option, None};
+
+use crate::build::lists::build_part;
+use crate::build::state::{State, label_of, opens_reachable, rest_of};
+use crate::frames::Frame;
+use rc_hir::{Environment, Fault, HirFunction};
+use rc_names::{BlockId, Boxed, EvaluationOrder, List, ScopeId};
+use rc_tree::{
+    PrunedReactiveScopeBlock, ReactiveBlock, ReactiveLabel, ReactiveScopeBlock, ReactiveStatement,
+    ReactiveTerminal, ReactiveTerminalStatement,
+};
+use std::alloc::{AllocError, Global};
+
+/// Puts a label; answers where the list goes on.
+#[cycle(builder)]
+pub fn build_label(
+    hir: &HirFunction,
+    env: &Environment,
+    state: &mut State,
+    next: Option<BlockId>,
+    inner: BlockId,
+    fallthrough: BlockId,
+    id: EvaluationOrder,
+    out: &mut List<ReactiveStatement>,
+) -> Result<Option<BlockId>, Fault>
+    requires { (span : Option Span) × AtSome hir.now state.old.marks state.old.frames (terminals.Label inner fallthrough id span) }
+    ensures ok { IfOk result (λ rest. (span : Option Span) → GoesOn hir.now env.now (terminals.Label inner fallthrough id span) next state.old.frames rest out.old out.new state.old.marks state.new.marks) }
+    ensures refused { (block : BlockId) (rule : Rule) (span : Option Span) → result ≡ Err (faults.Malformed block rule) → Refused hir.now (SpellsTerminal hir.now env.now (terminals.Label inner fallthrough id span) next state.old.frames None) state.old.marks.used }
+    ensures facts { IfErr result (FaultFact hir.now) }
+    ensures frames { IfOk result (λ _. state.new.frames ≡ state.old.frames) }
+{
+    let opened = opens_reachable(hir, &state.frames, fallthrough);
+    let frame = Frame::If { block: fallthrough };
+    let body = build_part(hir, env, state, inner, opened, frame, next)?;
+    out.push(label_statement(state.alloc, body, id, label_of(opened, fallthrough))?)?;
+    Ok(rest_of(opened, fallthrough))
+}
+
+/// Puts the block of a scope, which has no label; answers where the list goes on.
+#[cycle(builder)]
+pub fn build_scope(
+    hir: &HirFunction,
+    env: &Environment,
+    state: &mut State,
+    next: Option<BlockId>,
+    inner: BlockId,
+    fallthrough: BlockId,
+    scope: ScopeId,
+    out: &mut List<ReactiveStatement>,
+) -> Result<Option<BlockId>, Fault>
+    requires { (id : EvaluationOrder) × (span : Option Span) × AtSome hir.now state.old.marks state.old.frames (terminals.Scope fallthrough inner scope id span) }
+    ensures ok { IfOk result (λ rest. (id : EvaluationOrder) (span : Option Span) → GoesOn hir.now env.now (terminals.Scope fallthrough inner scope id span) next state.old.frames rest out.old out.new state.old.marks state.new.marks) }
+    ensures refused { (block : BlockId) (rule : Rule) (id : EvaluationOrder) (span : Option Span) → result ≡ Err (faults.Malformed block rule) → Refused hir.now (SpellsTerminal hir.now env.now (terminals.Scope fallthrough inner scope id span) next state.old.frames None) state.old.marks.used }
+    ensures facts { IfErr result (FaultFact hir.now) }
+    ensures frames { IfOk result (λ _. state.new.frames ≡ state.old.frames) }
+{
+    let opened = !state.frames.is_live(fallthrough);
+    let frame = Frame::Scope { block: fallthrough };
+    let body = build_part(hir, env, state, inner, opened, frame, next)?;
+    out.push(scope_statement(scope, body))?;
+    Ok(rest_of(opened, fallthrough))
+}
+
+/// Puts the block of a scope that the graph has pruned already; answers where the list goes on.
+#[cycle(builder)]
+pub fn build_pruned_scope(
+    hir: &HirFunction,
+    env: &Environment,
+    state: &mut State,
+    next: Option<BlockId>,
+    inner: BlockId,
+    fallthrough: BlockId,
+    scope: ScopeId,
+    out: &mut List<ReactiveStatement>,
+) -> Result<Option<BlockId>, Fault>
+    requires { (id : EvaluationOrder) × (span : Option Span) × AtSome hir.now state.old.marks state.old.frames (terminals.PrunedScope fallthrough inner scope id span) }
+    ensures ok { IfOk result (λ rest. (id : EvaluationOrder) (span : Option Span) → GoesOn hir.now env.now (terminals.PrunedScope fallthrough inner scope id span) next state.old.frames rest out.old out.new state.old.marks state.new.marks) }
+    ensures refused { (block : BlockId) (rule : Rule) (id : EvaluationOrder) (span : Option Span) → result ≡ Err (faults.Malformed block rule) → Refused hir.now (SpellsTerminal hir.now env.now (terminals.PrunedScope fallthrough inner scope id span) next state.old.frames None) state.old.marks.used }
+    ensures facts { IfErr result (FaultFact hir.now) }
+    ensures frames { IfOk result (λ _. state.new.frames ≡ state.old.frames) }
+{
+    let opened = !state.frames.is_live(fallthrough);
+    let frame = Frame::Scope { block: fallthrough };
+    let body = build_part(hir, env, state, inner, opened, frame, next)?;
+    out.push(pruned_scope_statement(scope, body))?;
+    Ok(rest_of(opened, fallthrough))
+}
+
+fn label_statement(
+    alloc: Global,
+    body: List<ReactiveStatement>,
+    id: EvaluationOrder,
+    label: Option<ReactiveLabel>,
+) -> Result<ReactiveStatement, AllocError>
+    ensures { IfOk result (λ statement. statement ≡ terminal_statement (tree.Label (record { statements = body }) id) label) }
+{
+    let terminal = ReactiveTerminal::Label {
+        block: ReactiveBlock { statements: body },
+        id,
+    };
+    Ok(ReactiveStatement::Terminal(Boxed::new(
+        alloc,
+        ReactiveTerminalStatement { terminal, label },
+    )?))
+}
+
+fn scope_statement(scope: ScopeId, body: List<ReactiveStatement>) -> ReactiveStatement
+    ensures { result ≡ statements.Scope (record { scope = scope; instructions = record { statements = body } }) }
+{
+    ReactiveStatement::Scope(ReactiveScopeBlock {
+        scope,
+        instructions: ReactiveBlock { statements: body },
+    })
+}
+
+fn pruned_scope_statement(scope: ScopeId, body: List<ReactiveStatement>) -> ReactiveStatement
+    ensures { result ≡ statements.PrunedScope (record { scope = scope; instructions = record { statements = body } }) }
+{
+    ReactiveStatement::PrunedScope(PrunedReactiveScopeBlock {
+        scope,
+        instructions: ReactiveBlock { statements: body },
+    })
+}

@@ -1,0 +1,110 @@
+//! The tests that come before a graph is built.
+
+ghost use Rattle.std.specs.Prelude.{◌≡◌, ◌↔◌, ◌<◌, IsTrue, All, count_by, option_map};
+ghost use Rattle.rc_names.specs.declared.numbers.ScopeId.{ScopeId};
+ghost use Rattle.rc_pipe.specs.Causes.{first_early_return, is_scope, scope_count, HasRoom, is_built, first_unbuilt};
+
+use rc_hir::{Environment, GotoVariant, HirFunction, Terminal};
+use rc_names::{BlockId, Name, ScopeId};
+
+/// The place of the lowest scope that answers for a `Return` already.
+fn first_early_place(env: &Environment) -> Option<usize>
+    ensures { result ≡ first_early_return env.now }
+{
+    env.scopes
+        .as_slice()
+        .iter()
+        .position(|scope| scope.early_return_value.is_some())
+}
+
+/// The lowest scope that answers for a `Return` already.
+pub fn first_early_return(env: &Environment) -> Option<ScopeId>
+    ensures { option_map (λ scope. scope.0) result ≡ first_early_return env.now }
+{
+    let count = env.scopes.len();
+    match first_early_place(env) {
+        Some(place) => {
+            prove!(place < count);
+            Some(ScopeId(place as u32))
+        }
+        None => None,
+    }
+}
+
+fn is_scope(terminal: &Terminal) -> bool
+    ensures { result ≡ is_scope terminal.now }
+{
+    matches!(terminal, Terminal::Scope { .. })
+}
+
+fn scope_count(hir: &HirFunction) -> usize
+    ensures { result ≡ scope_count hir.now }
+{
+    hir.body
+        .blocks
+        .iter()
+        .filter(|(_, block)| is_scope(&block.terminal))
+        .count()
+}
+
+fn are_keys_below(hir: &HirFunction, next_block: u32) -> bool
+    ensures { IsTrue result ↔ All (λ entry. entry.0.0 < next_block) hir.now.body.blocks }
+{
+    hir.body.blocks.iter().all(|(key, _)| key.0 < next_block)
+}
+
+/// Whether there are numbers enough for an early return in each scope of the graph.
+pub fn has_room(hir: &HirFunction, env: &Environment) -> bool
+    ensures { IsTrue result ↔ HasRoom hir.now env.now }
+{
+    let last = u32::MAX as u128;
+    let scopes = scope_count(hir) as u128;
+    let next_block = env.next_block;
+    env.identifiers.len() as u128 + 5 * scopes <= last
+        && env.types.len() as u128 + 5 * scopes <= last
+        && next_block as u128 + scopes <= last
+        && are_keys_below(hir, next_block)
+}
+
+fn is_built(terminal: &Terminal) -> bool
+    ensures { result ≡ is_built terminal.now }
+{
+    match terminal {
+        Terminal::If { .. }
+        | Terminal::Return { .. }
+        | Terminal::Unreachable { .. }
+        | Terminal::Label { .. }
+        | Terminal::Scope { .. }
+        | Terminal::PrunedScope { .. } => true,
+        Terminal::Goto { variant, .. } => match variant {
+            GotoVariant::Break => true,
+            GotoVariant::Continue | GotoVariant::Try => false,
+        },
+        Terminal::Branch { .. }
+        | Terminal::Logical { .. }
+        | Terminal::Ternary { .. }
+        | Terminal::Optional { .. }
+        | Terminal::Sequence { .. }
+        | Terminal::Throw { .. }
+        | Terminal::Switch { .. }
+        | Terminal::DoWhile { .. }
+        | Terminal::While { .. }
+        | Terminal::For { .. }
+        | Terminal::ForOf { .. }
+        | Terminal::ForIn { .. }
+        | Terminal::MaybeThrow { .. }
+        | Terminal::Try { .. } => false,
+    }
+}
+
+/// The first block in graph order whose terminal isn't built yet.
+pub fn first_unbuilt(hir: &HirFunction) -> Option<BlockId>
+    ensures { result ≡ option_map (λ entry. entry.0) (first_unbuilt hir.now) }
+{
+    for (key, block) in hir.body.blocks.iter() {
+        if !is_built(&block.terminal) {
+            return Some(*key);
+        }
+    }
+    None
+}

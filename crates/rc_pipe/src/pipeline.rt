@@ -1,0 +1,69 @@
+//! The call that users make: from a graph to the pruned function and the fate of each scope.
+
+ghost use Rattle.std.specs.Prelude.{◌≡◌, ◌≢◌, ◌⊎◌, IfOk, IfErr, OnOk, IsOk, Err};
+ghost use Rattle.rc_tree.specs.declared.function.ReactiveFunction.{ReactiveFunction};
+ghost use Rattle.rc_pipe.specs.Spelled.{Spells};
+ghost use Rattle.rc_pipe.specs.Headline.{IsAccepted, IsAnswer, IsCause};
+
+use crate::build::build;
+use crate::causes::{first_early_return, first_unbuilt, has_room};
+use crate::fates::{ScopeFate, kept_fates};
+use rc_hir::{Environment, Fault, HirFunction, check_names};
+use rc_names::List;
+use rc_tree::ReactiveFunction;
+use std::alloc::Global;
+
+/// A pruned function, with the fate of each scope block of the tree that its graph spells.
+#[derive(Drop)]
+pub struct Pruned {
+    pub func: ReactiveFunction,
+    pub fates: List<ScopeFate>,
+}
+
+/// The one tree that a graph spells, and the fate of each of its scopes.
+///
+/// Refused is, in this order, a graph
+///
+/// - with a number outside its table: `BadName`;
+/// - with a scope that answers for a `Return` already: `EarlyReturnSet`, of the lowest such scope;
+/// - without room for the numbers that early returns may need: `NoIds`;
+/// - with a terminal that isn't built yet: `NotBuilt`, of the first such block;
+/// - that spells no tree: `Malformed`, with a rule whose fact holds of the named block.
+///
+/// `NoMemory` may come at any time. The environment stays as it is.
+pub fn build_and_prune(
+    alloc: Global,
+    hir: &HirFunction,
+    env: &mut Environment,
+) -> Result<Pruned, Fault>
+    ensures ok { IfOk result (IsAnswer hir.now env.old) }
+    ensures refused { IfErr result (IsCause hir.now env.old) }
+    ensures kept_environment { env.new ≡ env.old }
+
+    // What is accepted and spells a tree is answered, up to want of memory.
+    ensures complete { (func : ReactiveFunction) → IsAccepted hir.now env.old → Spells hir.now env.old func
+        → IsOk result ⊎ (result ≡ Err Fault.NoMemory) }
+{
+    accept(hir, env)?;
+    let func = build(alloc, hir, env)?;
+    let fates = kept_fates(alloc, &func.body)?;
+    Ok(Pruned { func, fates })
+}
+
+/// Refuses a graph for its numbers, early returns, room or forms, in this order. It takes no memory.
+fn accept(hir: &HirFunction, env: &Environment) -> Result<(), Fault>
+    ensures ok { OnOk result (IsAccepted hir.now env.now) }
+    ensures refused { IfErr result (λ fault. IsCause hir.now env.now fault × (fault ≢ Fault.NoMemory)) }
+{
+    check_names(hir, env)?;
+    if let Some(scope) = first_early_return(env) {
+        return Err(Fault::EarlyReturnSet { scope });
+    }
+    if !has_room(hir, env) {
+        return Err(Fault::NoIds);
+    }
+    match first_unbuilt(hir) {
+        Some(block) => Err(Fault::NotBuilt { block }),
+        None => Ok(()),
+    }
+}

@@ -1,0 +1,4 @@
+pub mod OutcomeLemmas
+pub mod ReadLemmas
+pub mod ReadStatementLemmas
+pub mod ReadFunctionLemmas

@@ -1,0 +1,4 @@
+//! Copies of the tree, each equal to its source.
+
+mod statement;
+mod value;

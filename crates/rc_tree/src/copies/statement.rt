@@ -1,0 +1,368 @@
+//! Copies of blocks, statements, terminals and scopes, and of a whole function.
+//!
+//! In the copy of a terminal each arm is one call: a function of its own copies the values and puts the copy together.
+
+ghost use Rattle.std.specs.Prelude.{◌≡◌, IfOk};
+
+use crate::function::ReactiveFunction;
+use crate::scope::{PrunedReactiveScopeBlock, ReactiveScopeBlock};
+use crate::statement::{ReactiveBlock, ReactiveStatement};
+use crate::terminal::{ReactiveSwitchCase, ReactiveTerminal, ReactiveTerminalStatement};
+use crate::value::ReactiveValue;
+use rc_hir::Place;
+use rc_names::{Boxed, CloneIn, EvaluationOrder, List, Span};
+use std::alloc::{AllocError, Global};
+
+impl CloneIn for ReactiveBlock {
+    #[cycle(copy_tree)]
+    fn clone_in(&self, alloc: Global) -> Result<ReactiveBlock, AllocError> {
+        let mut statements = List::new(alloc);
+        for statement in self.statements.as_slice() {
+            statements.push(statement.clone_in(alloc)?)?;
+        }
+        Ok(ReactiveBlock { statements })
+    }
+}
+
+impl CloneIn for ReactiveStatement {
+    #[cycle(copy_tree)]
+    fn clone_in(&self, alloc: Global) -> Result<ReactiveStatement, AllocError> {
+        match self {
+            ReactiveStatement::Instruction(instruction) => {
+                Ok(ReactiveStatement::Instruction(instruction.clone_in(alloc)?))
+            }
+            ReactiveStatement::Terminal(stmt) => Ok(ReactiveStatement::Terminal(Boxed::new(
+                alloc,
+                stmt.get().clone_in(alloc)?,
+            )?)),
+            ReactiveStatement::Scope(scope) => Ok(ReactiveStatement::Scope(scope.clone_in(alloc)?)),
+            ReactiveStatement::PrunedScope(scope) => {
+                Ok(ReactiveStatement::PrunedScope(scope.clone_in(alloc)?))
+            }
+        }
+    }
+}
+
+impl CloneIn for ReactiveScopeBlock {
+    #[cycle(copy_tree)]
+    fn clone_in(&self, alloc: Global) -> Result<ReactiveScopeBlock, AllocError> {
+        Ok(ReactiveScopeBlock {
+            scope: self.scope,
+            instructions: self.instructions.clone_in(alloc)?,
+        })
+    }
+}
+
+impl CloneIn for PrunedReactiveScopeBlock {
+    #[cycle(copy_tree)]
+    fn clone_in(&self, alloc: Global) -> Result<PrunedReactiveScopeBlock, AllocError> {
+        Ok(PrunedReactiveScopeBlock {
+            scope: self.scope,
+            instructions: self.instructions.clone_in(alloc)?,
+        })
+    }
+}
+
+impl CloneIn for ReactiveTerminalStatement {
+    #[cycle(copy_tree)]
+    fn clone_in(&self, alloc: Global) -> Result<ReactiveTerminalStatement, AllocError> {
+        Ok(ReactiveTerminalStatement {
+            terminal: self.terminal.clone_in(alloc)?,
+            label: self.label,
+        })
+    }
+}
+
+impl CloneIn for ReactiveTerminal {
+    #[cycle(copy_tree)]
+    fn clone_in(&self, alloc: Global) -> Result<ReactiveTerminal, AllocError> {
+        match self {
+            ReactiveTerminal::Break {
+                target,
+                target_kind,
+                id,
+            } => Ok(ReactiveTerminal::Break {
+                target: *target,
+                target_kind: *target_kind,
+                id: *id,
+            }),
+            ReactiveTerminal::Continue {
+                target,
+                target_kind,
+                id,
+            } => Ok(ReactiveTerminal::Continue {
+                target: *target,
+                target_kind: *target_kind,
+                id: *id,
+            }),
+            ReactiveTerminal::Return { value, id } => Ok(ReactiveTerminal::Return {
+                value: *value,
+                id: *id,
+            }),
+            ReactiveTerminal::Throw { value, id } => Ok(ReactiveTerminal::Throw {
+                value: *value,
+                id: *id,
+            }),
+            ReactiveTerminal::Switch { test, cases, id } => Ok(ReactiveTerminal::Switch {
+                test: *test,
+                cases: copied_cases(alloc, cases)?,
+                id: *id,
+            }),
+            ReactiveTerminal::DoWhile {
+                loop_block,
+                test,
+                id,
+            } => do_while_copy(alloc, loop_block.clone_in(alloc)?, test, *id),
+            ReactiveTerminal::While {
+                test,
+                loop_block,
+                id,
+            } => while_copy(alloc, test, loop_block.clone_in(alloc)?, *id),
+            ReactiveTerminal::For {
+                init,
+                test,
+                update,
+                loop_block,
+                id,
+            } => for_copy(alloc, init, test, update, loop_block.clone_in(alloc)?, *id),
+            ReactiveTerminal::ForOf {
+                init,
+                test,
+                loop_block,
+                span,
+                id,
+            } => for_of_copy(alloc, init, test, loop_block.clone_in(alloc)?, *span, *id),
+            ReactiveTerminal::ForIn {
+                init,
+                loop_block,
+                span,
+                id,
+            } => for_in_copy(alloc, init, loop_block.clone_in(alloc)?, *span, *id),
+            ReactiveTerminal::If {
+                test,
+                consequent,
+                alternate,
+                id,
+            } => if_copy(alloc, alternate, *test, consequent.clone_in(alloc)?, *id),
+            ReactiveTerminal::Label { block, id } => Ok(ReactiveTerminal::Label {
+                block: block.clone_in(alloc)?,
+                id: *id,
+            }),
+            ReactiveTerminal::Try {
+                block,
+                handler_binding,
+                handler,
+                id,
+            } => try_copy(
+                alloc,
+                handler,
+                block.clone_in(alloc)?,
+                *handler_binding,
+                *id,
+            ),
+        }
+    }
+}
+
+impl CloneIn for ReactiveSwitchCase {
+    #[cycle(copy_tree)]
+    fn clone_in(&self, alloc: Global) -> Result<ReactiveSwitchCase, AllocError> {
+        Ok(ReactiveSwitchCase {
+            test: self.test,
+            block: copied_block(alloc, &self.block)?,
+        })
+    }
+}
+
+/// A block that may be left out, copied.
+#[cycle(copy_tree)]
+fn copied_block(
+    alloc: Global,
+    block: &Option<ReactiveBlock>,
+) -> Result<Option<ReactiveBlock>, AllocError>
+    ensures { IfOk result (λ copy. copy ≡ block.now) }
+{
+    match block {
+        Some(block) => Ok(Some(block.clone_in(alloc)?)),
+        None => Ok(None),
+    }
+}
+
+/// The cases of a switch, each copied.
+#[cycle(copy_tree)]
+fn copied_cases(
+    alloc: Global,
+    cases: &List<ReactiveSwitchCase>,
+) -> Result<List<ReactiveSwitchCase>, AllocError>
+    ensures { IfOk result (λ copies. copies ≡ cases.now) }
+{
+    let mut copies = List::new(alloc);
+    for case in cases.as_slice() {
+        copies.push(case.clone_in(alloc)?)?;
+    }
+    Ok(copies)
+}
+
+/// An `If` over the copy of its consequent.
+#[cycle(copy_tree)]
+fn if_copy(
+    alloc: Global,
+    alternate: &Option<ReactiveBlock>,
+    test: Place,
+    consequent: ReactiveBlock,
+    id: EvaluationOrder,
+) -> Result<ReactiveTerminal, AllocError>
+    ensures { IfOk result (λ copy. copy ≡ ReactiveTerminal.If test consequent alternate.now id) }
+{
+    let alternate = copied_block(alloc, alternate)?;
+    Ok(ReactiveTerminal::If {
+        test,
+        consequent,
+        alternate,
+        id,
+    })
+}
+
+/// A `Try` over the copy of its block.
+#[cycle(copy_tree)]
+fn try_copy(
+    alloc: Global,
+    handler: &ReactiveBlock,
+    block: ReactiveBlock,
+    handler_binding: Option<Place>,
+    id: EvaluationOrder,
+) -> Result<ReactiveTerminal, AllocError>
+    ensures { IfOk result (λ copy. copy ≡ ReactiveTerminal.Try block handler_binding handler.now id) }
+{
+    let handler = handler.clone_in(alloc)?;
+    Ok(ReactiveTerminal::Try {
+        block,
+        handler_binding,
+        handler,
+        id,
+    })
+}
+
+/// A `DoWhile` over the copy of its block.
+fn do_while_copy(
+    alloc: Global,
+    loop_block: ReactiveBlock,
+    test: &ReactiveValue,
+    id: EvaluationOrder,
+) -> Result<ReactiveTerminal, AllocError>
+    ensures { IfOk result (λ copy. copy ≡ ReactiveTerminal.DoWhile loop_block test.now id) }
+{
+    let test = test.clone_in(alloc)?;
+    Ok(ReactiveTerminal::DoWhile {
+        loop_block,
+        test,
+        id,
+    })
+}
+
+/// A `While` over the copy of its block.
+fn while_copy(
+    alloc: Global,
+    test: &ReactiveValue,
+    loop_block: ReactiveBlock,
+    id: EvaluationOrder,
+) -> Result<ReactiveTerminal, AllocError>
+    ensures { IfOk result (λ copy. copy ≡ ReactiveTerminal.While test.now loop_block id) }
+{
+    let test = test.clone_in(alloc)?;
+    Ok(ReactiveTerminal::While {
+        test,
+        loop_block,
+        id,
+    })
+}
+
+/// A `For` over the copy of its block.
+fn for_copy(
+    alloc: Global,
+    init: &ReactiveValue,
+    test: &ReactiveValue,
+    update: &Option<ReactiveValue>,
+    loop_block: ReactiveBlock,
+    id: EvaluationOrder,
+) -> Result<ReactiveTerminal, AllocError>
+    ensures { IfOk result (λ copy. copy ≡ ReactiveTerminal.For init.now test.now update.now loop_block id) }
+{
+    let update = update.clone_in(alloc)?;
+    let (init, test) = copied_pair(alloc, init, test)?;
+    Ok(ReactiveTerminal::For {
+        init,
+        test,
+        update,
+        loop_block,
+        id,
+    })
+}
+
+/// A `ForOf` over the copy of its block.
+fn for_of_copy(
+    alloc: Global,
+    init: &ReactiveValue,
+    test: &ReactiveValue,
+    loop_block: ReactiveBlock,
+    span: Option<Span>,
+    id: EvaluationOrder,
+) -> Result<ReactiveTerminal, AllocError>
+    ensures { IfOk result (λ copy. copy ≡ ReactiveTerminal.ForOf init.now test.now loop_block span id) }
+{
+    let (init, test) = copied_pair(alloc, init, test)?;
+    Ok(ReactiveTerminal::ForOf {
+        init,
+        test,
+        loop_block,
+        span,
+        id,
+    })
+}
+
+/// A `ForIn` over the copy of its block.
+fn for_in_copy(
+    alloc: Global,
+    init: &ReactiveValue,
+    loop_block: ReactiveBlock,
+    span: Option<Span>,
+    id: EvaluationOrder,
+) -> Result<ReactiveTerminal, AllocError>
+    ensures { IfOk result (λ copy. copy ≡ ReactiveTerminal.ForIn init.now loop_block span id) }
+{
+    let init = init.clone_in(alloc)?;
+    Ok(ReactiveTerminal::ForIn {
+        init,
+        loop_block,
+        span,
+        id,
+    })
+}
+
+/// Two values, copied.
+fn copied_pair(
+    alloc: Global,
+    first: &ReactiveValue,
+    second: &ReactiveValue,
+) -> Result<(ReactiveValue, ReactiveValue), AllocError>
+    ensures { IfOk result (λ copies. copies ≡ (first.now, second.now)) }
+{
+    let first = first.clone_in(alloc)?;
+    let second = second.clone_in(alloc)?;
+    Ok((first, second))
+}
+
+impl CloneIn for ReactiveFunction {
+    fn clone_in(&self, alloc: Global) -> Result<ReactiveFunction, AllocError> {
+        Ok(ReactiveFunction {
+            span: self.span,
+            id: self.id.clone_in(alloc)?,
+            name_hint: self.name_hint.clone_in(alloc)?,
+            params: self.params.copy_in(alloc)?,
+            generator: self.generator,
+            is_async: self.is_async,
+            body: self.body.clone_in(alloc)?,
+            directives: self.directives.clone_in(alloc)?,
+        })
+    }
+}

@@ -1,0 +1,106 @@
+//! Statements that were terminals of the graph.
+
+use crate::kind::ReactiveTerminalTargetKind;
+use crate::statement::ReactiveBlock;
+use crate::value::ReactiveValue;
+use rc_hir::Place;
+use rc_names::{BlockId, EvaluationOrder, List, Span};
+
+/// The block that a statement's jumps name.
+#[derive(Clone, Copy, Debug, PartialEq, Eq)]
+pub struct ReactiveLabel {
+    pub id: BlockId,
+    /// Whether no labeled jump names it.
+    pub implicit: bool,
+}
+
+/// A terminal with its label.
+#[cycle(tree)]
+#[derive(Drop)]
+pub struct ReactiveTerminalStatement {
+    pub terminal: ReactiveTerminal,
+    pub label: Option<ReactiveLabel>,
+}
+
+/// A case of a switch; the default where `test` is none.
+#[cycle(tree)]
+#[derive(Drop)]
+pub struct ReactiveSwitchCase {
+    pub test: Option<Place>,
+    pub block: Option<ReactiveBlock>,
+}
+
+/// A statement that was a terminal of the graph.
+#[cycle(tree)]
+#[derive(Drop)]
+pub enum ReactiveTerminal {
+    Break {
+        target: BlockId,
+        target_kind: ReactiveTerminalTargetKind,
+        id: EvaluationOrder,
+    },
+    Continue {
+        target: BlockId,
+        target_kind: ReactiveTerminalTargetKind,
+        id: EvaluationOrder,
+    },
+    Return {
+        value: Place,
+        id: EvaluationOrder,
+    },
+    Throw {
+        value: Place,
+        id: EvaluationOrder,
+    },
+    Switch {
+        test: Place,
+        cases: List<ReactiveSwitchCase>,
+        id: EvaluationOrder,
+    },
+    DoWhile {
+        loop_block: ReactiveBlock,
+        test: ReactiveValue,
+        id: EvaluationOrder,
+    },
+    While {
+        test: ReactiveValue,
+        loop_block: ReactiveBlock,
+        id: EvaluationOrder,
+    },
+    For {
+        init: ReactiveValue,
+        test: ReactiveValue,
+        update: Option<ReactiveValue>,
+        loop_block: ReactiveBlock,
+        id: EvaluationOrder,
+    },
+    ForOf {
+        init: ReactiveValue,
+        test: ReactiveValue,
+        loop_block: ReactiveBlock,
+        span: Option<Span>,
+        id: EvaluationOrder,
+    },
+    ForIn {
+        init: ReactiveValue,
+        loop_block: ReactiveBlock,
+        span: Option<Span>,
+        id: EvaluationOrder,
+    },
+    If {
+        test: Place,
+        consequent: ReactiveBlock,
+        alternate: Option<ReactiveBlock>,
+        id: EvaluationOrder,
+    },
+    Label {
+        block: ReactiveBlock,
+        id: EvaluationOrder,
+    },
+    Try {
+        block: ReactiveBlock,
+        handler_binding: Option<Place>,
+        handler: ReactiveBlock,
+        id: EvaluationOrder,
+    },
+}
