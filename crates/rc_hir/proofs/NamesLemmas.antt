@@ -6,7 +6,7 @@ use Rattle.std.proofs.lemmas.Option.{slice_get_cases}
 use Rattle.std.proofs.lemmas.List.Elements.{All-append, All-cons, All-nil}
 use Rattle.std.proofs.Math.ListN.{get_or-append}
 use Rattle.std.proofs.Math.Seq.{drop-cons}
-use Rattle.rc_hir.specs.GraphNames.{Name}
+use Rattle.rc_hir.specs.PartNames.{Name}
 use Rattle.rc_hir.specs.Names.{Judges, IsInTable, IsOutside, length_of}
 use Rattle.rc_hir.specs.declared.fault.Fault.{Fault}
 use Rattle.rc_hir.specs.declared.fault.Fault.TheVariants.{BadName}

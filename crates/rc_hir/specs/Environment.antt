@@ -1,5 +1,6 @@
 -- What the environment knows of an identifier, and how it grows.
-use Rattle.std.specs.Prelude.{◌≤◌, ◌-◌, ◌^◌, ℕ, Bool, true, false, List, [], ◌∷◌, ◌++◌, Option, None, length, slice_get, option_and_then}
+use Rattle.std.specs.Prelude.{◌≤◌, ◌-◌, ◌^◌, ◌⊎◌, ℕ, Bool, false, List, [], ◌∷◌, ◌++◌, Option, None}
+use Rattle.std.specs.Prelude.{length, slice_get, option_and_then}
 use Rattle.std.specs.Option.{option_map_or}
 use Rattle.rc_names.specs.declared.numbers.IdentifierId.{IdentifierId}
 use Rattle.rc_names.specs.declared.span.Span.{Span}
@@ -24,11 +25,13 @@ empty_environment = record {
 
 -- the type of an identifier, where both are in their tables
 abbrev pub type_of : Environment → IdentifierId → Option HirType
-type_of env id = option_and_then (λ identifier. slice_get env.types identifier.type_.0) (slice_get env.identifiers id.0)
+type_of env id =
+    option_and_then (λ identifier. slice_get env.types identifier.type_.0) (slice_get env.identifiers id.0)
 
 -- the row of shapes that the identifier's type names, where it is a function's
 abbrev pub signature : Environment → IdentifierId → Option ShapeRow
-signature env id = option_and_then (λ row. slice_get env.shapes row) (option_and_then signature_row (type_of env id))
+signature env id =
+    option_and_then (λ row. slice_get env.shapes row) (option_and_then signature_row (type_of env id))
 
 -- the identifier is a hook
 abbrev pub is_hook : Environment → IdentifierId → Bool
@@ -41,6 +44,10 @@ has_no_alias_signature env id = option_map_or (λ row. row.no_alias) (signature 
 -- a table that takes no further number
 abbrev pub IsFull : {T : Type 0} → List T → Type 0
 IsFull entries = 2 ^ 32 - 1 ≤ length entries
+
+-- identifiers or types take no further number
+abbrev pub IsOutOfNumbers : Environment → Type 0
+IsOutOfNumbers env = IsFull env.identifiers ⊎ IsFull env.types
 
 -- one more type, of which nothing is known
 abbrev pub with_type : Environment → Environment
@@ -58,4 +65,5 @@ unnamed number type_number span = record {
 
 -- one more identifier, of a type of its own
 abbrev pub with_identifier : Option Span → Environment → Environment
-with_identifier span env = record (with_type env) { identifiers = env.identifiers ++ unnamed (length env.identifiers) (length env.types) span ∷ [] }
+with_identifier span env =
+    record (with_type env) { identifiers = env.identifiers ++ unnamed (length env.identifiers) (length env.types) span ∷ [] }

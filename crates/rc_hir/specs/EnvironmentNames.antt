@@ -1,9 +1,9 @@
 -- The numbers that stand in the environment outside its functions, each with the table that it stands for.
-use Rattle.std.specs.Prelude.{List, [], ◌∷◌, ◌++◌, Option, None, Some}
+use Rattle.std.specs.Prelude.{List, [], ◌∷◌, ◌++◌}
 use Rattle.std.specs.List.{flat_map}
 use Rattle.rc_names.specs.declared.numbers.DeclarationId.{DeclarationId}
 use Rattle.rc_names.specs.declared.numbers.TypeId.{TypeId}
-use Rattle.rc_hir.specs.GraphNames.{Name, identifier_name, perhaps, scope_name}
+use Rattle.rc_hir.specs.PartNames.{Name, identifier_name, perhaps, scope_name}
 use Rattle.rc_hir.specs.declared.fault.TableName.TheVariants.{Declarations, Types, Shapes}
 use Rattle.rc_hir.specs.declared.types.HirType.{HirType}
 use Rattle.rc_hir.specs.declared.types.HirType.TheVariants as type
@@ -26,7 +26,8 @@ type_name id = (Types, id.0) ∷ []
 
 -- the numbers in what is known of an identifier
 abbrev pub identifier_names : Identifier → List Name
-identifier_names identifier = declaration_name identifier.declaration_id ++ (perhaps scope_name identifier.scope ++ type_name identifier.type_)
+identifier_names identifier =
+    declaration_name identifier.declaration_id ++ (perhaps scope_name identifier.scope ++ type_name identifier.type_)
 
 -- the number in a shape
 abbrev pub shape_names : Shape → List Name
@@ -45,7 +46,8 @@ dependency_names dependency = identifier_name dependency.identifier
 
 -- the numbers in a declaration of a scope
 abbrev pub declaration_names : DeclarationEntry → List Name
-declaration_names entry = identifier_name entry.key ++ (identifier_name entry.value.identifier ++ scope_name entry.value.scope)
+declaration_names entry =
+    identifier_name entry.key ++ (identifier_name entry.value.identifier ++ scope_name entry.value.scope)
 
 -- the number in the early return of a scope
 abbrev pub early_return_names : ReactiveScopeEarlyReturn → List Name
@@ -60,4 +62,5 @@ scope_names scope =
 
 -- the numbers in the environment, those of its functions left out
 abbrev pub environment_names : Environment → List Name
-environment_names env = flat_map identifier_names env.identifiers ++ (flat_map type_names env.types ++ flat_map scope_names env.scopes)
+environment_names env =
+    flat_map identifier_names env.identifiers ++ (flat_map type_names env.types ++ flat_map scope_names env.scopes)

@@ -3,6 +3,8 @@ pub mod Types
 pub mod Operands
 pub mod Terminal
 pub mod TerminalOperands
+pub mod PartNames
+pub mod ValueNames
 pub mod GraphNames
 pub mod EnvironmentNames
 pub mod Names

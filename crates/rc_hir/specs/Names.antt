@@ -1,6 +1,7 @@
 -- Every number of a graph and of its environment is in its table: below that table's length.
 use Rattle.std.specs.Prelude.{◌≡◌, ◌<◌, ◌≤◌, ◌⊎◌, ℕ, List, Result, Ok, Err, length, All, Any}
-use Rattle.rc_hir.specs.GraphNames.{Name, function_names}
+use Rattle.rc_hir.specs.GraphNames.{function_names}
+use Rattle.rc_hir.specs.PartNames.{Name}
 use Rattle.rc_hir.specs.EnvironmentNames.{environment_names}
 use Rattle.rc_hir.specs.declared.fault.Fault.{Fault}
 use Rattle.rc_hir.specs.declared.fault.Fault.TheVariants.{BadName}
@@ -46,7 +47,8 @@ Judges tables names (Err fault) = Any (IsOutside tables fault) names
 
 -- every number of a function is in its table
 abbrev pub FunctionInTables : Environment → HirFunction → Type 0
-FunctionInTables env function = All (IsInTable (lengths env (length function.instructions))) (function_names function)
+FunctionInTables env function =
+    All (IsInTable (lengths env (length function.instructions))) (function_names function)
 
 -- every number of the environment outside its functions is in its table
 abbrev pub EnvironmentInTables : Environment → Type 0
@@ -60,9 +62,15 @@ pub record NamesInTables (hir : HirFunction) (env : Environment) : Type 0 where
 
 -- the fault names a number of that function, which is outside its table
 abbrev pub NamesOutsideIn : Environment → Fault → HirFunction → Type 0
-NamesOutsideIn env fault function = Any (IsOutside (lengths env (length function.instructions)) fault) (function_names function)
+NamesOutsideIn env fault function =
+    Any (IsOutside (lengths env (length function.instructions)) fault) (function_names function)
 
--- the fault names a number of the graph, of a function of the table, or of the environment, which is outside its table
+-- the fault names a number of the environment outside its functions, which is outside its table
+abbrev pub NamesOutsideInEnvironment : Environment → Fault → Type 0
+NamesOutsideInEnvironment env fault = Any (IsOutside (lengths env 0) fault) (environment_names env)
+
+-- the fault names a number of the graph, of a function of the table, or of the environment, which is outside its
+-- table
 abbrev pub NamesOutside : HirFunction → Environment → Fault → Type 0
 NamesOutside hir env fault =
-    NamesOutsideIn env fault hir ⊎ (Any (NamesOutsideIn env fault) env.functions ⊎ Any (IsOutside (lengths env 0) fault) (environment_names env))
+    NamesOutsideIn env fault hir ⊎ (Any (NamesOutsideIn env fault) env.functions ⊎ NamesOutsideInEnvironment env fault)

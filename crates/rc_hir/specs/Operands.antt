@@ -1,4 +1,5 @@
--- The table of the 42 kinds: the places that a value reads, and those that it writes besides its row's target.
+-- The table of the 42 kinds: the places that a value reads, and those that it writes besides its row's
+-- target.
 --
 -- One line a kind, in the table's order. A spread counts as its place, and a hole as nothing.
 use Rattle.std.specs.Prelude.{List, [], ◌∷◌, ◌++◌, Option, None, Some, Result, Ok, Err, slice_get}
@@ -78,6 +79,10 @@ abbrev pub child_places : Option (List Place) → List Place
 child_places None = []
 child_places (Some children) = children
 
+-- a JSX element's tag, if it is a place, then each attribute's place, then the children
+abbrev pub jsx_places : JsxTag → List JsxAttribute → Option (List Place) → List Place
+jsx_places tag props children = tag_places tag ++ flat_map attribute_places props ++ child_places children
+
 -- a pattern's places, computed keys left out
 abbrev pub pattern_places : Pattern → List Place
 pattern_places (pattern.Array items) = flat_map item_places items
@@ -109,12 +114,13 @@ operands functions (kind.TypeCastExpression value annotation span) = Ok (value �
 operands functions (kind.Await value span) = Ok (value ∷ [])
 operands functions (kind.NewExpression callee args span) = Ok (callee ∷ flat_map argument_places args)
 operands functions (kind.CallExpression callee args span) = Ok (callee ∷ flat_map argument_places args)
-operands functions (kind.MethodCall receiver property args span) = Ok (receiver ∷ property ∷ flat_map argument_places args)
+operands functions (kind.MethodCall receiver property args span) =
+    Ok (receiver ∷ property ∷ flat_map argument_places args)
 operands functions (kind.ObjectExpression properties span) = Ok (flat_map entry_places properties)
 operands functions (kind.ObjectMethod lowered_func span) = context_places functions lowered_func
 operands functions (kind.FunctionExpression name lowered_func span) = context_places functions lowered_func
 operands functions (kind.ArrayExpression elements span) = Ok (flat_map element_places elements)
-operands functions (kind.JsxExpression tag props children span) = Ok (tag_places tag ++ flat_map attribute_places props ++ child_places children)
+operands functions (kind.JsxExpression tag props children span) = Ok (jsx_places tag props children)
 operands functions (kind.JsxFragment children span) = Ok children
 operands functions (kind.RegExpLiteral pattern flags span) = Ok []
 operands functions (kind.MetaProperty meta property span) = Ok []

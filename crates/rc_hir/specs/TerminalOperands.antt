@@ -37,4 +37,5 @@ terminal_operands (terminal.Unreachable id span) = []
 terminal_operands (terminal.MaybeThrow continuation handler id span) = []
 terminal_operands (terminal.Scope fallthrough block scope id span) = []
 terminal_operands (terminal.PrunedScope fallthrough block scope id span) = []
-terminal_operands (terminal.Try block handler_binding handler fallthrough id span) = perhaps_place handler_binding
+terminal_operands (terminal.Try block handler_binding handler fallthrough id span) =
+    perhaps_place handler_binding

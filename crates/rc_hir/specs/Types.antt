@@ -4,7 +4,6 @@ use Rattle.rc_hir.specs.declared.place.Effect.{Effect}
 use Rattle.rc_hir.specs.declared.place.Effect.TheVariants as effect
 use Rattle.rc_hir.specs.declared.types.HirType.{HirType}
 use Rattle.rc_hir.specs.declared.types.HirType.TheVariants as type
-use Rattle.rc_hir.specs.declared.types.Shape.{Shape}
 use Rattle.rc_hir.specs.declared.types.Shape.TheVariants as shape
 
 -- the row may change the value

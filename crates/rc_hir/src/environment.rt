@@ -67,15 +67,16 @@ impl Environment {
         }
     }
 
-    /// A new identifier, of a new type `Other`: it has no name and no scope, and its declaration has its own number.
+    /// A new identifier, of a new type `Other`: it has no name and no scope, and its declaration has its own
+    /// number.
     ///
-    /// `NoIds` comes where identifiers or types have no number left, and then nothing changed. `NoMemory` is want of
-    /// memory; after it at most the type is there.
+    /// `NoIds` comes where identifiers or types have no number left, and then nothing changed. `NoMemory` is want
+    /// of memory; after it at most the type is there.
     pub fn next_identifier_id(&mut self, span: Option<Span>) -> Result<IdentifierId, Fault>
         ensures ok { OnOk result (self.new ≡ spec.with_identifier span self.old) }
         ensures number { IfOk result (λ id. id.0 ≡ length self.old.identifiers) }
 
-        ensures no_ids { (result ≡ Err Fault.NoIds) ↔ (spec.IsFull self.old.identifiers ⊎ spec.IsFull self.old.types) }
+        ensures no_ids { (result ≡ Err Fault.NoIds) ↔ spec.IsOutOfNumbers self.old }
         ensures only { IfErr result (λ fault. (fault ≡ Fault.NoIds) ⊎ (fault ≡ Fault.NoMemory)) }
         ensures refused { result ≡ Err Fault.NoIds → self.new ≡ self.old }
         ensures err { OnErr result ((self.new ≡ self.old) ⊎ (self.new ≡ spec.with_type self.old)) }
@@ -114,7 +115,8 @@ impl Environment {
         }
     }
 
-    /// Whether what the identifier answers is no alias of its arguments; false where a number is outside its table.
+    /// Whether what the identifier answers is no alias of its arguments; false where a number is outside its
+    /// table.
     pub fn has_no_alias_signature(&self, id: IdentifierId) -> bool
         ensures { result ≡ spec.has_no_alias_signature self.now id }
     {

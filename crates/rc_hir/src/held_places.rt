@@ -3,7 +3,7 @@
 ghost use Rattle.std.specs.Prelude.{◌≡◌, ◌++◌, Ok, OnOk};
 ghost use Rattle.std.specs.List.{flat_map};
 ghost use Rattle.rc_hir.specs.Fault.{Reads};
-ghost use Rattle.rc_hir.specs.Operands.{argument_places, attribute_places, element_places, entry_places, item_places, key_places};
+ghost use Rattle.rc_hir.specs.Operands as table;
 ghost use Rattle.rc_hir.specs.TerminalOperands.{case_places};
 
 use crate::fault::Fault;
@@ -30,7 +30,7 @@ pub trait HoldsPlaces {
 }
 
 impl HoldsPlaces for PlaceOrSpread {
-    ghost held = { argument_places };
+    ghost held = { table.argument_places };
 
     fn push_held(&self, places: &mut List<Place>) -> Result<(), AllocError> {
         match self {
@@ -41,7 +41,7 @@ impl HoldsPlaces for PlaceOrSpread {
 }
 
 impl HoldsPlaces for ArrayElement {
-    ghost held = { element_places };
+    ghost held = { table.element_places };
 
     fn push_held(&self, places: &mut List<Place>) -> Result<(), AllocError> {
         match self {
@@ -53,7 +53,7 @@ impl HoldsPlaces for ArrayElement {
 }
 
 impl HoldsPlaces for ArrayPatternElement {
-    ghost held = { item_places };
+    ghost held = { table.item_places };
 
     fn push_held(&self, places: &mut List<Place>) -> Result<(), AllocError> {
         match self {
@@ -65,7 +65,7 @@ impl HoldsPlaces for ArrayPatternElement {
 }
 
 impl HoldsPlaces for ObjectPropertyOrSpread {
-    ghost held = { entry_places };
+    ghost held = { table.entry_places };
 
     fn push_held(&self, places: &mut List<Place>) -> Result<(), AllocError> {
         match self {
@@ -79,7 +79,7 @@ impl HoldsPlaces for ObjectPropertyOrSpread {
 }
 
 fn push_key(places: &mut List<Place>, key: &ObjectPropertyKey) -> Result<(), AllocError>
-    ensures { OnOk result (places.new ≡ places.old ++ key_places key.now) }
+    ensures { OnOk result (places.new ≡ places.old ++ table.key_places key.now) }
 {
     match key {
         ObjectPropertyKey::Identifier(_)
@@ -90,7 +90,7 @@ fn push_key(places: &mut List<Place>, key: &ObjectPropertyKey) -> Result<(), All
 }
 
 impl HoldsPlaces for JsxAttribute {
-    ghost held = { attribute_places };
+    ghost held = { table.attribute_places };
 
     fn push_held(&self, places: &mut List<Place>) -> Result<(), AllocError> {
         match self {

@@ -1,13 +1,12 @@
 //! The check that every number of a graph and of its environment is in its table.
 //!
-//! Each type that holds numbers checks its own, part by part, in the order in which `specs/GraphNames.antt` and
-//! `specs/EnvironmentNames.antt` list them. Nothing is built, and each part is looked at once.
+//! Each type that holds numbers checks its own, part by part, in the order in which the files of `specs/` list them:
+//! `PartNames`, `ValueNames`, `GraphNames` and `EnvironmentNames`. Nothing is built, and each part is looked at once.
 
 #![tactic(auto, using(crate::proofs::NamesLemmas::judging))]
 
 ghost use Rattle.std.specs.Prelude.{◌≡◌, [], ◌∷◌, All, Any, IfErr, OnOk};
-ghost use Rattle.rc_hir.specs.EnvironmentNames.{environment_names};
-ghost use Rattle.rc_hir.specs.Names.{length_of, lengths, EnvironmentInTables, FunctionInTables, IsOutside, Judges, NamesInTables, NamesOutside, NamesOutsideIn};
+ghost use Rattle.rc_hir.specs.Names as spec;
 
 mod environment;
 mod graph;
@@ -31,7 +30,7 @@ pub struct Lengths {
 
 impl Lengths {
     fn new(env: &Environment, instructions: usize) -> Lengths
-        ensures { result ≡ lengths env.now instructions }
+        ensures { result ≡ spec.lengths env.now instructions }
     {
         Lengths {
             identifiers: env.identifiers.len(),
@@ -44,7 +43,7 @@ impl Lengths {
     }
 
     fn of(self, table: TableName) -> usize
-        ensures { result ≡ length_of self table }
+        ensures { result ≡ spec.length_of self table }
     {
         match table {
             TableName::Identifiers | TableName::Declarations => self.identifiers,
@@ -58,7 +57,7 @@ impl Lengths {
 
     /// Whether a number is in its table. `BadName` names it where it isn't.
     pub fn check(self, table: TableName, index: u32) -> Result<(), Fault>
-        ensures { Judges self ((table, index) ∷ []) result }
+        ensures { spec.Judges self ((table, index) ∷ []) result }
     {
         if (index as usize) < self.of(table) {
             Ok(())
@@ -68,14 +67,14 @@ impl Lengths {
     }
 }
 
-/// Checks that every identifier, declaration, type, scope, function, instruction and shape number of the graph, of
-/// each function of the table and of the environment is in its table. A row of a function counts also where no block
-/// names it. It takes no memory.
+/// Checks that every identifier, declaration, type, scope, function, instruction and shape number of the graph,
+/// of each function of the table and of the environment is in its table. A row of a function counts also where
+/// no block names it. It takes no memory.
 ///
 /// `BadName` names one such number that is outside its table, and there is no other fault.
 pub fn check_names(hir: &HirFunction, env: &Environment) -> Result<(), Fault>
-    ensures ok { OnOk result (NamesInTables hir.now env.now) }
-    ensures bad_name { IfErr result (NamesOutside hir.now env.now) }
+    ensures ok { OnOk result (spec.NamesInTables hir.now env.now) }
+    ensures bad_name { IfErr result (spec.NamesOutside hir.now env.now) }
 {
     check_function(hir, env)?;
     check_functions(env)?;
@@ -83,15 +82,15 @@ pub fn check_names(hir: &HirFunction, env: &Environment) -> Result<(), Fault>
 }
 
 fn check_function(function: &HirFunction, env: &Environment) -> Result<(), Fault>
-    ensures ok { OnOk result (FunctionInTables env.now function.now) }
-    ensures bad_name { IfErr result (λ fault. NamesOutsideIn env.now fault function.now) }
+    ensures ok { OnOk result (spec.FunctionInTables env.now function.now) }
+    ensures bad_name { IfErr result (λ fault. spec.NamesOutsideIn env.now fault function.now) }
 {
     graph::check_parts(function, Lengths::new(env, function.instructions.len()))
 }
 
 fn check_functions(env: &Environment) -> Result<(), Fault>
-    ensures ok { OnOk result (All (FunctionInTables env.now) env.now.functions) }
-    ensures bad_name { IfErr result (λ fault. Any (NamesOutsideIn env.now fault) env.now.functions) }
+    ensures ok { OnOk result (All (spec.FunctionInTables env.now) env.now.functions) }
+    ensures bad_name { IfErr result (λ fault. Any (spec.NamesOutsideIn env.now fault) env.now.functions) }
 {
     for function in env.functions.as_slice() {
         check_function(function, env)?;
@@ -100,8 +99,8 @@ fn check_functions(env: &Environment) -> Result<(), Fault>
 }
 
 fn check_tables(env: &Environment) -> Result<(), Fault>
-    ensures ok { OnOk result (EnvironmentInTables env.now) }
-    ensures bad_name { IfErr result (λ fault. Any (IsOutside (lengths env.now 0) fault) (environment_names env.now)) }
+    ensures ok { OnOk result (spec.EnvironmentInTables env.now) }
+    ensures bad_name { IfErr result (spec.NamesOutsideInEnvironment env.now) }
 {
     environment::check_parts(env, Lengths::new(env, 0))
 }

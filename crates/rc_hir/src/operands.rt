@@ -1,12 +1,12 @@
 //! Readers of the places that a value, a pattern or a terminal names, in the order in which they are read.
 //!
-//! The arms are the lines of the tables in `specs/Operands.antt` and `specs/TerminalOperands.antt`; kinds whose lines
-//! are one share an arm.
+//! The arms are the lines of the tables in `specs/Operands.antt` and `specs/TerminalOperands.antt`; kinds whose
+//! lines are one share an arm.
 
 ghost use Rattle.std.specs.Prelude.{◌≡◌, [], ◌∷◌, ◌++◌, Ok, OnOk};
 ghost use Rattle.std.specs.List.{flat_map};
 ghost use Rattle.rc_hir.specs.Fault.{Reads};
-ghost use Rattle.rc_hir.specs.Operands.{attribute_places, child_places, context_places, operands, pattern_places, tag_places, value_targets, written_places};
+ghost use Rattle.rc_hir.specs.Operands as table;
 ghost use Rattle.rc_hir.specs.TerminalOperands.{terminal_operands};
 
 use crate::environment::Environment;
@@ -23,13 +23,13 @@ use std::alloc::{AllocError, Global};
 
 /// The operands of a value, in order.
 ///
-/// `BadName` names a nested function that is outside the environment's table, and `NoMemory` is want of memory.
+/// `BadName` names a nested function that is outside the environment's table; `NoMemory` is want of memory.
 pub fn each_instruction_value_operand(
     alloc: Global,
     value: &InstructionValue,
     env: &Environment,
 ) -> Result<List<Place>, Fault>
-    ensures { Reads (operands env.now.functions value.now) result }
+    ensures { Reads (table.operands env.now.functions value.now) result }
 {
     match value {
         Kind::LoadLocal { place, .. } | Kind::LoadContext { place, .. } => listed(alloc, &[*place]),
@@ -105,7 +105,7 @@ pub fn each_instruction_value_lvalue(
     alloc: Global,
     value: &InstructionValue,
 ) -> Result<List<Place>, Fault>
-    ensures { Reads (Ok (value_targets value.now)) result }
+    ensures { Reads (Ok (table.value_targets value.now)) result }
 {
     match value {
         Kind::DeclareLocal { lvalue, .. }
@@ -157,7 +157,7 @@ pub fn each_instruction_value_lvalue(
 
 /// The places of a pattern, in order; computed keys aren't among them. The only fault is `NoMemory`.
 pub fn each_pattern_operand(alloc: Global, pattern: &Pattern) -> Result<List<Place>, Fault>
-    ensures { Reads (Ok (pattern_places pattern.now)) result }
+    ensures { Reads (Ok (table.pattern_places pattern.now)) result }
 {
     match pattern {
         Pattern::Array { items } => gathered(alloc, &[], items),
@@ -199,7 +199,7 @@ pub fn each_terminal_operand(alloc: Global, terminal: &Terminal) -> Result<List<
 }
 
 fn push_tag(places: &mut List<Place>, tag: &JsxTag) -> Result<(), AllocError>
-    ensures { OnOk result (places.new ≡ places.old ++ tag_places tag.now) }
+    ensures { OnOk result (places.new ≡ places.old ++ table.tag_places tag.now) }
 {
     match tag {
         JsxTag::Place(place) => places.push(*place),
@@ -213,7 +213,7 @@ fn of_jsx(
     props: &List<JsxAttribute>,
     children: &Option<List<Place>>,
 ) -> Result<List<Place>, Fault>
-    ensures { Reads (Ok (tag_places tag.now ++ flat_map attribute_places props.now ++ child_places children.now)) result }
+    ensures { Reads (Ok (table.jsx_places tag.now props.now children.now)) result }
 {
     let mut places = List::new(alloc);
     push_tag(&mut places, tag)?;
@@ -229,7 +229,7 @@ fn of_context(
     lowered: LoweredFunction,
     env: &Environment,
 ) -> Result<List<Place>, Fault>
-    ensures { Reads (context_places env.now.functions lowered) result }
+    ensures { Reads (table.context_places env.now.functions lowered) result }
 {
     match env.functions.get(lowered.func) {
         Some(function) => Ok(function.context.copy_in(alloc)?),
@@ -244,7 +244,7 @@ fn of_object_pattern(
     alloc: Global,
     properties: &List<ObjectPropertyOrSpread>,
 ) -> Result<List<Place>, Fault>
-    ensures { Reads (Ok (flat_map written_places properties.now)) result }
+    ensures { Reads (Ok (flat_map table.written_places properties.now)) result }
 {
     let mut places = List::new(alloc);
     for property in properties.as_slice() {
@@ -254,7 +254,7 @@ fn of_object_pattern(
 }
 
 fn written_place(property: &ObjectPropertyOrSpread) -> Place
-    ensures { written_places property.now ≡ result ∷ [] }
+    ensures { table.written_places property.now ≡ result ∷ [] }
 {
     match property {
         ObjectPropertyOrSpread::Property(property) => property.place,

@@ -3,7 +3,7 @@
 #![tactic(auto, using(crate::proofs::NamesLemmas::judging))]
 
 ghost use Rattle.std.specs.Prelude.{◌≡◌};
-ghost use Rattle.rc_hir.specs.EnvironmentNames.{declaration_name, declaration_names, dependency_names, early_return_names, environment_names, identifier_names, scope_names, shape_names, type_name, type_names};
+ghost use Rattle.rc_hir.specs.EnvironmentNames as spec;
 ghost use Rattle.rc_hir.specs.Names.{Judges};
 
 use super::Lengths;
@@ -17,7 +17,7 @@ use crate::types::{HirType, Shape};
 use rc_names::{DeclarationId, TypeId};
 
 impl HoldsNames for DeclarationId {
-    ghost names = { declaration_name };
+    ghost names = { spec.declaration_name };
 
     fn check(&self, tables: Lengths) -> Result<(), Fault> {
         tables.check(TableName::Declarations, self.0)
@@ -25,7 +25,7 @@ impl HoldsNames for DeclarationId {
 }
 
 impl HoldsNames for TypeId {
-    ghost names = { type_name };
+    ghost names = { spec.type_name };
 
     fn check(&self, tables: Lengths) -> Result<(), Fault> {
         tables.check(TableName::Types, self.0)
@@ -33,7 +33,7 @@ impl HoldsNames for TypeId {
 }
 
 impl HoldsNames for Identifier {
-    ghost names = { identifier_names };
+    ghost names = { spec.identifier_names };
 
     fn check(&self, tables: Lengths) -> Result<(), Fault> {
         check_three(&self.declaration_id, &self.scope, &self.type_, tables)
@@ -41,7 +41,7 @@ impl HoldsNames for Identifier {
 }
 
 impl HoldsNames for Shape {
-    ghost names = { shape_names };
+    ghost names = { spec.shape_names };
 
     fn check(&self, tables: Lengths) -> Result<(), Fault> {
         match self {
@@ -61,7 +61,7 @@ impl HoldsNames for Shape {
 }
 
 impl HoldsNames for HirType {
-    ghost names = { type_names };
+    ghost names = { spec.type_names };
 
     fn check(&self, tables: Lengths) -> Result<(), Fault> {
         match self {
@@ -72,7 +72,7 @@ impl HoldsNames for HirType {
 }
 
 impl HoldsNames for ReactiveScopeDependency {
-    ghost names = { dependency_names };
+    ghost names = { spec.dependency_names };
 
     fn check(&self, tables: Lengths) -> Result<(), Fault> {
         self.identifier.check(tables)
@@ -80,7 +80,7 @@ impl HoldsNames for ReactiveScopeDependency {
 }
 
 impl HoldsNames for DeclarationEntry {
-    ghost names = { declaration_names };
+    ghost names = { spec.declaration_names };
 
     fn check(&self, tables: Lengths) -> Result<(), Fault> {
         check_three(&self.key, &self.value.identifier, &self.value.scope, tables)
@@ -88,7 +88,7 @@ impl HoldsNames for DeclarationEntry {
 }
 
 impl HoldsNames for ReactiveScopeEarlyReturn {
-    ghost names = { early_return_names };
+    ghost names = { spec.early_return_names };
 
     fn check(&self, tables: Lengths) -> Result<(), Fault> {
         self.value.check(tables)
@@ -96,7 +96,7 @@ impl HoldsNames for ReactiveScopeEarlyReturn {
 }
 
 impl HoldsNames for ReactiveScope {
-    ghost names = { scope_names };
+    ghost names = { spec.scope_names };
 
     fn check(&self, tables: Lengths) -> Result<(), Fault> {
         check_both(&self.dependencies, &self.declarations, tables)?;
@@ -111,7 +111,7 @@ impl HoldsNames for ReactiveScope {
 
 /// Checks the numbers in the tables of identifiers, types and scopes.
 pub fn check_parts(env: &Environment, tables: Lengths) -> Result<(), Fault>
-    ensures { Judges tables (environment_names env.now) result }
+    ensures { Judges tables (spec.environment_names env.now) result }
 {
     check_three(&env.identifiers, &env.types, &env.scopes, tables)
 }

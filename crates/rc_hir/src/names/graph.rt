@@ -3,8 +3,9 @@
 #![tactic(auto, using(crate::proofs::NamesLemmas::judging))]
 
 ghost use Rattle.std.specs.Prelude.{◌≡◌};
-ghost use Rattle.rc_hir.specs.GraphNames.{argument_names, attribute_names, block_names, case_names, element_names, entry_names, function_name, function_names, identifier_name, instruction_names, item_names, key_names, lowered_names, parameter_names, pattern_names, place_names, row_name, scope_name, tag_names, target_names, terminal_names};
+ghost use Rattle.rc_hir.specs.GraphNames as graph;
 ghost use Rattle.rc_hir.specs.Names.{Judges};
+ghost use Rattle.rc_hir.specs.PartNames as part;
 
 use super::Lengths;
 use super::parts::{HoldsNames, check_both, check_three};
@@ -19,7 +20,7 @@ use crate::terminal::{Case, Terminal};
 use rc_names::{FunctionId, IdentifierId, InstructionId, ScopeId};
 
 impl HoldsNames for IdentifierId {
-    ghost names = { identifier_name };
+    ghost names = { part.identifier_name };
 
     fn check(&self, tables: Lengths) -> Result<(), Fault> {
         tables.check(TableName::Identifiers, self.0)
@@ -27,7 +28,7 @@ impl HoldsNames for IdentifierId {
 }
 
 impl HoldsNames for ScopeId {
-    ghost names = { scope_name };
+    ghost names = { part.scope_name };
 
     fn check(&self, tables: Lengths) -> Result<(), Fault> {
         tables.check(TableName::Scopes, self.0)
@@ -35,7 +36,7 @@ impl HoldsNames for ScopeId {
 }
 
 impl HoldsNames for FunctionId {
-    ghost names = { function_name };
+    ghost names = { part.function_name };
 
     fn check(&self, tables: Lengths) -> Result<(), Fault> {
         tables.check(TableName::Functions, self.0)
@@ -43,7 +44,7 @@ impl HoldsNames for FunctionId {
 }
 
 impl HoldsNames for InstructionId {
-    ghost names = { row_name };
+    ghost names = { part.row_name };
 
     fn check(&self, tables: Lengths) -> Result<(), Fault> {
         tables.check(TableName::Instructions, self.0)
@@ -51,7 +52,7 @@ impl HoldsNames for InstructionId {
 }
 
 impl HoldsNames for Place {
-    ghost names = { place_names };
+    ghost names = { part.place_names };
 
     fn check(&self, tables: Lengths) -> Result<(), Fault> {
         self.identifier.check(tables)
@@ -59,7 +60,7 @@ impl HoldsNames for Place {
 }
 
 impl HoldsNames for LValue {
-    ghost names = { target_names };
+    ghost names = { part.target_names };
 
     fn check(&self, tables: Lengths) -> Result<(), Fault> {
         self.place.check(tables)
@@ -67,7 +68,7 @@ impl HoldsNames for LValue {
 }
 
 impl HoldsNames for LoweredFunction {
-    ghost names = { lowered_names };
+    ghost names = { part.lowered_names };
 
     fn check(&self, tables: Lengths) -> Result<(), Fault> {
         self.func.check(tables)
@@ -75,7 +76,7 @@ impl HoldsNames for LoweredFunction {
 }
 
 impl HoldsNames for ParamPattern {
-    ghost names = { parameter_names };
+    ghost names = { part.parameter_names };
 
     fn check(&self, tables: Lengths) -> Result<(), Fault> {
         match self {
@@ -86,7 +87,7 @@ impl HoldsNames for ParamPattern {
 }
 
 impl HoldsNames for PlaceOrSpread {
-    ghost names = { argument_names };
+    ghost names = { part.argument_names };
 
     fn check(&self, tables: Lengths) -> Result<(), Fault> {
         match self {
@@ -97,7 +98,7 @@ impl HoldsNames for PlaceOrSpread {
 }
 
 impl HoldsNames for ArrayElement {
-    ghost names = { element_names };
+    ghost names = { part.element_names };
 
     fn check(&self, tables: Lengths) -> Result<(), Fault> {
         match self {
@@ -109,7 +110,7 @@ impl HoldsNames for ArrayElement {
 }
 
 impl HoldsNames for ArrayPatternElement {
-    ghost names = { item_names };
+    ghost names = { part.item_names };
 
     fn check(&self, tables: Lengths) -> Result<(), Fault> {
         match self {
@@ -121,7 +122,7 @@ impl HoldsNames for ArrayPatternElement {
 }
 
 impl HoldsNames for ObjectPropertyKey {
-    ghost names = { key_names };
+    ghost names = { part.key_names };
 
     fn check(&self, tables: Lengths) -> Result<(), Fault> {
         match self {
@@ -134,7 +135,7 @@ impl HoldsNames for ObjectPropertyKey {
 }
 
 impl HoldsNames for ObjectPropertyOrSpread {
-    ghost names = { entry_names };
+    ghost names = { part.entry_names };
 
     fn check(&self, tables: Lengths) -> Result<(), Fault> {
         match self {
@@ -149,7 +150,7 @@ impl HoldsNames for ObjectPropertyOrSpread {
 }
 
 impl HoldsNames for Pattern {
-    ghost names = { pattern_names };
+    ghost names = { part.pattern_names };
 
     fn check(&self, tables: Lengths) -> Result<(), Fault> {
         match self {
@@ -160,7 +161,7 @@ impl HoldsNames for Pattern {
 }
 
 impl HoldsNames for JsxTag {
-    ghost names = { tag_names };
+    ghost names = { part.tag_names };
 
     fn check(&self, tables: Lengths) -> Result<(), Fault> {
         match self {
@@ -171,7 +172,7 @@ impl HoldsNames for JsxTag {
 }
 
 impl HoldsNames for JsxAttribute {
-    ghost names = { attribute_names };
+    ghost names = { part.attribute_names };
 
     fn check(&self, tables: Lengths) -> Result<(), Fault> {
         match self {
@@ -182,7 +183,7 @@ impl HoldsNames for JsxAttribute {
 }
 
 impl HoldsNames for Instruction {
-    ghost names = { instruction_names };
+    ghost names = { graph.instruction_names };
 
     fn check(&self, tables: Lengths) -> Result<(), Fault> {
         check_both(&self.lvalue, &self.value, tables)
@@ -190,7 +191,7 @@ impl HoldsNames for Instruction {
 }
 
 impl HoldsNames for Case {
-    ghost names = { case_names };
+    ghost names = { graph.case_names };
 
     fn check(&self, tables: Lengths) -> Result<(), Fault> {
         self.test.check(tables)
@@ -198,7 +199,7 @@ impl HoldsNames for Case {
 }
 
 impl HoldsNames for Terminal {
-    ghost names = { terminal_names };
+    ghost names = { graph.terminal_names };
 
     fn check(&self, tables: Lengths) -> Result<(), Fault> {
         match self {
@@ -230,7 +231,7 @@ impl HoldsNames for Terminal {
 }
 
 impl HoldsNames for BasicBlock {
-    ghost names = { block_names };
+    ghost names = { graph.block_names };
 
     fn check(&self, tables: Lengths) -> Result<(), Fault> {
         check_both(&self.instructions, &self.terminal, tables)
@@ -239,7 +240,7 @@ impl HoldsNames for BasicBlock {
 
 /// Checks the numbers of a function, where its rows are counted already.
 pub fn check_parts(function: &HirFunction, tables: Lengths) -> Result<(), Fault>
-    ensures { Judges tables (function_names function.now) result }
+    ensures { Judges tables (graph.function_names function.now) result }
 {
     function.params.check(tables)?;
     check_three(

@@ -4,7 +4,7 @@
 
 ghost use Rattle.std.specs.Prelude.{◌≡◌, ◌++◌, slice_get, Some};
 ghost use Rattle.std.specs.List.{flat_map};
-ghost use Rattle.rc_hir.specs.GraphNames.{perhaps, under_key};
+ghost use Rattle.rc_hir.specs.PartNames.{perhaps, under_key};
 ghost use Rattle.rc_hir.specs.Names.{Judges};
 
 use super::Lengths;
@@ -14,7 +14,7 @@ use rc_names::{Keyed, List, Name, Table};
 /// A part that holds numbers.
 pub trait HoldsNames {
     ghost use Rattle.std.specs.Prelude.{List as Entries};
-    ghost use Rattle.rc_hir.specs.GraphNames.{Name};
+    ghost use Rattle.rc_hir.specs.PartNames.{Name};
 
     /// The numbers, each with the table that it stands for.
     ghost names: { Self → Entries Name };

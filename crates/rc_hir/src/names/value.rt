@@ -2,7 +2,7 @@
 
 #![tactic(auto, using(crate::proofs::NamesLemmas::judging))]
 
-ghost use Rattle.rc_hir.specs.GraphNames.{value_names};
+ghost use Rattle.rc_hir.specs.ValueNames.{value_names};
 
 use super::Lengths;
 use super::parts::{HoldsNames, check_both, check_three};

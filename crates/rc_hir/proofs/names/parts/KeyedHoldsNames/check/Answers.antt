@@ -1,6 +1,6 @@
 use Rattle.std.proofs.Common.{◌≤◌, ◌<◌, length, arith}
 use Rattle.std.proofs.lemmas.Result.{err_from_is_err_and}
-use Rattle.rc_hir.specs.GraphNames.{under_key}
+use Rattle.rc_hir.specs.PartNames.{under_key}
 use Rattle.rc_hir.proofs.NamesLemmas.{judges_next_at, judges_no_part, judges_stop_at}
 use Rattle.rc_hir.proofs.names.parts.KeyedHoldsNames.check.Goals as goal
 

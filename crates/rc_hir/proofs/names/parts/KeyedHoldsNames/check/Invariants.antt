@@ -1,6 +1,6 @@
 use Rattle.std.proofs.Common.{Result, drop}
 use Rattle.std.specs.List.{flat_map}
-use Rattle.rc_hir.specs.GraphNames.{under_key}
+use Rattle.rc_hir.specs.PartNames.{under_key}
 use Rattle.rc_hir.specs.Names.{Judges}
 use Rattle.rc_hir.specs.declared.fault.Fault.{Fault}
 use Rattle.rc_hir.proofs.names.parts.KeyedHoldsNames.check.Given as goal
