@@ -1,4 +1,11 @@
+pub mod RewriteRunLemmas
+pub mod RewriteKnownLemmas
+pub mod RewriteValueLemmas
+pub mod RewriteStatementKnownLemmas
+pub mod RewriteStatementLemmas
+pub mod RewriteKeepLemmas
 pub mod OutcomeLemmas
 pub mod ReadLemmas
 pub mod ReadStatementLemmas
 pub mod ReadFunctionLemmas
+pub mod NestedLemmas

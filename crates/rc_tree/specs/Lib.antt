@@ -3,6 +3,9 @@ pub mod Outcome
 pub mod Steps
 pub mod Read
 pub mod ReadFunction
+pub mod Nested
 pub mod Run
 pub mod RewriteSteps
+pub mod NoDeeper
 pub mod Rewrite
+pub mod RewriteKeeps

@@ -31,8 +31,14 @@ Meets Spent result end = Unit {0}
 Meets (Failed fault) result end = (result ≡ Err NoMemory) ⊎ (result ≡ Err fault)
 Meets (Done d) result end = (result ≡ Err NoMemory) ⊎ ((result ≡ Ok d.0) × (end ≡ d.1))
 
+-- a bound that was enough
+unfoldable pub Known : {A : Type 0} → Run A → Type 0
+Known Spent = ⊥
+Known (Failed fault) = Unit {0}
+Known (Done a) = Unit {0}
+
 -- a computation whose bound is enough, as a step; a spent one, which doesn't come, would be want of memory
-abbrev pub settled : {A : Type 0} → Run A → Result A Fault
+unfoldable pub settled : {A : Type 0} → Run A → Result A Fault
 settled Spent = Err NoMemory
 settled (Failed fault) = Err fault
 settled (Done a) = Ok a
@@ -45,14 +51,18 @@ Hook W X A = W → X → Result (A × (W × X)) Fault
 abbrev pub Part : Type 0 → Type 0 → Type 0
 Part W X = W → X → Run (Unit {0} × (W × X))
 
+-- the same of a part that is put into a list, at its end
+abbrev pub Into : Type 0 → Type 0 → Type 0
+Into W X = W → List X → X → Run (Unit {0} × (W × List X))
+
 module _ {W X : Type 0} where
   -- each entry of a list, in order, with what is done so far
-  abbrev pub in_turn : (W → List X → X → Run (Unit {0} × (W × List X))) → W → List X → List X → Run (Unit {0} × (W × List X))
+  abbrev pub in_turn : Into W X → W → List X → List X → Run (Unit {0} × (W × List X))
   in_turn into w done [] = Done (tt, (w, done))
   in_turn into w done (x ∷ xs) = bind (into w done x) (λ r. in_turn into r.1.0 r.1.1 xs)
 
   -- an entry, walked, at the end of those that are done
-  abbrev pub kept_into : Part W X → W → List X → X → Run (Unit {0} × (W × List X))
+  abbrev pub kept_into : Part W X → Into W X
   kept_into part w done x = bind (part w x) (λ r. Done (tt, (r.1.0, done ++ r.1.1 ∷ [])))
 
   -- a list, each entry walked in its place

@@ -5,15 +5,19 @@ mod copies;
 mod function;
 mod kind;
 pub mod read;
+pub mod rewrite;
 mod scope;
 mod statement;
 mod terminal;
+#[cfg(test)]
+mod tests;
 mod transform;
 mod value;
 mod visitor;
 
 pub use function::ReactiveFunction;
 pub use kind::ReactiveTerminalTargetKind;
+pub use read::function::{visit_hir_function, visit_reactive_function};
 pub use scope::{PrunedReactiveScopeBlock, ReactiveScopeBlock};
 pub use statement::{ReactiveBlock, ReactiveStatement};
 pub use terminal::{

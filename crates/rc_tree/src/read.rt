@@ -1,9 +1,8 @@
 //! The read walk: each call walks the inside of its part, without a change and without a copy.
 
-mod function;
+pub(crate) mod function;
 mod statement;
 mod value;
 
-pub use function::{visit_hir_function, visit_reactive_function};
 pub use statement::{traverse_block, traverse_pruned_scope, traverse_scope, traverse_terminal};
 pub use value::{traverse_instruction, traverse_value};

@@ -4,11 +4,13 @@
 //! tables. Each row is copied once, into the row of the tree that the hooks are handed.
 #![tactic(auto, using(crate::proofs::ReadFunctionLemmas::reading_functions))]
 
-ghost use Rattle.std.specs.Prelude.{◌≡◌, false, map, slice_get, slice_set, IfOk, OnOk};
+ghost use Rattle.std.specs.Prelude.{◌≡◌, ◌⊎◌, false, map, slice_get, slice_set, IfOk, OnOk};
 ghost use Rattle.rc_tree.specs.Outcome.{Gives, each, perhaps};
 ghost use Rattle.rc_tree.specs.Read.{read_block};
 ghost use Rattle.rc_hir.specs.Terminal.{evaluation_order};
 ghost use Rattle.rc_hir.specs.TerminalOperands.{terminal_operands};
+ghost use Rattle.rc_names.specs.declared.numbers.FunctionId.{FunctionId as Number};
+ghost use Rattle.rc_tree.specs.Nested.{CycleAt, HookGives, NoCycle};
 ghost use Rattle.rc_tree.specs.ReadFunction.{as_row, basic_block_at, function_at, held_function, numbered_at, param_place, read_function, row_at};
 
 use crate::function::ReactiveFunction;
@@ -45,7 +47,9 @@ pub fn visit_hir_function<V: ReactiveFunctionVisitor>(
     func: FunctionId,
     state: &mut V::State,
 ) -> Result<(), Fault>
-    ensures { Gives (read_function (V.steps visitor.now) (V.functions visitor.now) func state.old) result state.new }
+    ensures walk { Gives (read_function (V.steps visitor.now) (V.functions visitor.now) func state.old) result state.new }
+    ensures no_cycle { OnOk result (NoCycle (V.functions visitor.now) func) }
+    ensures cycle { (g : Number) → result ≡ Err (Fault.FunctionCycle g) → HookGives (V.steps visitor.now) (Fault.FunctionCycle g) ⊎ CycleAt (V.functions visitor.now) func g }
 {
     let mut entered = none_entered(alloc, visitor.env().functions.as_slice())?;
     walk_function(alloc, visitor, &mut entered, func, state)

@@ -1,0 +1,22 @@
+-- What is left is no deeper than all rows, and so far the walk of all is that of what is left.
+use Rattle.std.proofs.Common.{◌≤◌, ℕ, reverse, length}
+use denote.Param.Weighed.{most}
+use Rattle.rc_tree.proofs.RewriteRunLemmas.{So}
+use Rattle.rc_tree.specs.Run.{in_turn, kept_into}
+use Rattle.rc_tree.specs.Rewrite.{instruction_at, rows_at, value_to}
+use Rattle.rc_tree.proofs.value.ReactiveInstruction.TheLaws.{the_size}
+use Rattle.rc_tree.proofs.rewrite.value.+rewrite_value.Given as goal
+
+abbrev pub invariant-walk_rows-loop-row : goal.invariant-walk_rows-loop-row
+invariant-walk_rows-loop-row g l =
+    let steps = g.T.ReactiveFunctionTransform.steps in
+    let functions = g.T.ReactiveFunctionTransform.functions in
+    record {
+      no_deeper : most the_size l.left ≤ most the_size l.fn.rows;
+      so_far : (n : ℕ) → So (kept_into (instruction_at steps functions (value_to steps functions n)))
+          (rows_at steps functions (value_to steps functions n) (l.initial.transform, l.initial.state) l.fn.rows)
+          (in_turn (kept_into (instruction_at steps functions (value_to steps functions n))) (l.transform, l.state) l.rows (reverse l.left));
+    }
+
+abbrev pub decreases-walk_rows-loop-row : goal.decreases-walk_rows-loop-row
+decreases-walk_rows-loop-row g l = length l.left

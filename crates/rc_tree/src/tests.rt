@@ -1,0 +1,8 @@
+//! Walks and copies of trees that are written here, against visits written by hand.
+
+mod copies;
+mod graphs;
+mod order;
+mod parts;
+mod recorder;
+mod trees;

@@ -1,0 +1,147 @@
+//! The read walk's order, over every part of a tree.
+
+use crate::read::traverse_terminal;
+use crate::tests::parts::{
+    Written, for_loop, put_call, put_contexts, put_destructure, put_do_while, put_ends,
+    put_expressions, put_for, put_for_in, put_for_of, put_if, put_jumps, put_label, put_scopes,
+    put_sequence, put_store, put_switch, put_try, put_update, put_while,
+};
+use crate::tests::recorder::{Part, Recorder, Visit, visits};
+use crate::tests::trees::{empty, function, load, note, row, statement};
+use crate::{ReactiveBlock, ReactiveStatement, ReactiveTerminalStatement};
+use rc_hir::{Environment, Fault};
+use rc_names::List;
+use std::alloc::{AllocError, Global};
+use std::test::Fail;
+
+/// Every statement, in the order in which they are declared.
+pub fn statements(alloc: Global) -> Result<Written, AllocError> {
+    let mut written = Written::new(alloc);
+    put_jumps(alloc, &mut written)?;
+    put_ends(alloc, &mut written)?;
+    put_switch(alloc, &mut written)?;
+    put_do_while(alloc, &mut written)?;
+    put_while(alloc, &mut written)?;
+    put_for(alloc, &mut written)?;
+    put_for_of(alloc, &mut written)?;
+    put_for_in(alloc, &mut written)?;
+    put_if(alloc, &mut written)?;
+    put_label(alloc, &mut written)?;
+    put_try(alloc, &mut written)?;
+    put_scopes(alloc, &mut written)?;
+    Ok(written)
+}
+
+/// Rows of every value, with every value target and the forms of operands.
+pub fn rows(alloc: Global) -> Result<Written, AllocError> {
+    let mut written = Written::new(alloc);
+    put_store(&mut written)?;
+    put_destructure(alloc, &mut written)?;
+    put_contexts(&mut written)?;
+    put_update(alloc, &mut written)?;
+    put_call(alloc, &mut written)?;
+    put_expressions(alloc, &mut written)?;
+    put_sequence(alloc, &mut written)?;
+    Ok(written)
+}
+
+/// The visits of the walk of a body.
+pub fn walked(alloc: Global, body: ReactiveBlock) -> Result<List<Visit>, Fault> {
+    let recorder = Recorder {
+        env: Environment::empty(alloc),
+    };
+    visits(alloc, &recorder, &function(alloc, body))
+}
+
+/// The visits of a body's inside, with those of the body around them.
+fn as_body(alloc: Global, inside: &List<Visit>) -> Result<List<Visit>, AllocError> {
+    let mut visits = List::new(alloc);
+    visits.push(Visit::Enter(Part::Block))?;
+    note(&mut visits, inside.as_slice())?;
+    visits.push(Visit::Leave(Part::Block))?;
+    Ok(visits)
+}
+
+/// The operands among visits.
+fn operands(alloc: Global, visits: &List<Visit>) -> Result<List<Visit>, AllocError> {
+    let mut operands = List::new(alloc);
+    for visit in visits.as_slice() {
+        if let Visit::Operand(_, _) = visit {
+            operands.push(*visit)?;
+        }
+    }
+    Ok(operands)
+}
+
+/// The operands of the `for`: its update comes last.
+const FOR_OPERANDS: [Visit; 4] = [
+    Visit::Operand(5, 0),
+    Visit::Operand(5, 1),
+    Visit::Operand(9, 3),
+    Visit::Operand(5, 2),
+];
+
+#[test]
+fn every_statement_is_walked_in_the_order_of_the_table(rt: HostRuntime) -> Result<(), Fail> {
+    let alloc = rt.alloc();
+    let Written { body, visits } = statements(alloc)?;
+    let expected = as_body(alloc, &visits)?;
+    assert_eq!(rt; walked(alloc, body)?.as_slice(), expected.as_slice());
+    Ok(())
+}
+
+#[test]
+fn every_value_is_walked_in_the_order_of_the_table(rt: HostRuntime) -> Result<(), Fail> {
+    let alloc = rt.alloc();
+    let Written { body, visits } = rows(alloc)?;
+    let expected = as_body(alloc, &visits)?;
+    assert_eq!(rt; walked(alloc, body)?.as_slice(), expected.as_slice());
+    Ok(())
+}
+
+#[test]
+fn a_for_reads_its_update_last(rt: HostRuntime) -> Result<(), Fail> {
+    let alloc = rt.alloc();
+    let mut body = empty(alloc);
+    body.statements.push(statement(alloc, for_loop(alloc)?)?)?;
+    let read = operands(alloc, &walked(alloc, body)?)?;
+    assert_eq!(rt; read.as_slice(), FOR_OPERANDS.as_slice());
+    Ok(())
+}
+
+#[test]
+fn the_inside_of_a_for_reads_the_same(rt: HostRuntime) -> Result<(), Fail> {
+    let alloc = rt.alloc();
+    let recorder = Recorder {
+        env: Environment::empty(alloc),
+    };
+    let stmt = ReactiveTerminalStatement {
+        terminal: for_loop(alloc)?,
+        label: None,
+    };
+    let mut visits = List::new(alloc);
+    traverse_terminal(alloc, &recorder, &stmt, &mut visits)?;
+    let read = operands(alloc, &visits)?;
+    assert_eq!(rt; read.as_slice(), FOR_OPERANDS.as_slice());
+    Ok(())
+}
+
+/// A block of as many rows, each of which loads a place.
+fn long(alloc: Global, length: u32) -> Result<ReactiveBlock, AllocError> {
+    let mut block = empty(alloc);
+    for number in 0..length {
+        block
+            .statements
+            .push(ReactiveStatement::Instruction(row(number, load(number))))?;
+    }
+    Ok(block)
+}
+
+#[test]
+fn a_long_list_takes_no_stack(rt: HostRuntime) -> Result<(), Fail> {
+    let alloc = rt.alloc();
+    let visits = walked(alloc, long(alloc, 100_000)?)?;
+    // Each row is entered and left, and has its id and a value of three visits.
+    assert_eq!(rt; visits.len(), 600_002);
+    Ok(())
+}
