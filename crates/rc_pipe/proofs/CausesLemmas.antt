@@ -1,10 +1,10 @@
 -- Causes exclude what is accepted, and what the builder refuses has a cause.
-use Rattle.std.proofs.Common.{◌≡◌, ℕ, zero, suc, ◌||◌, cond, if◌then◌else◌, ◌+◌, ◌<◌, ◌≤◌, ◌⊎◌, inl, inr, Bool, true, false, not, List, [], ◌∷◌, ◌++◌, length, get_or, Option, Some, None, map, refl, sym, ap, ◌∙◌, subst, eqb-true, arith, length-append, slice_get}
+use Rattle.std.proofs.Common.{◌≡◌, ℕ, zero, suc, ◌||◌, if◌then◌else◌, ◌+◌, ◌<◌, ◌≤◌, ◌⊎◌, inl, inr, Bool, true, false, not, List, [], ◌∷◌, ◌++◌, length, get_or, Some, None, refl, ap, subst, eqb-true, arith, length-append, slice_get}
 use Rattle.std.proofs.Math.ListN.{get_or-append}
 use Rattle.std.proofs.lemmas.List.{get_or-append-add}
 use Rattle.std.proofs.lemmas.Option.{slice_get_cases}
 use Rattle.std.proofs.lemmas.Map.Views.{Contains-from_lookup}
-use Rattle.std.specs.List.{All, Any, Contains, flat_map, list_any, find}
+use Rattle.std.specs.List.{All, Any, flat_map, list_any, find}
 use Rattle.std.specs.Prelude.{option_map}
 use Rattle.std.specs.Prelude.{nat_eq}
 use Rattle.rc_names.specs.declared.numbers.BlockId.{BlockId}
@@ -19,10 +19,9 @@ use Rattle.rc_hir.specs.declared.environment.Environment.{Environment}
 use Rattle.rc_hir.specs.GraphNames.{Name, row_name, block_names, under_key, function_names, parameter_names, place_names, instruction_names, terminal_names}
 use Rattle.rc_hir.specs.Names.{NamesOutside, IsInTable, IsOutside, lengths, FunctionInTables, NamesOutsideIn}
 use Rattle.rc_tree.specs.declared.function.ReactiveFunction.{ReactiveFunction}
-use Rattle.rc_pipe.specs.Graph.{same_block, basic_block}
 use Rattle.rc_pipe.specs.Spelled.{Spells}
 use Rattle.rc_hir.specs.EnvironmentNames.{environment_names}
-use Rattle.rc_pipe.specs.Causes.{is_built, first_unbuilt, AreBuilt, first_early_return}
+use Rattle.rc_pipe.specs.Causes.{is_built, first_unbuilt, first_early_return}
 use Rattle.rc_pipe.specs.RuleFacts.{At, LacksRow, FaultFact}
 use Rattle.rc_pipe.specs.Headline.{IsAccepted, IsCause, SpellsNone}
 use Rattle.rc_pipe.proofs.GraphLemmas.{same_block-eq}

@@ -1,5 +1,7 @@
 -- What the look-ups of blocks say of each other.
 use Rattle.std.proofs.Common.{◌≡◌, ℕ, List, Bool, true, false, Option, Some, None, ap, eqb-true, option_and_then, option_map, if◌then◌else◌}
+use Rattle.std.specs.Cmp.{IsEquivalence}
+use Rattle.std.proofs.lemmas.Cmp.{nat_eq_equiv}
 use Rattle.rc_names.specs.declared.numbers.BlockId.{BlockId}
 use Rattle.rc_hir.specs.declared.function.Instruction.{Instruction}
 use Rattle.rc_hir.specs.declared.function.BasicBlock.{BasicBlock}
@@ -10,6 +12,13 @@ pub same_block-eq : (a b : BlockId) → same_block a b ≡ true → a ≡ b
 same_block-eq a b same =
     let of_number : ℕ → BlockId = λ number. record { 0 = number } in
     ap of_number (eqb-true a.0 b.0 same)
+
+pub blocks_equivalence : IsEquivalence same_block
+blocks_equivalence = record {
+  refl = λ x. nat_eq_equiv.refl x.0;
+  symm = λ x y. nat_eq_equiv.symm x.0 y.0;
+  congr = λ x y z. nat_eq_equiv.congr x.0 y.0 z.0;
+}
 
 -- a block whose ids are set is that block
 with_ids-same : (found : Option Block) (block : Block) → option_and_then with_ids found ≡ Some block → found ≡ Some block

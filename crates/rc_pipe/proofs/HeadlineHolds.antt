@@ -1,5 +1,4 @@
 -- What is spelled and listed has the headline.
-use Rattle.std.proofs.Common.{◌≡◌}
 use Rattle.rc_hir.specs.declared.function.HirFunction.{HirFunction}
 use Rattle.rc_hir.specs.declared.environment.Environment.{Environment}
 use Rattle.rc_pipe.specs.declared.pipeline.Pruned.{Pruned}

@@ -1,4 +1,5 @@
 pub mod GraphLemmas
+pub mod DepthsLemmas
 pub mod FramesLemmas
 pub mod RowsLemmas
 pub mod TreeOfLemmas

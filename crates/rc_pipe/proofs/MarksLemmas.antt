@@ -17,15 +17,8 @@ use Rattle.rc_pipe.specs.Graph.{same_block, basic_block}
 use Rattle.rc_pipe.specs.Spelled.{AreSound, same_scope, scope_at}
 use Rattle.rc_pipe.specs.Namings.{named_blocks, is_among, times, namings_of}
 use Rattle.rc_pipe.specs.RuleFacts.{times_named}
-use Rattle.rc_pipe.proofs.GraphLemmas.{same_block-eq}
+use Rattle.rc_pipe.proofs.GraphLemmas.{same_block-eq, blocks_equivalence}
 use Rattle.rc_pipe.specs.Built.{Marked, AreNamed}
-
-pub blocks_equivalence : IsEquivalence same_block
-blocks_equivalence = record {
-  refl = λ x. nat_eq_equiv.refl x.0;
-  symm = λ x y. nat_eq_equiv.symm x.0 y.0;
-  congr = λ x y z. nat_eq_equiv.congr x.0 y.0 z.0;
-}
 
 pub scopes_equivalence : IsEquivalence same_scope
 scopes_equivalence = record {

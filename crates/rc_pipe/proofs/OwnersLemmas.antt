@@ -15,8 +15,8 @@ use Rattle.rc_pipe.specs.Frames.{break_block, is_live, is_live_at, is_loop, way_
 use Rattle.rc_pipe.specs.Namings.{is_among, times, framed_blocks}
 use Rattle.rc_pipe.specs.RuleFacts.{At, Jumps, goto_break, IsScopeFallthrough, IsCaseBlock}
 use Rattle.rc_pipe.specs.Built.{frame_blocks, live_blocks, HasOwner, AreOwned}
-use Rattle.rc_pipe.proofs.GraphLemmas.{same_block-eq}
-use Rattle.rc_pipe.proofs.MarksLemmas.{blocks_equivalence, times_append}
+use Rattle.rc_pipe.proofs.GraphLemmas.{same_block-eq, blocks_equivalence}
+use Rattle.rc_pipe.proofs.MarksLemmas.{times_append}
 
 one_times : (block key : BlockId) → same_block block key ≡ true → 1 ≤ times key (block ∷ [])
 one_times block key e = let z : times key (block ∷ []) ≡ 1 = ap (λ b. (if b then 1 else 0) + 0) (blocks_equivalence.symm key block ∙ e) in omega arith

@@ -22,8 +22,8 @@ use Rattle.rc_pipe.specs.Spelled.{same_scope, scope_named, scope_at}
 use Rattle.rc_pipe.specs.Namings.{is_among, named_blocks}
 use Rattle.rc_pipe.specs.RuleFacts.{At, StepsDead, SharesScope, RuleFact}
 use Rattle.rc_pipe.specs.Built.{Marked, AreNamed, AtList, Follows, live_blocks, IsUnusable, listed_scope, is_fresh_scope}
-use Rattle.rc_pipe.proofs.GraphLemmas.{same_block-eq}
-use Rattle.rc_pipe.proofs.MarksLemmas.{times_append, times_among, named_twice, blocks_equivalence, scopes_equivalence, one_more, among_push, named_push}
+use Rattle.rc_pipe.proofs.GraphLemmas.{same_block-eq, blocks_equivalence}
+use Rattle.rc_pipe.proofs.MarksLemmas.{times_append, times_among, named_twice, scopes_equivalence, one_more, among_push, named_push}
 use Rattle.rc_pipe.proofs.StepsLemmas.{not_true, not_false}
 use Rattle.rc_pipe.proofs.OwnersLemmas.{live_times}
 use Rattle.rc_pipe.proofs.UsableLemmas.{found_terminal, found_block}

@@ -27,7 +27,8 @@ use Rattle.rc_pipe.specs.Grammar.{SpellsList, SpellsTerminal, opens, opens_reach
 use Rattle.rc_pipe.specs.Namings.{framed_blocks, is_among, times, scope_fallthrough, fallthrough_of}
 use Rattle.rc_pipe.specs.RuleFacts.{At, RuleFact, IsFramedApart}
 use Rattle.rc_pipe.specs.Built.{Marked, AreNamed, AtList, AtTerminal, IsUsed, IsUsedApart, AreOwned, IsFrameOf, Follows, Made, Refused, GoesOn, rest_of, live_blocks, frame_blocks, terminal_statement}
-use Rattle.rc_pipe.proofs.MarksLemmas.{blocks_equivalence, named_fewer, times_append}
+use Rattle.rc_pipe.proofs.GraphLemmas.{blocks_equivalence}
+use Rattle.rc_pipe.proofs.MarksLemmas.{named_fewer, times_append}
 use Rattle.rc_pipe.proofs.OwnersLemmas.{owned_weaker, live_framed}
 use Rattle.rc_pipe.proofs.BuiltLemmas.{follows_then, follows_beside, follows_drop, refused_front, refused_back, statement_partly}
 use Rattle.rc_pipe.proofs.OneTree.{part_at, one_list}

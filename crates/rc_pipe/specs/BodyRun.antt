@@ -40,21 +40,26 @@ mutual
     -- each prefix of a run is one
     stopped : {statements : Statements} → RunsList env statements [] (Ended Open)
     nothing : RunsList env Nil [] Normal
-    and_then : {statement : Statement} {rest : Statements} {first second events : List Event} {outcome last : Outcome} →
-        RunsStatement env statement first outcome → RunsAfter env outcome rest second last → events ≡ first ++ second →
+    and_then : {statement : Statement} {rest : Statements} {first second events : List Event}
+        {outcome last : Outcome} →
+        RunsStatement env statement first outcome → RunsAfter env outcome rest second last →
+        events ≡ first ++ second →
         RunsList env (Cons statement rest) events last
 
   -- what follows a statement with that outcome
   pub data RunsAfter (env : Environment) : Outcome → Statements → List Event → Outcome → Type 0 where
     goes_on : {rest : Statements} {events : List Event} {outcome : Outcome} →
         RunsList env rest events outcome → RunsAfter env Normal rest events outcome
-    leaves_list : {outcome : Outcome} {rest : Statements} → leaves outcome ≡ true → RunsAfter env outcome rest [] outcome
+    leaves_list : {outcome : Outcome} {rest : Statements} → leaves outcome ≡ true →
+        RunsAfter env outcome rest [] outcome
 
   pub data RunsStatement (env : Environment) : Statement → List Event → Outcome → Type 0 where
-    quiet_row : {id : EvaluationOrder} {target : Option Place} {value : InstructionValue} {span : Option Span} →
+    quiet_row : {id : EvaluationOrder} {target : Option Place} {value : InstructionValue}
+        {span : Option Span} →
         is_silent env id value ≡ true → RunsStatement env (RowStatement id target (Base value) span) [] Normal
     did_row : {id : EvaluationOrder} {target : Option Place} {value : InstructionValue} {span : Option Span} →
-        is_silent env id value ≡ false → RunsStatement env (RowStatement id target (Base value) span) (Did value ∷ []) Normal
+        is_silent env id value ≡ false →
+        RunsStatement env (RowStatement id target (Base value) span) (Did value ∷ []) Normal
     returned : {value : Place} {id : EvaluationOrder} {label : Option ReactiveLabel} →
         RunsStatement env (TerminalStatement (Return value id) label) [] (Ended (Returned value))
     break_implicit : {target : BlockId} {id : EvaluationOrder} {label : Option ReactiveLabel} →
@@ -63,13 +68,18 @@ mutual
         RunsStatement env (TerminalStatement (Break target Labeled id) label) [] (BreakTo target)
     break_unlabeled : {target : BlockId} {id : EvaluationOrder} {label : Option ReactiveLabel} →
         RunsStatement env (TerminalStatement (Break target Unlabeled id) label) [] BreakLoop
-    took_arm : {test : Place} {consequent : Statements} {alternate : Alternate} {id : EvaluationOrder} {label : Option ReactiveLabel} {events : List Event} {inner outer : Outcome} →
+    took_arm : {test : Place} {consequent : Statements} {alternate : Alternate} {id : EvaluationOrder}
+        {label : Option ReactiveLabel} {events : List Event} {inner outer : Outcome} →
         RunsList env consequent events inner → outer ≡ caught label inner →
-        RunsStatement env (TerminalStatement (If test consequent alternate id) label) (Arm true ∷ events) outer
-    took_other : {test : Place} {consequent : Statements} {alternate : Alternate} {id : EvaluationOrder} {label : Option ReactiveLabel} {events : List Event} {inner outer : Outcome} →
+        RunsStatement env (TerminalStatement (If test consequent alternate id) label)
+        (Arm true ∷ events) outer
+    took_other : {test : Place} {consequent : Statements} {alternate : Alternate} {id : EvaluationOrder}
+        {label : Option ReactiveLabel} {events : List Event} {inner outer : Outcome} →
         RunsAlternate env alternate events inner → outer ≡ caught label inner →
-        RunsStatement env (TerminalStatement (If test consequent alternate id) label) (Arm false ∷ events) outer
-    in_label : {body : Statements} {id : EvaluationOrder} {label : Option ReactiveLabel} {events : List Event} {inner outer : Outcome} →
+        RunsStatement env (TerminalStatement (If test consequent alternate id) label)
+        (Arm false ∷ events) outer
+    in_label : {body : Statements} {id : EvaluationOrder} {label : Option ReactiveLabel}
+        {events : List Event} {inner outer : Outcome} →
         RunsList env body events inner → outer ≡ caught label inner →
         RunsStatement env (TerminalStatement (Label body id) label) events outer
     in_scope : {scope : ScopeId} {body : Statements} {events : List Event} {outcome : Outcome} →
@@ -83,7 +93,8 @@ mutual
         RunsList env body events outcome → RunsAlternate env (Present body) events outcome
 
 -- a run of the function's body
-pub record IsBodyRun (func : ReactiveFunction) (env : Environment) (events : List Event) (end : End) : Type 0 where
+pub record IsBodyRun (func : ReactiveFunction) (env : Environment) (events : List Event) (end : End) :
+    Type 0 where
   pub statements : Statements
   pub body : func.body ≡ block_of statements
   pub run : RunsList env statements events (Ended end)

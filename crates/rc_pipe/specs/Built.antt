@@ -1,9 +1,12 @@
 -- What the builder's functions start from, and what they give.
-use Rattle.std.specs.Prelude.{◌≡◌, ◌≤◌, Bool, true, false, List, [], ◌∷◌, ◌++◌, Option, Some, None, IsSome, not, if◌then◌else◌}
+use Rattle.std.specs.Prelude.{◌≡◌, ◌≤◌, Bool, true, false, List, [], ◌∷◌, ◌++◌, Option, Some, None, IsSome, Result, Err, not, if◌then◌else◌}
 use Rattle.std.specs.List.{filter_map, flat_map, list_any}
 use Rattle.rc_names.specs.declared.numbers.BlockId.{BlockId}
 use Rattle.rc_names.specs.declared.numbers.ScopeId.{ScopeId}
 use Rattle.rc_names.specs.declared.numbers.EvaluationOrder.{EvaluationOrder}
+use Rattle.rc_hir.specs.declared.fault.Fault.{Fault}
+use Rattle.rc_hir.specs.declared.fault.Fault.TheVariants as faults
+use Rattle.rc_hir.specs.declared.fault.Rule.{Rule}
 use Rattle.rc_hir.specs.declared.terminal.Terminal.{Terminal}
 use Rattle.rc_hir.specs.declared.function.Instruction.{Instruction}
 use Rattle.rc_hir.specs.declared.function.BasicBlock.{BasicBlock}
@@ -84,8 +87,10 @@ pub record AtList (hir : HirFunction) (marks : Marks) (frames : List Frame) (key
   pub named : AreNamed hir marks.used (key ∷ live_blocks frames)
   pub owned : AreOwned hir (IsUsed marks) frames
 
--- a terminal's statement can be built: its block is used, what it names is pending, and the frames are those of other blocks
-pub record AtTerminal (hir : HirFunction) (marks : Marks) (frames : List Frame) (key : BlockId) (terminal : Terminal) : Type 0 where
+-- a terminal's statement can be built: its block is used, what it names is pending, and the frames are
+-- those of other blocks
+pub record AtTerminal (hir : HirFunction) (marks : Marks) (frames : List Frame) (key : BlockId)
+    (terminal : Terminal) : Type 0 where
   pub marked : Marked hir marks
   pub used : IsUsed marks key
   pub here : At hir key (λ block. block.terminal ≡ terminal)
@@ -97,13 +102,16 @@ abbrev pub AtSome : HirFunction → Marks → List Frame → Terminal → Type 0
 AtSome hir marks frames terminal = (key : BlockId) × AtTerminal hir marks frames key terminal
 
 -- these blocks are marked; of the namings that were pending `before`, those `after` are left
-pub record Follows (hir : HirFunction) (before after : List BlockId) (old new : Marks) (blocks : List BlockId) : Type 0 where
+pub record Follows (hir : HirFunction) (before after : List BlockId) (old new : Marks)
+    (blocks : List BlockId) : Type 0 where
   pub used : new.used ≡ old.used ++ blocks
   pub marked : Marked hir new
-  pub named : (pending : List BlockId) → AreNamed hir old.used (before ++ pending) → AreNamed hir new.used (after ++ pending)
+  pub named : (pending : List BlockId) → AreNamed hir old.used (before ++ pending) →
+      AreNamed hir new.used (after ++ pending)
 
 -- the block under a key is marked, and a tree may use it there
-pub record IsTaken (hir : HirFunction) (frames : List Frame) (key : BlockId) (block : BasicBlock) (old new : Marks) : Type 0 where
+pub record IsTaken (hir : HirFunction) (frames : List Frame) (key : BlockId) (block : BasicBlock)
+    (old new : Marks) : Type 0 where
   pub rows : List Instruction
   pub found : basic_block hir key ≡ Some block
   pub filled : rows_of hir.instructions block.instructions ≡ Some rows
@@ -114,10 +122,12 @@ pub record IsTaken (hir : HirFunction) (frames : List Frame) (key : BlockId) (bl
 
 -- no tree may use the block there
 abbrev pub IsUnusable : HirFunction → List Frame → BlockId → Marks → Type 0
-IsUnusable hir frames key marks = (block : Block) → usable_block hir key ≡ Some block → is_live frames key ≡ false → AreSound hir (marks.used ++ key ∷ []) → ⊥
+IsUnusable hir frames key marks = (block : Block) → usable_block hir key ≡ Some block →
+    is_live frames key ≡ false → AreSound hir (marks.used ++ key ∷ []) → ⊥
 
 -- what was made is the view of a value that S asks for, and its blocks are marked
-pub record Made {A C : Type 0} (view : A → C) (S : A → List BlockId → Type 0) (hir : HirFunction) (before : List BlockId) (made : C) (old new : Marks) : Type 0 where
+pub record Made {A C : Type 0} (view : A → C) (S : A → List BlockId → Type 0) (hir : HirFunction)
+    (before : List BlockId) (made : C) (old new : Marks) : Type 0 where
   pub value : A
   pub newly : List BlockId
   pub is : made ≡ view value
@@ -126,7 +136,22 @@ pub record Made {A C : Type 0} (view : A → C) (S : A → List BlockId → Type
 
 -- S asks for nothing whose blocks are sound behind the used ones
 abbrev pub Refused : {A : Type 0} → HirFunction → (A → List BlockId → Type 0) → List BlockId → Type 0
-Refused {A} hir S used = (value : A) (blocks : List BlockId) → S value blocks → AreSound hir (used ++ blocks) → ⊥
+Refused {A} hir S used = (value : A) (blocks : List BlockId) → S value blocks →
+    AreSound hir (used ++ blocks) → ⊥
+
+-- where the fault names a rule, P holds
+abbrev pub IfMalformed : {A : Type 0} → Result A Fault → Type 0 → Type 0
+IfMalformed result P = (block : BlockId) (rule : Rule) → result ≡ Err (faults.Malformed block rule) → P
+
+-- no statements are those from the block on
+abbrev pub NoList : HirFunction → Environment → BlockId → Option BlockId → State → Type 0
+NoList hir env key next state =
+    Refused hir (SpellsList hir env key next state.frames None) state.marks.used
+
+-- no statements are those of the terminal and of what follows it
+abbrev pub NoStatements : HirFunction → Environment → Terminal → Option BlockId → State → Type 0
+NoStatements hir env terminal next state =
+    Refused hir (SpellsTerminal hir env terminal next state.frames None) state.marks.used
 
 -- statements stand behind the old ones, and what S asks for is they, and behind them what R asks for
 pub record Partly (S R : Statements → List BlockId → Type 0) (hir : HirFunction) (before after : List BlockId)
@@ -135,11 +160,14 @@ pub record Partly (S R : Statements → List BlockId → Type 0) (hir : HirFunct
   pub newly : List BlockId
   pub put : whole ≡ out ++ statements_of statements
   pub follows : Follows hir before after old new newly
-  pub onward : (rest : Statements) (used : List BlockId) → R rest used → S (join statements rest) (newly ++ used)
-  pub only : (all : Statements) (used : List BlockId) → S all used → (rest : Statements) × (later : List BlockId) × R rest later × (used ≡ newly ++ later)
+  pub onward : (rest : Statements) (used : List BlockId) → R rest used →
+      S (join statements rest) (newly ++ used)
+  pub only : (all : Statements) (used : List BlockId) → S all used →
+      (rest : Statements) × (later : List BlockId) × R rest later × (used ≡ newly ++ later)
 
 -- what is left of a list: nothing, or the list of a block
-abbrev pub Rest : HirFunction → Environment → Option BlockId → List Frame → Option BlockId → Statements → List BlockId → Type 0
+abbrev pub Rest : HirFunction → Environment → Option BlockId → List Frame → Option BlockId → Statements →
+    List BlockId → Type 0
 Rest hir env next frames None statements used = (statements ≡ Nil) × (used ≡ [])
 Rest hir env next frames (Some key) statements used = SpellsList hir env key next frames None statements used
 
@@ -148,29 +176,38 @@ abbrev pub rest_of : Bool → BlockId → Option BlockId
 rest_of opened fallthrough = if opened then Some fallthrough else None
 
 -- the statements of a list are made
-abbrev pub MadeList : HirFunction → Environment → BlockId → Option BlockId → List Frame → List ReactiveStatement → Marks → Marks → Type 0
-MadeList hir env key next frames made old new = Made statements_of (SpellsList hir env key next frames None) hir (key ∷ []) made old new
+abbrev pub MadeList : HirFunction → Environment → BlockId → Option BlockId → List Frame →
+    List ReactiveStatement → Marks → Marks → Type 0
+MadeList hir env key next frames made old new =
+    Made statements_of (SpellsList hir env key next frames None) hir (key ∷ []) made old new
 
 -- the statements of a terminal stand behind the old ones, and its list goes on at `rest`
-abbrev pub GoesOn : HirFunction → Environment → Terminal → Option BlockId → List Frame → Option BlockId → List ReactiveStatement → List ReactiveStatement → Marks → Marks → Type 0
+abbrev pub GoesOn : HirFunction → Environment → Terminal → Option BlockId → List Frame → Option BlockId →
+    List ReactiveStatement → List ReactiveStatement → Marks → Marks → Type 0
 GoesOn hir env terminal next frames rest out whole old new =
-    Partly (SpellsTerminal hir env terminal next frames None) (Rest hir env next frames rest) hir (named_blocks terminal) (listed rest) out whole old new
+    Partly (SpellsTerminal hir env terminal next frames None) (Rest hir env next frames rest) hir
+    (named_blocks terminal) (listed rest) out whole old new
 
 -- the statements of a break stand behind the old ones
-pub record PutBreak (frames : List Frame) (target : BlockId) (id : EvaluationOrder) (out whole : List ReactiveStatement) : Type 0 where
+pub record PutBreak (frames : List Frame) (target : BlockId) (id : EvaluationOrder)
+    (out whole : List ReactiveStatement) : Type 0 where
   pub statements : Statements
   pub asked : break_statements (break_way frames target) target id ≡ Some statements
   pub put : whole ≡ out ++ statements_of statements
 
 -- the statements of a terminal that ends its list stand behind the old ones
-pub record EndsList (hir : HirFunction) (frames : List Frame) (terminal : Terminal) (out whole : List ReactiveStatement) : Type 0 where
+pub record EndsList (hir : HirFunction) (frames : List Frame) (terminal : Terminal)
+    (out whole : List ReactiveStatement) : Type 0 where
   pub statements : Statements
-  pub spelled : (env : Environment) (next : Option BlockId) → SpellsTerminal hir env terminal next frames None statements []
+  pub spelled : (env : Environment) (next : Option BlockId) →
+      SpellsTerminal hir env terminal next frames None statements []
   pub put : whole ≡ out ++ statements_of statements
 
 -- how far the loop over the blocks of a list has come
-pub record ListSoFar (hir : HirFunction) (env : Environment) (key : BlockId) (next at : Option BlockId) (out : List ReactiveStatement) (old new : State) : Type 0 where
-  pub part : Partly (SpellsList hir env key next old.frames None) (Rest hir env next old.frames at) hir (key ∷ []) (listed at) [] out old.marks new.marks
+pub record ListSoFar (hir : HirFunction) (env : Environment) (key : BlockId) (next at : Option BlockId)
+    (out : List ReactiveStatement) (old new : State) : Type 0 where
+  pub part : Partly (SpellsList hir env key next old.frames None) (Rest hir env next old.frames at) hir
+      (key ∷ []) (listed at) [] out old.marks new.marks
   pub frames : new.frames ≡ old.frames
 
 -- the statement of a terminal with a label

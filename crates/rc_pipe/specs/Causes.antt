@@ -1,7 +1,7 @@
--- Why a graph is refused before it is built: numbers, early returns, room for new numbers, and forms that aren't built yet.
-use Rattle.std.specs.Prelude.{◌≡◌, ◌+◌, ◌*◌, ◌<◌, ◌≤◌, ℕ, Bool, true, false, List, length, Option, Some, None, is_some, not, All, count_by, position, find}
+-- Why a graph is refused before it is built: numbers, early returns, room for new numbers, and forms that
+-- aren't built yet.
+use Rattle.std.specs.Prelude.{◌≡◌, ◌+◌, ◌*◌, ◌<◌, ◌≤◌, ℕ, Bool, true, false, length, Option, None, is_some, not, All, count_by, position, find}
 use Rattle.rc_names.specs.declared.numbers.BlockId.{BlockId}
-use Rattle.rc_names.specs.declared.numbers.ScopeId.{ScopeId}
 use Rattle.rc_hir.specs.declared.terminal.GotoVariant.TheVariants as variants
 use Rattle.rc_hir.specs.declared.terminal.Terminal.{Terminal}
 use Rattle.rc_hir.specs.declared.terminal.Terminal.TheVariants as terminals
@@ -31,7 +31,8 @@ is_scope _ = false
 abbrev pub scope_count : HirFunction → ℕ
 scope_count hir = count_by (λ entry. is_scope entry.1.terminal) hir.body.blocks
 
--- there are numbers enough for an early return in each scope: five identifiers, five types and a block for each
+-- there are numbers enough for an early return in each scope: five identifiers, five types and a block for
+-- each
 pub record HasRoom (hir : HirFunction) (env : Environment) : Type 0 where
   pub identifiers : length env.identifiers + 5 * scope_count hir ≤ 4294967295
   pub types : length env.types + 5 * scope_count hir ≤ 4294967295

@@ -39,13 +39,15 @@ way_out_of innermost in_loop (frame.If block) = Breaks (if innermost then Implic
 way_out_of innermost in_loop (frame.Switch block) = Breaks (if innermost then Implicit else Labeled)
 way_out_of innermost in_loop (frame.Case block) = if innermost then Breaks Implicit else LeavesCase
 way_out_of innermost in_loop (frame.Scope block) = if innermost then FallsOff else LeavesScope
-way_out_of innermost in_loop (frame.Loop block continue_block) = Breaks (if in_loop then Labeled else Unlabeled)
+way_out_of innermost in_loop (frame.Loop block continue_block) =
+    Breaks (if in_loop then Labeled else Unlabeled)
 
 -- the first frame from the inside with that break block decides
 abbrev pub way_from : Bool → Bool → List Frame → BlockId → Way
 way_from innermost in_loop [] key = NoFrame
 way_from innermost in_loop (frame ∷ frames) key =
-    if same_block (break_block frame) key then way_out_of innermost in_loop frame else way_from false (in_loop || is_loop frame) frames key
+    if same_block (break_block frame) key then way_out_of innermost in_loop frame
+    else way_from false (in_loop || is_loop frame) frames key
 
 -- what becomes of a break to the block
 abbrev pub break_way : List Frame → BlockId → Way

@@ -4,7 +4,7 @@ use Rattle.std.specs.List.{list_any}
 use Rattle.std.specs.Map.{lookup}
 use Rattle.rc_names.specs.declared.numbers.BlockId.{BlockId}
 use Rattle.rc_names.specs.declared.numbers.InstructionId.{InstructionId}
-use Rattle.rc_names.specs.declared.numbers.EvaluationOrder.{EvaluationOrder}
+use Rattle.rc_hir.specs.Terminal.{evaluation_order}
 use Rattle.rc_hir.specs.declared.terminal.Terminal.{Terminal}
 use Rattle.rc_hir.specs.declared.terminal.Terminal.TheVariants as terminals
 use Rattle.rc_hir.specs.declared.function.Instruction.{Instruction}
@@ -29,43 +29,22 @@ basic_block hir key = lookup (same_block key) hir.body.blocks
 abbrev pub rows_of : List Instruction → List InstructionId → Option (List Instruction)
 rows_of instructions [] = Some []
 rows_of instructions (number ∷ numbers) =
-    option_and_then (λ row. option_map (λ rows. row ∷ rows) (rows_of instructions numbers)) (slice_get instructions number.0)
+    option_and_then (λ row. option_map (λ rows. row ∷ rows) (rows_of instructions numbers))
+    (slice_get instructions number.0)
 
 -- a basic block with its rows
 abbrev pub with_rows : HirFunction → BasicBlock → Option Block
-with_rows hir block = option_map (λ rows. record { rows = rows; terminal = block.terminal }) (rows_of hir.instructions block.instructions)
+with_rows hir block = option_map (λ rows. record { rows = rows; terminal = block.terminal })
+    (rows_of hir.instructions block.instructions)
 
 -- the block under a key, with its rows
 unfoldable pub block_at : HirFunction → BlockId → Option Block
 block_at hir key = option_and_then (with_rows hir) (basic_block hir key)
 
--- the terminal's place in the order of evaluation
-abbrev pub evaluation_order : Terminal → EvaluationOrder
-evaluation_order (terminals.If test consequent alternate fallthrough id span) = id
-evaluation_order (terminals.Branch test consequent alternate id span) = id
-evaluation_order (terminals.Logical operator test fallthrough id span) = id
-evaluation_order (terminals.Ternary test fallthrough id span) = id
-evaluation_order (terminals.Optional optional test fallthrough id span) = id
-evaluation_order (terminals.Sequence block fallthrough id span) = id
-evaluation_order (terminals.Throw value id span) = id
-evaluation_order (terminals.Return value id span) = id
-evaluation_order (terminals.Goto block variant id span) = id
-evaluation_order (terminals.Switch test cases fallthrough id span) = id
-evaluation_order (terminals.DoWhile loop_block test fallthrough id span) = id
-evaluation_order (terminals.While test loop_block fallthrough id span) = id
-evaluation_order (terminals.For init test update loop_block fallthrough id span) = id
-evaluation_order (terminals.ForOf init test loop_block fallthrough id span) = id
-evaluation_order (terminals.ForIn init loop_block fallthrough id span) = id
-evaluation_order (terminals.Label block fallthrough id span) = id
-evaluation_order (terminals.Unreachable id span) = id
-evaluation_order (terminals.MaybeThrow continuation handler id span) = id
-evaluation_order (terminals.Scope fallthrough block scope id span) = id
-evaluation_order (terminals.PrunedScope fallthrough block scope id span) = id
-evaluation_order (terminals.Try block handler_binding handler fallthrough id span) = id
-
 -- no row of the block and not its terminal has the id that means unset
 abbrev pub has_all_ids : Block → Bool
-has_all_ids block = not (list_any (λ row. is_unset row.id) block.rows) && not (is_unset (evaluation_order block.terminal))
+has_all_ids block = not (list_any (λ row. is_unset row.id) block.rows)
+    && not (is_unset (evaluation_order block.terminal))
 
 -- the block, where its ids are set
 abbrev pub with_ids : Block → Option Block
@@ -77,7 +56,8 @@ under_own_number key block = if same_block block.id key then Some block else Non
 
 -- a block that a tree may use: it is a key, stands under its own number, and all its ids are set
 unfoldable pub usable_block : HirFunction → BlockId → Option Block
-usable_block hir key = option_and_then with_ids (option_and_then (with_rows hir) (option_and_then (under_own_number key) (basic_block hir key)))
+usable_block hir key = option_and_then with_ids
+    (option_and_then (with_rows hir) (option_and_then (under_own_number key) (basic_block hir key)))
 
 -- the terminal leads nowhere
 abbrev pub is_unreachable : Terminal → Bool

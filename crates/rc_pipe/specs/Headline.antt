@@ -1,5 +1,5 @@
 -- The headline: what an answered function is to its graph, and why a graph is refused.
-use Rattle.std.specs.Prelude.{◌≡◌, List, Option, Some, None, option_map, ⊤}
+use Rattle.std.specs.Prelude.{◌≡◌, List, Some, option_map, ⊤}
 use Rattle.rc_hir.specs.declared.fault.Fault.{Fault}
 use Rattle.rc_hir.specs.declared.fault.Fault.TheVariants as faults
 use Rattle.rc_hir.specs.declared.function.HirFunction.{HirFunction}
@@ -33,18 +33,23 @@ pub record IsAnswer (hir : HirFunction) (env : Environment) (pruned : Pruned) : 
   pub spelled : Spells hir env pruned.func
   pub one_tree : (func : ReactiveFunction) → Spells hir env func → func ≡ pruned.func
   -- every run of the graph is a run of the answered body, and the other way round
-  pub graph_to_body : (events : List Event) (end : End) → IsGraphRun hir env events end → IsBodyRun pruned.func env events end
-  pub body_to_graph : (events : List Event) (end : End) → IsBodyRun pruned.func env events end → IsGraphRun hir env events end
+  pub graph_to_body : (events : List Event) (end : End) → IsGraphRun hir env events end →
+      IsBodyRun pruned.func env events end
+  pub body_to_graph : (events : List Event) (end : End) → IsBodyRun pruned.func env events end →
+      IsGraphRun hir env events end
   -- each scope of the tree is listed once, by rising number, and is kept
   pub fates : AreKept pruned.func.body pruned.fates
 
 -- Why a fault is answered. Each cause but want of memory asks that those above it in the order don't hold.
 abbrev pub IsCause : HirFunction → Environment → Fault → Type 0
 IsCause hir env (faults.BadName table index) = NamesOutside hir env (faults.BadName table index)
-IsCause hir env (faults.EarlyReturnSet scope) = NamesInTables hir env × (first_early_return env ≡ Some scope.0)
+IsCause hir env (faults.EarlyReturnSet scope) =
+    NamesInTables hir env × (first_early_return env ≡ Some scope.0)
 IsCause hir env faults.NoIds = NamesInTables hir env × NoEarlyReturnSet env × ¬ HasRoom hir env
 IsCause hir env (faults.NotBuilt block) =
-    NamesInTables hir env × NoEarlyReturnSet env × HasRoom hir env × (option_map (λ entry. entry.0) (first_unbuilt hir) ≡ Some block)
-IsCause hir env (faults.Malformed block rule) = IsAccepted hir env × SpellsNone hir env × RuleFact hir rule block
+    NamesInTables hir env × NoEarlyReturnSet env × HasRoom hir env
+    × (option_map (λ entry. entry.0) (first_unbuilt hir) ≡ Some block)
+IsCause hir env (faults.Malformed block rule) =
+    IsAccepted hir env × SpellsNone hir env × RuleFact hir rule block
 IsCause hir env faults.NoMemory = ⊤
 IsCause hir env _ = ⊥

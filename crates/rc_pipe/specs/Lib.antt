@@ -3,6 +3,7 @@ pub mod Silent
 pub mod Graph
 pub mod GraphRun
 pub mod Frames
+pub mod Depths
 pub mod PlainTree
 pub mod TreeOf
 pub mod Grammar

@@ -20,7 +20,8 @@ case_blocks cases = map (λ case. case.block) cases
 
 -- the blocks that a terminal names, by its own block fields and those of its cases
 abbrev pub named_blocks : Terminal → List BlockId
-named_blocks (terminals.If test consequent alternate fallthrough id span) = consequent ∷ alternate ∷ fallthrough ∷ []
+named_blocks (terminals.If test consequent alternate fallthrough id span) =
+    consequent ∷ alternate ∷ fallthrough ∷ []
 named_blocks (terminals.Branch test consequent alternate id span) = consequent ∷ alternate ∷ []
 named_blocks (terminals.Logical operator test fallthrough id span) = test ∷ fallthrough ∷ []
 named_blocks (terminals.Ternary test fallthrough id span) = test ∷ fallthrough ∷ []
@@ -32,15 +33,18 @@ named_blocks (terminals.Goto block variant id span) = block ∷ []
 named_blocks (terminals.Switch test cases fallthrough id span) = case_blocks cases ++ fallthrough ∷ []
 named_blocks (terminals.DoWhile loop_block test fallthrough id span) = loop_block ∷ test ∷ fallthrough ∷ []
 named_blocks (terminals.While test loop_block fallthrough id span) = test ∷ loop_block ∷ fallthrough ∷ []
-named_blocks (terminals.For init test update loop_block fallthrough id span) = init ∷ test ∷ listed update ++ loop_block ∷ fallthrough ∷ []
-named_blocks (terminals.ForOf init test loop_block fallthrough id span) = init ∷ test ∷ loop_block ∷ fallthrough ∷ []
+named_blocks (terminals.For init test update loop_block fallthrough id span) =
+    init ∷ test ∷ listed update ++ loop_block ∷ fallthrough ∷ []
+named_blocks (terminals.ForOf init test loop_block fallthrough id span) =
+    init ∷ test ∷ loop_block ∷ fallthrough ∷ []
 named_blocks (terminals.ForIn init loop_block fallthrough id span) = init ∷ loop_block ∷ fallthrough ∷ []
 named_blocks (terminals.Label block fallthrough id span) = block ∷ fallthrough ∷ []
 named_blocks (terminals.Unreachable id span) = []
 named_blocks (terminals.MaybeThrow continuation handler id span) = continuation ∷ listed handler
 named_blocks (terminals.Scope fallthrough block scope id span) = block ∷ fallthrough ∷ []
 named_blocks (terminals.PrunedScope fallthrough block scope id span) = block ∷ fallthrough ∷ []
-named_blocks (terminals.Try block handler_binding handler fallthrough id span) = block ∷ handler ∷ fallthrough ∷ []
+named_blocks (terminals.Try block handler_binding handler fallthrough id span) =
+    block ∷ handler ∷ fallthrough ∷ []
 
 -- the fallthrough of a terminal that has one
 abbrev pub fallthrough_of : Terminal → Option BlockId
@@ -84,9 +88,11 @@ tested_blocks (terminals.ForOf init test loop_block fallthrough id span) = init 
 tested_blocks (terminals.ForIn init loop_block fallthrough id span) = init ∷ []
 tested_blocks _ = []
 
--- the blocks that a terminal frames: by a field `test`, `init`, `update` or `fallthrough`, or as a case's block
+-- the blocks that a terminal frames: by a field `test`, `init`, `update` or `fallthrough`, or as a case's
+-- block
 abbrev pub framed_blocks : Terminal → List BlockId
-framed_blocks terminal = tested_blocks terminal ++ listed (fallthrough_of terminal) ++ case_blocks (cases_of terminal)
+framed_blocks terminal = tested_blocks terminal ++ listed (fallthrough_of terminal)
+    ++ case_blocks (cases_of terminal)
 
 -- the block is one of these
 abbrev pub is_among : List BlockId → BlockId → Bool
@@ -103,7 +109,8 @@ namings hir = hir.body.entry ∷ flat_map (λ pair. named_blocks pair.1.terminal
 
 -- the namings of the graph's entry and of these blocks
 abbrev pub namings_of : HirFunction → List BlockId → List BlockId
-namings_of hir used = hir.body.entry ∷ flat_map (λ pair. if is_among used pair.0 then named_blocks pair.1.terminal else []) hir.body.blocks
+namings_of hir used = hir.body.entry ∷ flat_map
+    (λ pair. if is_among used pair.0 then named_blocks pair.1.terminal else []) hir.body.blocks
 
 -- the block that a switch moves to where it chooses no case
 abbrev pub past_blocks : List Case → BlockId → List BlockId
@@ -120,7 +127,8 @@ step_blocks (terminals.Sequence block fallthrough id span) = block ∷ []
 step_blocks (terminals.Throw value id span) = []
 step_blocks (terminals.Return value id span) = []
 step_blocks (terminals.Goto block variant id span) = block ∷ []
-step_blocks (terminals.Switch test cases fallthrough id span) = case_blocks cases ++ past_blocks cases fallthrough
+step_blocks (terminals.Switch test cases fallthrough id span) =
+    case_blocks cases ++ past_blocks cases fallthrough
 step_blocks (terminals.DoWhile loop_block test fallthrough id span) = loop_block ∷ []
 step_blocks (terminals.While test loop_block fallthrough id span) = test ∷ []
 step_blocks (terminals.For init test update loop_block fallthrough id span) = init ∷ []

@@ -22,7 +22,8 @@ mutual
   -- the rows of a sequence
   pub data Rows : Type 0 where
     NoRows : Rows
-    Row : (id : EvaluationOrder) (target : Option Place) (value : Value) (span : Option Span) (rest : Rows) → Rows
+    Row : (id : EvaluationOrder) (target : Option Place) (value : Value) (span : Option Span)
+        (rest : Rows) → Rows
 
 mutual
   -- statements that run one after the other
@@ -31,7 +32,8 @@ mutual
     Cons : (statement : Statement) (rest : Statements) → Statements
 
   pub data Statement : Type 0 where
-    RowStatement : (id : EvaluationOrder) (target : Option Place) (value : Value) (span : Option Span) → Statement
+    RowStatement : (id : EvaluationOrder) (target : Option Place) (value : Value) (span : Option Span) →
+        Statement
     TerminalStatement : (terminal : TreeTerminal) (label : Option ReactiveLabel) → Statement
     ScopeStatement : (scope : ScopeId) (body : Statements) → Statement
     PrunedScopeStatement : (scope : ScopeId) (body : Statements) → Statement
@@ -45,12 +47,15 @@ mutual
     Switch : (test : Place) (cases : Cases) (id : EvaluationOrder) → TreeTerminal
     DoWhile : (body : Statements) (test : Value) (id : EvaluationOrder) → TreeTerminal
     While : (test : Value) (body : Statements) (id : EvaluationOrder) → TreeTerminal
-    For : (init test : Value) (update : Option Value) (body : Statements) (id : EvaluationOrder) → TreeTerminal
+    For : (init test : Value) (update : Option Value) (body : Statements) (id : EvaluationOrder) →
+        TreeTerminal
     ForOf : (init test : Value) (body : Statements) (span : Option Span) (id : EvaluationOrder) → TreeTerminal
     ForIn : (init : Value) (body : Statements) (span : Option Span) (id : EvaluationOrder) → TreeTerminal
-    If : (test : Place) (consequent : Statements) (alternate : Alternate) (id : EvaluationOrder) → TreeTerminal
+    If : (test : Place) (consequent : Statements) (alternate : Alternate) (id : EvaluationOrder) →
+        TreeTerminal
     Label : (body : Statements) (id : EvaluationOrder) → TreeTerminal
-    Try : (body : Statements) (binding : Option Place) (handler : Statements) (id : EvaluationOrder) → TreeTerminal
+    Try : (body : Statements) (binding : Option Place) (handler : Statements) (id : EvaluationOrder) →
+        TreeTerminal
 
   -- a block that may be left out
   pub data Alternate : Type 0 where

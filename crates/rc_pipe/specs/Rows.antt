@@ -28,7 +28,8 @@ pub record HaveIds (hir : HirFunction) (numbers : List InstructionId) : Type 0 w
   pub set : list_any (λ row. is_unset row.id) rows ≡ false
 
 -- the statements of these rows stand behind the others
-pub record PutSoFar (hir : HirFunction) (numbers : List InstructionId) (out whole : List ReactiveStatement) : Type 0 where
+pub record PutSoFar (hir : HirFunction) (numbers : List InstructionId)
+    (out whole : List ReactiveStatement) : Type 0 where
   pub rows : List Instruction
   pub filled : rows_of hir.instructions numbers ≡ Some rows
   pub put : whole ≡ out ++ map row_statement_of rows

@@ -1,17 +1,17 @@
 -- What holds of the block that a fault names, one equation a rule.
-use Rattle.std.specs.Prelude.{◌≡◌, ◌≤◌, ◌⊎◌, ℕ, Bool, true, false, List, Option, Some, None, nat_eq, slice_get}
+use Rattle.std.specs.Prelude.{◌≡◌, ◌≤◌, ◌⊎◌, ℕ, true, false, List, Option, Some, None, nat_eq, slice_get}
 use Rattle.std.specs.List.{list_any}
 use Rattle.rc_names.specs.declared.numbers.BlockId.{BlockId}
 use Rattle.rc_names.specs.declared.numbers.InstructionId.{InstructionId}
 use Rattle.rc_names.specs.declared.numbers.EvaluationOrder.{EvaluationOrder}
 use Rattle.rc_names.specs.declared.numbers.ScopeId.{ScopeId}
 use Rattle.rc_names.specs.declared.span.Span.{Span}
+use Rattle.rc_hir.specs.Terminal.{evaluation_order}
 use Rattle.rc_hir.specs.declared.place.Place.{Place}
 use Rattle.rc_hir.specs.declared.fault.Fault.{Fault}
 use Rattle.rc_hir.specs.declared.fault.Fault.TheVariants as faults
 use Rattle.rc_hir.specs.declared.fault.Rule.{Rule}
 use Rattle.rc_hir.specs.declared.fault.Rule.TheVariants as rules
-use Rattle.rc_hir.specs.declared.fault.TableName.{TableName}
 use Rattle.rc_hir.specs.declared.fault.TableName.TheVariants as tables
 use Rattle.rc_hir.specs.declared.terminal.GotoVariant.TheVariants as variants
 use Rattle.rc_hir.specs.declared.terminal.Terminal.{Terminal}
@@ -21,7 +21,7 @@ use Rattle.rc_hir.specs.declared.function.BasicBlock.{BasicBlock}
 use Rattle.rc_hir.specs.declared.function.HirFunction.{HirFunction}
 use Rattle.rc_pipe.specs.Event.{Event}
 use Rattle.rc_pipe.specs.Silent.{is_unset}
-use Rattle.rc_pipe.specs.Graph.{same_block, basic_block, evaluation_order, is_dead}
+use Rattle.rc_pipe.specs.Graph.{same_block, basic_block, is_dead}
 use Rattle.rc_pipe.specs.GraphRun.{Move}
 use Rattle.rc_pipe.specs.Namings.{times, namings, is_among, framed_blocks, fallthrough_of, scope_fallthrough, case_blocks, cases_of}
 use Rattle.rc_pipe.specs.Spelled.{scope_named}
@@ -37,7 +37,8 @@ pub record At (hir : HirFunction) (key : BlockId) (P : BasicBlock → Type 0) : 
 abbrev pub times_named : HirFunction → BlockId → ℕ
 times_named hir key = times key (namings hir)
 
--- a block other than b names the block by a field `test`, `init`, `update` or `fallthrough`, or as a case's block
+-- a block other than b names the block by a field `test`, `init`, `update` or `fallthrough`, or as a case's
+-- block
 pub record IsFramedApart (hir : HirFunction) (b key : BlockId) : Type 0 where
   pub other : BlockId
   pub apart : same_block other b ≡ false
@@ -45,11 +46,13 @@ pub record IsFramedApart (hir : HirFunction) (b key : BlockId) : Type 0 where
 
 -- the block is the fallthrough of a scope of the graph, kept or pruned
 abbrev pub IsScopeFallthrough : HirFunction → BlockId → Type 0
-IsScopeFallthrough hir key = (owner : BlockId) × At hir owner (λ block. scope_fallthrough block.terminal ≡ Some key)
+IsScopeFallthrough hir key = (owner : BlockId)
+    × At hir owner (λ block. scope_fallthrough block.terminal ≡ Some key)
 
 -- the block is that of a case of the graph
 abbrev pub IsCaseBlock : HirFunction → BlockId → Type 0
-IsCaseBlock hir key = (owner : BlockId) × At hir owner (λ block. is_among (case_blocks (cases_of block.terminal)) key ≡ true)
+IsCaseBlock hir key = (owner : BlockId)
+    × At hir owner (λ block. is_among (case_blocks (cases_of block.terminal)) key ≡ true)
 
 -- a row of the block has the id that means unset
 pub record HasUnsetRow (hir : HirFunction) (block : BasicBlock) : Type 0 where
@@ -61,16 +64,19 @@ pub record HasUnsetRow (hir : HirFunction) (block : BasicBlock) : Type 0 where
 
 -- the terminal is a jump to the target: a `Goto` of variant `Break`, or an arm of a `Branch`
 pub data Jumps : Terminal → BlockId → Type 0 where
-  goto_break : {target : BlockId} {id : EvaluationOrder} {span : Option Span} → Jumps (terminals.Goto target variants.Break id span) target
+  goto_break : {target : BlockId} {id : EvaluationOrder} {span : Option Span} →
+      Jumps (terminals.Goto target variants.Break id span) target
   first_arm : {test : Place} {consequent alternate : BlockId} {id : EvaluationOrder} {span : Option Span} →
       Jumps (terminals.Branch test consequent alternate id span) consequent
   second_arm : {test : Place} {consequent alternate : BlockId} {id : EvaluationOrder} {span : Option Span} →
       Jumps (terminals.Branch test consequent alternate id span) alternate
 
--- the terminal of block b is a `Goto` of variant `Break`, or a `Branch` with an arm that is framed apart from b
+-- the terminal of block b is a `Goto` of variant `Break`, or a `Branch` with an arm that is framed apart
+-- from b
 abbrev pub IsLostJump : HirFunction → BlockId → Terminal → Type 0
 IsLostJump hir b (terminals.Goto block variants.Break id span) = Unit {0}
-IsLostJump hir b (terminals.Branch test consequent alternate id span) = IsFramedApart hir b consequent ⊎ IsFramedApart hir b alternate
+IsLostJump hir b (terminals.Branch test consequent alternate id span) =
+    IsFramedApart hir b consequent ⊎ IsFramedApart hir b alternate
 IsLostJump hir b _ = ⊥
 
 -- a move from the terminal leads to a block that ends in `Unreachable`
@@ -98,11 +104,14 @@ pub record FallsBadly (hir : HirFunction) (b : BlockId) (terminal : Terminal) : 
 abbrev pub RuleFact : HirFunction → Rule → BlockId → Type 0
 RuleFact hir rules.NoBlock key = (basic_block hir key ≡ None) × (1 ≤ times_named hir key)
 RuleFact hir rules.KeyDiffers key = At hir key (λ block. same_block block.id key ≡ false)
-RuleFact hir rules.UnsetId key = At hir key (λ block. HasUnsetRow hir block ⊎ (is_unset (evaluation_order block.terminal) ≡ true))
+RuleFact hir rules.UnsetId key = At hir key
+    (λ block. HasUnsetRow hir block ⊎ (is_unset (evaluation_order block.terminal) ≡ true))
 RuleFact hir rules.Twice key = At hir key (λ block. 2 ≤ times_named hir key)
 RuleFact hir rules.BreakTarget key = At hir key (λ block. IsLostJump hir key block.terminal)
-RuleFact hir rules.CaseLabel key = At hir key (λ block. (target : BlockId) × Jumps block.terminal target × IsCaseBlock hir target)
-RuleFact hir rules.ScopeBreak key = At hir key (λ block. (target : BlockId) × Jumps block.terminal target × IsScopeFallthrough hir target)
+RuleFact hir rules.CaseLabel key =
+    At hir key (λ block. (target : BlockId) × Jumps block.terminal target × IsCaseBlock hir target)
+RuleFact hir rules.ScopeBreak key =
+    At hir key (λ block. (target : BlockId) × Jumps block.terminal target × IsScopeFallthrough hir target)
 RuleFact hir rules.Dead key = At hir key (λ block. StepsDead hir block.terminal)
 RuleFact hir rules.ScopeTwice key = At hir key (λ block. SharesScope hir key block.terminal)
 RuleFact hir rules.FallsElsewhere key = At hir key (λ block. FallsBadly hir key block.terminal)
@@ -115,7 +124,8 @@ LacksRow hir index block = list_any (λ number. nat_eq index number.0) block.ins
 -- the fact that a fault of the builder states; of the faults without a line none comes from it
 abbrev pub FaultFact : HirFunction → Fault → Type 0
 FaultFact hir (faults.Malformed block rule) = RuleFact hir rule block
-FaultFact hir (faults.BadName tables.Instructions index) = (slice_get hir.instructions index ≡ None) × ((key : BlockId) × At hir key (LacksRow hir index))
+FaultFact hir (faults.BadName tables.Instructions index) =
+    (slice_get hir.instructions index ≡ None) × ((key : BlockId) × At hir key (LacksRow hir index))
 FaultFact hir (faults.NotBuilt key) = At hir key (λ block. is_built block.terminal ≡ false)
 FaultFact hir faults.NoMemory = Unit {0}
 FaultFact hir _ = ⊥

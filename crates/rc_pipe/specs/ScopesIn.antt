@@ -1,4 +1,5 @@
--- The scopes of the scope blocks of a tree, at every depth and in the order of the text. A pruned block isn't a scope block, but those in it are.
+-- The scopes of the scope blocks of a tree, at every depth and in the order of the text. A pruned block
+-- isn't a scope block, but those in it are.
 use Rattle.std.specs.Prelude.{List, [], ◌∷◌, ◌++◌, Option, unwrap_or}
 use Rattle.std.specs.List.{flat_map}
 use Rattle.rc_names.specs.declared.numbers.ScopeId.{ScopeId}
@@ -45,7 +46,8 @@ of_terminal (layer.Label body id) = body
 of_terminal (layer.Try body binding handler id) = body ++ handler
 
 -- a pruned block adds none of its own
-abbrev pub of_pruned_scope : PrunedReactiveScopeBlock-F Scopes Scopes Scopes Scopes Scopes Scopes Scopes → Scopes
+abbrev pub of_pruned_scope : PrunedReactiveScopeBlock-F Scopes Scopes Scopes Scopes Scopes Scopes Scopes →
+    Scopes
 of_pruned_scope block = block.instructions
 
 -- a scope block's own scope comes before those inside
@@ -67,19 +69,23 @@ of_labelled statement = statement.terminal
 -- the scope of each scope block of the tree
 abbrev pub scopes_in : ReactiveBlock → Scopes
 scopes_in =
-    fold-ReactiveBlock Scopes Scopes Scopes Scopes Scopes Scopes Scopes of_statement of_terminal of_pruned_scope of_scope of_block of_case of_labelled
+    fold-ReactiveBlock Scopes Scopes Scopes Scopes Scopes Scopes Scopes of_statement of_terminal
+    of_pruned_scope of_scope of_block of_case of_labelled
 
 -- the scope of each scope block in the statement, its own included
 abbrev pub scopes_in_statement : ReactiveStatement → Scopes
 scopes_in_statement =
-    fold-ReactiveStatement Scopes Scopes Scopes Scopes Scopes Scopes Scopes of_statement of_terminal of_pruned_scope of_scope of_block of_case of_labelled
+    fold-ReactiveStatement Scopes Scopes Scopes Scopes Scopes Scopes Scopes of_statement of_terminal
+    of_pruned_scope of_scope of_block of_case of_labelled
 
 -- the scope of each scope block in the terminal
 abbrev pub scopes_in_terminal : ReactiveTerminal → Scopes
 scopes_in_terminal =
-    fold-ReactiveTerminal Scopes Scopes Scopes Scopes Scopes Scopes Scopes of_statement of_terminal of_pruned_scope of_scope of_block of_case of_labelled
+    fold-ReactiveTerminal Scopes Scopes Scopes Scopes Scopes Scopes Scopes of_statement of_terminal
+    of_pruned_scope of_scope of_block of_case of_labelled
 
 -- the scope of each scope block in the case
 abbrev pub scopes_in_case : ReactiveSwitchCase → Scopes
 scopes_in_case =
-    fold-ReactiveSwitchCase Scopes Scopes Scopes Scopes Scopes Scopes Scopes of_statement of_terminal of_pruned_scope of_scope of_block of_case of_labelled
+    fold-ReactiveSwitchCase Scopes Scopes Scopes Scopes Scopes Scopes Scopes of_statement of_terminal
+    of_pruned_scope of_scope of_block of_case of_labelled

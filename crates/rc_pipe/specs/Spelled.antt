@@ -34,7 +34,8 @@ pub record AreSound (hir : HirFunction) (used : List BlockId) : Type 0 where
   -- no block is used twice
   pub distinct : IsDistinct same_block used
   -- no used block steps to one that ends in `Unreachable`
-  pub alive : (key : BlockId) → Contains used key → (block : Block) → block_at hir key ≡ Some block → MovesAlive hir block.terminal
+  pub alive : (key : BlockId) → Contains used key → (block : Block) → block_at hir key ≡ Some block →
+      MovesAlive hir block.terminal
   -- no two used blocks open one scope
   pub scopes_once : IsDistinct same_scope (filter_map (scope_at hir) used)
 

@@ -1,8 +1,8 @@
 //! The builder: from a graph to the function that it spells.
 //!
 //! A list is built block by block: the rows of a block, then the statement of its terminal, and on at the
-//! statement's fallthrough where that was opened. Only the parts of a statement are built by a nested call. Each
-//! block is marked before its parts are built, so a graph that leads back to a block is refused there.
+//! statement's fallthrough where that was opened. Only the parts of a statement are built by a nested call.
+//! Each block is marked before its parts are built, so a graph that leads back to a block is refused there.
 
 mod blocks;
 mod branches;
@@ -14,13 +14,11 @@ mod scopes;
 mod state;
 mod steps;
 
-ghost use Rattle.std.specs.Prelude.{◌≡◌, Err, IfOk, IfErr};
-ghost use Rattle.rc_names.specs.declared.numbers.BlockId.{BlockId};
-ghost use Rattle.rc_hir.specs.declared.fault.Fault.TheVariants as faults;
-ghost use Rattle.rc_hir.specs.declared.fault.Rule.{Rule};
+ghost use Rattle.std.specs.Prelude.{IfOk, IfErr};
 ghost use Rattle.rc_tree.specs.declared.function.ReactiveFunction.{ReactiveFunction};
 ghost use Rattle.rc_pipe.specs.Spelled.{Spells};
 ghost use Rattle.rc_pipe.specs.RuleFacts.{FaultFact};
+ghost use Rattle.rc_pipe.specs.Built.{IfMalformed};
 
 use header::with_header;
 use lists::build_list;
@@ -41,7 +39,7 @@ pub(crate) fn build(
     env: &Environment,
 ) -> Result<ReactiveFunction, Fault>
     ensures ok { IfOk result (λ func. Spells hir.now env.now func) }
-    ensures refused { (block : BlockId) (rule : Rule) → result ≡ Err (faults.Malformed block rule) → (func : ReactiveFunction) → Spells hir.now env.now func → ⊥ }
+    ensures refused { IfMalformed result ((func : ReactiveFunction) → Spells hir.now env.now func → ⊥) }
     ensures facts { IfErr result (FaultFact hir.now) }
 {
     let mut state = State::new(alloc);

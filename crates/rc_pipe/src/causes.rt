@@ -1,8 +1,9 @@
 //! The tests that come before a graph is built.
 
-ghost use Rattle.std.specs.Prelude.{◌≡◌, ◌↔◌, ◌<◌, IsTrue, All, count_by, option_map};
+ghost use Rattle.std.specs.Prelude.{◌≡◌, ◌↔◌, ◌<◌, IsTrue, All, option_map};
 ghost use Rattle.rc_names.specs.declared.numbers.ScopeId.{ScopeId};
-ghost use Rattle.rc_pipe.specs.Causes.{first_early_return, is_scope, scope_count, HasRoom, is_built, first_unbuilt};
+ghost use Rattle.rc_pipe.specs.Causes.{first_early_return, is_scope, scope_count, HasRoom};
+ghost use Rattle.rc_pipe.specs.Causes.{is_built, first_unbuilt};
 
 use rc_hir::{Environment, GotoVariant, HirFunction, Terminal};
 use rc_names::{BlockId, Name, ScopeId};

@@ -50,7 +50,8 @@ pub(crate) fn kept_fates(alloc: Global, body: &ReactiveBlock) -> Result<List<Sco
 /// The scopes, each once and in order. The only error is want of memory.
 fn in_order(alloc: Global, scopes: &[ScopeId]) -> Result<BTreeSet<ScopeId>, AllocError>
     ensures rising { IfOk result (λ set. IsStrictlyIncreasing (map (λ scope. scope.0) set.keys)) }
-    ensures same { IfOk result (λ set. (scope : Scope) → Contains set.keys scope ↔ Contains scopes.now scope) }
+    ensures same { IfOk result (λ set.
+        (scope : Scope) → Contains set.keys scope ↔ Contains scopes.now scope) }
 {
     scopes.iter().copied().collect(alloc)
 }

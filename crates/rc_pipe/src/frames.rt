@@ -1,12 +1,15 @@
 //! Frames: what stands around the list that is built, and where its jumps go.
 
-ghost use Rattle.std.specs.Prelude.{◌≡◌, [], ◌∷◌, ◌||◌, List, length, reverse, OnOk, OnErr};
+mod depths;
+mod stack;
+
+ghost use Rattle.std.specs.Prelude.{◌≡◌};
+ghost use Rattle.rc_pipe.specs.Depths.{continue_block};
 ghost use Rattle.rc_pipe.specs.Frames as spec;
 
-use rc_names::{BlockId, List as Items};
+use rc_names::BlockId;
 use rc_tree::ReactiveTerminalTargetKind;
-use std::alloc::{AllocError, Global};
-use std::marker::Model;
+pub use stack::FrameStack;
 
 /// A statement around the list that is built, by the blocks that its jumps name.
 #[derive(Clone, Copy, Debug, PartialEq, Eq)]
@@ -59,19 +62,14 @@ impl Frame {
         }
     }
 
-    /// Whether a jump can name the block at this frame.
-    fn is_live_at(self, key: BlockId) -> bool
-        ensures { result ≡ spec.is_live_at self key }
+    /// The block that a continue of the frame names.
+    fn continue_block(self) -> Option<BlockId>
+        ensures { result ≡ continue_block self }
     {
         match self {
-            Frame::If { block }
-            | Frame::Switch { block }
-            | Frame::Case { block }
-            | Frame::Scope { block } => { block == key }
-            Frame::Loop {
-                block,
-                continue_block,
-            } => block == key || continue_block == key,
+            Frame::If { .. } | Frame::Switch { .. } | Frame::Case { .. } | Frame::Scope { .. } =>
+                None,
+            Frame::Loop { continue_block, .. } => Some(continue_block),
         }
     }
 
@@ -113,85 +111,5 @@ impl Frame {
                 ReactiveTerminalTargetKind::Unlabeled
             }),
         }
-    }
-}
-
-fn is_live_in(frames: &[Frame], key: BlockId) -> bool
-    ensures { result ≡ spec.is_live (reverse frames.now) key }
-{
-    match frames.split_last() {
-        None => false,
-        Some((frame, outer)) => frame.is_live_at(key) || is_live_in(outer, key),
-    }
-}
-
-fn way_from(innermost: bool, in_loop: bool, frames: &[Frame], key: BlockId) -> Way
-    ensures { result ≡ spec.way_from innermost in_loop (reverse frames.now) key }
-{
-    match frames.split_last() {
-        None => Way::NoFrame,
-        Some((frame, outer)) => {
-            if frame.break_block() == key {
-                frame.way_out(innermost, in_loop)
-            } else {
-                way_from(false, in_loop || frame.is_loop(), outer, key)
-            }
-        }
-    }
-}
-
-/// The frames around the list that is built, which contracts see with the innermost first.
-#[derive(Drop)]
-pub struct FrameStack {
-    frames: Items<Frame>,
-}
-
-impl Model for FrameStack {
-    ghost use Rattle.std.specs.Prelude.{List, reverse};
-    ghost use Rattle.rc_pipe.specs.declared.frames.Frame.{Frame};
-
-    ghost Value = { List Frame };
-
-    ghost view = { λ it. reverse it.frames };
-}
-
-impl FrameStack {
-    /// No frames, which takes no memory.
-    pub fn new(alloc: Global) -> FrameStack
-        ensures { result ≡ [] }
-    {
-        FrameStack {
-            frames: Items::new(alloc),
-        }
-    }
-
-    /// Puts a frame inside the others. The only error is want of memory, after which nothing changed.
-    pub fn push(&mut self, frame: Frame) -> Result<(), AllocError>
-        ensures ok { OnOk result (self.new ≡ frame ∷ self.old) }
-        ensures err { OnErr result (self.new ≡ self.old) }
-    {
-        self.frames.push(frame)
-    }
-
-    /// Takes the innermost frame off, where there is one.
-    pub fn pop(&mut self)
-        ensures frames { (frame : Frame) (outer : List Frame) → self.old ≡ frame ∷ outer → self.new ≡ outer }
-        ensures empty { self.old ≡ [] → self.new ≡ [] }
-    {
-        let _frame = self.frames.pop();
-    }
-
-    /// Whether the block is the break block or the continue block of a frame.
-    pub fn is_live(&self, key: BlockId) -> bool
-        ensures { result ≡ spec.is_live self.now key }
-    {
-        is_live_in(self.frames.as_slice(), key)
-    }
-
-    /// What becomes of a break to the block.
-    pub fn break_way(&self, key: BlockId) -> Way
-        ensures { result ≡ spec.break_way self.now key }
-    {
-        way_from(true, false, self.frames.as_slice(), key)
     }
 }

@@ -1,10 +1,11 @@
 //! The scopes of the scope blocks of a tree, in the order of the text.
 //!
-//! One pass over the tree puts each scope at the end of one list. Statements that follow each other are a loop, so
-//! that the call stack grows with the nesting alone. Rows and values have no scope block in them.
+//! One pass over the tree puts each scope at the end of one list. Statements that follow each other are a
+//! loop, so that the call stack grows with the nesting alone. Rows and values have no scope block in them.
 
 ghost use Rattle.std.specs.Prelude.{◌≡◌, ◌++◌, map, IfOk, OnOk, option_map};
-ghost use Rattle.rc_pipe.specs.ScopesIn.{scopes_in, scopes_in_statement, scopes_in_terminal, scopes_in_case, one_by_one, if_there};
+ghost use Rattle.rc_pipe.specs.ScopesIn.{scopes_in, scopes_in_statement, scopes_in_terminal};
+ghost use Rattle.rc_pipe.specs.ScopesIn.{scopes_in_case, one_by_one, if_there};
 
 use rc_names::{List, ScopeId};
 use rc_tree::{ReactiveBlock, ReactiveStatement, ReactiveSwitchCase, ReactiveTerminal};

@@ -1,15 +1,12 @@
 //! One block: whether a tree may use it where the walk stands, and its mark.
 
-ghost use Rattle.std.specs.Prelude.{◌≡◌, ◌≤◌, ◌++◌, ◌∷◌, [], true, false, Err, None, Some, IfOk, IfErr};
+ghost use Rattle.std.specs.Prelude.{◌≡◌, ◌≤◌, ◌++◌, true, Err, None, Some, IfOk, IfErr};
 ghost use Rattle.rc_names.specs.declared.numbers.BlockId.{BlockId};
-ghost use Rattle.rc_hir.specs.declared.fault.Fault.TheVariants as faults;
 ghost use Rattle.rc_hir.specs.declared.fault.Rule.{Rule};
 ghost use Rattle.rc_pipe.specs.Graph.{basic_block, same_block, usable_block};
-ghost use Rattle.rc_pipe.specs.Graph as graph;
 ghost use Rattle.rc_pipe.specs.Spelled as spelled;
-ghost use Rattle.rc_pipe.specs.Namings.{is_among};
 ghost use Rattle.rc_pipe.specs.RuleFacts.{FaultFact, times_named};
-ghost use Rattle.rc_pipe.specs.Built.{AtList, IsTaken, IsUnusable, is_fresh_scope, listed_scope};
+ghost use Rattle.rc_pipe.specs.Built.{AtList, IsTaken, IsUnusable, is_fresh_scope, listed_scope, IfMalformed};
 
 use crate::build::rows::check_ids;
 use crate::build::state::{State, malformed};
@@ -20,9 +17,9 @@ use std::alloc::AllocError;
 
 /// The block under a key, marked as used.
 ///
-/// - `Malformed`: no tree may use it there; it is no key (`NoBlock`), stands under another number than its own
-///   (`KeyDiffers`), is used already or live (`Twice`), has an unset id (`UnsetId`), steps to a block that ends in
-///   `Unreachable` (`Dead`), or opens a scope that is used already (`ScopeTwice`).
+/// - `Malformed`: no tree may use it there; it is no key (`NoBlock`), stands under another number than its
+///   own (`KeyDiffers`), is used already or live (`Twice`), has an unset id (`UnsetId`), steps to a block
+///   that ends in `Unreachable` (`Dead`), or opens a scope that is used already (`ScopeTwice`).
 /// - `BadName`: one of its rows isn't there.
 /// - `NoMemory`: want of memory.
 pub fn take_block<'g>(
@@ -31,8 +28,9 @@ pub fn take_block<'g>(
     key: BlockId,
 ) -> Result<&'g BasicBlock, Fault>
     requires { AtList hir.now state.old.marks state.old.frames key }
-    ensures ok { IfOk result (λ block. IsTaken hir.now state.old.frames key block.now state.old.marks state.new.marks) }
-    ensures refused { (block : BlockId) (rule : Rule) → result ≡ Err (faults.Malformed block rule) → IsUnusable hir.now state.old.frames key state.old.marks }
+    ensures ok { IfOk result (λ block.
+        IsTaken hir.now state.old.frames key block.now state.old.marks state.new.marks) }
+    ensures refused { IfMalformed result (IsUnusable hir.now state.old.frames key state.old.marks) }
     ensures facts { IfErr result (FaultFact hir.now) }
     ensures frames { state.new.frames ≡ state.old.frames }
 {

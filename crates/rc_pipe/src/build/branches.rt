@@ -2,16 +2,14 @@
 
 ghost use Rattle.std.specs.Prelude.{◌≡◌, Err, IfOk, IfErr};
 ghost use Rattle.rc_names.specs.declared.numbers.BlockId.{BlockId};
-ghost use Rattle.rc_hir.specs.declared.fault.Fault.TheVariants as faults;
 ghost use Rattle.rc_hir.specs.declared.fault.Rule.{Rule};
 ghost use Rattle.rc_hir.specs.declared.terminal.Terminal.{Terminal};
 ghost use Rattle.rc_names.specs.declared.span.Span.{Span};
 ghost use Rattle.rc_tree.specs.declared.terminal.ReactiveTerminal.TheVariants as tree;
 ghost use Rattle.rc_pipe.specs.Graph.{same_block};
 ghost use Rattle.rc_pipe.specs.Grammar as grammar;
-ghost use Rattle.rc_pipe.specs.Grammar.{SpellsTerminal};
 ghost use Rattle.rc_pipe.specs.RuleFacts.{FaultFact};
-ghost use Rattle.rc_pipe.specs.Built.{AtSome, AtTerminal, GoesOn, Refused, terminal_statement};
+ghost use Rattle.rc_pipe.specs.Built.{AtSome, AtTerminal, GoesOn, IfMalformed, NoStatements, terminal_statement};
 ghost use Rattle.rc_pipe.specs.Arms.{if_of};
 ghost use Rattle.std.specs.Prelude.{Option, None, true, false};
 
@@ -46,9 +44,13 @@ pub fn build_if(
     arms: Arms,
     out: &mut List<ReactiveStatement>,
 ) -> Result<Option<BlockId>, Fault>
-    requires { (span : Option Span) × AtTerminal hir.now state.old.marks state.old.frames key (if_of arms span) }
-    ensures ok { IfOk result (λ rest. (span : Option Span) → GoesOn hir.now env.now (if_of arms span) next state.old.frames rest out.old out.new state.old.marks state.new.marks) }
-    ensures refused { (block : BlockId) (rule : Rule) (span : Option Span) → result ≡ Err (faults.Malformed block rule) → Refused hir.now (SpellsTerminal hir.now env.now (if_of arms span) next state.old.frames None) state.old.marks.used }
+    requires { (span : Option Span) ×
+        AtTerminal hir.now state.old.marks state.old.frames key (if_of arms span) }
+    ensures ok { IfOk result (λ rest. (span : Option Span) →
+        GoesOn hir.now env.now (if_of arms span) next state.old.frames rest
+        out.old out.new state.old.marks state.new.marks) }
+    ensures refused { IfMalformed result ((span : Option Span) →
+        NoStatements hir.now env.now (if_of arms span) next state.old) }
     ensures facts { IfErr result (FaultFact hir.now) }
     ensures frames { IfOk result (λ _. state.new.frames ≡ state.old.frames) }
 {
@@ -71,11 +73,15 @@ fn build_if_only(
     opened: bool,
     out: &mut List<ReactiveStatement>,
 ) -> Result<Option<BlockId>, Fault>
-    requires at { (span : Option Span) × AtTerminal hir.now state.old.marks state.old.frames key (if_of arms span) }
+    requires at { (span : Option Span) ×
+        AtTerminal hir.now state.old.marks state.old.frames key (if_of arms span) }
     requires opens { opened ≡ grammar.opens_reachable hir.now state.old.frames arms.fallthrough }
     requires absent { same_block arms.alternate arms.fallthrough ≡ true }
-    ensures ok { IfOk result (λ rest. (span : Option Span) → GoesOn hir.now env.now (if_of arms span) next state.old.frames rest out.old out.new state.old.marks state.new.marks) }
-    ensures refused { (block : BlockId) (rule : Rule) (span : Option Span) → result ≡ Err (faults.Malformed block rule) → Refused hir.now (SpellsTerminal hir.now env.now (if_of arms span) next state.old.frames None) state.old.marks.used }
+    ensures ok { IfOk result (λ rest. (span : Option Span) →
+        GoesOn hir.now env.now (if_of arms span) next state.old.frames rest
+        out.old out.new state.old.marks state.new.marks) }
+    ensures refused { IfMalformed result ((span : Option Span) →
+        NoStatements hir.now env.now (if_of arms span) next state.old) }
     ensures facts { IfErr result (FaultFact hir.now) }
     ensures frames { IfOk result (λ _. state.new.frames ≡ state.old.frames) }
 {
@@ -104,8 +110,11 @@ fn build_if_else(
     requires at { (span : Option Span) × AtSome hir.now state.old.marks state.old.frames (if_of arms span) }
     requires opens { opened ≡ grammar.opens_reachable hir.now state.old.frames arms.fallthrough }
     requires present { same_block arms.alternate arms.fallthrough ≡ false }
-    ensures ok { IfOk result (λ rest. (span : Option Span) → GoesOn hir.now env.now (if_of arms span) next state.old.frames rest out.old out.new state.old.marks state.new.marks) }
-    ensures refused { (block : BlockId) (rule : Rule) (span : Option Span) → result ≡ Err (faults.Malformed block rule) → Refused hir.now (SpellsTerminal hir.now env.now (if_of arms span) next state.old.frames None) state.old.marks.used }
+    ensures ok { IfOk result (λ rest. (span : Option Span) →
+        GoesOn hir.now env.now (if_of arms span) next state.old.frames rest
+        out.old out.new state.old.marks state.new.marks) }
+    ensures refused { IfMalformed result ((span : Option Span) →
+        NoStatements hir.now env.now (if_of arms span) next state.old) }
     ensures facts { IfErr result (FaultFact hir.now) }
     ensures frames { IfOk result (λ _. state.new.frames ≡ state.old.frames) }
 {
@@ -132,7 +141,8 @@ fn if_statement(
     alternate: Option<ReactiveBlock>,
     label: Option<ReactiveLabel>,
 ) -> Result<ReactiveStatement, AllocError>
-    ensures { IfOk result (λ statement. statement ≡ terminal_statement (tree.If arms.test (record { statements = consequent }) alternate arms.id) label) }
+    ensures { IfOk result (λ statement. statement ≡
+        terminal_statement (tree.If arms.test (record { statements = consequent }) alternate arms.id) label) }
 {
     let terminal = ReactiveTerminal::If {
         test: arms.test,

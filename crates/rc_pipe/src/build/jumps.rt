@@ -1,18 +1,17 @@
 //! Statements that end a list: returns and breaks.
 
-ghost use Rattle.std.specs.Prelude.{◌≡◌, ◌++◌, ◌∷◌, [], Err, Option, Some, None, IfOk, IfErr, OnOk};
+ghost use Rattle.std.specs.Prelude.{◌≡◌, ◌++◌, ◌∷◌, [], Err, Option, None, IfOk, IfErr};
 ghost use Rattle.rc_names.specs.declared.numbers.BlockId.{BlockId};
 ghost use Rattle.rc_names.specs.declared.span.Span.{Span};
 ghost use Rattle.rc_hir.specs.declared.environment.Environment.{Environment};
-ghost use Rattle.rc_hir.specs.declared.fault.Fault.TheVariants as faults;
 ghost use Rattle.rc_hir.specs.declared.fault.Rule.{Rule};
 ghost use Rattle.rc_hir.specs.declared.terminal.GotoVariant.TheVariants as variants;
 ghost use Rattle.rc_hir.specs.declared.terminal.Terminal.TheVariants as terminals;
 ghost use Rattle.rc_tree.specs.declared.terminal.ReactiveTerminal.TheVariants as tree;
 ghost use Rattle.rc_pipe.specs.Frames.{break_way};
-ghost use Rattle.rc_pipe.specs.Grammar.{SpellsTerminal, break_statements};
+ghost use Rattle.rc_pipe.specs.Grammar.{break_statements};
 ghost use Rattle.rc_pipe.specs.RuleFacts.{FaultFact};
-ghost use Rattle.rc_pipe.specs.Built.{AtTerminal, EndsList, PutBreak, Refused, terminal_statement};
+ghost use Rattle.rc_pipe.specs.Built.{AtTerminal, EndsList, IfMalformed, NoStatements, PutBreak, terminal_statement};
 
 use crate::build::state::{State, malformed};
 use crate::frames::Way;
@@ -48,11 +47,12 @@ pub fn put_goto(
     id: EvaluationOrder,
     out: &mut List<ReactiveStatement>,
 ) -> Result<(), Fault>
-    requires { (span : Option Span) × AtTerminal hir.now state.now.marks state.now.frames key (terminals.Goto target variant id span) }
-    ensures ok { IfOk result (λ _. (span : Option Span) → EndsList hir.now state.now.frames (terminals.Goto target variant id span) out.old out.new) }
-    ensures refused { (block : BlockId) (rule : Rule) (env : Environment) (next : Option BlockId) (span : Option Span) →
-        result ≡ Err (faults.Malformed block rule) →
-        Refused hir.now (SpellsTerminal hir.now env (terminals.Goto target variant id span) next state.now.frames None) state.now.marks.used }
+    requires { (span : Option Span) ×
+        AtTerminal hir.now state.now.marks state.now.frames key (terminals.Goto target variant id span) }
+    ensures ok { IfOk result (λ _. (span : Option Span) →
+        EndsList hir.now state.now.frames (terminals.Goto target variant id span) out.old out.new) }
+    ensures refused { IfMalformed result ((env : Environment) (next : Option BlockId) (span : Option Span) →
+        NoStatements hir.now env (terminals.Goto target variant id span) next state.now) }
     ensures facts { IfErr result (FaultFact hir.now) }
 {
     match variant {
@@ -64,7 +64,8 @@ pub fn put_goto(
 /// Puts the statement of a break, if it has one.
 ///
 /// - `Malformed` with `BreakTarget`: the target is no frame's block.
-/// - `Malformed` with `ScopeBreak` or `CaseLabel`: it would leave a scope, or name a later case, from further inside.
+/// - `Malformed` with `ScopeBreak` or `CaseLabel`: it would leave a scope, or name a later case, from further
+///   inside.
 fn put_break(
     hir: &HirFunction,
     state: &State,
@@ -73,9 +74,12 @@ fn put_break(
     id: EvaluationOrder,
     out: &mut List<ReactiveStatement>,
 ) -> Result<(), Fault>
-    requires { (span : Option Span) × AtTerminal hir.now state.now.marks state.now.frames key (terminals.Goto target variants.Break id span) }
+    requires { (span : Option Span) ×
+        AtTerminal hir.now state.now.marks state.now.frames key
+        (terminals.Goto target variants.Break id span) }
     ensures ok { IfOk result (λ _. PutBreak state.now.frames target id out.old out.new) }
-    ensures refused { (block : BlockId) (rule : Rule) → result ≡ Err (faults.Malformed block rule) → break_statements (break_way state.now.frames target) target id ≡ None }
+    ensures refused { IfMalformed result
+        (break_statements (break_way state.now.frames target) target id ≡ None) }
     ensures facts { IfErr result (FaultFact hir.now) }
 {
     match state.frames.break_way(target) {
@@ -96,7 +100,8 @@ fn break_statement(
     target_kind: ReactiveTerminalTargetKind,
     id: EvaluationOrder,
 ) -> Result<ReactiveStatement, AllocError>
-    ensures { IfOk result (λ statement. statement ≡ terminal_statement (tree.Break target target_kind id) None) }
+    ensures { IfOk result (λ statement.
+        statement ≡ terminal_statement (tree.Break target target_kind id) None) }
 {
     unlabeled(
         alloc,

@@ -2,12 +2,11 @@
 
 ghost use Rattle.std.specs.Prelude.{◌≡◌, Err, IfOk, IfErr};
 ghost use Rattle.rc_names.specs.declared.numbers.BlockId.{BlockId};
-ghost use Rattle.rc_hir.specs.declared.fault.Fault.TheVariants as faults;
-ghost use Rattle.rc_hir.specs.declared.fault.Rule.{Rule};
 ghost use Rattle.rc_pipe.specs.Frames.{break_block};
-ghost use Rattle.rc_pipe.specs.Grammar.{SpellsList, SpellsTerminal, frames_inside, next_inside};
+ghost use Rattle.rc_pipe.specs.Grammar.{SpellsList, frames_inside, next_inside};
 ghost use Rattle.rc_pipe.specs.RuleFacts.{FaultFact};
 ghost use Rattle.rc_pipe.specs.Built.{AtList, AtTerminal, GoesOn, MadeList, Partly, Refused, Rest};
+ghost use Rattle.rc_pipe.specs.Built.{IfMalformed, NoList, NoStatements};
 ghost use Rattle.rc_pipe.specs.Namings.{listed};
 ghost use Rattle.std.specs.Prelude.{◌<◌, ◌∷◌, [], None, length};
 
@@ -32,8 +31,9 @@ pub fn build_list(
     next: Option<BlockId>,
 ) -> Result<List<ReactiveStatement>, Fault>
     requires { AtList hir.now state.old.marks state.old.frames key }
-    ensures ok { IfOk result (λ list. MadeList hir.now env.now key next state.old.frames list state.old.marks state.new.marks) }
-    ensures refused { (block : BlockId) (rule : Rule) → result ≡ Err (faults.Malformed block rule) → Refused hir.now (SpellsList hir.now env.now key next state.old.frames None) state.old.marks.used }
+    ensures ok { IfOk result (λ list.
+        MadeList hir.now env.now key next state.old.frames list state.old.marks state.new.marks) }
+    ensures refused { IfMalformed result (NoList hir.now env.now key next state.old) }
     ensures facts { IfErr result (FaultFact hir.now) }
     ensures frames { IfOk result (λ _. state.new.frames ≡ state.old.frames) }
 {
@@ -56,10 +56,11 @@ fn build_block(
     out: &mut List<ReactiveStatement>,
 ) -> Result<Option<BlockId>, Fault>
     requires { AtList hir.now state.old.marks state.old.frames key }
-    ensures ok { IfOk result
-        (λ rest. Partly (SpellsList hir.now env.now key next state.old.frames None) (Rest hir.now env.now next state.old.frames rest)
+    ensures ok { IfOk result (λ rest.
+        Partly (SpellsList hir.now env.now key next state.old.frames None)
+        (Rest hir.now env.now next state.old.frames rest)
         hir.now (key ∷ []) (listed rest) out.old out.new state.old.marks state.new.marks) }
-    ensures refused { (block : BlockId) (rule : Rule) → result ≡ Err (faults.Malformed block rule) → Refused hir.now (SpellsList hir.now env.now key next state.old.frames None) state.old.marks.used }
+    ensures refused { IfMalformed result (NoList hir.now env.now key next state.old) }
     ensures facts { IfErr result (FaultFact hir.now) }
     ensures frames { IfOk result (λ _. state.new.frames ≡ state.old.frames) }
     ensures more { IfOk result (λ _. length state.old.marks.used < length state.new.marks.used) }
@@ -81,8 +82,10 @@ fn build_terminal(
     out: &mut List<ReactiveStatement>,
 ) -> Result<Option<BlockId>, Fault>
     requires { AtTerminal hir.now state.old.marks state.old.frames key terminal.now }
-    ensures ok { IfOk result (λ rest. GoesOn hir.now env.now terminal.now next state.old.frames rest out.old out.new state.old.marks state.new.marks) }
-    ensures refused { (block : BlockId) (rule : Rule) → result ≡ Err (faults.Malformed block rule) → Refused hir.now (SpellsTerminal hir.now env.now terminal.now next state.old.frames None) state.old.marks.used }
+    ensures ok { IfOk result (λ rest.
+        GoesOn hir.now env.now terminal.now next state.old.frames rest
+        out.old out.new state.old.marks state.new.marks) }
+    ensures refused { IfMalformed result (NoStatements hir.now env.now terminal.now next state.old) }
     ensures facts { IfErr result (FaultFact hir.now) }
     ensures frames { IfOk result (λ _. state.new.frames ≡ state.old.frames) }
 {
@@ -165,8 +168,14 @@ pub fn build_part(
     next: Option<BlockId>,
 ) -> Result<List<ReactiveStatement>, Fault>
     requires { AtList hir.now state.old.marks (frames_inside opened frame state.old.frames) block }
-    ensures ok { IfOk result (λ part. MadeList hir.now env.now block (next_inside opened (break_block frame) next) (frames_inside opened frame state.old.frames) part state.old.marks state.new.marks) }
-    ensures refused { (named : BlockId) (rule : Rule) → result ≡ Err (faults.Malformed named rule) → Refused hir.now (SpellsList hir.now env.now block (next_inside opened (break_block frame) next) (frames_inside opened frame state.old.frames) None) state.old.marks.used }
+    ensures ok { IfOk result (λ part.
+        MadeList hir.now env.now block (next_inside opened (break_block frame) next)
+        (frames_inside opened frame state.old.frames) part state.old.marks state.new.marks) }
+    ensures refused { IfMalformed result
+        (Refused hir.now
+        (SpellsList hir.now env.now block (next_inside opened (break_block frame) next)
+        (frames_inside opened frame state.old.frames) None)
+        state.old.marks.used) }
     ensures facts { IfErr result (FaultFact hir.now) }
     ensures frames { IfOk result (λ _. state.new.frames ≡ state.old.frames) }
 {

@@ -1,30 +1,28 @@
 //! The rows of a block: their ids, and their statements.
 
-ghost use Rattle.std.specs.Prelude.{◌≡◌, ◌++◌, ◌∷◌, [], Err, None, Some, IfOk, IfErr, map, slice_get, List};
-ghost use Rattle.std.specs.List.{list_any};
+ghost use Rattle.std.specs.Prelude.{◌≡◌, ◌++◌, Err, None, Some, IfOk, IfErr, map, slice_get, List};
 ghost use Rattle.rc_names.specs.declared.numbers.BlockId.{BlockId};
 ghost use Rattle.rc_hir.specs.declared.fault.Fault.TheVariants as faults;
 ghost use Rattle.rc_hir.specs.declared.fault.TableName.TheVariants as tables;
 ghost use Rattle.rc_hir.specs.declared.fault.Rule.{Rule};
 ghost use Rattle.rc_hir.specs.declared.function.Instruction.{Instruction};
-ghost use Rattle.rc_pipe.specs.Graph as graph;
-ghost use Rattle.rc_pipe.specs.Graph.{basic_block, rows_of, usable_block, has_all_ids};
-ghost use Rattle.rc_pipe.specs.Silent.{is_unset};
-ghost use Rattle.rc_pipe.specs.RuleFacts.{FaultFact, At, HasUnsetRow, LacksRow};
+ghost use Rattle.rc_pipe.specs.Graph.{basic_block, rows_of};
+ghost use Rattle.rc_pipe.specs.RuleFacts.{FaultFact};
+ghost use Rattle.rc_pipe.specs.Built.{IfMalformed};
 ghost use Rattle.rc_pipe.specs.Rows.{row_statement_of, HasIds};
 
 use crate::build::state::malformed;
-use rc_hir::{BasicBlock, Fault, HirFunction, Instruction, Rule, TableName, Terminal};
-use rc_names::{BlockId, CloneIn, EvaluationOrder, InstructionId, List as Items};
+use rc_hir::{BasicBlock, Fault, HirFunction, Instruction, Rule, TableName};
+use rc_names::{BlockId, CloneIn, InstructionId, List as Items};
 use rc_tree::{ReactiveInstruction, ReactiveStatement, ReactiveValue};
 use std::alloc::{AllocError, Global};
 
-/// Whether each row of a block, and its terminal, has an id: `UnsetId` where one has none. `BadName` where a row
-/// isn't there.
+/// Whether each row of a block, and its terminal, has an id: `UnsetId` where one has none. `BadName` where a
+/// row isn't there.
 pub fn check_ids(hir: &HirFunction, key: BlockId, block: &BasicBlock) -> Result<(), Fault>
     requires { basic_block hir.now key ≡ Some block.now }
     ensures ok { IfOk result (λ _. HasIds hir.now block.now) }
-    ensures refused { (named : BlockId) (rule : Rule) → result ≡ Err (faults.Malformed named rule) → HasIds hir.now block.now → ⊥ }
+    ensures refused { IfMalformed result (HasIds hir.now block.now → ⊥) }
     ensures facts { IfErr result (FaultFact hir.now) }
 {
     for number in block.instructions.as_slice() {
@@ -32,7 +30,7 @@ pub fn check_ids(hir: &HirFunction, key: BlockId, block: &BasicBlock) -> Result<
             return Err(malformed(key, Rule::UnsetId));
         }
     }
-    if evaluation_order(&block.terminal).0 == 0 {
+    if block.terminal.evaluation_order().0 == 0 {
         return Err(malformed(key, Rule::UnsetId));
     }
     Ok(())
@@ -46,9 +44,11 @@ pub fn put_rows(
     out: &mut Items<ReactiveStatement>,
 ) -> Result<(), Fault>
     requires { (key : BlockId) × (basic_block hir.now key ≡ Some block.now) }
-    ensures ok { IfOk result (λ _. (rows : List Instruction) → rows_of hir.now.instructions block.now.instructions ≡ Some rows → out.new ≡ out.old ++ map row_statement_of rows) }
+    ensures ok { IfOk result (λ _. (rows : List Instruction) →
+        rows_of hir.now.instructions block.now.instructions ≡ Some rows →
+        out.new ≡ out.old ++ map row_statement_of rows) }
     ensures facts { IfErr result (FaultFact hir.now) }
-    ensures never { (named : BlockId) (rule : Rule) → result ≡ Err (faults.Malformed named rule) → ⊥ }
+    ensures never { IfMalformed result ⊥ }
 {
     for number in block.instructions.as_slice() {
         let row = row_statement(alloc, find_row(hir, *number)?)?;
@@ -60,7 +60,8 @@ pub fn put_rows(
 /// The row of a number; `BadName` where there is none.
 fn find_row(hir: &HirFunction, number: InstructionId) -> Result<&Instruction, Fault>
     ensures ok { IfOk result (λ row. slice_get hir.now.instructions number.0 ≡ Some row.now) }
-    ensures err { IfErr result (λ fault. (fault ≡ faults.BadName tables.Instructions number.0) × (slice_get hir.now.instructions number.0 ≡ None)) }
+    ensures err { IfErr result (λ fault. (fault ≡ faults.BadName tables.Instructions number.0)
+        × (slice_get hir.now.instructions number.0 ≡ None)) }
 {
     match hir.instructions.get(number.0 as usize) {
         Some(row) => Ok(row),
@@ -81,33 +82,4 @@ fn row_statement(alloc: Global, row: &Instruction) -> Result<ReactiveStatement, 
         value: ReactiveValue::Instruction(row.value.clone_in(alloc)?),
         span: row.span,
     }))
-}
-
-/// The terminal's place in the order of evaluation.
-fn evaluation_order(terminal: &Terminal) -> EvaluationOrder
-    ensures { result ≡ graph.evaluation_order terminal.now }
-{
-    match terminal {
-        Terminal::If { id, .. }
-        | Terminal::Branch { id, .. }
-        | Terminal::Logical { id, .. }
-        | Terminal::Ternary { id, .. }
-        | Terminal::Optional { id, .. }
-        | Terminal::Sequence { id, .. }
-        | Terminal::Throw { id, .. }
-        | Terminal::Return { id, .. }
-        | Terminal::Goto { id, .. }
-        | Terminal::Switch { id, .. }
-        | Terminal::DoWhile { id, .. }
-        | Terminal::While { id, .. }
-        | Terminal::For { id, .. }
-        | Terminal::ForOf { id, .. }
-        | Terminal::ForIn { id, .. }
-        | Terminal::Label { id, .. }
-        | Terminal::Unreachable { id, .. }
-        | Terminal::MaybeThrow { id, .. }
-        | Terminal::Scope { id, .. }
-        | Terminal::PrunedScope { id, .. }
-        | Terminal::Try { id, .. } => *id,
-    }
 }

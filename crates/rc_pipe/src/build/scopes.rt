@@ -1,18 +1,15 @@
 //! Statements with one part: labels, and the blocks of scopes, kept or pruned.
 
-ghost use Rattle.std.specs.Prelude.{◌≡◌, Err, IfOk, IfErr};
+ghost use Rattle.std.specs.Prelude.{◌≡◌, IfOk, IfErr};
 ghost use Rattle.rc_names.specs.declared.numbers.BlockId.{BlockId};
-ghost use Rattle.rc_hir.specs.declared.fault.Fault.TheVariants as faults;
-ghost use Rattle.rc_hir.specs.declared.fault.Rule.{Rule};
 ghost use Rattle.rc_hir.specs.declared.terminal.Terminal.TheVariants as terminals;
 ghost use Rattle.rc_names.specs.declared.numbers.EvaluationOrder.{EvaluationOrder};
 ghost use Rattle.rc_names.specs.declared.span.Span.{Span};
 ghost use Rattle.rc_tree.specs.declared.statement.ReactiveStatement.TheVariants as statements;
 ghost use Rattle.rc_tree.specs.declared.terminal.ReactiveTerminal.TheVariants as tree;
-ghost use Rattle.rc_pipe.specs.Grammar.{SpellsTerminal};
 ghost use Rattle.rc_pipe.specs.RuleFacts.{FaultFact};
-ghost use Rattle.rc_pipe.specs.Built.{AtSome, GoesOn, Refused, terminal_statement};
-ghost use Rattle.std.specs.Prelude.{Option, None};
+ghost use Rattle.rc_pipe.specs.Built.{AtSome, GoesOn, IfMalformed, NoStatements, terminal_statement};
+ghost use Rattle.std.specs.Prelude.{Option};
 
 use crate::build::lists::build_part;
 use crate::build::state::{State, label_of, opens_reachable, rest_of};
@@ -37,9 +34,13 @@ pub fn build_label(
     id: EvaluationOrder,
     out: &mut List<ReactiveStatement>,
 ) -> Result<Option<BlockId>, Fault>
-    requires { (span : Option Span) × AtSome hir.now state.old.marks state.old.frames (terminals.Label inner fallthrough id span) }
-    ensures ok { IfOk result (λ rest. (span : Option Span) → GoesOn hir.now env.now (terminals.Label inner fallthrough id span) next state.old.frames rest out.old out.new state.old.marks state.new.marks) }
-    ensures refused { (block : BlockId) (rule : Rule) (span : Option Span) → result ≡ Err (faults.Malformed block rule) → Refused hir.now (SpellsTerminal hir.now env.now (terminals.Label inner fallthrough id span) next state.old.frames None) state.old.marks.used }
+    requires { (span : Option Span) ×
+        AtSome hir.now state.old.marks state.old.frames (terminals.Label inner fallthrough id span) }
+    ensures ok { IfOk result (λ rest. (span : Option Span) →
+        GoesOn hir.now env.now (terminals.Label inner fallthrough id span) next state.old.frames rest
+        out.old out.new state.old.marks state.new.marks) }
+    ensures refused { IfMalformed result ((span : Option Span) →
+        NoStatements hir.now env.now (terminals.Label inner fallthrough id span) next state.old) }
     ensures facts { IfErr result (FaultFact hir.now) }
     ensures frames { IfOk result (λ _. state.new.frames ≡ state.old.frames) }
 {
@@ -62,9 +63,13 @@ pub fn build_scope(
     scope: ScopeId,
     out: &mut List<ReactiveStatement>,
 ) -> Result<Option<BlockId>, Fault>
-    requires { (id : EvaluationOrder) × (span : Option Span) × AtSome hir.now state.old.marks state.old.frames (terminals.Scope fallthrough inner scope id span) }
-    ensures ok { IfOk result (λ rest. (id : EvaluationOrder) (span : Option Span) → GoesOn hir.now env.now (terminals.Scope fallthrough inner scope id span) next state.old.frames rest out.old out.new state.old.marks state.new.marks) }
-    ensures refused { (block : BlockId) (rule : Rule) (id : EvaluationOrder) (span : Option Span) → result ≡ Err (faults.Malformed block rule) → Refused hir.now (SpellsTerminal hir.now env.now (terminals.Scope fallthrough inner scope id span) next state.old.frames None) state.old.marks.used }
+    requires { (id : EvaluationOrder) × (span : Option Span) ×
+        AtSome hir.now state.old.marks state.old.frames (terminals.Scope fallthrough inner scope id span) }
+    ensures ok { IfOk result (λ rest. (id : EvaluationOrder) (span : Option Span) →
+        GoesOn hir.now env.now (terminals.Scope fallthrough inner scope id span) next state.old.frames rest
+        out.old out.new state.old.marks state.new.marks) }
+    ensures refused { IfMalformed result ((id : EvaluationOrder) (span : Option Span) →
+        NoStatements hir.now env.now (terminals.Scope fallthrough inner scope id span) next state.old) }
     ensures facts { IfErr result (FaultFact hir.now) }
     ensures frames { IfOk result (λ _. state.new.frames ≡ state.old.frames) }
 {
@@ -87,9 +92,14 @@ pub fn build_pruned_scope(
     scope: ScopeId,
     out: &mut List<ReactiveStatement>,
 ) -> Result<Option<BlockId>, Fault>
-    requires { (id : EvaluationOrder) × (span : Option Span) × AtSome hir.now state.old.marks state.old.frames (terminals.PrunedScope fallthrough inner scope id span) }
-    ensures ok { IfOk result (λ rest. (id : EvaluationOrder) (span : Option Span) → GoesOn hir.now env.now (terminals.PrunedScope fallthrough inner scope id span) next state.old.frames rest out.old out.new state.old.marks state.new.marks) }
-    ensures refused { (block : BlockId) (rule : Rule) (id : EvaluationOrder) (span : Option Span) → result ≡ Err (faults.Malformed block rule) → Refused hir.now (SpellsTerminal hir.now env.now (terminals.PrunedScope fallthrough inner scope id span) next state.old.frames None) state.old.marks.used }
+    requires { (id : EvaluationOrder) × (span : Option Span) ×
+        AtSome hir.now state.old.marks state.old.frames
+        (terminals.PrunedScope fallthrough inner scope id span) }
+    ensures ok { IfOk result (λ rest. (id : EvaluationOrder) (span : Option Span) →
+        GoesOn hir.now env.now (terminals.PrunedScope fallthrough inner scope id span)
+        next state.old.frames rest out.old out.new state.old.marks state.new.marks) }
+    ensures refused { IfMalformed result ((id : EvaluationOrder) (span : Option Span) →
+        NoStatements hir.now env.now (terminals.PrunedScope fallthrough inner scope id span) next state.old) }
     ensures facts { IfErr result (FaultFact hir.now) }
     ensures frames { IfOk result (λ _. state.new.frames ≡ state.old.frames) }
 {
@@ -106,7 +116,8 @@ fn label_statement(
     id: EvaluationOrder,
     label: Option<ReactiveLabel>,
 ) -> Result<ReactiveStatement, AllocError>
-    ensures { IfOk result (λ statement. statement ≡ terminal_statement (tree.Label (record { statements = body }) id) label) }
+    ensures { IfOk result (λ statement.
+        statement ≡ terminal_statement (tree.Label (record { statements = body }) id) label) }
 {
     let terminal = ReactiveTerminal::Label {
         block: ReactiveBlock { statements: body },
@@ -119,7 +130,8 @@ fn label_statement(
 }
 
 fn scope_statement(scope: ScopeId, body: List<ReactiveStatement>) -> ReactiveStatement
-    ensures { result ≡ statements.Scope (record { scope = scope; instructions = record { statements = body } }) }
+    ensures { result ≡
+        statements.Scope (record { scope = scope; instructions = record { statements = body } }) }
 {
     ReactiveStatement::Scope(ReactiveScopeBlock {
         scope,
@@ -128,7 +140,8 @@ fn scope_statement(scope: ScopeId, body: List<ReactiveStatement>) -> ReactiveSta
 }
 
 fn pruned_scope_statement(scope: ScopeId, body: List<ReactiveStatement>) -> ReactiveStatement
-    ensures { result ≡ statements.PrunedScope (record { scope = scope; instructions = record { statements = body } }) }
+    ensures { result ≡
+        statements.PrunedScope (record { scope = scope; instructions = record { statements = body } }) }
 {
     ReactiveStatement::PrunedScope(PrunedReactiveScopeBlock {
         scope,

@@ -1,6 +1,6 @@
 //! What the builder keeps while it walks, and what the frames decide of a statement.
 
-ghost use Rattle.std.specs.Prelude.{◌≡◌, ◌++◌, ◌∷◌, []};
+ghost use Rattle.std.specs.Prelude.{◌≡◌, []};
 ghost use Rattle.rc_hir.specs.declared.fault.Fault.TheVariants as faults;
 ghost use Rattle.rc_pipe.specs.Built as built;
 ghost use Rattle.rc_pipe.specs.Grammar as grammar;

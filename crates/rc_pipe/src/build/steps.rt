@@ -83,7 +83,8 @@ fn is_dead_handler(hir: &HirFunction, handler: Option<BlockId>) -> bool
 }
 
 fn switch_moves_dead(hir: &HirFunction, cases: &[Case], fallthrough: BlockId) -> bool
-    ensures { result ≡ list_any (graph.is_dead hir.now) (case_blocks cases.now ++ past_blocks cases.now fallthrough) }
+    ensures { result ≡
+        list_any (graph.is_dead hir.now) (case_blocks cases.now ++ past_blocks cases.now fallthrough) }
 {
     has_dead_case(hir, cases) || falls_dead(hir, cases, fallthrough)
 }

@@ -183,7 +183,7 @@ scopes::build_label-build_part-requires t c =
     )
 
 pub scopes::build_label-returns-in_err-body-clause-refused : goal.scopes::build_label-returns-in_err-body-clause-refused
-scopes::build_label-returns-in_err-body-clause-refused t c = λ named rule span e.
+scopes::build_label-returns-in_err-body-clause-refused t c = λ named rule e span.
     let p = err_from_is_err_and c.from_residual.result c.from_residual.ensures.1 in
     let d : c.in_err-body.field-0.0 ≡ faults.Malformed named rule = cc (p.1, p.2, e) in
     label_refused c.args.hir.now c.args.env.now c.args.next c.args.state.now.frames c.args.inner c.args.fallthrough c.args.id span c.opens_reachable-opened.result c.args.state.now.marks c.opens_reachable-opened.ensures
@@ -209,7 +209,7 @@ scopes::build_pruned_scope-build_part-requires t c =
     )
 
 pub scopes::build_pruned_scope-returns-in_err-body-clause-refused : goal.scopes::build_pruned_scope-returns-in_err-body-clause-refused
-scopes::build_pruned_scope-returns-in_err-body-clause-refused t c = λ named rule id span e.
+scopes::build_pruned_scope-returns-in_err-body-clause-refused t c = λ named rule e id span.
     let p = err_from_is_err_and c.from_residual.result c.from_residual.ensures.1 in
     let d : c.in_err-body.field-0.0 ≡ faults.Malformed named rule = cc (p.1, p.2, e) in
     pruned_scope_refused c.args.hir.now c.args.env.now c.args.next c.args.state.now.frames c.args.inner c.args.fallthrough c.args.scope id span (not c.is_live-opened.result) c.args.state.now.marks (ap not c.is_live-opened.ensures)
@@ -235,7 +235,7 @@ scopes::build_scope-build_part-requires t c =
     )
 
 pub scopes::build_scope-returns-in_err-body-clause-refused : goal.scopes::build_scope-returns-in_err-body-clause-refused
-scopes::build_scope-returns-in_err-body-clause-refused t c = λ named rule id span e.
+scopes::build_scope-returns-in_err-body-clause-refused t c = λ named rule e id span.
     let p = err_from_is_err_and c.from_residual.result c.from_residual.ensures.1 in
     let d : c.in_err-body.field-0.0 ≡ faults.Malformed named rule = cc (p.1, p.2, e) in
     scope_refused c.args.hir.now c.args.env.now c.args.next c.args.state.now.frames c.args.inner c.args.fallthrough c.args.scope id span (not c.is_live-opened.result) c.args.state.now.marks (ap not c.is_live-opened.ensures)
@@ -270,7 +270,7 @@ branches::build_if_only-build_part-requires t c =
     )
 
 pub branches::build_if_only-returns-in_err-part-clause-refused : goal.branches::build_if_only-returns-in_err-part-clause-refused
-branches::build_if_only-returns-in_err-part-clause-refused t c = λ named rule span e.
+branches::build_if_only-returns-in_err-part-clause-refused t c = λ named rule e span.
     let p = err_from_is_err_and c.from_residual.result c.from_residual.ensures.1 in
     let d : c.in_err-part.field-0.0 ≡ faults.Malformed named rule = cc (p.1, p.2, e) in
     if_only_refused c.args.hir.now c.args.env.now c.args.next c.args.state.now.frames c.args.arms.test c.args.arms.consequent c.args.arms.alternate c.args.arms.fallthrough c.args.arms.id span c.args.opened c.args.state.now.marks c.requires.opens c.requires.absent (c.in_err-part.ensures.refused named rule (ap Err d))
@@ -295,7 +295,7 @@ branches::build_if_else-build_part-requires t c =
     )
 
 pub branches::build_if_else-returns-in_err-part-clause-refused : goal.branches::build_if_else-returns-in_err-part-clause-refused
-branches::build_if_else-returns-in_err-part-clause-refused t c = λ named rule span e.
+branches::build_if_else-returns-in_err-part-clause-refused t c = λ named rule e span.
     let p = err_from_is_err_and c.from_residual.result c.from_residual.ensures.1 in
     let d : c.in_err-part.field-0.0 ≡ faults.Malformed named rule = cc (p.1, p.2, e) in
     if_else_first_refused c.args.hir.now c.args.env.now c.args.next c.args.state.now.frames c.args.arms.test c.args.arms.consequent c.args.arms.alternate c.args.arms.fallthrough c.args.arms.id span c.args.opened c.args.state.now.marks c.requires.opens c.requires.present (c.in_err-part.ensures.refused named rule (ap Err d))
@@ -321,7 +321,7 @@ branches::build_if_else-build_part-requires-2 t c =
     )
 
 pub branches::build_if_else-returns-in_err-other-clause-refused : goal.branches::build_if_else-returns-in_err-other-clause-refused
-branches::build_if_else-returns-in_err-other-clause-refused t c = λ named rule span e.
+branches::build_if_else-returns-in_err-other-clause-refused t c = λ named rule e span.
     let p = err_from_is_err_and c.from_residual-in_err-other.result c.from_residual-in_err-other.ensures.1 in
     let d : c.in_err-other.field-0.0 ≡ faults.Malformed named rule = cc (p.1, p.2, e) in
     let arms = c.args.arms in

@@ -1,5 +1,5 @@
 -- Each end of the call has its cause, or the headline.
-use Rattle.std.proofs.Common.{◌≡◌, ap, inr, Err}
+use Rattle.std.proofs.Common.{ap, inr, Err}
 use Rattle.std.proofs.lemmas.Result.{err_from_is_err_and}
 use Rattle.rc_pipe.proofs.CausesLemmas.{only_memory, cause_of}
 use Rattle.rc_pipe.proofs.HeadlineHolds.{headline_holds}

@@ -1,0 +1,141 @@
+//! A small graph that is built in code, with its tree and its fates.
+
+use crate::{Fate, Pruned, ScopeFate, build_and_prune};
+use rc_hir::{
+    BasicBlock, Effect, Environment, Fault, GotoVariant, Hir, HirFunction, HirType, Identifier,
+    MutableRange, Place, ReactiveScope, Terminal,
+};
+use rc_names::{
+    BlockId, DeclarationId, EvaluationOrder, IdentifierId, Keyed, List, ScopeId, TypeId,
+};
+use std::alloc::Global;
+use std::test::Fail;
+
+fn read(number: u32) -> Place {
+    Place {
+        identifier: IdentifierId(number),
+        effect: Effect::Read,
+        reactive: false,
+        span: None,
+    }
+}
+
+// The jump out of the frame of that block.
+fn leave(block: u32, id: u32) -> Terminal {
+    Terminal::Goto {
+        block: BlockId(block),
+        variant: GotoVariant::Break,
+        id: EvaluationOrder(id),
+        span: None,
+    }
+}
+
+// Block 0 is a label until block 6, block 1 a scope until block 3, and block 3 an if that leaves the label
+// either way.
+fn terminal(number: u32) -> Terminal {
+    match number {
+        0 => Terminal::Label {
+            block: BlockId(1),
+            fallthrough: BlockId(6),
+            id: EvaluationOrder(1),
+            span: None,
+        },
+        1 => Terminal::Scope {
+            fallthrough: BlockId(3),
+            block: BlockId(2),
+            scope: ScopeId(0),
+            id: EvaluationOrder(2),
+            span: None,
+        },
+        2 => leave(3, 3),
+        3 => Terminal::If {
+            test: read(0),
+            consequent: BlockId(4),
+            alternate: BlockId(5),
+            fallthrough: BlockId(5),
+            id: EvaluationOrder(4),
+            span: None,
+        },
+        4 => leave(6, 5),
+        5 => leave(6, 6),
+        _ => Terminal::Return {
+            value: read(0),
+            id: EvaluationOrder(7),
+            span: None,
+        },
+    }
+}
+
+// Its seven blocks, which have no rows.
+fn graph(alloc: Global) -> Result<HirFunction, Fault> {
+    let mut blocks = Keyed::new(alloc);
+    for number in 0..7 {
+        blocks.insert(
+            BlockId(number),
+            BasicBlock {
+                id: BlockId(number),
+                instructions: List::new(alloc),
+                terminal: terminal(number),
+            },
+        )?;
+    }
+    Ok(HirFunction {
+        span: None,
+        id: None,
+        name_hint: None,
+        params: List::new(alloc),
+        generator: false,
+        is_async: false,
+        context: List::new(alloc),
+        body: Hir {
+            entry: BlockId(0),
+            blocks,
+        },
+        instructions: List::new(alloc),
+        directives: List::new(alloc),
+    })
+}
+
+fn scope(alloc: Global) -> ReactiveScope {
+    ReactiveScope {
+        range: MutableRange {
+            start: EvaluationOrder(2),
+            end: EvaluationOrder(4),
+        },
+        dependencies: List::new(alloc),
+        declarations: List::new(alloc),
+        reassignments: List::new(alloc),
+        early_return_value: None,
+        merged: List::new(alloc),
+    }
+}
+
+// One identifier, one type, one scope.
+fn environment(alloc: Global) -> Result<Environment, Fault> {
+    let mut env = Environment::empty(alloc);
+    env.types.push(HirType::Other)?;
+    env.identifiers.push(Identifier {
+        declaration_id: DeclarationId(0),
+        name: None,
+        scope: None,
+        type_: TypeId(0),
+        span: None,
+    })?;
+    env.scopes.push(scope(alloc))?;
+    env.next_block = 7;
+    Ok(env)
+}
+
+#[test]
+fn a_label_holds_its_scope_and_its_if_and_the_return_follows(rt: HostRuntime) -> Result<(), Fail> {
+    let alloc = rt.alloc();
+    let mut env = environment(alloc)?;
+    let Pruned { func, fates } = build_and_prune(alloc, &graph(alloc)?, &mut env)?;
+    assert_eq!(rt; func.body.statements.len(), 2);
+    let kept = ScopeFate {
+        scope: ScopeId(0),
+        fate: Fate::Kept,
+    };
+    assert_eq!(rt; fates.as_slice(), [kept].as_slice());
+    Ok(())
+}
