@@ -22,7 +22,7 @@ use std::{env, io};
 use top::program;
 use words::words;
 
-/// Runs the program over the real devices, says in one line what was wrong, and ends with the status.
+/// Runs the program over the real devices, says in one line what was wrong, if anything was, and ends with the status.
 fn main(rt: HostRuntime) -> ExitCode {
     let status = match words(rt.alloc(), env::args(&rt)) {
         Ok(words) => {
@@ -32,9 +32,11 @@ fn main(rt: HostRuntime) -> ExitCode {
         }
         Err(stop) => Status::from(Err(stop)),
     };
-    if let Some(complaint) = status.complaint() {
-        // Where standard error fails too, the status says it all.
-        let _ = eprintln!(rt; "{complaint}");
+    // Where standard error fails too, the status says it all.
+    if let Some(stop) = status.reason() {
+        let _ = eprintln!(rt; "{stop}");
+    } else if status == Status::Refused {
+        let _ = eprintln!(rt; "the document's graph is refused");
     }
     ExitCode::from(status.code())
 }

@@ -1,7 +1,8 @@
 //! How the program ends.
 
-ghost use Rattle.std.specs.Prelude.{◌≡◌, ◌↔◌, IsNone};
-ghost use Rattle.rc_main.specs.Stopped.{code_of};
+ghost use Rattle.std.specs.Prelude.{◌≡◌, ◌⊎◌, MatchOption};
+ghost use Rattle.rc_main.specs.declared.status.Status.{Status};
+ghost use Rattle.rc_main.specs.Stopped.{code_of, status_of};
 
 use crate::stop::Stop;
 
@@ -46,20 +47,20 @@ impl Status {
         }
     }
 
-    /// What was wrong, in one line for standard error; none where the tree was written.
-    pub fn complaint(&self) -> Option<&'static str>
-        ensures { IsNone result ↔ (self.now ≡ Status.Done) }
+    /// Why the program stopped before its answer was written, where it did.
+    pub fn reason(&self) -> Option<Stop>
+        ensures { MatchOption result ((self.now ≡ Status.Done) ⊎ (self.now ≡ Status.Refused))
+            (λ stop. status_of stop ≡ self.now) }
     {
         match self {
-            Status::Done => None,
-            Status::Usage => Some("usage: rc tree"),
-            Status::NotJson => Some("standard input is not JSON"),
-            Status::NotDoc => Some("standard input is no document"),
-            Status::Refused => Some("the document's graph is refused"),
-            Status::ReadFault => Some("reading standard input failed"),
-            Status::WriteFault => Some("writing standard output failed"),
-            Status::TooLarge => Some("standard input has more than 16777216 bytes"),
-            Status::NoMemory => Some("there is too little memory"),
+            Status::Done | Status::Refused => None,
+            Status::Usage => Some(Stop::Usage),
+            Status::NotJson => Some(Stop::NotJson),
+            Status::NotDoc => Some(Stop::NotDoc),
+            Status::ReadFault => Some(Stop::ReadFault),
+            Status::WriteFault => Some(Stop::WriteFault),
+            Status::TooLarge => Some(Stop::TooLarge),
+            Status::NoMemory => Some(Stop::NoMemory),
         }
     }
 }

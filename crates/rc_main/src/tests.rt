@@ -1,8 +1,11 @@
 //! The whole program over memory devices.
 
 mod bad_input;
+mod broken_graphs;
 mod devices;
+mod forms;
 mod graphs;
+mod names;
 mod refusals;
 mod rows;
 

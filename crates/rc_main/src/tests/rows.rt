@@ -69,7 +69,7 @@ fn each_status_has_its_number_and_says_what_was_wrong(rt: HostRuntime) -> Result
         (Status::Usage, 2, "usage: rc tree"),
         (Status::NotJson, 3, "standard input is not JSON"),
         (Status::NotDoc, 4, "standard input is no document"),
-        (Status::Refused, 5, "the document's graph is refused"),
+        (Status::Refused, 5, ""),
         (Status::ReadFault, 6, "reading standard input failed"),
         (Status::WriteFault, 7, "writing standard output failed"),
         (
@@ -79,9 +79,13 @@ fn each_status_has_its_number_and_says_what_was_wrong(rt: HostRuntime) -> Result
         ),
         (Status::NoMemory, 9, "there is too little memory"),
     ];
-    for (status, number, line) in statuses {
+    for (status, number, due) in statuses {
+        let line = match status.reason() {
+            Some(stop) => format!(in alloc; "{stop}")?,
+            None => String::new(alloc),
+        };
         assert_eq!(rt; status.code(), number);
-        assert_eq!(rt; status.complaint().unwrap_or(""), line);
+        assert_eq!(rt; line.as_str(), due);
     }
     Ok(())
 }
