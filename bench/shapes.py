@@ -17,9 +17,9 @@ def answer(number):
     return block(number, "Return", {"value": 0})
 
 
-def document(blocks, scopes=0):
-    """The bytes of a document of one parameter, of these blocks and of so many scopes."""
-    hir = {"params": [{"k": "Place", "v": 0}], "body": {"entry": 0, "blocks": blocks}}
+def document(blocks, scopes=0, rows=()):
+    """The bytes of a document of one parameter, of these blocks and rows, and of so many scopes."""
+    hir = {"params": [{"k": "Place", "v": 0}], "body": {"entry": 0, "blocks": blocks}, "instructions": [*rows]}
     env = {
         "identifiers": [{"declaration_id": 0, "type_": 0}],
         "types": ["Other"],
@@ -78,6 +78,14 @@ def nested_ifs(depth):
 def nested_labels(depth):
     """So many `Label`s one in the other."""
     return nested(label, depth)
+
+
+def nested_labels_behind_rows(depth):
+    """So many `Label`s one in the other, each behind a row."""
+    heads = [{**label(head, head + 1, 2 * depth - head), "instructions": [head]} for head in range(depth)]
+    jumps = [jump(number, number + 1) for number in range(depth, 2 * depth)]
+    rows = [{"id": 2 * depth + 2 + head, "lvalue": 0, "value": {"k": "Debugger"}} for head in range(depth)]
+    return document([*heads, *jumps, answer(2 * depth)], rows=rows)
 
 
 def nested_scopes(depth):

@@ -4,10 +4,11 @@ use Rattle.serde_json.specs.Data.{Data}
 use Rattle.serde_json.specs.Read.{read}
 use Rattle.rc_doc.specs.declared.document.Doc.{Doc}
 use Rattle.rc_doc.specs.Document.{doc_of}
+use Rattle.rc_pipe.proofs.HeadlineHolds.{has_answer}
 use Rattle.rc_main.specs.declared.status.Status.{Status}
 use Rattle.rc_main.specs.declared.status.Status.TheVariants.{Done, Usage, NotJson, NotDoc, Refused, ReadFault, WriteFault, TooLarge, NoMemory}
 use Rattle.rc_main.specs.Device.{ReadToEnd}
-use Rattle.rc_main.specs.Outcome.{IsTree, IsJson, NoJson, IsJsonOfDoc, IsJsonOfOther, HasTree, Due, Excused, TookTooMany, ReadsDue, Prints, Outcome}
+use Rattle.rc_main.specs.Outcome.{IsTree, IsJson, NoJson, IsJsonOfDoc, IsJsonOfOther, IsAnswerable, Due, Excused, TookTooMany, ReadsDue, Prints, Outcome}
 
 module _ (bytes : List ℕ) where
   -- the bytes are JSON of one value
@@ -40,9 +41,9 @@ module _ (bytes : List ℕ) where
       let some' : doc_of j'.value ≡ Some doc' = j'.document in
       cc
 
-  -- a document that has a tree is not refused
-  no_refusal : (doc doc' : Doc) → IsJsonOfDoc bytes doc → IsJsonOfDoc bytes doc' → HasTree doc → ¬ HasTree doc' → ⊥
-  no_refusal doc doc' j j' tree none = none (subst HasTree (one_document doc doc' j j') tree)
+  -- a document that has an answer is not refused
+  no_refusal : (doc doc' : Doc) → IsJsonOfDoc bytes doc → IsJsonOfDoc bytes doc' → IsAnswerable doc → ¬ IsAnswerable doc' → ⊥
+  no_refusal doc doc' j j' it none = none (subst IsAnswerable (one_document doc doc' j j') it)
 
   -- bytes deserve one status
   pub due_once : (due due' : Status) → Due bytes due → Due bytes due' → due ≡ due'
@@ -71,11 +72,12 @@ module _ (bytes : List ℕ) where
   due_of_text : (left' : Option (List ℕ)) (status : Status) {Writes : List ℕ → Type 0} → Prints status Writes (Some bytes) left' → Due bytes status
   due_of_text left' Done p =
       let whole = all_read p.loaded.bytes left' p.loaded.whole in
-      let tree : HasTree p.doc = record { accepted = p.answered.answer.accepted; func = p.answered.pruned.func; spelled = p.answered.answer.spelled } in
-      (rw whole at p.loaded.whole.size, (p.doc, rw whole at p.loaded.document, tree))
+      let answer = p.answered.answer in
+      let it : IsAnswerable p.doc = record { accepted = answer.accepted; func = answer.spelled; answer = has_answer p.doc.hir p.doc.env p.answered.pruned answer } in
+      (rw whole at p.loaded.whole.size, (p.doc, rw whole at p.loaded.document, it))
   due_of_text left' Refused p =
       let whole = all_read p.loaded.bytes left' p.loaded.whole in
-      (rw whole at p.loaded.whole.size, (p.doc, rw whole at p.loaded.document, p.answered.no_tree))
+      (rw whole at p.loaded.whole.size, (p.doc, rw whole at p.loaded.document, p.answered.no_answer))
   due_of_text left' _ p = absurd p.answered
 
   module _ (words : List (List ℕ)) (left' written written' : Option (List ℕ)) (due : Status) (source_rose sink_rose : Type 0) where

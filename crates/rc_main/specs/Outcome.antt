@@ -7,8 +7,7 @@ use Rattle.serde_json.specs.Read.{read}
 use Rattle.rc_hir.specs.declared.fault.Fault.{Fault}
 use Rattle.rc_tree.specs.declared.function.ReactiveFunction.{ReactiveFunction}
 use Rattle.rc_pipe.specs.declared.pipeline.Pruned.{Pruned}
-use Rattle.rc_pipe.specs.Spelled.{Spells}
-use Rattle.rc_pipe.specs.Headline.{IsAccepted, IsAnswer, IsCause}
+use Rattle.rc_pipe.specs.Headline.{HasAnswer, IsAccepted, IsAnswer, IsCause}
 use Rattle.rc_doc.specs.declared.document.Doc.{Doc}
 use Rattle.rc_doc.specs.Document.{doc_of}
 use Rattle.rc_main.specs.declared.stop.Stop.{Stop}
@@ -45,19 +44,19 @@ pub record IsJsonOfOther (bytes : List ℕ) : Type 0 where
   pub json : IsJson bytes value
   pub other : doc_of value ≡ None
 
--- the document's graph is accepted and spells a tree
-pub record HasTree (doc : Doc) : Type 0 where
+-- the document's graph is accepted and has an answer
+pub record IsAnswerable (doc : Doc) : Type 0 where
   pub accepted : IsAccepted doc.hir doc.env
   pub func : ReactiveFunction
-  pub spelled : Spells doc.hir doc.env func
+  pub answer : HasAnswer doc.hir doc.env func
 
 -- The status that the bytes of a source deserve.
 abbrev pub Due : List ℕ → Status → Type 0
 Due bytes TooLarge = most_bytes < length bytes
 Due bytes NotJson = (length bytes ≤ most_bytes) × NoJson bytes
 Due bytes NotDoc = (length bytes ≤ most_bytes) × IsJsonOfOther bytes
-Due bytes Refused = (length bytes ≤ most_bytes) × ((doc : Doc) × IsJsonOfDoc bytes doc × ¬ HasTree doc)
-Due bytes Done = (length bytes ≤ most_bytes) × ((doc : Doc) × IsJsonOfDoc bytes doc × HasTree doc)
+Due bytes Refused = (length bytes ≤ most_bytes) × ((doc : Doc) × IsJsonOfDoc bytes doc × ¬ IsAnswerable doc)
+Due bytes Done = (length bytes ≤ most_bytes) × ((doc : Doc) × IsJsonOfDoc bytes doc × IsAnswerable doc)
 Due bytes _ = ⊥
 
 -- What may be answered in place of the due status: want of memory, and the fault of a device whose count rose.
@@ -122,7 +121,7 @@ pub record IsTreeText (doc : Doc) (text : List ℕ) : Type 0 where
 pub record IsRefusalText (doc : Doc) (text : List ℕ) : Type 0 where
   pub fault : Fault
   pub cause : IsCause doc.hir doc.env fault
-  pub no_tree : ¬ HasTree doc
+  pub no_answer : ¬ IsAnswerable doc
   pub line : text ≡ fault_line fault
 
 -- the text that is written for this document where the program ends with that status

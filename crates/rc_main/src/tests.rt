@@ -2,9 +2,12 @@
 
 mod bad_input;
 mod broken_graphs;
+mod component;
+mod copies;
 mod devices;
 mod forms;
 mod graphs;
+mod lines;
 mod names;
 mod refusals;
 mod rows;

@@ -6,10 +6,10 @@ use Rattle.rc_names.specs.declared.numbers.ScopeId.{ScopeId}
 use Rattle.rc_hir.specs.declared.function.HirFunction.{HirFunction}
 use Rattle.rc_hir.specs.declared.environment.Environment.{Environment}
 use Rattle.rc_tree.specs.declared.function.ReactiveFunction.{ReactiveFunction}
-use Rattle.rc_pipe.specs.declared.frames.Frame.{Frame}
+use Rattle.rc_runs.specs.declared.frames.Frame.{Frame}
 use Rattle.rc_pipe.specs.declared.build.state.Marks.{Marks}
-use Rattle.rc_pipe.specs.Grammar.{SpellsList}
-use Rattle.rc_pipe.specs.Spelled.{AreSound, Spells}
+use Rattle.rc_runs.specs.Grammar.{SpellsList}
+use Rattle.rc_runs.specs.Spelled.{AreSound, Spells}
 use Rattle.rc_pipe.specs.Built.{Marked, AtList, AreNamed, IsUsed, AreOwned, Refused, live_blocks}
 
 no_marks : Marks

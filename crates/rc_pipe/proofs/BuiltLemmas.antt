@@ -8,18 +8,18 @@ use Rattle.rc_hir.specs.declared.function.BasicBlock.{BasicBlock}
 use Rattle.rc_hir.specs.declared.function.HirFunction.{HirFunction}
 use Rattle.rc_hir.specs.declared.environment.Environment.{Environment}
 use Rattle.rc_tree.specs.declared.statement.ReactiveStatement.{ReactiveStatement}
-use Rattle.rc_pipe.specs.declared.frames.Frame.{Frame}
+use Rattle.rc_runs.specs.declared.frames.Frame.{Frame}
 use Rattle.rc_pipe.specs.declared.build.state.Marks.{Marks}
-use Rattle.rc_pipe.specs.Graph.{Block}
-use Rattle.rc_pipe.specs.PlainTree.{Statements, Nil, Cons, Statement, RowStatement, Base}
-use Rattle.rc_pipe.specs.TreeOf.{statements_of, statement_of}
-use Rattle.rc_pipe.specs.Grammar.{SpellsList, SpellsTerminal, SpellsStatement, SpellsRest, rows_before, block, and_rest, opened, closed, returns, unreachable, breaks}
-use Rattle.rc_pipe.specs.Spelled.{AreSound}
+use Rattle.rc_runs.specs.Graph.{Block}
+use Rattle.rc_runs.specs.PlainTree.{Statements, Nil, Cons, Statement, RowStatement, Base}
+use Rattle.rc_runs.specs.TreeOf.{statements_of, statement_of}
+use Rattle.rc_runs.specs.Grammar.{SpellsList, SpellsTerminal, SpellsStatement, SpellsRest, rows_before, block, and_rest, opened, closed, returns, unreachable, breaks}
+use Rattle.rc_runs.specs.Spelled.{AreSound}
 use Rattle.rc_pipe.specs.Rows.{row_statement_of}
 use Rattle.rc_pipe.specs.Namings.{named_blocks, listed, times}
 use Rattle.rc_pipe.specs.Built.{join, Marked, Follows, IsTaken, IsUnusable, MadeList, Refused, Partly, Rest, GoesOn, rest_of}
 use Rattle.rc_pipe.proofs.MarksLemmas.{front_sound, named_fewer, times_append}
-use Rattle.rc_pipe.proofs.OneTree.{one_terminal, one_statement, rest_at, terminal_at}
+use Rattle.rc_runs.proofs.OneTree.{one_terminal, one_statement, rest_at, terminal_at}
 
 -- statements behind others, and none behind them
 join-append : (a b : Statements) (rest : Statements) → join (join a b) rest ≡ join a (join b rest)

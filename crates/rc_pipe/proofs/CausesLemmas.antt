@@ -1,7 +1,5 @@
 -- Causes exclude what is accepted, and what the builder refuses has a cause.
 use Rattle.std.proofs.Common.{◌≡◌, ℕ, zero, suc, ◌||◌, if◌then◌else◌, ◌+◌, ◌<◌, ◌≤◌, ◌⊎◌, inl, inr, Bool, true, false, not, List, [], ◌∷◌, ◌++◌, length, get_or, Some, None, refl, ap, subst, eqb-true, arith, length-append, slice_get}
-use Rattle.std.proofs.Math.ListN.{get_or-append}
-use Rattle.std.proofs.lemmas.List.{get_or-append-add}
 use Rattle.std.proofs.lemmas.Option.{slice_get_cases}
 use Rattle.std.proofs.lemmas.Map.Views.{Contains-from_lookup}
 use Rattle.std.specs.List.{All, Any, flat_map, list_any, find}
@@ -19,30 +17,21 @@ use Rattle.rc_hir.specs.declared.environment.Environment.{Environment}
 use Rattle.rc_hir.specs.GraphNames.{Name, row_name, block_names, under_key, function_names, parameter_names, place_names, instruction_names, terminal_names}
 use Rattle.rc_hir.specs.Names.{NamesOutside, IsInTable, IsOutside, lengths, FunctionInTables, NamesOutsideIn}
 use Rattle.rc_tree.specs.declared.function.ReactiveFunction.{ReactiveFunction}
-use Rattle.rc_pipe.specs.Spelled.{Spells}
+use Rattle.rc_runs.specs.Spelled.{Spells}
 use Rattle.rc_hir.specs.EnvironmentNames.{environment_names}
 use Rattle.rc_pipe.specs.Causes.{is_built, first_unbuilt, first_early_return}
 use Rattle.rc_pipe.specs.RuleFacts.{At, LacksRow, FaultFact}
-use Rattle.rc_pipe.specs.Headline.{IsAccepted, IsCause, SpellsNone}
-use Rattle.rc_pipe.proofs.GraphLemmas.{same_block-eq}
+use Rattle.rc_pipe.specs.Headline.{HasAnswer, IsAccepted, IsCause, SpellsNone}
+use Rattle.rc_pipe.specs.Passes.{EndsOutside, OfLabeled}
+use Rattle.rc_runs.proofs.OneTree.{spells_one_function}
+use Rattle.rc_pipe.proofs.OutsideLemmas.{last_outside}
+use Rattle.rc_runs.proofs.AllLemmas.{All-left, All-right, All-flat_map}
+use Rattle.rc_runs.proofs.GraphLemmas.{same_block-eq}
 
 module _ {X : Type 0} (P : X → Type 0) where
   -- what holds of each element holds of no element of which the contrary holds
   none_outside : (Q : X → Type 0) → ((x : X) → P x → Q x → ⊥) → (xs : List X) → All P xs → Any Q xs → ⊥
   none_outside Q contrary xs all some = contrary some.1 (subst P some.3 (all some.0 some.1 some.2)) some.4
-
-  All-left : (xs ys : List X) → All P (xs ++ ys) → All P xs
-  All-left xs ys all = λ k d below. subst P (get_or-append xs ys d k below) (all k d (omega (arith, length-append xs ys)))
-
-  All-right : (xs ys : List X) → All P (xs ++ ys) → All P ys
-  All-right xs ys all = λ k d below. subst P (get_or-append-add xs ys k d) (all (length xs + k) d (omega (arith, length-append xs ys)))
-
--- what holds of all that is made of elements holds of what is made of each
-All-flat_map : {X Y : Type 0} (P : Y → Type 0) (f : X → List Y) (xs : List X) → All P (flat_map f xs)
-    → (i : ℕ) (x : X) → i < length xs → get_or xs i x ≡ x → All P (f x)
-All-flat_map P f [] all i x below is = absurd (let no : ⊥ = omega arith in no)
-All-flat_map P f (y ∷ ys) all zero x below is = subst (λ z. All P (f z)) is (All-left P (f y) (flat_map f ys) all)
-All-flat_map P f (y ∷ ys) all (suc i) x below is = All-flat_map P f ys (All-right P (f y) (flat_map f ys) all) i x (omega arith) is
 
 -- where the first test or the others are true
 either : (first rest : Bool) → (first || rest) ≡ true → (first ≡ true) ⊎ (rest ≡ true)
@@ -110,9 +99,9 @@ none_unbuilt (e ∷ es) none (suc i) entry below is unbuilt =
     split false is none later = let no : ⊥ = cc in no
 
 module _ (hir : HirFunction) (env : Environment) (accepted : IsAccepted hir env) where
-  -- what is accepted and spells a function is refused for want of memory alone
-  pub only_memory : (func : ReactiveFunction) → Spells hir env func → (fault : Fault) → IsCause hir env fault → fault ≡ faults.NoMemory
-  only_memory func spelled (faults.BadName table index) cause = absurd (outside cause)
+  -- what is accepted and has an answer is refused for want of memory alone
+  pub only_memory : (func : ReactiveFunction) → HasAnswer hir env func → (fault : Fault) → IsCause hir env fault → fault ≡ faults.NoMemory
+  only_memory func answer (faults.BadName table index) cause = absurd (outside cause)
     where
       within : (rows : ℕ) (names : List Name) → All (IsInTable (lengths env rows)) names → Any (IsOutside (lengths env rows) (faults.BadName table index)) names → ⊥
       within rows names all some = none_outside (IsInTable (lengths env rows)) (IsOutside (lengths env rows) (faults.BadName table index)) (λ name below out. omega (arith, below, out.1)) names all some
@@ -123,20 +112,23 @@ module _ (hir : HirFunction) (env : Environment) (accepted : IsAccepted hir env)
           none_outside (FunctionInTables env) (NamesOutsideIn env (faults.BadName table index))
           (λ function all some. within (length function.instructions) (function_names function) all some) env.functions accepted.names.functions nested
       outside (inr (inr table_itself)) = within 0 (environment_names env) accepted.names.environment table_itself
-  only_memory func spelled (faults.EarlyReturnSet scope) cause =
+  only_memory func answer (faults.EarlyReturnSet scope) cause =
       absurd (let some : first_early_return env ≡ Some scope.0 = cause.1 in let none : first_early_return env ≡ None = accepted.no_early_return in let no : ⊥ = cc in no)
-  only_memory func spelled faults.NoIds cause = absurd (cause.2 accepted.room)
-  only_memory func spelled (faults.NotBuilt block) cause =
+  only_memory func answer faults.NoIds cause = absurd (cause.2 accepted.room)
+  only_memory func answer (faults.NotBuilt block) cause =
       absurd (let some : option_map (λ entry. entry.0) (first_unbuilt hir) ≡ Some block = cause.3 in
       let none : option_map (λ entry. entry.0) (first_unbuilt hir) ≡ None = ap (option_map (λ entry. entry.0)) accepted.built in let no : ⊥ = cc in no)
-  only_memory func spelled (faults.Malformed block rule) cause = absurd (cause.1 func spelled)
-  only_memory func spelled faults.NoMemory cause = refl
-  only_memory func spelled (faults.Todo block) cause = absurd cause
-  only_memory func spelled (faults.ScopeCompleted id scope) cause = absurd cause
-  only_memory func spelled (faults.Uninitialised declaration) cause = absurd cause
-  only_memory func spelled (faults.NoScopeNode scope) cause = absurd cause
-  only_memory func spelled (faults.BadTarget target) cause = absurd cause
-  only_memory func spelled (faults.FunctionCycle function) cause = absurd cause
+  only_memory func answer (faults.Malformed block rule) cause = absurd (cause.1 func answer.spelled)
+  only_memory func answer faults.NoMemory cause = refl
+  only_memory func answer (faults.Todo block) cause = absurd cause
+  only_memory func answer (faults.ScopeCompleted id scope) cause =
+      let one : cause.1.0 ≡ func = spells_one_function cause.1.1 answer.spelled in
+      let last : OfLabeled func.body (λ body. EndsOutside env body id scope) = subst (λ f. OfLabeled f.body (λ body. EndsOutside env body id scope)) one cause.1.2 in
+      absurd (last_outside env last.labeled id scope (answer.inside last.labeled last.labels) last.holds)
+  only_memory func answer (faults.Uninitialised declaration) cause = absurd cause
+  only_memory func answer (faults.NoScopeNode scope) cause = absurd cause
+  only_memory func answer (faults.BadTarget target) cause = absurd cause
+  only_memory func answer (faults.FunctionCycle function) cause = absurd cause
 
   -- what the builder refuses of an accepted graph has a cause
   pub cause_of : (fault : Fault) → FaultFact hir fault → ((block : BlockId) (rule : Rule) → fault ≡ faults.Malformed block rule → SpellsNone hir env) → IsCause hir env fault

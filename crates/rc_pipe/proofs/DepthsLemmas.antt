@@ -7,14 +7,14 @@ use Rattle.std.specs.Map.{lookup, set_value}
 use Rattle.std.proofs.lemmas.Map.{lookup-set_value}
 use Rattle.indexmap.specs.IndexMap.{insert_entry}
 use Rattle.rc_names.specs.declared.numbers.BlockId.{BlockId}
-use Rattle.rc_pipe.specs.declared.frames.Frame.{Frame}
-use Rattle.rc_pipe.specs.declared.frames.Frame.TheVariants as kinds
+use Rattle.rc_runs.specs.declared.frames.Frame.{Frame}
+use Rattle.rc_runs.specs.declared.frames.Frame.TheVariants as kinds
 use Rattle.rc_pipe.specs.declared.frames.stack.Held.{Held}
-use Rattle.rc_pipe.specs.declared.frames.Way.TheVariants.{NoFrame}
-use Rattle.rc_pipe.specs.Graph.{same_block}
-use Rattle.rc_pipe.specs.Frames.{break_block, is_live, is_live_at, is_loop, way_out_of, way_from, break_way}
-use Rattle.rc_pipe.specs.Depths.{continue_block, is_block, depth_where, break_depth, continue_depth, loop_depth, frame_of}
-use Rattle.rc_pipe.proofs.GraphLemmas.{same_block-eq, blocks_equivalence}
+use Rattle.rc_runs.specs.declared.frames.Way.TheVariants.{NoFrame}
+use Rattle.rc_runs.specs.Graph.{same_block}
+use Rattle.rc_runs.specs.Frames.{break_block, is_live, is_live_at, is_loop, way_out_of, way_from, break_way, continue_block}
+use Rattle.rc_pipe.specs.Depths.{is_block, depth_where, break_depth, continue_depth, loop_depth, frame_of}
+use Rattle.rc_runs.proofs.GraphLemmas.{same_block-eq, blocks_equivalence}
 
 -- what a map has under a block
 

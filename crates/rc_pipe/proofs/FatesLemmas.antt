@@ -1,23 +1,26 @@
--- A list of kept scopes that is made from an ordered set.
-use Rattle.std.proofs.Common.{◌≡◌, ◌↔◌, ℕ, List, [], ◌∷◌, map, refl, ap, sym, ◌∙◌, All, Contains}
+-- Fates that are listed from an ordered set of scopes.
+use Rattle.std.proofs.Common.{◌≡◌, ◌∙◌, ◌↔◌, ℕ, zero, suc, List, [], ◌∷◌, ◌++◌, append_assoc, map, get_or, ap, subst, arith, IsTrue, IfOk, Result, Ok, Err, All, Contains}
+use Rattle.std.proofs.lemmas.List.{map-append}
+use Rattle.std.proofs.lemmas.List.Elements.{All-append}
+use Rattle.std.specs.declared.alloc.AllocError.{AllocError}
 use Rattle.std.specs.declared.cmp.Ordering.{Ordering}
 use Rattle.std.specs.declared.cmp.Ordering.TheVariants.{Less}
 use Rattle.std.specs.Ordering.{nat_cmp}
 use Rattle.std.specs.Cmp.{IsTotalOrder}
 use Rattle.std.specs.List.{AllByRecursion}
 use Rattle.std.specs.List.Sorted.{IsStrictlySortedBy, IsStrictlyIncreasing}
-use Rattle.std.specs.BTreeSet.{BTreeSet, IsFromIterResult}
+use Rattle.std.specs.BTreeSet.{BTreeSet, IsFromIterResult, contains}
 use Rattle.std.proofs.lemmas.Cmp.{nat_cmp_total}
-use Rattle.std.proofs.lemmas.List.Elements.{All-map}
 use Rattle.std.proofs.lemmas.Map.Keys.{IsStrictlyIncreasing-from_sorted}
 use Rattle.std.proofs.lemmas.Map.Lookups.{CmpEqualImpliesEq, exact_unsigned}
 use Rattle.std.proofs.lemmas.Map.Views.{btree_set_contains_from_list, btree_set_contains_iff}
 use Rattle.rc_names.specs.declared.numbers.ScopeId.{ScopeId}
 use Rattle.rc_tree.specs.declared.statement.ReactiveBlock.{ReactiveBlock}
-use Rattle.rc_pipe.specs.declared.fates.Fate.TheVariants.{Kept}
+use Rattle.rc_pipe.specs.declared.fates.Fate.{Fate}
+use Rattle.rc_pipe.specs.declared.fates.Fate.TheVariants.{Kept, NotEscaping, Unused, MergedInto, DissolvedInto, AlwaysInvalidating}
 use Rattle.rc_pipe.specs.declared.fates.ScopeFate.{ScopeFate}
-use Rattle.rc_pipe.specs.ScopesIn.{scopes_in}
-use Rattle.rc_pipe.specs.Fates.{kept_fate, listed_scopes, AreKept}
+use Rattle.rc_checks.specs.ScopesIn.{scopes_in}
+use Rattle.rc_pipe.specs.Fates.{IsFate, HasFate, listed_scopes, AreFates}
 
 -- the order of scopes is that of their numbers
 abbrev pub scope_cmp : ScopeId → ScopeId → Ordering
@@ -61,22 +64,47 @@ set_has scopes set made scope =
     let there = btree_set_contains_from_list scopes_ordered scopes_exact scopes set made scope in
     (λ h. there.0 (here.1 h), λ h. here.0 (there.1 h))
 
--- the entries of kept scopes list these scopes
-listed-kept : (scopes : List ScopeId) → listed_scopes (map kept_fate scopes) ≡ scopes
-listed-kept [] = refl
-listed-kept (scope ∷ scopes) = ap (λ rest. scope ∷ rest) (listed-kept scopes)
+-- what is the fate of a scope by some scopes is its fate by the same ones in another order
+fate_by_same : (left other : List ScopeId) → ((scope : ScopeId) → Contains left scope ↔ Contains other scope)
+    → (scope : ScopeId) (fate : Fate) → IsFate left scope fate → IsFate other scope fate
+fate_by_same left other same scope Kept is = (same scope).0 is
+fate_by_same left other same scope Unused is = λ there. is ((same scope).1 there)
+fate_by_same left other same scope NotEscaping is = is
+fate_by_same left other same scope (MergedInto into) is = is
+fate_by_same left other same scope (DissolvedInto into) is = is
+fate_by_same left other same scope AlwaysInvalidating is = is
 
--- and each of them is kept
-all_kept : (scopes : List ScopeId) → All (λ entry. entry.fate ≡ Kept) (map kept_fate scopes)
-all_kept scopes = All-map (λ entry. entry.fate ≡ Kept) kept_fate scopes (λ place other below. refl)
+-- the fates of scopes in order, by those that are left, are the fates of these scopes
+pub fates_told : (scopes : List ScopeId) (body : ReactiveBlock) (ordered left : List ScopeId) → IsStrictlyIncreasing (map (λ scope. scope.0) ordered)
+    → ((scope : ScopeId) → Contains ordered scope ↔ Contains scopes scope) → ((scope : ScopeId) → Contains left scope ↔ Contains (scopes_in body) scope)
+    → (fates : List ScopeFate) → listed_scopes fates ≡ ordered → All (HasFate left) fates → AreFates scopes body fates
+fates_told scopes body ordered left rising same same_left fates listed told = record {
+  rising = rw listed rising;
+  listed = λ scope. rw listed (same scope);
+  told = λ place other below.
+      let entry = get_or fates place other in
+      fate_by_same left (scopes_in body) same_left entry.scope entry.fate (told place other below);
+}
 
--- the entries of the scopes found in a body, in order, list them as kept
-pub list_kept : (body : ReactiveBlock) (found scopes : List ScopeId) → found ≡ scopes_in body → IsStrictlyIncreasing (map (λ scope. scope.0) scopes) →
-    ((scope : ScopeId) → Contains scopes scope ↔ Contains found scope) → (fates : List ScopeFate) → fates ≡ map kept_fate scopes → AreKept body fates
-list_kept body found scopes all rising same fates made =
-    let listed : listed_scopes fates ≡ scopes = ap listed_scopes made ∙ listed-kept scopes in
-    record {
-      rising = rw listed rising;
-      listed = λ scope. rw (listed, sym all) (same scope);
-      kept = rw made (all_kept scopes);
-    }
+-- a scope is in a set exactly where the set has it
+pub set_contains : (set : BTreeSet ScopeId) (scope : ScopeId) → IsTrue (contains scope_cmp set scope) ↔ Contains set.keys scope
+set_contains set scope = btree_set_contains_iff scopes_ordered scopes_exact set scope
+
+-- a further entry lists its scope, with its fate
+pub one_more : (left : List ScopeId) (fates : List ScopeFate) (entry : ScopeFate) (scope : ScopeId) (rest keys : List ScopeId) → entry.scope ≡ scope → HasFate left entry
+    → (listed_scopes fates ++ scope ∷ rest ≡ keys) × All (HasFate left) fates → (listed_scopes (fates ++ entry ∷ []) ++ rest ≡ keys) × All (HasFate left) (fates ++ entry ∷ [])
+one_more left fates entry scope rest keys same has given =
+    let list = ap (λ l. l ++ rest) (map-append (λ e. e.scope) fates (entry ∷ [])) ∙ append_assoc (listed_scopes fates) (entry.scope ∷ []) rest in
+    (list ∙ ap (λ s. listed_scopes fates ++ s ∷ rest) same ∙ given.0, All-append (HasFate left) fates (entry ∷ []) given.1 alone)
+  where
+    alone : All (HasFate left) (entry ∷ [])
+    alone zero other below = has
+    alone (suc place) other below = absurd (let no : ⊥ = omega (arith, below) in no)
+
+-- the same of what a call answers, where the scopes found in the body are in some order
+pub fates_answered : (scopes : List ScopeId) (body : ReactiveBlock) (found ordered left : List ScopeId) → found ≡ scopes_in body → IsStrictlyIncreasing (map (λ scope. scope.0) ordered)
+    → ((scope : ScopeId) → Contains ordered scope ↔ Contains scopes scope) → ((scope : ScopeId) → Contains left scope ↔ Contains found scope)
+    → (result : Result (List ScopeFate) AllocError) → IfOk result (λ fates. listed_scopes fates ≡ ordered) → IfOk result (All (HasFate left)) → IfOk result (AreFates scopes body)
+fates_answered scopes body found ordered left all rising same same_left (Ok fates) listed told =
+    fates_told scopes body ordered left rising same (λ scope. subst (λ list. Contains left scope ↔ Contains list scope) all (same_left scope)) fates listed told
+fates_answered scopes body found ordered left all rising same same_left (Err error) listed told = tt

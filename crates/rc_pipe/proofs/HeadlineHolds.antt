@@ -1,21 +1,41 @@
--- What is spelled and listed has the headline.
+-- What is spelled, pruned and listed has the headline.
+use Rattle.std.proofs.Common.{◌∙◌, ◌↔◌, List, map, ap, subst}
 use Rattle.rc_hir.specs.declared.function.HirFunction.{HirFunction}
 use Rattle.rc_hir.specs.declared.environment.Environment.{Environment}
+use Rattle.rc_tree.specs.declared.function.ReactiveFunction.{ReactiveFunction}
+use Rattle.rc_runs.specs.BodyRun.{IsBodyRun}
+use Rattle.rc_runs.specs.Event.{Event, End}
+use Rattle.rc_runs.specs.Spelled.{Spells}
+use Rattle.rc_runs.proofs.OneTree.{spells_one_function}
+use Rattle.rc_runs.proofs.GraphToBody.{graph_to_function}
+use Rattle.rc_runs.proofs.BodyToGraph.{function_to_graph}
+use Rattle.rc_checks.specs.ScopesIn.{scopes_in}
+use Rattle.rc_checks.proofs.LabelsKeep.{one_without_labels}
+use Rattle.rc_checks.proofs.ScopesOfBlocks.{scopes_in-blocks}
 use Rattle.rc_pipe.specs.declared.pipeline.Pruned.{Pruned}
-use Rattle.rc_pipe.specs.Spelled.{Spells}
-use Rattle.rc_pipe.specs.Fates.{AreKept}
-use Rattle.rc_pipe.specs.Headline.{IsAccepted, IsAnswer}
-use Rattle.rc_pipe.proofs.OneTree.{spells_one_function}
-use Rattle.rc_pipe.proofs.GraphToBody.{graph_to_function}
-use Rattle.rc_pipe.proofs.BodyToGraph.{function_to_graph}
+use Rattle.rc_pipe.specs.Fates.{AreFates}
+use Rattle.rc_pipe.specs.Headline.{HasAnswer, IsAccepted, IsAnswer}
+use Rattle.rc_pipe.specs.Passes.{AreInside, IsPruned}
 
-pub headline_holds : (hir : HirFunction) (env : Environment) (pruned : Pruned) → IsAccepted hir env → Spells hir env pruned.func
-    → AreKept pruned.func.body pruned.fates → IsAnswer hir env pruned
-headline_holds hir env pruned accepted spelled kept = record {
+pub headline_holds : (hir : HirFunction) (env : Environment) (pruned : Pruned) → IsAccepted hir env
+    → (spelled : ReactiveFunction) → Spells hir env spelled → IsPruned env spelled pruned.func
+    → ((events : List Event) (end : End) → IsBodyRun spelled env events end ↔ IsBodyRun pruned.func env events end)
+    → AreFates (scopes_in spelled.body) pruned.func.body pruned.fates → IsAnswer hir env pruned
+headline_holds hir env pruned accepted spelled spells passes same_runs told = record {
   accepted = accepted;
   spelled = spelled;
-  one_tree = λ func other. spells_one_function other spelled;
-  graph_to_body = λ events end run. graph_to_function spelled events end run;
-  body_to_graph = λ events end run. function_to_graph hir env pruned.func spelled events end run;
-  fates = kept;
+  spells = spells;
+  one_tree = λ func other. spells_one_function other spells;
+  passes = passes;
+  graph_to_body = λ events end run. (same_runs events end).0 (graph_to_function spells events end run);
+  body_to_graph = λ events end run. function_to_graph hir env spelled spells events end ((same_runs events end).1 run);
+  left = scopes_in-blocks pruned.func.body ∙ ap (map (λ block. block.scope)) passes.stays;
+  fates = told;
+}
+
+-- what is answered has an answer
+pub has_answer : (hir : HirFunction) (env : Environment) (pruned : Pruned) (answer : IsAnswer hir env pruned) → HasAnswer hir env answer.spelled
+has_answer hir env pruned answer = record {
+  spelled = answer.spells;
+  inside = λ labeled labels. subst (AreInside env) (one_without_labels answer.spelled.body answer.passes.labeled labeled answer.passes.labels labels) answer.passes.inside;
 }

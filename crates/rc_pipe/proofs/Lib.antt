@@ -1,11 +1,4 @@
-pub mod GraphLemmas
 pub mod DepthsLemmas
-pub mod FramesLemmas
-pub mod RowsLemmas
-pub mod TreeOfLemmas
-pub mod OneTree
-pub mod GraphToBody
-pub mod BodyToGraph
 pub mod StepsLemmas
 pub mod NumbersLemmas
 pub mod MarksLemmas
@@ -16,5 +9,8 @@ pub mod BuiltLemmas
 pub mod TerminalLemmas
 pub mod BuildLemmas
 pub mod FatesLemmas
+pub mod OutsideLemmas
 pub mod CausesLemmas
+pub mod NoJumpIsMet
+pub mod PassesLemmas
 pub mod HeadlineHolds

@@ -13,11 +13,11 @@ use Rattle.rc_names.specs.declared.numbers.BlockId.{BlockId}
 use Rattle.rc_hir.specs.declared.function.BasicBlock.{BasicBlock}
 use Rattle.rc_hir.specs.declared.function.HirFunction.{HirFunction}
 use Rattle.rc_pipe.specs.declared.build.state.Marks.{Marks}
-use Rattle.rc_pipe.specs.Graph.{same_block, basic_block}
-use Rattle.rc_pipe.specs.Spelled.{AreSound, same_scope, scope_at}
+use Rattle.rc_runs.specs.Graph.{same_block, basic_block}
+use Rattle.rc_runs.specs.Spelled.{AreSound, same_scope, scope_at}
 use Rattle.rc_pipe.specs.Namings.{named_blocks, is_among, times, namings_of}
 use Rattle.rc_pipe.specs.RuleFacts.{times_named}
-use Rattle.rc_pipe.proofs.GraphLemmas.{same_block-eq, blocks_equivalence}
+use Rattle.rc_runs.proofs.GraphLemmas.{same_block-eq, blocks_equivalence}
 use Rattle.rc_pipe.specs.Built.{Marked, AreNamed}
 
 pub scopes_equivalence : IsEquivalence same_scope

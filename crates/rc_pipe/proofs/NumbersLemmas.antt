@@ -9,8 +9,8 @@ use Rattle.rc_hir.specs.declared.function.Instruction.{Instruction}
 use Rattle.rc_hir.specs.declared.function.BasicBlock.{BasicBlock}
 use Rattle.rc_hir.specs.declared.function.HirFunction.{HirFunction}
 use Rattle.rc_tree.specs.declared.statement.ReactiveStatement.{ReactiveStatement}
-use Rattle.rc_pipe.specs.Graph.{rows_of}
-use Rattle.rc_pipe.specs.Silent.{is_unset}
+use Rattle.rc_runs.specs.Graph.{rows_of}
+use Rattle.rc_runs.specs.Silent.{is_unset}
 use Rattle.rc_pipe.specs.Rows.{HasIds, HaveIds, PutSoFar, row_statement_of}
 
 module _ (all : List Instruction) where

@@ -7,15 +7,15 @@ use Rattle.rc_names.specs.declared.span.Span.{Span}
 use Rattle.rc_hir.specs.declared.terminal.GotoVariant.TheVariants as variants
 use Rattle.rc_hir.specs.declared.terminal.Terminal.TheVariants as terminals
 use Rattle.rc_hir.specs.declared.function.HirFunction.{HirFunction}
-use Rattle.rc_pipe.specs.declared.frames.Frame.{Frame}
-use Rattle.rc_pipe.specs.declared.frames.Frame.TheVariants as kinds
-use Rattle.rc_pipe.specs.declared.frames.Way.TheVariants.{LeavesScope, LeavesCase}
-use Rattle.rc_pipe.specs.Graph.{same_block}
-use Rattle.rc_pipe.specs.Frames.{break_block, is_live, is_live_at, is_loop, way_out_of, way_from}
+use Rattle.rc_runs.specs.declared.frames.Frame.{Frame}
+use Rattle.rc_runs.specs.declared.frames.Frame.TheVariants as kinds
+use Rattle.rc_runs.specs.declared.frames.Way.TheVariants.{LeavesScope, LeavesCase}
+use Rattle.rc_runs.specs.Graph.{same_block}
+use Rattle.rc_runs.specs.Frames.{break_block, is_live, is_live_at, is_loop, way_out_of, way_from}
 use Rattle.rc_pipe.specs.Namings.{is_among, times, framed_blocks}
 use Rattle.rc_pipe.specs.RuleFacts.{At, Jumps, goto_break, IsScopeFallthrough, IsCaseBlock}
 use Rattle.rc_pipe.specs.Built.{frame_blocks, live_blocks, HasOwner, AreOwned}
-use Rattle.rc_pipe.proofs.GraphLemmas.{same_block-eq, blocks_equivalence}
+use Rattle.rc_runs.proofs.GraphLemmas.{same_block-eq, blocks_equivalence}
 use Rattle.rc_pipe.proofs.MarksLemmas.{times_append}
 
 one_times : (block key : BlockId) → same_block block key ≡ true → 1 ≤ times key (block ∷ [])

@@ -11,9 +11,9 @@ use Rattle.rc_hir.specs.declared.function.HirFunction.{HirFunction}
 use Rattle.rc_hir.specs.declared.terminal.Case.{Case}
 use Rattle.rc_hir.specs.declared.terminal.Terminal.{Terminal}
 use Rattle.rc_hir.specs.declared.terminal.Terminal.TheVariants as terminals
-use Rattle.rc_pipe.specs.Event.{Event}
-use Rattle.rc_pipe.specs.GraphRun.{Move, then_arm, else_arm, branch_true, branch_false, to_case, past_cases, into_do_while, into_while, into_for, into_for_of, into_for_in, into_logical, into_ternary, into_optional, into_sequence, into_label, into_scope, into_pruned_scope, into_try, goes_to, goes_on, throws, InCases, first, later, is_default}
-use Rattle.rc_pipe.specs.Graph.{is_dead}
+use Rattle.rc_runs.specs.Event.{Event}
+use Rattle.rc_runs.specs.GraphRun.{Move, then_arm, else_arm, branch_true, branch_false, to_case, past_cases, into_do_while, into_while, into_for, into_for_of, into_for_in, into_logical, into_ternary, into_optional, into_sequence, into_label, into_scope, into_pruned_scope, into_try, goes_to, goes_on, throws, InCases, first, later, is_default}
+use Rattle.rc_runs.specs.Graph.{is_dead}
 use Rattle.rc_pipe.specs.RuleFacts.{StepsDead}
 use Rattle.rc_pipe.specs.Namings.{step_blocks, case_blocks, past_blocks, listed}
 

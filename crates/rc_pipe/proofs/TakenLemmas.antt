@@ -13,16 +13,16 @@ use Rattle.rc_hir.specs.declared.function.Instruction.{Instruction}
 use Rattle.rc_hir.specs.declared.function.BasicBlock.{BasicBlock}
 use Rattle.rc_hir.specs.declared.function.HirFunction.{HirFunction}
 use Rattle.rc_pipe.specs.declared.build.state.Marks.{Marks}
-use Rattle.rc_pipe.specs.declared.frames.Frame.{Frame}
+use Rattle.rc_runs.specs.declared.frames.Frame.{Frame}
 use Rattle.rc_hir.specs.declared.fault.Rule.TheVariants.{Twice, ScopeTwice}
-use Rattle.rc_pipe.specs.Frames.{is_live}
-use Rattle.rc_pipe.specs.Graph.{Block, same_block, basic_block, block_at, rows_of, with_rows}
-use Rattle.rc_pipe.specs.GraphRun.{MovesAlive}
-use Rattle.rc_pipe.specs.Spelled.{same_scope, scope_named, scope_at}
+use Rattle.rc_runs.specs.Frames.{is_live}
+use Rattle.rc_runs.specs.Graph.{Block, same_block, basic_block, block_at, rows_of, with_rows}
+use Rattle.rc_runs.specs.GraphRun.{MovesAlive}
+use Rattle.rc_runs.specs.Spelled.{same_scope, scope_named, scope_at}
 use Rattle.rc_pipe.specs.Namings.{is_among, named_blocks}
 use Rattle.rc_pipe.specs.RuleFacts.{At, StepsDead, SharesScope, RuleFact}
 use Rattle.rc_pipe.specs.Built.{Marked, AreNamed, AtList, Follows, live_blocks, IsUnusable, listed_scope, is_fresh_scope}
-use Rattle.rc_pipe.proofs.GraphLemmas.{same_block-eq, blocks_equivalence}
+use Rattle.rc_runs.proofs.GraphLemmas.{same_block-eq, blocks_equivalence}
 use Rattle.rc_pipe.proofs.MarksLemmas.{times_append, times_among, named_twice, scopes_equivalence, one_more, among_push, named_push}
 use Rattle.rc_pipe.proofs.StepsLemmas.{not_true, not_false}
 use Rattle.rc_pipe.proofs.OwnersLemmas.{live_times}

@@ -16,16 +16,16 @@ use Rattle.rc_tree.specs.declared.statement.ReactiveStatement.{ReactiveStatement
 use Rattle.rc_tree.specs.declared.statement.ReactiveStatement.TheVariants as statements
 use Rattle.rc_tree.specs.declared.terminal.ReactiveLabel.{ReactiveLabel}
 use Rattle.rc_tree.specs.declared.terminal.ReactiveTerminal.{ReactiveTerminal}
-use Rattle.rc_pipe.specs.declared.frames.Frame.{Frame}
-use Rattle.rc_pipe.specs.declared.frames.Frame.TheVariants as kinds
+use Rattle.rc_runs.specs.declared.frames.Frame.{Frame}
+use Rattle.rc_runs.specs.declared.frames.Frame.TheVariants as kinds
 use Rattle.rc_pipe.specs.declared.build.state.Marks.{Marks}
 use Rattle.rc_pipe.specs.declared.build.state.State.{State}
-use Rattle.rc_pipe.specs.Graph.{Block, same_block, basic_block, rows_of, usable_block}
-use Rattle.rc_pipe.specs.Frames.{is_live, is_live_at, break_way}
-use Rattle.rc_pipe.specs.PlainTree.{Statements, Nil, Cons}
-use Rattle.rc_pipe.specs.TreeOf.{statements_of}
-use Rattle.rc_pipe.specs.Grammar.{SpellsList, SpellsTerminal, break_statements}
-use Rattle.rc_pipe.specs.Spelled.{AreSound, same_scope, scope_at}
+use Rattle.rc_runs.specs.Graph.{Block, same_block, basic_block, rows_of, usable_block}
+use Rattle.rc_runs.specs.Frames.{is_live, is_live_at, break_way}
+use Rattle.rc_runs.specs.PlainTree.{Statements, Nil, Cons}
+use Rattle.rc_runs.specs.TreeOf.{statements_of}
+use Rattle.rc_runs.specs.Grammar.{SpellsList, SpellsTerminal, break_statements}
+use Rattle.rc_runs.specs.Spelled.{AreSound, same_scope, scope_at}
 use Rattle.rc_pipe.specs.Namings.{listed, named_blocks, framed_blocks, scope_fallthrough, case_blocks, cases_of, is_among, times, namings_of}
 use Rattle.rc_pipe.specs.RuleFacts.{At}
 

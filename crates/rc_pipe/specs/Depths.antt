@@ -3,17 +3,11 @@
 use Rattle.std.specs.Prelude.{◌≡◌, ℕ, ◌+◌, Bool, false, List, [], ◌∷◌, Option, Some, None, length, map, unwrap_or, IsSome, if◌then◌else◌}
 use Rattle.std.specs.Map.{lookup}
 use Rattle.rc_names.specs.declared.numbers.BlockId.{BlockId}
-use Rattle.rc_pipe.specs.declared.frames.Frame.{Frame}
-use Rattle.rc_pipe.specs.declared.frames.Frame.TheVariants as frame
+use Rattle.rc_runs.specs.declared.frames.Frame.{Frame}
 use Rattle.rc_pipe.specs.declared.frames.stack.Held.{Held}
 use Rattle.rc_pipe.specs.declared.frames.depths.Depths.{Depths}
-use Rattle.rc_pipe.specs.Graph.{same_block}
-use Rattle.rc_pipe.specs.Frames.{break_block, is_loop}
-
--- the block that a continue of the frame names
-abbrev pub continue_block : Frame → Option BlockId
-continue_block (frame.Loop block again) = Some again
-continue_block _ = None
+use Rattle.rc_runs.specs.Graph.{same_block}
+use Rattle.rc_runs.specs.Frames.{break_block, continue_block, is_loop}
 
 -- it is that block, where there is one
 abbrev pub is_block : Option BlockId → BlockId → Bool

@@ -1,5 +1,5 @@
 -- The headline: what an answered function is to its graph, and why a graph is refused.
-use Rattle.std.specs.Prelude.{◌≡◌, List, Some, option_map, ⊤}
+use Rattle.std.specs.Prelude.{◌≡◌, List, Some, option_map, ⊤, map}
 use Rattle.rc_hir.specs.declared.fault.Fault.{Fault}
 use Rattle.rc_hir.specs.declared.fault.Fault.TheVariants as faults
 use Rattle.rc_hir.specs.declared.function.HirFunction.{HirFunction}
@@ -7,13 +7,18 @@ use Rattle.rc_hir.specs.declared.environment.Environment.{Environment}
 use Rattle.rc_hir.specs.Names.{NamesInTables, NamesOutside}
 use Rattle.rc_tree.specs.declared.function.ReactiveFunction.{ReactiveFunction}
 use Rattle.rc_pipe.specs.declared.pipeline.Pruned.{Pruned}
-use Rattle.rc_pipe.specs.Event.{Event, End}
-use Rattle.rc_pipe.specs.GraphRun.{IsGraphRun}
-use Rattle.rc_pipe.specs.Spelled.{Spells}
-use Rattle.rc_pipe.specs.BodyRun.{IsBodyRun}
+use Rattle.rc_runs.specs.Event.{Event, End}
+use Rattle.rc_runs.specs.GraphRun.{IsGraphRun}
+use Rattle.rc_runs.specs.Spelled.{Spells}
+use Rattle.rc_runs.specs.BodyRun.{IsBodyRun}
 use Rattle.rc_pipe.specs.Causes.{first_early_return, NoEarlyReturnSet, HasRoom, first_unbuilt, AreBuilt}
 use Rattle.rc_pipe.specs.RuleFacts.{RuleFact}
-use Rattle.rc_pipe.specs.Fates.{AreKept}
+use Rattle.rc_pipe.specs.Fates.{AreFates}
+use Rattle.rc_pipe.specs.Passes.{AreInside, EndsOutside, IsPruned, OfLabeled}
+use Rattle.rc_checks.specs.Labels.{IsWithoutUnusedLabels}
+use Rattle.rc_checks.specs.ScopeBlocks.{staying_blocks}
+use Rattle.rc_checks.specs.ScopesIn.{scopes_in}
+use Rattle.rc_tree.specs.declared.statement.ReactiveBlock.{ReactiveBlock}
 
 -- nothing is asked of a graph but this before it is built
 pub record IsAccepted (hir : HirFunction) (env : Environment) : Type 0 where
@@ -26,19 +31,28 @@ pub record IsAccepted (hir : HirFunction) (env : Environment) : Type 0 where
 abbrev pub SpellsNone : HirFunction → Environment → Type 0
 SpellsNone hir env = (func : ReactiveFunction) → Spells hir env func → ⊥
 
+-- the graph spells the function, and no operand of it is outside the blocks of its scope
+pub record HasAnswer (hir : HirFunction) (env : Environment) (func : ReactiveFunction) : Type 0 where
+  pub spelled : Spells hir env func
+  pub inside : (labeled : ReactiveBlock) → IsWithoutUnusedLabels func.body labeled → AreInside env labeled
+
 -- what is answered for a graph with its environment
 pub record IsAnswer (hir : HirFunction) (env : Environment) (pruned : Pruned) : Type 0 where
   pub accepted : IsAccepted hir env
-  -- the graph spells exactly one function, which is the answered one
-  pub spelled : Spells hir env pruned.func
-  pub one_tree : (func : ReactiveFunction) → Spells hir env func → func ≡ pruned.func
+  -- the graph spells exactly one function, and the answered one is what the passes make of it, with its header
+  pub spelled : ReactiveFunction
+  pub spells : Spells hir env spelled
+  pub one_tree : (func : ReactiveFunction) → Spells hir env func → func ≡ spelled
+  pub passes : IsPruned env spelled pruned.func
   -- every run of the graph is a run of the answered body, and the other way round
   pub graph_to_body : (events : List Event) (end : End) → IsGraphRun hir env events end →
       IsBodyRun pruned.func env events end
   pub body_to_graph : (events : List Event) (end : End) → IsBodyRun pruned.func env events end →
       IsGraphRun hir env events end
-  -- each scope of the tree is listed once, by rising number, and is kept
-  pub fates : AreKept pruned.func.body pruned.fates
+  -- the scope blocks that are left are those whose scopes give something
+  pub left : scopes_in pruned.func.body ≡ map (λ block. block.scope) (staying_blocks env passes.labeled)
+  -- each scope of the spelled tree is listed once, by rising number, with its fate
+  pub fates : AreFates (scopes_in spelled.body) pruned.func.body pruned.fates
 
 -- Why a fault is answered. Each cause but want of memory asks that those above it in the order don't hold.
 abbrev pub IsCause : HirFunction → Environment → Fault → Type 0
@@ -51,5 +65,7 @@ IsCause hir env (faults.NotBuilt block) =
     × (option_map (λ entry. entry.0) (first_unbuilt hir) ≡ Some block)
 IsCause hir env (faults.Malformed block rule) =
     IsAccepted hir env × SpellsNone hir env × RuleFact hir rule block
+IsCause hir env (faults.ScopeCompleted id scope) =
+    IsAccepted hir env × ((func : ReactiveFunction) × Spells hir env func × OfLabeled func.body (λ body. EndsOutside env body id scope))
 IsCause hir env faults.NoMemory = ⊤
 IsCause hir env _ = ⊥

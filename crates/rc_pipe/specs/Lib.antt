@@ -1,16 +1,6 @@
-pub mod Event
-pub mod Silent
-pub mod Graph
-pub mod GraphRun
-pub mod Frames
 pub mod Depths
-pub mod PlainTree
-pub mod TreeOf
-pub mod Grammar
-pub mod Spelled
-pub mod BodyRun
 pub mod Causes
-pub mod ScopesIn
+pub mod Passes
 pub mod Fates
 pub mod Namings
 pub mod RuleFacts

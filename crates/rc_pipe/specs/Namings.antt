@@ -6,8 +6,8 @@ use Rattle.rc_hir.specs.declared.terminal.Case.{Case}
 use Rattle.rc_hir.specs.declared.terminal.Terminal.{Terminal}
 use Rattle.rc_hir.specs.declared.terminal.Terminal.TheVariants as terminals
 use Rattle.rc_hir.specs.declared.function.HirFunction.{HirFunction}
-use Rattle.rc_pipe.specs.Graph.{same_block}
-use Rattle.rc_pipe.specs.GraphRun.{is_default}
+use Rattle.rc_runs.specs.Graph.{same_block}
+use Rattle.rc_runs.specs.GraphRun.{is_default}
 
 -- a block that may be left out, as a list
 abbrev pub listed : Option BlockId → List BlockId

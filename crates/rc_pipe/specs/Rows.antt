@@ -6,10 +6,10 @@ use Rattle.rc_hir.specs.declared.function.Instruction.{Instruction}
 use Rattle.rc_hir.specs.declared.function.BasicBlock.{BasicBlock}
 use Rattle.rc_hir.specs.declared.function.HirFunction.{HirFunction}
 use Rattle.rc_tree.specs.declared.statement.ReactiveStatement.{ReactiveStatement}
-use Rattle.rc_pipe.specs.Silent.{is_unset}
-use Rattle.rc_pipe.specs.Graph.{rows_of, has_all_ids}
-use Rattle.rc_pipe.specs.PlainTree.{Base, RowStatement}
-use Rattle.rc_pipe.specs.TreeOf.{statement_of}
+use Rattle.rc_runs.specs.Silent.{is_unset}
+use Rattle.rc_runs.specs.Graph.{rows_of, has_all_ids}
+use Rattle.rc_runs.specs.PlainTree.{Base, RowStatement}
+use Rattle.rc_runs.specs.TreeOf.{statement_of}
 
 -- the statement of a row
 abbrev pub row_statement_of : Instruction → ReactiveStatement

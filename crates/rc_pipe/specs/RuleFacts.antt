@@ -19,12 +19,12 @@ use Rattle.rc_hir.specs.declared.terminal.Terminal.TheVariants as terminals
 use Rattle.rc_hir.specs.declared.function.Instruction.{Instruction}
 use Rattle.rc_hir.specs.declared.function.BasicBlock.{BasicBlock}
 use Rattle.rc_hir.specs.declared.function.HirFunction.{HirFunction}
-use Rattle.rc_pipe.specs.Event.{Event}
-use Rattle.rc_pipe.specs.Silent.{is_unset}
-use Rattle.rc_pipe.specs.Graph.{same_block, basic_block, is_dead}
-use Rattle.rc_pipe.specs.GraphRun.{Move}
+use Rattle.rc_runs.specs.Event.{Event}
+use Rattle.rc_runs.specs.Silent.{is_unset}
+use Rattle.rc_runs.specs.Graph.{same_block, basic_block, is_dead}
+use Rattle.rc_runs.specs.GraphRun.{Move}
 use Rattle.rc_pipe.specs.Namings.{times, namings, is_among, framed_blocks, fallthrough_of, scope_fallthrough, case_blocks, cases_of}
-use Rattle.rc_pipe.specs.Spelled.{scope_named}
+use Rattle.rc_runs.specs.Spelled.{scope_named}
 use Rattle.rc_pipe.specs.Causes.{is_built}
 
 -- the block under a key, of which P holds

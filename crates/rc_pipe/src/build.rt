@@ -16,7 +16,7 @@ mod steps;
 
 ghost use Rattle.std.specs.Prelude.{IfOk, IfErr};
 ghost use Rattle.rc_tree.specs.declared.function.ReactiveFunction.{ReactiveFunction};
-ghost use Rattle.rc_pipe.specs.Spelled.{Spells};
+ghost use Rattle.rc_runs.specs.Spelled.{Spells};
 ghost use Rattle.rc_pipe.specs.RuleFacts.{FaultFact};
 ghost use Rattle.rc_pipe.specs.Built.{IfMalformed};
 

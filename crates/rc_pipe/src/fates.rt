@@ -1,13 +1,13 @@
 //! Fates: what became of each scope block that the graph asked for.
 //!
-//! The scopes of the tree are put into an ordered set, which has each once, and listed from there.
+//! The scopes of the spelled tree are put into an ordered set, which has each once, and listed from there.
 
-ghost use Rattle.std.specs.Prelude.{◌≡◌, ◌↔◌, map, Contains, IfOk};
+ghost use Rattle.std.specs.Prelude.{◌≡◌, ◌↔◌, map, All, Contains, IfOk};
 ghost use Rattle.std.specs.List.Sorted.{IsStrictlyIncreasing};
 ghost use Rattle.rc_names.specs.declared.numbers.ScopeId.{ScopeId as Scope};
-ghost use Rattle.rc_pipe.specs.Fates.{AreKept, kept_fate};
+ghost use Rattle.rc_pipe.specs.Fates.{AreFates, HasFate, listed_scopes};
 
-use crate::scopes_in::scopes_in;
+use rc_checks::scopes_in;
 use rc_names::{List, ScopeId};
 use rc_tree::ReactiveBlock;
 use std::alloc::{AllocError, Global};
@@ -38,13 +38,18 @@ pub struct ScopeFate {
     pub fate: Fate,
 }
 
-/// The fates where each scope block of the tree is kept. The only error is want of memory.
-pub(crate) fn kept_fates(alloc: Global, body: &ReactiveBlock) -> Result<List<ScopeFate>, AllocError>
-    ensures { IfOk result (AreKept body.now) }
+/// The fates of these scopes, the ones of the spelled tree, by what is left of it. The only error is want of memory.
+pub(crate) fn fates_of(
+    alloc: Global,
+    scopes: &[ScopeId],
+    body: &ReactiveBlock,
+) -> Result<List<ScopeFate>, AllocError>
+    ensures { IfOk result (AreFates scopes.now body.now) }
 {
-    let scopes = scopes_in(alloc, body)?;
-    let in_order = in_order(alloc, scopes.as_slice())?;
-    all_kept(alloc, &in_order)
+    let scopes = in_order(alloc, scopes)?;
+    let left = scopes_in(alloc, body)?;
+    let left = in_order(alloc, left.as_slice())?;
+    all_fates(alloc, &scopes, &left)
 }
 
 /// The scopes, each once and in order. The only error is want of memory.
@@ -56,16 +61,31 @@ fn in_order(alloc: Global, scopes: &[ScopeId]) -> Result<BTreeSet<ScopeId>, Allo
     scopes.iter().copied().collect(alloc)
 }
 
-/// These scopes, each with the fate that it is kept. The only error is want of memory.
-fn all_kept(alloc: Global, scopes: &BTreeSet<ScopeId>) -> Result<List<ScopeFate>, AllocError>
-    ensures { IfOk result (λ fates. fates ≡ map kept_fate scopes.now.keys) }
+/// These scopes, each with its fate. The only error is want of memory.
+fn all_fates(
+    alloc: Global,
+    scopes: &BTreeSet<ScopeId>,
+    left: &BTreeSet<ScopeId>,
+) -> Result<List<ScopeFate>, AllocError>
+    ensures listed { IfOk result (λ fates. listed_scopes fates ≡ scopes.now.keys) }
+    ensures told { IfOk result (All (HasFate left.now.keys)) }
 {
     let mut fates = List::new(alloc);
     for scope in scopes {
-        fates.push(ScopeFate {
-            scope: *scope,
-            fate: Fate::Kept,
-        })?;
+        fates.push(fate_of(*scope, left))?;
     }
     Ok(fates)
+}
+
+/// A scope with its fate: kept where it is among those that are left.
+fn fate_of(scope: ScopeId, left: &BTreeSet<ScopeId>) -> ScopeFate
+    ensures scope { result.scope ≡ scope }
+    ensures told { HasFate left.now.keys result }
+{
+    let fate = if left.contains(&scope) {
+        Fate::Kept
+    } else {
+        Fate::Unused
+    };
+    ScopeFate { scope, fate }
 }

@@ -1,12 +1,12 @@
-//! From a graph to its tree: the grammar, the runs of both, the builder, and the passes in their order.
+//! From a graph to its pruned tree: the builder, the passes in their order, and the fates of scopes.
 #![tactic(auto)]
 
 mod build;
 mod causes;
 mod fates;
 mod frames;
+mod passes;
 mod pipeline;
-mod scopes_in;
 
 pub use fates::{Fate, ScopeFate};
 

@@ -2,12 +2,13 @@
 
 ghost use Rattle.std.specs.Prelude.{◌≡◌, ◌≢◌, ◌⊎◌, IfOk, IfErr, OnOk, IsOk, Err};
 ghost use Rattle.rc_tree.specs.declared.function.ReactiveFunction.{ReactiveFunction};
-ghost use Rattle.rc_pipe.specs.Spelled.{Spells};
-ghost use Rattle.rc_pipe.specs.Headline.{IsAccepted, IsAnswer, IsCause};
+ghost use Rattle.rc_pipe.specs.Headline.{HasAnswer, IsAccepted, IsAnswer, IsCause};
 
 use crate::build::build;
 use crate::causes::{first_early_return, first_unbuilt, has_room};
-use crate::fates::{ScopeFate, kept_fates};
+use crate::fates::{ScopeFate, fates_of};
+use crate::passes::prune;
+use rc_checks::scopes_in;
 use rc_hir::{Environment, Fault, HirFunction, check_names};
 use rc_names::List;
 use rc_tree::ReactiveFunction;
@@ -20,7 +21,8 @@ pub struct Pruned {
     pub fates: List<ScopeFate>,
 }
 
-/// The one tree that a graph spells, and the fate of each of its scopes.
+/// The one tree that a graph spells, without unused labels and unused scopes, and the fate of each scope of the spelled
+/// tree.
 ///
 /// Refused is, in this order, a graph
 ///
@@ -28,7 +30,8 @@ pub struct Pruned {
 /// - with a scope that answers for a `Return` already: `EarlyReturnSet`, of the lowest such scope;
 /// - without room for the numbers that early returns may need: `NoIds`;
 /// - with a terminal that isn't built yet: `NotBuilt`, of the first such block;
-/// - that spells no tree: `Malformed`, with a rule whose fact holds of the named block.
+/// - that spells no tree: `Malformed`, with a rule whose fact holds of the named block;
+/// - where an operand stands outside the blocks of its scope: `ScopeCompleted`, of the last one.
 ///
 /// `NoMemory` may come at any time. The environment stays as it is.
 pub fn build_and_prune(
@@ -40,13 +43,15 @@ pub fn build_and_prune(
     ensures refused { IfErr result (IsCause hir.now env.old) }
     ensures kept_environment { env.new ≡ env.old }
 
-    // What is accepted and spells a tree is answered, up to want of memory.
-    ensures complete { (func : ReactiveFunction) → IsAccepted hir.now env.old → Spells hir.now env.old func
+    // What is accepted and has an answer is answered, up to want of memory.
+    ensures complete { (func : ReactiveFunction) → IsAccepted hir.now env.old → HasAnswer hir.now env.old func
         → IsOk result ⊎ (result ≡ Err Fault.NoMemory) }
 {
     accept(hir, env)?;
-    let func = build(alloc, hir, env)?;
-    let fates = kept_fates(alloc, &func.body)?;
+    let mut func = build(alloc, hir, env)?;
+    let scopes = scopes_in(alloc, &func.body)?;
+    prune(alloc, &mut func, env)?;
+    let fates = fates_of(alloc, scopes.as_slice(), &func.body)?;
     Ok(Pruned { func, fates })
 }
 

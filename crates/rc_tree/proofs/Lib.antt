@@ -4,8 +4,16 @@ pub mod RewriteValueLemmas
 pub mod RewriteStatementKnownLemmas
 pub mod RewriteStatementLemmas
 pub mod RewriteKeepLemmas
+pub mod UnnamedLemmas
 pub mod OutcomeLemmas
 pub mod ReadLemmas
 pub mod ReadStatementLemmas
 pub mod ReadFunctionLemmas
 pub mod NestedLemmas
+pub mod TreeNamesLemmas
+pub mod RebuiltLemmas
+pub mod FollowsLemmas
+pub mod StillKeepsLemmas
+pub mod StatementsKeepLemmas
+pub mod RebuiltFaultsLemmas
+pub mod StatementsFollowLemmas

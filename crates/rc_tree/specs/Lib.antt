@@ -7,5 +7,13 @@ pub mod Nested
 pub mod Run
 pub mod RewriteSteps
 pub mod NoDeeper
+pub mod StatementSteps
+pub mod StatementsNoDeeper
+pub mod Looks
+pub mod Unnamed
 pub mod Rewrite
 pub mod RewriteKeeps
+pub mod Rebuilt
+pub mod TreeNames
+pub mod Follows
+pub mod StatementsFollow

@@ -8,6 +8,7 @@ pub mod read;
 pub mod rewrite;
 mod scope;
 mod statement;
+mod statements;
 mod terminal;
 #[cfg(test)]
 mod tests;
@@ -20,6 +21,7 @@ pub use kind::ReactiveTerminalTargetKind;
 pub use read::function::{visit_hir_function, visit_reactive_function};
 pub use scope::{PrunedReactiveScopeBlock, ReactiveScopeBlock};
 pub use statement::{ReactiveBlock, ReactiveStatement};
+pub use statements::{OverStatements, StatementTransform};
 pub use terminal::{
     ReactiveLabel, ReactiveSwitchCase, ReactiveTerminal, ReactiveTerminalStatement,
 };

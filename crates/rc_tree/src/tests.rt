@@ -5,4 +5,6 @@ mod graphs;
 mod order;
 mod parts;
 mod recorder;
+mod rewriter;
+mod rewrites;
 mod trees;

@@ -150,28 +150,29 @@ fn a_target_changed_to_another_block_can_spell_another_tree(rt: HostRuntime) -> 
             IF,
             2,
             b'3',
-            "  if 0 id 1 as bb3\n    then\n      2 2 = {\"k\":\"Debugger\"}\n      break bb3 implicit id 3\n  return 1 id 5\nfates\n",
+            "  if 0 id 1 as bb3 implicit\n    then\n      2 2 = {\"k\":\"Debugger\"}\n      break bb3 implicit id 3\n  return 1 id 5\nfates\n",
         ),
-        // The fallthrough of the `If` is that of the `Label`, which a jump can name already: it isn't opened.
+        // The fallthrough of the `If` is that of the `Label`, which a jump can name already: it isn't opened. No
+        // labeled jump names the `Label`, whose statements stand in its place.
         (
             LABEL,
             5,
             b'2',
-            "  label id 1 as bb2\n    body\n      2 2 = {\"k\":\"Debugger\"}\n      if 0 id 3\n        then\n          break bb2 implicit id 4\n        else\n          break bb2 implicit id 5\n  return 0 id 6\nfates\n",
+            "  2 2 = {\"k\":\"Debugger\"}\n  if 0 id 3\n    then\n      break bb2 implicit id 4\n    else\n      break bb2 implicit id 5\n  return 0 id 6\nfates\n",
         ),
         // The break goes to the fallthrough of the `If`, whose frame is the innermost.
         (
             LABEL,
             6,
             b'4',
-            "  label id 1 as bb2\n    body\n      2 2 = {\"k\":\"Debugger\"}\n      if 0 id 3 as bb4\n        then\n          break bb4 implicit id 4\n      break bb2 implicit id 5\n  return 0 id 6\nfates\n",
+            "  2 2 = {\"k\":\"Debugger\"}\n  if 0 id 3 as bb4 implicit\n    then\n      break bb4 implicit id 4\n  break bb2 implicit id 5\n  return 0 id 6\nfates\n",
         ),
         // The outer scope is empty, and nothing leads to the inner one.
         (
             SCOPES,
             1,
             b'4',
-            "  scope 0\n  pruned 2\n  return 0 id 8\nfates\n  scope 0 kept\n",
+            "  pruned 0\n  pruned 2\n  return 0 id 8\nfates\n  scope 0 unused\n",
         ),
     ];
     for (blocks, nth, digit, statements) in cases {

@@ -1,10 +1,10 @@
 //! A document with every form: each of its parts changed, and its values printed and read again.
 
-mod changes;
+pub mod changes;
 mod document;
-mod judged;
-mod parts;
+pub mod judged;
+pub mod parts;
 mod spellings;
-mod types;
+pub mod types;
 mod uses;
 mod values;

@@ -33,3 +33,36 @@ fn a_refused_graph_has_one_line_that_says_why(rt: HostRuntime) -> Result<(), Fai
     }
     Ok(())
 }
+
+/// A graph whose row behind a scope reads the name that the scope holds for itself.
+const READ_BEHIND: &str = r#"{"hir":{"params":[{"k":"Place","v":0}],"body":{"entry":0,"blocks":[
+{"id":0,"terminal":{"k":"Scope","fallthrough":2,"block":1,"scope":0,"id":1}},
+{"id":1,"instructions":[0],"terminal":{"k":"Goto","variant":"Break","block":2,"id":3}},
+{"id":2,"instructions":[1],"terminal":{"k":"Return","value":1,"id":5}}]},
+"instructions":[
+{"id":2,"lvalue":1,"value":{"k":"ArrayExpression","elements":[{"k":"Place","v":0}]}},
+{"id":4,"lvalue":2,"value":{"k":"UnaryExpression","operator":"!","value":1}}]},
+"env":{"identifiers":[{"declaration_id":0,"type_":0},{"declaration_id":1,"type_":0,"scope":0},
+{"declaration_id":2,"type_":0}],"types":["Other"],"scopes":[{"range":{"start":1,"end":END}}],"config":{},
+"next_block":3}}"#;
+
+#[test]
+fn the_last_operand_behind_its_scope_is_refused(rt: HostRuntime) -> Result<(), Fail> {
+    let alloc = rt.alloc();
+    // A range ends before its end: the `Return` of id 5 reads the name too.
+    let cases = [
+        ("6", "fault 4 ScopeCompleted id 5 scope 0\n"),
+        ("5", "fault 4 ScopeCompleted id 4 scope 0\n"),
+    ];
+    for (end, line) in cases {
+        let text = replaced(alloc, READ_BEHIND, "END", end)?;
+        let (status, sink) = tree(alloc, text.as_bytes())?;
+        assert_eq!(rt; status, Status::Refused, "where the range ends at {end}");
+        assert_eq!(rt;
+            sink.bytes(),
+            line.as_bytes(),
+            "where the range ends at {end}"
+        );
+    }
+    Ok(())
+}

@@ -3,8 +3,8 @@
 ghost use Rattle.std.specs.Prelude.{◌≡◌, ◌≤◌, ◌++◌, true, Err, None, Some, IfOk, IfErr};
 ghost use Rattle.rc_names.specs.declared.numbers.BlockId.{BlockId};
 ghost use Rattle.rc_hir.specs.declared.fault.Rule.{Rule};
-ghost use Rattle.rc_pipe.specs.Graph.{basic_block, same_block, usable_block};
-ghost use Rattle.rc_pipe.specs.Spelled as spelled;
+ghost use Rattle.rc_runs.specs.Graph.{basic_block, same_block, usable_block};
+ghost use Rattle.rc_runs.specs.Spelled as spelled;
 ghost use Rattle.rc_pipe.specs.RuleFacts.{FaultFact, times_named};
 ghost use Rattle.rc_pipe.specs.Built.{AtList, IsTaken, IsUnusable, is_fresh_scope, listed_scope, IfMalformed};
 

@@ -6,8 +6,8 @@ ghost use Rattle.rc_hir.specs.declared.fault.Rule.{Rule};
 ghost use Rattle.rc_hir.specs.declared.terminal.Terminal.{Terminal};
 ghost use Rattle.rc_names.specs.declared.span.Span.{Span};
 ghost use Rattle.rc_tree.specs.declared.terminal.ReactiveTerminal.TheVariants as tree;
-ghost use Rattle.rc_pipe.specs.Graph.{same_block};
-ghost use Rattle.rc_pipe.specs.Grammar as grammar;
+ghost use Rattle.rc_runs.specs.Graph.{same_block};
+ghost use Rattle.rc_runs.specs.Grammar as grammar;
 ghost use Rattle.rc_pipe.specs.RuleFacts.{FaultFact};
 ghost use Rattle.rc_pipe.specs.Built.{AtSome, AtTerminal, GoesOn, IfMalformed, NoStatements, terminal_statement};
 ghost use Rattle.rc_pipe.specs.Arms.{if_of};
@@ -15,9 +15,9 @@ ghost use Rattle.std.specs.Prelude.{Option, None, true, false};
 
 use crate::build::lists::build_part;
 use crate::build::state::{State, falls_to, label_of, malformed, opens_reachable, rest_of};
-use crate::frames::Frame;
 use rc_hir::{Environment, Fault, HirFunction, Place, Rule};
 use rc_names::{BlockId, Boxed, EvaluationOrder, List};
+use rc_runs::Frame;
 use rc_tree::{
     ReactiveBlock, ReactiveLabel, ReactiveStatement, ReactiveTerminal, ReactiveTerminalStatement,
 };

@@ -1,7 +1,7 @@
 //! The header that a function has in its graph and in its tree.
 
 ghost use Rattle.std.specs.Prelude.{◌≡◌, IfOk};
-ghost use Rattle.rc_pipe.specs.Spelled as spelled;
+ghost use Rattle.rc_runs.specs.Spelled as spelled;
 
 use rc_hir::HirFunction;
 use rc_names::{CloneIn, Text};

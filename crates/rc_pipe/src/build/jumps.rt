@@ -8,15 +8,15 @@ ghost use Rattle.rc_hir.specs.declared.fault.Rule.{Rule};
 ghost use Rattle.rc_hir.specs.declared.terminal.GotoVariant.TheVariants as variants;
 ghost use Rattle.rc_hir.specs.declared.terminal.Terminal.TheVariants as terminals;
 ghost use Rattle.rc_tree.specs.declared.terminal.ReactiveTerminal.TheVariants as tree;
-ghost use Rattle.rc_pipe.specs.Frames.{break_way};
-ghost use Rattle.rc_pipe.specs.Grammar.{break_statements};
+ghost use Rattle.rc_runs.specs.Frames.{break_way};
+ghost use Rattle.rc_runs.specs.Grammar.{break_statements};
 ghost use Rattle.rc_pipe.specs.RuleFacts.{FaultFact};
 ghost use Rattle.rc_pipe.specs.Built.{AtTerminal, EndsList, IfMalformed, NoStatements, PutBreak, terminal_statement};
 
 use crate::build::state::{State, malformed};
-use crate::frames::Way;
 use rc_hir::{Fault, GotoVariant, HirFunction, Place, Rule};
 use rc_names::{BlockId, Boxed, EvaluationOrder, List};
+use rc_runs::Way;
 use rc_tree::{
     ReactiveStatement, ReactiveTerminal, ReactiveTerminalStatement, ReactiveTerminalTargetKind,
 };

@@ -2,8 +2,8 @@
 
 ghost use Rattle.std.specs.Prelude.{◌≡◌, Err, IfOk, IfErr};
 ghost use Rattle.rc_names.specs.declared.numbers.BlockId.{BlockId};
-ghost use Rattle.rc_pipe.specs.Frames.{break_block};
-ghost use Rattle.rc_pipe.specs.Grammar.{SpellsList, frames_inside, next_inside};
+ghost use Rattle.rc_runs.specs.Frames.{break_block};
+ghost use Rattle.rc_runs.specs.Grammar.{SpellsList, frames_inside, next_inside};
 ghost use Rattle.rc_pipe.specs.RuleFacts.{FaultFact};
 ghost use Rattle.rc_pipe.specs.Built.{AtList, AtTerminal, GoesOn, MadeList, Partly, Refused, Rest};
 ghost use Rattle.rc_pipe.specs.Built.{IfMalformed, NoList, NoStatements};
@@ -16,9 +16,9 @@ use crate::build::jumps::{put_goto, put_return};
 use crate::build::rows::put_rows;
 use crate::build::scopes::{build_label, build_pruned_scope, build_scope};
 use crate::build::state::State;
-use crate::frames::Frame;
 use rc_hir::{Environment, Fault, HirFunction, Terminal};
 use rc_names::{BlockId, List};
+use rc_runs::Frame;
 use rc_tree::ReactiveStatement;
 
 /// The statements from a block on; `next` is the block that falling off reaches.

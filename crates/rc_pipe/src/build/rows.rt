@@ -6,7 +6,7 @@ ghost use Rattle.rc_hir.specs.declared.fault.Fault.TheVariants as faults;
 ghost use Rattle.rc_hir.specs.declared.fault.TableName.TheVariants as tables;
 ghost use Rattle.rc_hir.specs.declared.fault.Rule.{Rule};
 ghost use Rattle.rc_hir.specs.declared.function.Instruction.{Instruction};
-ghost use Rattle.rc_pipe.specs.Graph.{basic_block, rows_of};
+ghost use Rattle.rc_runs.specs.Graph.{basic_block, rows_of};
 ghost use Rattle.rc_pipe.specs.RuleFacts.{FaultFact};
 ghost use Rattle.rc_pipe.specs.Built.{IfMalformed};
 ghost use Rattle.rc_pipe.specs.Rows.{row_statement_of, HasIds};

@@ -13,9 +13,9 @@ ghost use Rattle.std.specs.Prelude.{Option};
 
 use crate::build::lists::build_part;
 use crate::build::state::{State, label_of, opens_reachable, rest_of};
-use crate::frames::Frame;
 use rc_hir::{Environment, Fault, HirFunction};
 use rc_names::{BlockId, Boxed, EvaluationOrder, List, ScopeId};
+use rc_runs::Frame;
 use rc_tree::{
     PrunedReactiveScopeBlock, ReactiveBlock, ReactiveLabel, ReactiveScopeBlock, ReactiveStatement,
     ReactiveTerminal, ReactiveTerminalStatement,

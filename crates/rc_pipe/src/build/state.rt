@@ -3,7 +3,7 @@
 ghost use Rattle.std.specs.Prelude.{◌≡◌, []};
 ghost use Rattle.rc_hir.specs.declared.fault.Fault.TheVariants as faults;
 ghost use Rattle.rc_pipe.specs.Built as built;
-ghost use Rattle.rc_pipe.specs.Grammar as grammar;
+ghost use Rattle.rc_runs.specs.Grammar as grammar;
 
 use crate::build::steps::is_dead;
 use crate::frames::FrameStack;

@@ -2,8 +2,8 @@
 
 ghost use Rattle.std.specs.Prelude.{◌≡◌, ◌++◌, true, false};
 ghost use Rattle.std.specs.List.{list_any};
-ghost use Rattle.rc_pipe.specs.Graph as graph;
-ghost use Rattle.rc_pipe.specs.GraphRun.{MovesAlive, is_default};
+ghost use Rattle.rc_runs.specs.Graph as graph;
+ghost use Rattle.rc_runs.specs.GraphRun.{MovesAlive, is_default};
 ghost use Rattle.rc_pipe.specs.Namings.{case_blocks, listed, past_blocks, step_blocks};
 ghost use Rattle.rc_pipe.specs.RuleFacts.{StepsDead};
 

@@ -3,11 +3,11 @@
 ghost use Rattle.std.specs.Prelude.{◌≡◌, [], ◌∷◌, Some, List as Items, OnOk, OnErr};
 ghost use Rattle.rc_names.specs.declared.numbers.BlockId.{BlockId};
 ghost use Rattle.rc_pipe.specs.Depths as depths;
-ghost use Rattle.rc_pipe.specs.Frames as spec;
+ghost use Rattle.rc_runs.specs.Frames as spec;
 
 use crate::frames::depths::Depths;
-use crate::frames::{Frame, Way};
 use rc_names::{BlockId, List};
+use rc_runs::{Frame, Way};
 use std::alloc::{AllocError, Global};
 use std::marker::Model;
 
@@ -37,7 +37,7 @@ pub struct FrameStack {
 
 impl Model for FrameStack {
     ghost use Rattle.std.specs.Prelude.{List as Items, map, reverse};
-    ghost use Rattle.rc_pipe.specs.declared.frames.Frame.{Frame};
+    ghost use Rattle.rc_runs.specs.declared.frames.Frame.{Frame};
     ghost use Rattle.rc_pipe.specs.Depths.{AreDepths, frame_of};
 
     ghost Value = { Items Frame };

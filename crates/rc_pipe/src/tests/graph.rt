@@ -132,10 +132,11 @@ fn a_label_holds_its_scope_and_its_if_and_the_return_follows(rt: HostRuntime) ->
     let mut env = environment(alloc)?;
     let Pruned { func, fates } = build_and_prune(alloc, &graph(alloc)?, &mut env)?;
     assert_eq!(rt; func.body.statements.len(), 2);
-    let kept = ScopeFate {
+    // The scope gives nothing.
+    let unused = ScopeFate {
         scope: ScopeId(0),
-        fate: Fate::Kept,
+        fate: Fate::Unused,
     };
-    assert_eq!(rt; fates.as_slice(), [kept].as_slice());
+    assert_eq!(rt; fates.as_slice(), [unused].as_slice());
     Ok(())
 }

@@ -516,7 +516,8 @@ fn put_other(
     done.push(other)
 }
 
-/// Puts other statements at the end.
+/// Puts other statements at the end; their list becomes the whole where nothing stands before them, so that statements
+/// which give way again and again are not moved each time.
 fn put_others(
     done: &mut List<ReactiveStatement>,
     _statement: ReactiveStatement,
@@ -524,5 +525,9 @@ fn put_others(
 ) -> Result<(), AllocError>
     ensures { OnOk result (done.new ≡ done.old ++ others) }
 {
+    if done.is_empty() {
+        *done = others;
+        return Ok(());
+    }
     done.append(others)
 }

@@ -1,7 +1,7 @@
 //! A copy of each type finds memory, and walks like its source.
 
 use crate::tests::order::{rows, statements, walked};
-use crate::tests::parts::{Written, for_loop};
+use crate::tests::parts::{ForOrder, Written, for_loop};
 use crate::tests::trees::{empty, function, load, place, returning, row, statement};
 use crate::{
     PrunedReactiveScopeBlock, ReactiveScopeBlock, ReactiveSwitchCase, ReactiveTerminalStatement,
@@ -12,7 +12,7 @@ use std::test::Fail;
 #[test]
 fn a_copy_of_every_statement_walks_like_its_source(rt: HostRuntime) -> Result<(), Fail> {
     let alloc = rt.alloc();
-    let Written { body, visits: _ } = statements(alloc)?;
+    let Written { body, visits: _ } = statements(alloc, ForOrder::BodyFirst)?;
     let copy = body.clone_in(alloc)?;
     assert_eq!(rt;
         walked(alloc, copy)?.as_slice(),

@@ -2,7 +2,7 @@
 
 use crate::read::traverse_terminal;
 use crate::tests::parts::{
-    Written, for_loop, put_call, put_contexts, put_destructure, put_do_while, put_ends,
+    ForOrder, Written, for_loop, put_call, put_contexts, put_destructure, put_do_while, put_ends,
     put_expressions, put_for, put_for_in, put_for_of, put_if, put_jumps, put_label, put_scopes,
     put_sequence, put_store, put_switch, put_try, put_update, put_while,
 };
@@ -15,14 +15,14 @@ use std::alloc::{AllocError, Global};
 use std::test::Fail;
 
 /// Every statement, in the order in which they are declared.
-pub fn statements(alloc: Global) -> Result<Written, AllocError> {
+pub fn statements(alloc: Global, order: ForOrder) -> Result<Written, AllocError> {
     let mut written = Written::new(alloc);
     put_jumps(alloc, &mut written)?;
     put_ends(alloc, &mut written)?;
     put_switch(alloc, &mut written)?;
     put_do_while(alloc, &mut written)?;
     put_while(alloc, &mut written)?;
-    put_for(alloc, &mut written)?;
+    put_for(alloc, &mut written, order)?;
     put_for_of(alloc, &mut written)?;
     put_for_in(alloc, &mut written)?;
     put_if(alloc, &mut written)?;
@@ -54,7 +54,7 @@ pub fn walked(alloc: Global, body: ReactiveBlock) -> Result<List<Visit>, Fault> 
 }
 
 /// The visits of a body's inside, with those of the body around them.
-fn as_body(alloc: Global, inside: &List<Visit>) -> Result<List<Visit>, AllocError> {
+pub fn as_body(alloc: Global, inside: &List<Visit>) -> Result<List<Visit>, AllocError> {
     let mut visits = List::new(alloc);
     visits.push(Visit::Enter(Part::Block))?;
     note(&mut visits, inside.as_slice())?;
@@ -63,7 +63,7 @@ fn as_body(alloc: Global, inside: &List<Visit>) -> Result<List<Visit>, AllocErro
 }
 
 /// The operands among visits.
-fn operands(alloc: Global, visits: &List<Visit>) -> Result<List<Visit>, AllocError> {
+pub fn operands(alloc: Global, visits: &List<Visit>) -> Result<List<Visit>, AllocError> {
     let mut operands = List::new(alloc);
     for visit in visits.as_slice() {
         if let Visit::Operand(_, _) = visit {
@@ -84,7 +84,7 @@ const FOR_OPERANDS: [Visit; 4] = [
 #[test]
 fn every_statement_is_walked_in_the_order_of_the_table(rt: HostRuntime) -> Result<(), Fail> {
     let alloc = rt.alloc();
-    let Written { body, visits } = statements(alloc)?;
+    let Written { body, visits } = statements(alloc, ForOrder::BodyFirst)?;
     let expected = as_body(alloc, &visits)?;
     assert_eq!(rt; walked(alloc, body)?.as_slice(), expected.as_slice());
     Ok(())
@@ -127,7 +127,7 @@ fn the_inside_of_a_for_reads_the_same(rt: HostRuntime) -> Result<(), Fail> {
 }
 
 /// A block of as many rows, each of which loads a place.
-fn long(alloc: Global, length: u32) -> Result<ReactiveBlock, AllocError> {
+pub fn long(alloc: Global, length: u32) -> Result<ReactiveBlock, AllocError> {
     let mut block = empty(alloc);
     for number in 0..length {
         block

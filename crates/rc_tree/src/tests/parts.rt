@@ -16,6 +16,15 @@ use rc_hir::{
 use rc_names::{BlockId, Boxed, EvaluationOrder, List, ScopeId, Text};
 use std::alloc::{AllocError, Global};
 
+/// The order of a `for` behind its test, which the two walks differ in.
+#[derive(Clone, Copy, PartialEq, Eq)]
+pub enum ForOrder {
+    /// The read walk's.
+    BodyFirst,
+    /// The rewriting walk's.
+    UpdateFirst,
+}
+
 /// A body, and the visits of its statements.
 #[derive(Drop)]
 pub struct Written {
@@ -191,19 +200,23 @@ pub fn for_loop(alloc: Global) -> Result<ReactiveTerminal, AllocError> {
     })
 }
 
-/// A for: init, test, block, update.
-pub fn put_for(alloc: Global, written: &mut Written) -> Result<(), AllocError> {
-    written.put(
-        alloc,
-        for_loop(alloc)?,
-        &[
-            &[Visit::Id(5)],
-            &load_visits(5, 0),
-            &load_visits(5, 1),
-            &returning_visits(9, 3),
-            &load_visits(5, 2),
-        ],
-    )
+/// A for: init, test, and then block and update in that order.
+pub fn put_for(alloc: Global, written: &mut Written, order: ForOrder) -> Result<(), AllocError> {
+    let (init, test) = (load_visits(5, 0), load_visits(5, 1));
+    let (body, update) = (returning_visits(9, 3), load_visits(5, 2));
+    let terminal = for_loop(alloc)?;
+    match order {
+        ForOrder::BodyFirst => written.put(
+            alloc,
+            terminal,
+            &[&[Visit::Id(5)], &init, &test, &body, &update],
+        ),
+        ForOrder::UpdateFirst => written.put(
+            alloc,
+            terminal,
+            &[&[Visit::Id(5)], &init, &test, &update, &body],
+        ),
+    }
 }
 
 /// A for-of: init, test, block.

@@ -1,14 +1,14 @@
--- What is refused for another cause than want of memory has no tree.
+-- What is refused for another cause than want of memory has no answer.
 use Rattle.std.proofs.Common.{◌≡◌, refl, Err, true, false}
 use Rattle.rc_hir.specs.declared.fault.Fault.TheVariants as faults
-use Rattle.rc_main.proofs.RefusalLemmas.{no_tree_of}
+use Rattle.rc_main.proofs.RefusalLemmas.{no_answer_of}
 use Rattle.rc_main.proofs.answer.answer_for.Goals as goal
 
 pub returns : goal.returns
 returns c = record {
   fault = c.in-Err.fault;
   cause = c.in-Err.ensures.refused;
-  no_tree = no_tree_of c.args.doc (Err c.in-Err.fault) c.in-Err.fault refl other c.in-Err.ensures.complete;
+  no_answer = no_answer_of c.args.doc (Err c.in-Err.fault) c.in-Err.fault refl other c.in-Err.ensures.complete;
   line = c.in_ok-fault_line-in-Err.ensures;
 }
   where

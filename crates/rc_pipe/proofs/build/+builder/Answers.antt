@@ -4,10 +4,10 @@ use Rattle.std.proofs.lemmas.List.{append-nil}
 use Rattle.std.proofs.lemmas.Result.{err_from_is_err_and, IfOk-weaker}
 use Rattle.rc_hir.specs.declared.fault.Fault.TheVariants as faults
 use Rattle.rc_hir.specs.declared.terminal.Terminal.TheVariants as terminals
-use Rattle.rc_pipe.specs.declared.frames.Frame.{Frame}
-use Rattle.rc_pipe.specs.declared.frames.Frame.TheVariants as kinds
-use Rattle.rc_pipe.specs.PlainTree.{Nil, Return}
-use Rattle.rc_pipe.specs.Grammar.{SpellsList, SpellsTerminal, returns, unreachable, unlabeled, frames_inside, next_inside}
+use Rattle.rc_runs.specs.declared.frames.Frame.{Frame}
+use Rattle.rc_runs.specs.declared.frames.Frame.TheVariants as kinds
+use Rattle.rc_runs.specs.PlainTree.{Nil, Return}
+use Rattle.rc_runs.specs.Grammar.{SpellsList, SpellsTerminal, returns, unreachable, unlabeled, frames_inside, next_inside}
 use Rattle.rc_pipe.specs.Namings.{listed, named_blocks, is_among}
 use Rattle.rc_pipe.specs.RuleFacts.{FaultFact}
 use Rattle.rc_pipe.specs.Arms.{if_of}

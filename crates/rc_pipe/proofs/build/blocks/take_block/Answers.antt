@@ -2,7 +2,7 @@ use Rattle.std.proofs.Common.{◌≡◌, true, false, [], ◌∷◌, ◌++◌, E
 use Rattle.std.proofs.lemmas.Result.{err_from_is_err_and}
 use Rattle.rc_hir.specs.declared.fault.Fault.TheVariants as faults
 use Rattle.rc_pipe.specs.declared.build.state.Marks.{Marks}
-use Rattle.rc_pipe.specs.Spelled.{scope_named}
+use Rattle.rc_runs.specs.Spelled.{scope_named}
 use Rattle.rc_pipe.specs.Namings.{is_among}
 use Rattle.rc_pipe.specs.RuleFacts.{FaultFact}
 use Rattle.rc_pipe.specs.Built.{live_blocks, listed_scope, is_fresh_scope}

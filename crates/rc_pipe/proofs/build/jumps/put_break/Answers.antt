@@ -1,8 +1,8 @@
 use Rattle.std.proofs.Common.{[], ◌∷◌, ◌++◌, true, false, sym, ap, ◌∙◌, subst}
 use Rattle.std.proofs.lemmas.List.{append-nil}
 use Rattle.rc_tree.specs.declared.statement.ReactiveStatement.{ReactiveStatement}
-use Rattle.rc_pipe.specs.PlainTree.{Nil, Break}
-use Rattle.rc_pipe.specs.Grammar.{break_statements, unlabeled}
+use Rattle.rc_runs.specs.PlainTree.{Nil, Break}
+use Rattle.rc_runs.specs.Grammar.{break_statements, unlabeled}
 use Rattle.rc_pipe.specs.RuleFacts.{FaultFact}
 use Rattle.rc_pipe.specs.Built.{IsUsedApart}
 use Rattle.rc_pipe.proofs.OwnersLemmas.{leaves_scope, leaves_case, jump_at}

@@ -1,7 +1,7 @@
 use Rattle.std.proofs.Common.{sym, subst}
 use Rattle.std.proofs.lemmas.Result.{IfOk-weaker}
 use Rattle.rc_hir.specs.declared.terminal.Terminal.TheVariants as terminals
-use Rattle.rc_pipe.specs.Grammar.{breaks}
+use Rattle.rc_runs.specs.Grammar.{breaks}
 use Rattle.rc_pipe.specs.Built.{EndsList}
 use Rattle.rc_pipe.proofs.build.jumps.put_goto.Goals as goal
 

@@ -1,5 +1,5 @@
 use Rattle.std.proofs.Common.{sym, ◌∙◌}
-use Rattle.rc_pipe.specs.Graph.{is_dead}
+use Rattle.rc_runs.specs.Graph.{is_dead}
 use Rattle.rc_pipe.proofs.StepsLemmas.{none_passes, dead_steps, not_true, not_false}
 use Rattle.rc_pipe.proofs.build.steps.moves_alive.Goals as goal
 

@@ -1,5 +1,5 @@
 use Rattle.std.proofs.Common.{sym, ◌∙◌}
-use Rattle.rc_pipe.specs.Graph.{is_dead}
+use Rattle.rc_runs.specs.Graph.{is_dead}
 use Rattle.rc_pipe.specs.Namings.{past_blocks}
 use Rattle.rc_pipe.proofs.StepsLemmas.{switch_any}
 use Rattle.rc_pipe.proofs.build.steps.switch_moves_dead.Goals as goal

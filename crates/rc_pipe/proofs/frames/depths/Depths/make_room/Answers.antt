@@ -1,7 +1,7 @@
 use Rattle.std.proofs.Common.{IsSome, refl, sym, ap, ◌∙◌, subst}
 use Rattle.std.specs.Prelude.{unwrap_or}
 use Rattle.std.specs.Map.{lookup}
-use Rattle.rc_pipe.specs.Graph.{same_block}
+use Rattle.rc_runs.specs.Graph.{same_block}
 use Rattle.rc_pipe.specs.Depths.{HasRoom}
 use Rattle.rc_pipe.proofs.DepthsLemmas.{depth-kept, lookup-insert_there}
 use Rattle.rc_pipe.proofs.frames.depths.Depths.make_room.Goals as goal

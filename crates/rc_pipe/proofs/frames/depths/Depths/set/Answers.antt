@@ -1,7 +1,7 @@
 use Rattle.std.proofs.Common.{sym, ap, ◌∙◌, subst, if◌then◌else◌}
 use Rattle.std.specs.Prelude.{unwrap_or}
 use Rattle.std.specs.Map.{lookup}
-use Rattle.rc_pipe.specs.Graph.{same_block}
+use Rattle.rc_runs.specs.Graph.{same_block}
 use Rattle.rc_pipe.specs.Depths.{HasRoom, is_block, depth_at}
 use Rattle.rc_pipe.proofs.DepthsLemmas.{depth-set}
 use Rattle.rc_pipe.proofs.frames.depths.Depths.set.Goals as goal

@@ -2,8 +2,8 @@ use Rattle.std.proofs.Common.{◌≡◌, ◌+◌, ◌-◌, true, false, Some, No
 use Rattle.std.specs.Prelude.{nat_eq, option_map}
 use Rattle.std.specs.Option.{option_copied}
 use Rattle.std.proofs.lemmas.List.{length-map, length-reverse, reverse-reverse}
-use Rattle.rc_pipe.specs.Graph.{same_block}
-use Rattle.rc_pipe.specs.Frames.{break_block, break_way, way_out_of}
+use Rattle.rc_runs.specs.Graph.{same_block}
+use Rattle.rc_runs.specs.Frames.{break_block, break_way, way_out_of}
 use Rattle.rc_pipe.specs.Depths.{break_depth, loop_depth, frame_of}
 use Rattle.rc_pipe.proofs.DepthsLemmas.{frame_at, frame_at-get, frame_there, way_nowhere, break_way-found}
 use Rattle.rc_pipe.proofs.frames.stack.FrameStack.break_way.Goals as goal

@@ -1,6 +1,6 @@
 use Rattle.std.proofs.Common.{◌≡◌, ◌||◌, true, map, reverse, sym, ap, ◌∙◌, arith}
 use Rattle.std.specs.Prelude.{not, nat_eq}
-use Rattle.rc_pipe.specs.Frames.{is_live}
+use Rattle.rc_runs.specs.Frames.{is_live}
 use Rattle.rc_pipe.specs.Depths.{frame_of, continue_depth}
 use Rattle.rc_pipe.proofs.DepthsLemmas.{is_live-depths}
 use Rattle.rc_pipe.proofs.frames.stack.FrameStack.is_live.Goals as goal

@@ -1,0 +1,21 @@
+pub mod BreakTargetsLemmas
+mod PlainLabels
+mod RebuiltPlainLemmas
+mod TargetsLemmas
+mod PlainLabelsKeepRuns
+pub mod LabelsKeepRuns
+mod LabelLemmas
+pub mod LabelsKeep
+pub mod OpenScopesLemmas
+pub mod AmongLemmas
+pub mod MembershipWalk
+pub mod MembershipLemmas
+pub mod OperandsKnown
+mod VisitsForms
+pub mod VisitsKnown
+mod ScopeBlocksLemmas
+pub mod ScopesOfBlocks
+pub mod UsedScopesStay
+mod UnusedScopesKeepErase
+mod UnusedScopesLemmas
+pub mod UnusedScopesFaults

@@ -1,0 +1,110 @@
+//! The check that each jump names a label that is met before it.
+//!
+//! The terminals of the body's list are met, and those of the scope and pruned scope blocks in it, at every depth of
+//! scopes. No terminal is entered, so a jump inside an `If` is not looked at.
+#![tactic(auto, using(crate::proofs::BreakTargetsLemmas::checking))]
+
+ghost use Rattle.std.specs.Prelude.{◌≡◌, ◌⊎◌, IfErr, OnOk};
+ghost use Rattle.rc_checks.specs.BreakTargets as spec;
+ghost use Rattle.rc_checks.specs.BreakTargets.{met_at, met_in, AllTargetsAreMet, IsFirstUnmet};
+ghost use Rattle.rc_checks.specs.TargetSteps.{target_step, terminal_step, with_label};
+ghost use Rattle.rc_names.specs.declared.numbers.BlockId.{BlockId as Block};
+ghost use Rattle.rc_tree.specs.Outcome.{Gives, each};
+ghost use Rattle.rc_tree.specs.declared.terminal.ReactiveTerminal.{out-ReactiveTerminal};
+
+use rc_hir::{Environment, Fault};
+use rc_names::{BlockId, KeySet};
+use rc_tree::{
+    ReactiveBlock, ReactiveFunction, ReactiveLabel, ReactiveStatement, ReactiveTerminal,
+    ReactiveTerminalStatement,
+};
+use std::alloc::{AllocError, Global};
+
+/// Whether each break and continue that is met in the body names a label that is met by then, its own included.
+///
+/// `BadTarget` names the target of the first one that doesn't. `NoMemory` is want of memory. No number is looked up,
+/// so `BadName` never comes.
+pub fn assert_well_formed_break_targets(
+    alloc: Global,
+    func: &ReactiveFunction,
+    env: &Environment,
+) -> Result<(), Fault>
+    ensures ok { OnOk result (AllTargetsAreMet (met_in func.now.body)) }
+    ensures bad_target { (target : Block) → result ≡ Err (Fault.BadTarget target) → IsFirstUnmet (met_in func.now.body) target }
+    ensures only { IfErr result (λ fault. (fault ≡ Fault.NoMemory) ⊎ ((target : Block) × (fault ≡ Fault.BadTarget target))) }
+{
+    let mut labels = KeySet::new(alloc);
+    check_block(&func.body, &mut labels)
+}
+
+/// Checks the terminals of a list, and of the scopes in it.
+#[cycle(check_targets)]
+fn check_block(block: &ReactiveBlock, labels: &mut KeySet<BlockId>) -> Result<(), Fault>
+    ensures { Gives (each terminal_step (met_in block.now) labels.old) result labels.new }
+{
+    for statement in block.statements.as_slice() {
+        check_statement(statement, labels)?;
+    }
+    Ok(())
+}
+
+/// Checks a terminal, or those of a scope.
+#[cycle(check_targets)]
+fn check_statement(statement: &ReactiveStatement, labels: &mut KeySet<BlockId>) -> Result<(), Fault>
+    ensures { Gives (each terminal_step (met_at statement.now) labels.old) result labels.new }
+{
+    match statement {
+        ReactiveStatement::Instruction(_) => Ok(()),
+        ReactiveStatement::Terminal(stmt) => check_terminal(stmt.get(), labels),
+        ReactiveStatement::Scope(scope) => check_block(&scope.instructions, labels),
+        ReactiveStatement::PrunedScope(scope) => check_block(&scope.instructions, labels),
+    }
+}
+
+/// Notes a terminal's label, and looks its target up among the labels, where it is a jump.
+fn check_terminal(
+    stmt: &ReactiveTerminalStatement,
+    labels: &mut KeySet<BlockId>,
+) -> Result<(), Fault>
+    ensures { Gives (terminal_step stmt.now labels.old) result labels.new }
+{
+    add_label(stmt.label, labels)?;
+    check_target(target_of(&stmt.terminal), labels)
+}
+
+/// Looks a target up among the labels, where there is one.
+fn check_target(target: Option<BlockId>, labels: &KeySet<BlockId>) -> Result<(), Fault>
+    ensures { Gives (target_step target labels.now) result labels.now }
+{
+    match target {
+        Some(target) => {
+            if labels.contains(target) {
+                Ok(())
+            } else {
+                Err(Fault::BadTarget { target })
+            }
+        }
+        None => Ok(()),
+    }
+}
+
+/// Notes a label, where there is one.
+fn add_label(label: Option<ReactiveLabel>, labels: &mut KeySet<BlockId>) -> Result<(), AllocError>
+    ensures { OnOk result (labels.new ≡ with_label label labels.old) }
+{
+    if let Some(label) = label {
+        labels.insert(label.id)?;
+    }
+    Ok(())
+}
+
+/// The block that a break or continue names.
+fn target_of(terminal: &ReactiveTerminal) -> Option<BlockId>
+    ensures { result ≡ spec.target_of (out-ReactiveTerminal terminal.now) }
+{
+    match terminal {
+        ReactiveTerminal::Break { target, .. } => Some(*target),
+        ReactiveTerminal::Continue { target, .. } => Some(*target),
+        _ => None,
+    }
+}

@@ -1,0 +1,16 @@
+//! Two checks of a tree, and the two passes that need no analysis: unused labels and unused scopes.
+#![tactic(auto)]
+
+mod break_targets;
+mod labels;
+mod membership;
+mod scope_blocks;
+#[cfg(test)]
+mod tests;
+mod unused_scopes;
+
+pub use break_targets::assert_well_formed_break_targets;
+pub use labels::prune_unused_labels;
+pub use membership::assert_scope_instructions_within_scopes;
+pub use scope_blocks::scopes_in;
+pub use unused_scopes::prune_unused_scopes;

@@ -1,0 +1,74 @@
+//! The check that the operands of a scope stand inside its scope blocks.
+//!
+//! One pass collects the scopes that have a scope block. A read walk then looks up the scope of each operand, and
+//! whether a block of it is open. Only the last operand outside is kept.
+
+mod open_scopes;
+mod visitor;
+
+ghost use Rattle.std.specs.Prelude.{◌≡◌, ◌⊎◌, ℕ, All, IfErr, IfOk, OnOk};
+ghost use Rattle.rc_checks.specs.Membership.{is_among, IsInside, IsFirstUnknown, IsLastOutside};
+ghost use Rattle.rc_checks.specs.ScopesIn as spec;
+ghost use Rattle.rc_checks.specs.Visits.{visits_of};
+ghost use Rattle.rc_hir.specs.declared.fault.TableName.{TableName as Table};
+ghost use Rattle.rc_names.specs.declared.numbers.EvaluationOrder.{EvaluationOrder as Order};
+ghost use Rattle.rc_names.specs.declared.numbers.ScopeId.{ScopeId as Scope};
+
+use crate::membership::open_scopes::OpenScopes;
+use crate::membership::visitor::{Membership, Seen};
+use crate::scope_blocks::scopes_in;
+use rc_hir::{Environment, Fault};
+use rc_names::{KeySet, ScopeId};
+use rc_tree::{ReactiveBlock, ReactiveFunction, visit_reactive_function};
+use std::alloc::{AllocError, Global};
+
+/// Whether each operand whose identifier has a scope, and that is visited inside the scope's range, stands in a scope
+/// block of it, where the tree has one.
+///
+/// `ScopeCompleted` names the id and the scope of the last operand of the read walk that doesn't. `BadName` names the
+/// first number that is looked up in vain: of an operand's identifier, of its scope, or of a function whose context is
+/// read. `NoMemory` is want of memory.
+pub fn assert_scope_instructions_within_scopes(
+    alloc: Global,
+    func: &ReactiveFunction,
+    env: &Environment,
+) -> Result<(), Fault>
+    ensures ok { OnOk result (All (IsInside env.now (spec.scopes_in func.now.body)) (visits_of env.now.functions func.now.body)) }
+    ensures scope_completed { (id : Order) (scope : Scope) → result ≡ Err (Fault.ScopeCompleted id scope) →
+        IsLastOutside env.now (spec.scopes_in func.now.body) (visits_of env.now.functions func.now.body) id scope }
+    ensures bad_name { (table : Table) (index : ℕ) → result ≡ Err (Fault.BadName table index) →
+        IsFirstUnknown env.now (spec.scopes_in func.now.body) (visits_of env.now.functions func.now.body) (Fault.BadName table index) }
+    ensures only { IfErr result (λ fault. (fault ≡ Fault.NoMemory)
+        ⊎ (((id : Order) × (scope : Scope) × (fault ≡ Fault.ScopeCompleted id scope))
+        ⊎ ((table : Table) × (index : ℕ) × (fault ≡ Fault.BadName table index)))) }
+{
+    let blocks = scope_blocks(alloc, &func.body)?;
+    let check = Membership {
+        env,
+        blocks: &blocks,
+    };
+    let mut seen = Seen {
+        around: OpenScopes::new(alloc),
+        outside: None,
+    };
+    visit_reactive_function(alloc, func, &check, &mut seen)?;
+    match seen.outside {
+        Some(found) => Err(Fault::ScopeCompleted {
+            id: found.id,
+            scope: found.scope,
+        }),
+        None => Ok(()),
+    }
+}
+
+/// The scopes that have a scope block in the tree. The only error is want of memory.
+fn scope_blocks(alloc: Global, body: &ReactiveBlock) -> Result<KeySet<ScopeId>, AllocError>
+    ensures { IfOk result (λ blocks. (scope : Scope) → is_among blocks scope ≡ is_among (spec.scopes_in body.now) scope) }
+{
+    let scopes = scopes_in(alloc, body)?;
+    let mut blocks = KeySet::new(alloc);
+    for scope in scopes.as_slice() {
+        blocks.insert(*scope)?;
+    }
+    Ok(blocks)
+}

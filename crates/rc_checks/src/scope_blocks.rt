@@ -1,0 +1,104 @@
+//! The scopes of the scope blocks of a tree, in the order of the text.
+//!
+//! One pass over the tree puts each scope at the end of one list. Statements that follow each other are a
+//! loop, so that the call stack grows with the nesting alone. Rows and values have no scope block in them.
+
+ghost use Rattle.std.specs.Prelude.{◌≡◌, ◌++◌, map, IfOk, OnOk, option_map};
+ghost use Rattle.rc_checks.specs.ScopesIn.{scopes_in, scopes_in_statement, scopes_in_terminal};
+ghost use Rattle.rc_checks.specs.ScopesIn.{scopes_in_case, one_by_one, if_there};
+
+use rc_names::{List, ScopeId};
+use rc_tree::{ReactiveBlock, ReactiveStatement, ReactiveSwitchCase, ReactiveTerminal};
+use std::alloc::{AllocError, Global};
+
+/// The scope of each scope block of the tree. The only error is want of memory.
+pub fn scopes_in(alloc: Global, block: &ReactiveBlock) -> Result<List<ScopeId>, AllocError>
+    ensures { IfOk result (λ scopes. scopes ≡ scopes_in block.now) }
+{
+    let mut found = List::new(alloc);
+    add_block(&mut found, block)?;
+    Ok(found)
+}
+
+#[cycle(scopes)]
+fn add_block(found: &mut List<ScopeId>, block: &ReactiveBlock) -> Result<(), AllocError>
+    ensures { OnOk result (found.new ≡ found.old ++ scopes_in block.now) }
+{
+    add_statements(found, block.statements.as_slice())
+}
+
+#[cycle(scopes)]
+fn add_statements(found: &mut List<ScopeId>, all: &[ReactiveStatement]) -> Result<(), AllocError>
+    ensures { OnOk result (found.new ≡ found.old ++ one_by_one (map scopes_in_statement all.now)) }
+{
+    for statement in all {
+        add_statement(found, statement)?;
+    }
+    Ok(())
+}
+
+#[cycle(scopes)]
+fn add_statement(found: &mut List<ScopeId>, statement: &ReactiveStatement) -> Result<(), AllocError>
+    ensures { OnOk result (found.new ≡ found.old ++ scopes_in_statement statement.now) }
+{
+    match statement {
+        ReactiveStatement::Instruction(_) => Ok(()),
+        ReactiveStatement::Terminal(statement) => add_terminal(found, &statement.get().terminal),
+        ReactiveStatement::Scope(block) => {
+            found.push(block.scope)?;
+            add_block(found, &block.instructions)
+        }
+        ReactiveStatement::PrunedScope(block) => add_block(found, &block.instructions),
+    }
+}
+
+#[cycle(scopes)]
+fn add_terminal(found: &mut List<ScopeId>, terminal: &ReactiveTerminal) -> Result<(), AllocError>
+    ensures { OnOk result (found.new ≡ found.old ++ scopes_in_terminal terminal.now) }
+{
+    match terminal {
+        ReactiveTerminal::Break { .. }
+        | ReactiveTerminal::Continue { .. }
+        | ReactiveTerminal::Return { .. }
+        | ReactiveTerminal::Throw { .. } => Ok(()),
+        ReactiveTerminal::Switch { cases, .. } => add_cases(found, cases.as_slice()),
+        ReactiveTerminal::DoWhile { loop_block, .. }
+        | ReactiveTerminal::While { loop_block, .. }
+        | ReactiveTerminal::For { loop_block, .. }
+        | ReactiveTerminal::ForOf { loop_block, .. }
+        | ReactiveTerminal::ForIn { loop_block, .. } => add_block(found, loop_block),
+        ReactiveTerminal::If {
+            consequent,
+            alternate,
+            ..
+        } => {
+            add_block(found, consequent)?;
+            add_if_there(found, alternate)
+        }
+        ReactiveTerminal::Label { block, .. } => add_block(found, block),
+        ReactiveTerminal::Try { block, handler, .. } => {
+            add_block(found, block)?;
+            add_block(found, handler)
+        }
+    }
+}
+
+#[cycle(scopes)]
+fn add_cases(found: &mut List<ScopeId>, cases: &[ReactiveSwitchCase]) -> Result<(), AllocError>
+    ensures { OnOk result (found.new ≡ found.old ++ one_by_one (map scopes_in_case cases.now)) }
+{
+    for case in cases {
+        add_if_there(found, &case.block)?;
+    }
+    Ok(())
+}
+
+#[cycle(scopes)]
+fn add_if_there(found: &mut List<ScopeId>, block: &Option<ReactiveBlock>) -> Result<(), AllocError>
+    ensures { OnOk result (found.new ≡ found.old ++ if_there (option_map scopes_in block.now)) }
+{
+    match block {
+        Some(block) => add_block(found, block),
+        None => Ok(()),
+    }
+}

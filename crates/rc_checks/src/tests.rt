@@ -1,0 +1,9 @@
+//! Each check and pass on trees that are written here.
+
+mod break_targets;
+mod labels;
+mod membership;
+mod outline;
+mod small_trees;
+mod trees;
+mod unused_scopes;

@@ -1,0 +1,220 @@
+//! Unused labels, on small trees.
+
+use crate::labels::UnusedLabels;
+use crate::prune_unused_labels;
+use crate::tests::outline::{Line, outline};
+use crate::tests::trees::{
+    block, both, break_to, continue_to, function, if_then, label_around, only, return_at, row,
+    scope_around, switch_around, while_around,
+};
+use rc_hir::{Environment, Fault};
+use rc_names::{KeySet, List};
+use rc_tree::ReactiveTerminalTargetKind::{Implicit, Labeled};
+use rc_tree::rewrite::transform_stmt;
+use rc_tree::{OverStatements, ReactiveStatement, Transformed};
+use std::alloc::{AllocError, Global};
+use std::test::Fail;
+
+/// The lines of a body without its unused labels.
+fn pruned(alloc: Global, statements: List<ReactiveStatement>) -> Result<List<Line>, Fault> {
+    let mut func = function(alloc, statements);
+    prune_unused_labels(alloc, &mut func, &Environment::empty(alloc))?;
+    Ok(outline(alloc, &func.body)?)
+}
+
+/// A `Label` whose inside is an if with a labeled break to it, a row and an implicit break.
+fn labeled_break(alloc: Global) -> Result<List<ReactiveStatement>, AllocError> {
+    let inside = only(alloc, break_to(alloc, 3, 2, Labeled)?)?;
+    let mut labeled = both(alloc, if_then(alloc, 2, 4, inside)?, row(4))?;
+    labeled.push(break_to(alloc, 5, 2, Implicit)?)?;
+    both(
+        alloc,
+        label_around(alloc, 1, Some(2), labeled)?,
+        return_at(alloc, 6)?,
+    )
+}
+
+#[test]
+fn a_labeled_break_names_its_label(rt: HostRuntime) -> Result<(), Fail> {
+    let alloc = rt.alloc();
+    let expected = [
+        Line::Label(1, Some((2, false))),
+        Line::If(2, Some((4, true))),
+        Line::Break(2, Labeled),
+        Line::End,
+        Line::Row(4),
+        Line::Break(2, Implicit),
+        Line::End,
+        Line::Return(6),
+    ];
+    assert_eq!(rt;
+        pruned(alloc, labeled_break(alloc)?)?.as_slice(),
+        expected.as_slice()
+    );
+    Ok(())
+}
+
+/// A `Label` that only an implicit break leaves.
+fn unnamed_label(alloc: Global) -> Result<List<ReactiveStatement>, AllocError> {
+    let inside = both(alloc, row(2), break_to(alloc, 3, 2, Implicit)?)?;
+    both(
+        alloc,
+        label_around(alloc, 1, Some(2), inside)?,
+        return_at(alloc, 4)?,
+    )
+}
+
+#[test]
+fn an_unnamed_label_gives_way_to_its_statements(rt: HostRuntime) -> Result<(), Fail> {
+    let alloc = rt.alloc();
+    // The trailing implicit break stays.
+    let expected = [Line::Row(2), Line::Break(2, Implicit), Line::Return(4)];
+    assert_eq!(rt;
+        pruned(alloc, unnamed_label(alloc)?)?.as_slice(),
+        expected.as_slice()
+    );
+    Ok(())
+}
+
+/// A `Label` without a label.
+fn no_label(alloc: Global) -> Result<List<ReactiveStatement>, AllocError> {
+    only(alloc, label_around(alloc, 1, None, only(alloc, row(2))?)?)
+}
+
+#[test]
+fn a_label_statement_without_a_label_gives_way_too(rt: HostRuntime) -> Result<(), Fail> {
+    let alloc = rt.alloc();
+    assert_eq!(rt;
+        pruned(alloc, no_label(alloc)?)?.as_slice(),
+        [Line::Row(2)].as_slice()
+    );
+    Ok(())
+}
+
+/// An if that only an implicit break leaves.
+fn unnamed_if(alloc: Global) -> Result<List<ReactiveStatement>, AllocError> {
+    let inside = both(alloc, row(2), break_to(alloc, 3, 2, Implicit)?)?;
+    both(alloc, if_then(alloc, 1, 2, inside)?, return_at(alloc, 4)?)
+}
+
+#[test]
+fn the_label_of_an_if_becomes_implicit(rt: HostRuntime) -> Result<(), Fail> {
+    let alloc = rt.alloc();
+    let expected = [
+        Line::If(1, Some((2, true))),
+        Line::Row(2),
+        Line::Break(2, Implicit),
+        Line::End,
+        Line::Return(4),
+    ];
+    assert_eq!(rt;
+        pruned(alloc, unnamed_if(alloc)?)?.as_slice(),
+        expected.as_slice()
+    );
+    Ok(())
+}
+
+/// A loop in a loop, with a labeled continue of the outer one.
+fn labeled_continue(alloc: Global) -> Result<List<ReactiveStatement>, AllocError> {
+    let inner = while_around(alloc, 2, 5, only(alloc, continue_to(alloc, 3, 4)?)?)?;
+    only(alloc, while_around(alloc, 1, 4, only(alloc, inner)?)?)
+}
+
+#[test]
+fn a_labeled_continue_names_its_loop(rt: HostRuntime) -> Result<(), Fail> {
+    let alloc = rt.alloc();
+    let expected = [
+        Line::While(1, Some((4, false))),
+        Line::While(2, Some((5, true))),
+        Line::Continue(4, Labeled),
+        Line::End,
+        Line::End,
+    ];
+    assert_eq!(rt;
+        pruned(alloc, labeled_continue(alloc)?)?.as_slice(),
+        expected.as_slice()
+    );
+    Ok(())
+}
+
+/// A `Label` in a scope block, and one in a case beside a labeled break out of the switch.
+fn labels_inside(alloc: Global) -> Result<List<ReactiveStatement>, AllocError> {
+    let first = label_around(alloc, 1, Some(2), only(alloc, row(3))?)?;
+    let second = label_around(alloc, 5, Some(6), only(alloc, row(7))?)?;
+    let case = both(alloc, second, break_to(alloc, 8, 9, Labeled)?)?;
+    both(
+        alloc,
+        scope_around(0, only(alloc, first)?),
+        switch_around(alloc, 4, 9, case)?,
+    )
+}
+
+#[test]
+fn labels_inside_scopes_and_cases_give_way(rt: HostRuntime) -> Result<(), Fail> {
+    let alloc = rt.alloc();
+    let expected = [
+        Line::Scope(0),
+        Line::Row(3),
+        Line::End,
+        Line::Switch(4, Some((9, false))),
+        Line::Row(7),
+        Line::Break(9, Labeled),
+        Line::End,
+    ];
+    assert_eq!(rt;
+        pruned(alloc, labels_inside(alloc)?)?.as_slice(),
+        expected.as_slice()
+    );
+    Ok(())
+}
+
+/// A `Label` in a `Label`, with a labeled break to the outer one.
+fn label_in_label(alloc: Global) -> Result<List<ReactiveStatement>, AllocError> {
+    let inside = both(alloc, row(3), break_to(alloc, 4, 2, Labeled)?)?;
+    let inner = label_around(alloc, 2, Some(5), inside)?;
+    only(alloc, label_around(alloc, 1, Some(2), only(alloc, inner)?)?)
+}
+
+#[test]
+fn a_label_in_a_label_gives_way_alone(rt: HostRuntime) -> Result<(), Fail> {
+    let alloc = rt.alloc();
+    let expected = [
+        Line::Label(1, Some((2, false))),
+        Line::Row(3),
+        Line::Break(2, Labeled),
+        Line::End,
+    ];
+    assert_eq!(rt;
+        pruned(alloc, label_in_label(alloc)?)?.as_slice(),
+        expected.as_slice()
+    );
+    Ok(())
+}
+
+#[test]
+fn an_unnamed_label_is_replaced_by_many(rt: HostRuntime) -> Result<(), Fail> {
+    let alloc = rt.alloc();
+    let env = Environment::empty(alloc);
+    let mut transform = OverStatements {
+        env: &env,
+        pass: UnusedLabels,
+    };
+    let mut targets = KeySet::new(alloc);
+    let inside = both(alloc, row(2), break_to(alloc, 3, 2, Implicit)?)?;
+    let mut stmt = label_around(alloc, 1, Some(2), inside)?;
+    let Transformed::ReplaceMany(statements) = transform_stmt(
+        alloc,
+        &mut transform,
+        &mut stmt,
+        &mut targets,
+    )?
+    else {
+        return Err(Fail::new("the label isn't replaced"));
+    };
+    let expected = [Line::Row(2), Line::Break(2, Implicit)];
+    assert_eq!(rt;
+        outline(alloc, &block(statements))?.as_slice(),
+        expected.as_slice()
+    );
+    Ok(())
+}

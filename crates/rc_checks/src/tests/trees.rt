@@ -1,0 +1,204 @@
+//! Parts of small trees.
+
+use rc_hir::{Effect, InstructionValue, Place};
+use rc_names::{BlockId, Boxed, EvaluationOrder, IdentifierId, List, ScopeId};
+use rc_tree::{
+    PrunedReactiveScopeBlock, ReactiveBlock, ReactiveFunction, ReactiveInstruction, ReactiveLabel,
+    ReactiveScopeBlock, ReactiveStatement, ReactiveSwitchCase, ReactiveTerminal,
+    ReactiveTerminalStatement, ReactiveTerminalTargetKind, ReactiveValue,
+};
+use std::alloc::{AllocError, Global};
+
+/// A place that is read.
+fn place() -> Place {
+    Place {
+        identifier: IdentifierId(0),
+        effect: Effect::Read,
+        reactive: false,
+        span: None,
+    }
+}
+
+/// A row that does nothing.
+pub fn row(id: u32) -> ReactiveStatement {
+    ReactiveStatement::Instruction(ReactiveInstruction {
+        id: EvaluationOrder(id),
+        lvalue: None,
+        value: ReactiveValue::Instruction(InstructionValue::Debugger { span: None }),
+        span: None,
+    })
+}
+
+/// The statement of a terminal, with the label that such a statement has at first.
+pub fn statement(
+    alloc: Global,
+    terminal: ReactiveTerminal,
+    label: Option<u32>,
+) -> Result<ReactiveStatement, AllocError> {
+    let stmt = ReactiveTerminalStatement {
+        terminal,
+        label: label.map(|number| ReactiveLabel {
+            id: BlockId(number),
+            implicit: false,
+        }),
+    };
+    Ok(ReactiveStatement::Terminal(Boxed::new(alloc, stmt)?))
+}
+
+/// A block of statements.
+pub fn block(statements: List<ReactiveStatement>) -> ReactiveBlock {
+    ReactiveBlock { statements }
+}
+
+/// A break.
+pub fn break_to(
+    alloc: Global,
+    id: u32,
+    target: u32,
+    target_kind: ReactiveTerminalTargetKind,
+) -> Result<ReactiveStatement, AllocError> {
+    let terminal = ReactiveTerminal::Break {
+        target: BlockId(target),
+        target_kind,
+        id: EvaluationOrder(id),
+    };
+    statement(alloc, terminal, None)
+}
+
+/// A labeled continue.
+pub fn continue_to(alloc: Global, id: u32, target: u32) -> Result<ReactiveStatement, AllocError> {
+    let terminal = ReactiveTerminal::Continue {
+        target: BlockId(target),
+        target_kind: ReactiveTerminalTargetKind::Labeled,
+        id: EvaluationOrder(id),
+    };
+    statement(alloc, terminal, None)
+}
+
+/// A return.
+pub fn return_at(alloc: Global, id: u32) -> Result<ReactiveStatement, AllocError> {
+    let terminal = ReactiveTerminal::Return {
+        value: place(),
+        id: EvaluationOrder(id),
+    };
+    statement(alloc, terminal, None)
+}
+
+/// A `Label` around statements.
+pub fn label_around(
+    alloc: Global,
+    id: u32,
+    label: Option<u32>,
+    statements: List<ReactiveStatement>,
+) -> Result<ReactiveStatement, AllocError> {
+    let terminal = ReactiveTerminal::Label {
+        block: block(statements),
+        id: EvaluationOrder(id),
+    };
+    statement(alloc, terminal, label)
+}
+
+/// An if without an alternate.
+pub fn if_then(
+    alloc: Global,
+    id: u32,
+    label: u32,
+    statements: List<ReactiveStatement>,
+) -> Result<ReactiveStatement, AllocError> {
+    let terminal = ReactiveTerminal::If {
+        test: place(),
+        consequent: block(statements),
+        alternate: None,
+        id: EvaluationOrder(id),
+    };
+    statement(alloc, terminal, Some(label))
+}
+
+/// A while around statements.
+pub fn while_around(
+    alloc: Global,
+    id: u32,
+    label: u32,
+    statements: List<ReactiveStatement>,
+) -> Result<ReactiveStatement, AllocError> {
+    let terminal = ReactiveTerminal::While {
+        test: ReactiveValue::Instruction(InstructionValue::LoadLocal {
+            place: place(),
+            span: None,
+        }),
+        loop_block: block(statements),
+        id: EvaluationOrder(id),
+    };
+    statement(alloc, terminal, Some(label))
+}
+
+/// A switch whose one case holds the statements.
+pub fn switch_around(
+    alloc: Global,
+    id: u32,
+    label: u32,
+    statements: List<ReactiveStatement>,
+) -> Result<ReactiveStatement, AllocError> {
+    let mut cases = List::new(alloc);
+    cases.push(ReactiveSwitchCase {
+        test: None,
+        block: Some(block(statements)),
+    })?;
+    let terminal = ReactiveTerminal::Switch {
+        test: place(),
+        cases,
+        id: EvaluationOrder(id),
+    };
+    statement(alloc, terminal, Some(label))
+}
+
+/// A scope block around statements.
+pub fn scope_around(number: u32, statements: List<ReactiveStatement>) -> ReactiveStatement {
+    ReactiveStatement::Scope(ReactiveScopeBlock {
+        scope: ScopeId(number),
+        instructions: block(statements),
+    })
+}
+
+/// A pruned scope block around statements.
+pub fn pruned_scope_around(number: u32, statements: List<ReactiveStatement>) -> ReactiveStatement {
+    ReactiveStatement::PrunedScope(PrunedReactiveScopeBlock {
+        scope: ScopeId(number),
+        instructions: block(statements),
+    })
+}
+
+/// A list of one statement.
+pub fn only(
+    alloc: Global,
+    statement: ReactiveStatement,
+) -> Result<List<ReactiveStatement>, AllocError> {
+    let mut statements = List::new(alloc);
+    statements.push(statement)?;
+    Ok(statements)
+}
+
+/// A list of two statements.
+pub fn both(
+    alloc: Global,
+    first: ReactiveStatement,
+    second: ReactiveStatement,
+) -> Result<List<ReactiveStatement>, AllocError> {
+    let mut statements = only(alloc, first)?;
+    statements.push(second)?;
+    Ok(statements)
+}
+
+/// A function with that body and nothing else.
+pub fn function(alloc: Global, statements: List<ReactiveStatement>) -> ReactiveFunction {
+    ReactiveFunction {
+        span: None,
+        id: None,
+        name_hint: None,
+        params: List::new(alloc),
+        generator: false,
+        is_async: false,
+        body: block(statements),
+        directives: List::new(alloc),
+    }
+}

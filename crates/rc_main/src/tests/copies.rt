@@ -1,0 +1,68 @@
+//! Copies of a component's graph and environment, which are like their sources in each part.
+
+mod alike;
+
+use super::component::COMPONENT;
+use super::forms::changes::exchange;
+use super::forms::judged::{OTHERS, takes};
+use super::forms::parts::{Part, parts};
+use super::forms::types::TYPES;
+use alike::Alike;
+use rc_doc::{Doc, read_doc};
+use rc_names::CloneIn;
+use serde_json::Value;
+use std::alloc::Global;
+use std::test::Fail;
+
+#[test]
+fn copies_of_a_component_are_like_their_sources(rt: HostRuntime) -> Result<(), Fail> {
+    let alloc = rt.alloc();
+    let Some(doc) = read_doc(alloc, &Value::from_str(alloc, COMPONENT)?)? else {
+        panic!(rt; "the component is no document");
+    };
+    let graph = doc.hir.clone_in(alloc)?;
+    let environment = doc.env.clone_in(alloc)?;
+    assert!(rt; graph.is_like(&doc.hir, alloc)?);
+    assert!(rt; environment.is_like(&doc.env, alloc)?);
+    Ok(())
+}
+
+/// Whether the document with one part changed is no longer like the source, with each value that may stand there.
+fn are_changes_seen(
+    alloc: Global,
+    document: &mut Value,
+    source: &Doc,
+    types: &Value,
+    part: &Part,
+) -> Result<bool, Fail> {
+    let mut are_seen = true;
+    for other in OTHERS {
+        if takes(types, part.type_.as_str(), other) {
+            let mut held = Value::from_str(alloc, other)?;
+            exchange(document, part.path.as_str(), &mut held);
+            let is_same = held.to_string(alloc)?.as_str() == other;
+            if let Some(changed) = read_doc(alloc, document)? {
+                let is_like = changed.hir.is_like(&source.hir, alloc)?
+                    && changed.env.is_like(&source.env, alloc)?;
+                are_seen &= is_like == is_same;
+            }
+            exchange(document, part.path.as_str(), &mut held);
+        }
+    }
+    Ok(are_seen)
+}
+
+#[test]
+fn a_component_with_another_part_is_not_like_it(rt: HostRuntime) -> Result<(), Fail> {
+    let alloc = rt.alloc();
+    let types = Value::from_str(alloc, TYPES)?;
+    let mut document = Value::from_str(alloc, COMPONENT)?;
+    let Some(source) = read_doc(alloc, &document)? else {
+        panic!(rt; "the component is no document");
+    };
+    for part in parts(alloc, &types, "Doc", &document)?.as_slice() {
+        let are_seen = are_changes_seen(alloc, &mut document, &source, &types, part)?;
+        assert!(rt; are_seen, "at {}", part.path);
+    }
+    Ok(())
+}

@@ -1,0 +1,118 @@
+//! Small parts of the trees that are printed.
+
+use rc_hir::{Effect, InstructionValue, Place};
+use rc_names::{BlockId, Boxed, EvaluationOrder, IdentifierId, List, Span};
+use rc_tree::{
+    ReactiveBlock, ReactiveFunction, ReactiveInstruction, ReactiveLabel, ReactiveStatement,
+    ReactiveTerminal, ReactiveTerminalStatement, ReactiveValue,
+};
+use std::alloc::{AllocError, Global};
+
+/// A part of the source.
+pub fn span(start: u32, end: u32) -> Option<Span> {
+    Some(Span { start, end })
+}
+
+/// A place that its number says.
+pub fn place(number: u32) -> Place {
+    Place {
+        identifier: IdentifierId(number),
+        effect: Effect::Read,
+        reactive: false,
+        span: None,
+    }
+}
+
+/// A reactive place with an effect.
+pub fn reactive(number: u32, effect: Effect, span: Option<Span>) -> Place {
+    Place {
+        identifier: IdentifierId(number),
+        effect,
+        reactive: true,
+        span,
+    }
+}
+
+/// A label that a labeled jump names.
+pub fn explicit(block: u32) -> Option<ReactiveLabel> {
+    Some(ReactiveLabel {
+        id: BlockId(block),
+        implicit: false,
+    })
+}
+
+/// A label that no labeled jump names.
+pub fn implicit(block: u32) -> Option<ReactiveLabel> {
+    Some(ReactiveLabel {
+        id: BlockId(block),
+        implicit: true,
+    })
+}
+
+/// The value that loads a place.
+pub fn load(number: u32) -> ReactiveValue {
+    ReactiveValue::Instruction(InstructionValue::LoadLocal {
+        place: place(number),
+        span: None,
+    })
+}
+
+/// A row without a target and without a span.
+pub fn row(id: u32, value: ReactiveValue) -> ReactiveInstruction {
+    ReactiveInstruction {
+        id: EvaluationOrder(id),
+        lvalue: None,
+        value,
+        span: None,
+    }
+}
+
+/// Puts a row at the end of a block.
+pub fn put_row(block: &mut ReactiveBlock, row: ReactiveInstruction) -> Result<(), AllocError> {
+    block.statements.push(ReactiveStatement::Instruction(row))
+}
+
+/// Puts a terminal with a label at the end of a block.
+pub fn put(
+    alloc: Global,
+    block: &mut ReactiveBlock,
+    terminal: ReactiveTerminal,
+    label: Option<ReactiveLabel>,
+) -> Result<(), AllocError> {
+    let statement = Boxed::new(alloc, ReactiveTerminalStatement { terminal, label })?;
+    block
+        .statements
+        .push(ReactiveStatement::Terminal(statement))
+}
+
+/// A block without statements.
+pub fn empty(alloc: Global) -> ReactiveBlock {
+    ReactiveBlock {
+        statements: List::new(alloc),
+    }
+}
+
+/// A block that returns a place.
+pub fn returning(alloc: Global, number: u32, id: u32) -> Result<ReactiveBlock, AllocError> {
+    let mut block = empty(alloc);
+    let terminal = ReactiveTerminal::Return {
+        value: place(number),
+        id: EvaluationOrder(id),
+    };
+    put(alloc, &mut block, terminal, None)?;
+    Ok(block)
+}
+
+/// An async function with that body and nothing else.
+pub fn function(alloc: Global, body: ReactiveBlock) -> ReactiveFunction {
+    ReactiveFunction {
+        span: None,
+        id: None,
+        name_hint: None,
+        params: List::new(alloc),
+        generator: false,
+        is_async: true,
+        body,
+        directives: List::new(alloc),
+    }
+}

@@ -1,0 +1,112 @@
+-- A graph spells at most one tree, and the tree's blocks are used in one order.
+--
+-- Two derivations over the same graph, frames, next and handler are compared; a terminal adds one case of `one_statement`,
+-- or of `one_terminal` where it ends its list.
+use Rattle.std.proofs.Common.{◌≡◌, List, ◌∷◌, Option, Some, Bool, refl, sym, ap, ◌∙◌, subst}
+use Rattle.rc_names.specs.declared.numbers.BlockId.{BlockId}
+use Rattle.rc_hir.specs.declared.terminal.Terminal.{Terminal}
+use Rattle.rc_hir.specs.declared.function.HirFunction.{HirFunction}
+use Rattle.rc_hir.specs.declared.environment.Environment.{Environment}
+use Rattle.rc_tree.specs.declared.function.ReactiveFunction.{ReactiveFunction}
+use Rattle.rc_runs.specs.declared.frames.Frame.{Frame}
+use Rattle.rc_runs.specs.declared.frames.Frame.TheVariants as frame
+use Rattle.rc_runs.specs.Graph.{Block}
+use Rattle.rc_runs.specs.PlainTree.{Statements, Statement}
+use Rattle.rc_runs.specs.TreeOf.{block_of}
+use Rattle.rc_runs.specs.Grammar.{next_inside, frames_inside, SpellsList, SpellsTerminal, SpellsStatement, SpellsRest}
+use Rattle.rc_runs.specs.Grammar.{block, returns, unreachable, breaks, and_rest, if_only, if_else, label, scope, pruned_scope, closed, opened}
+use Rattle.rc_runs.specs.Spelled.{with_header, SpellsBody, Spells}
+
+-- the same part and the same used blocks
+abbrev pub Same : {A : Type 0} → A → List BlockId → A → List BlockId → Type 0
+Same a a_used b b_used = (a ≡ b) × (a_used ≡ b_used)
+
+-- what an option holds is one
+pub one_held : {A : Type 0} {option : Option A} {a b : A} → option ≡ Some a → option ≡ Some b → b ≡ a
+one_held e f = cc
+
+module _ {hir : HirFunction} {env : Environment} where
+  -- a terminal's derivation at an equal block
+  pub terminal_at : {next handler : Option BlockId} {frames : List Frame} {rest : Statements} {used : List BlockId} {a b : Block} → b ≡ a →
+      SpellsTerminal hir env b.terminal next frames handler rest used → SpellsTerminal hir env a.terminal next frames handler rest used
+  terminal_at {next} {handler} {frames} {rest} {used} e d = subst (λ v. SpellsTerminal hir env v.terminal next frames handler rest used) e d
+
+  -- a part's derivation where the same is opened
+  pub part_at : {key : BlockId} {handler : Option BlockId} {part : Statements} {used : List BlockId}
+      (fallthrough : BlockId) (next : Option BlockId) (inner : Frame) (frames : List Frame) (a b : Bool) → b ≡ a →
+      SpellsList hir env key (next_inside b fallthrough next) (frames_inside b inner frames) handler part used →
+      SpellsList hir env key (next_inside a fallthrough next) (frames_inside a inner frames) handler part used
+  part_at {key} {handler} {part} {used} fallthrough next inner frames a b e d =
+      subst (λ v. SpellsList hir env key (next_inside v fallthrough next) (frames_inside v inner frames) handler part used) e d
+
+  -- the derivation of a rest where the same fallthrough is opened
+  pub rest_at : {f g : BlockId} {next handler : Option BlockId} {frames : List Frame} {rest : Statements} {used : List BlockId} {a b : Bool} →
+      g ≡ f → b ≡ a → SpellsRest hir env b g next frames handler rest used → SpellsRest hir env a f next frames handler rest used
+  rest_at {f} {g} {next} {handler} {frames} {rest} {used} {a} {b} h e d =
+      subst (λ w. SpellsRest hir env a w next frames handler rest used) h (subst (λ v. SpellsRest hir env v g next frames handler rest used) e d)
+
+  mutual
+    pub one_list : {key : BlockId} {next handler : Option BlockId} {frames : List Frame} {a b : Statements} {u v : List BlockId} →
+        SpellsList hir env key next frames handler a u → SpellsList hir env key next frames handler b v → Same a u b v
+    one_list (block {key = key} {block = p} found live d w) (block {block = q} found' live' d' w') =
+        let same : q ≡ p = one_held found found' in
+        let h = one_terminal d (terminal_at same d') in
+        (cc, ap (λ used. key ∷ used) h.1)
+
+    pub one_terminal : {terminal : Terminal} {next handler : Option BlockId} {frames : List Frame} {a b : Statements} {u v : List BlockId} →
+        SpellsTerminal hir env terminal next frames handler a u → SpellsTerminal hir env terminal next frames handler b v → Same a u b v
+    one_terminal returns returns = (refl, refl)
+    one_terminal unreachable unreachable = (refl, refl)
+    one_terminal (breaks e) (breaks f) = (one_held f e, refl)
+    one_terminal returns (and_rest d r w) = elim d [ ]
+    one_terminal unreachable (and_rest d r w) = elim d [ ]
+    one_terminal (breaks e) (and_rest d r w) = elim d [ ]
+    one_terminal (and_rest d r w) returns = elim d [ ]
+    one_terminal (and_rest d r w) unreachable = elim d [ ]
+    one_terminal (and_rest d r w) (breaks e) = elim d [ ]
+    one_terminal (and_rest d r w) (and_rest d' r' w') =
+        let h = one_statement d d' in
+        let k = one_rest r (rest_at (sym h.1) (sym h.0) r') in
+        (cc, cc)
+
+    -- the fallthrough, and whether it is opened, are one too
+    pub one_statement : {terminal : Terminal} {next handler : Option BlockId} {frames : List Frame}
+        {o p : Bool} {f g : BlockId} {s t : Statement} {u v : List BlockId} →
+        SpellsStatement hir env terminal next frames handler o f s u → SpellsStatement hir env terminal next frames handler p g t v →
+        (o ≡ p) × (f ≡ g) × (s ≡ t) × (u ≡ v)
+    one_statement (if_only {fallthrough = f} {next = n} {frames = fs} {opened = o} i l x y d) (if_only {opened = p} i' l' x' y' d') =
+        let same : p ≡ o = i' ∙ sym i in
+        let h = one_list d (part_at f n (frame.If f) fs o p same d') in
+        (sym same, refl, cc, h.1)
+    one_statement (if_only i l x y d) (if_else i' l' x' d' a' w') = absurd (let bad : ⊥ = cc in bad)
+    one_statement (if_else i l x d a w) (if_only i' l' x' y' d') = absurd (let bad : ⊥ = cc in bad)
+    one_statement (if_else {fallthrough = f} {next = n} {frames = fs} {opened = o} i l x d a w) (if_else {opened = p} i' l' x' d' a' w') =
+        let same : p ≡ o = i' ∙ sym i in
+        let h = one_list d (part_at f n (frame.If f) fs o p same d') in
+        let k = one_list a (part_at f n (frame.If f) fs o p same a') in
+        (sym same, refl, cc, cc)
+    one_statement (label {fallthrough = f} {next = n} {frames = fs} {opened = o} i l d) (label {opened = p} i' l' d') =
+        let same : p ≡ o = i' ∙ sym i in
+        let h = one_list d (part_at f n (frame.If f) fs o p same d') in
+        (sym same, refl, cc, h.1)
+    one_statement (scope {fallthrough = f} {next = n} {frames = fs} {opened = o} i d) (scope {opened = p} i' d') =
+        let same : p ≡ o = i' ∙ sym i in
+        let h = one_list d (part_at f n (frame.Scope f) fs o p same d') in
+        (sym same, refl, cc, h.1)
+    one_statement (pruned_scope {fallthrough = f} {next = n} {frames = fs} {opened = o} i d) (pruned_scope {opened = p} i' d') =
+        let same : p ≡ o = i' ∙ sym i in
+        let h = one_list d (part_at f n (frame.Scope f) fs o p same d') in
+        (sym same, refl, cc, h.1)
+
+    pub one_rest : {o : Bool} {f : BlockId} {next handler : Option BlockId} {frames : List Frame} {a b : Statements} {u v : List BlockId} →
+        SpellsRest hir env o f next frames handler a u → SpellsRest hir env o f next frames handler b v → Same a u b v
+    one_rest closed closed = (refl, refl)
+    one_rest (opened d) (opened d') = one_list d d'
+
+  -- a graph spells at most one list of statements
+  pub spells_one_tree : {a b : Statements} → SpellsBody hir env a → SpellsBody hir env b → a ≡ b
+  spells_one_tree d e = (one_list d.list e.list).0
+
+  -- a graph spells at most one function
+  pub spells_one_function : {f g : ReactiveFunction} → Spells hir env f → Spells hir env g → f ≡ g
+  spells_one_function d e = d.whole ∙ ap (λ statements. with_header hir (block_of statements)) (spells_one_tree d.body e.body) ∙ sym e.whole

@@ -1,0 +1,11 @@
+pub mod Event
+pub mod Silent
+pub mod Graph
+pub mod GraphRun
+pub mod Frames
+pub mod PlainTree
+pub mod TreeOf
+pub mod Erase
+pub mod Grammar
+pub mod Spelled
+pub mod BodyRun

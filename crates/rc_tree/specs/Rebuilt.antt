@@ -1,0 +1,117 @@
+-- A tree rebuilt from the inside out, with a state that goes through its statements in the order of the text.
+--
+-- The rules of a pass say what stands in the place of a statement whose inside is rebuilt, and what the state is behind
+-- it. Rows keep their values, and terminals theirs.
+use Rattle.std.specs.Prelude.{List, [], ◌∷◌, ◌++◌, Option, None, Some, Result, Ok, IfErr}
+use Rattle.rc_hir.specs.declared.fault.Fault.{Fault}
+use Rattle.rc_tree.specs.Outcome.{bind}
+use Rattle.rc_tree.specs.declared.scope.PrunedReactiveScopeBlock.{PrunedReactiveScopeBlock, fold-PrunedReactiveScopeBlock}
+use Rattle.rc_tree.specs.declared.scope.ReactiveScopeBlock.{ReactiveScopeBlock, fold-ReactiveScopeBlock}
+use Rattle.rc_tree.specs.declared.statement.ReactiveBlock.{ReactiveBlock, fold-ReactiveBlock}
+use Rattle.rc_tree.specs.declared.statement.ReactiveStatement.{ReactiveStatement, fold-ReactiveStatement}
+use Rattle.rc_tree.specs.declared.statement.ReactiveStatement.TheOpen as layer
+use Rattle.rc_tree.specs.declared.statement.ReactiveStatement.TheOpen.{ReactiveStatement-F, ReactiveTerminal-F, PrunedReactiveScopeBlock-F, ReactiveScopeBlock-F, ReactiveBlock-F, ReactiveSwitchCase-F, ReactiveTerminalStatement-F}
+use Rattle.rc_tree.specs.declared.terminal.ReactiveSwitchCase.{ReactiveSwitchCase, fold-ReactiveSwitchCase, roll-ReactiveSwitchCase}
+use Rattle.rc_tree.specs.declared.terminal.ReactiveTerminal.{ReactiveTerminal, fold-ReactiveTerminal}
+use Rattle.rc_tree.specs.declared.terminal.ReactiveTerminal.TheVariants as term
+use Rattle.rc_tree.specs.declared.terminal.ReactiveTerminalStatement.{ReactiveTerminalStatement, fold-ReactiveTerminalStatement}
+use Rattle.rc_tree.specs.declared.value.ReactiveInstruction.{ReactiveInstruction}
+
+-- what is made of a state: the state behind a part with what stands in that part's place, or a fault
+abbrev pub Rebuilds : Type 0 → Type 0 → Type 0
+Rebuilds S X = S → Result (S × X) Fault
+
+-- what a pass makes of each statement whose inside is rebuilt
+pub record Rules (S : Type 0) : Type 0 where
+  pub row : ReactiveInstruction → Rebuilds S (List ReactiveStatement)
+  pub terminal : ReactiveTerminalStatement → Rebuilds S (List ReactiveStatement)
+  pub pruned_scope : PrunedReactiveScopeBlock → Rebuilds S (List ReactiveStatement)
+  -- the state in which the inside of a scope block starts, from the one in which the block is met
+  pub into_scope : S → S
+  -- a scope block, from the state in which it is met; the state in which its inside ends comes last
+  pub scope : S → ReactiveScopeBlock → Rebuilds S (List ReactiveStatement)
+
+-- the faults of the rules are all such
+pub record FaultsOnly {S : Type 0} (rules : Rules S) (IsSuch : Fault → Type 0) : Type 0 where
+  pub row : (x : ReactiveInstruction) (s : S) → IfErr (rules.row x s) IsSuch
+  pub terminal : (x : ReactiveTerminalStatement) (s : S) → IfErr (rules.terminal x s) IsSuch
+  pub pruned_scope : (x : PrunedReactiveScopeBlock) (s : S) → IfErr (rules.pruned_scope x s) IsSuch
+  pub scope : (met : S) (x : ReactiveScopeBlock) (s : S) → IfErr (rules.scope met x s) IsSuch
+
+module _ {S X : Type 0} where
+  -- the parts of a list, one after the other
+  abbrev pub in_order : List (Rebuilds S X) → Rebuilds S (List X)
+  in_order [] s = Ok (s, [])
+  in_order (x ∷ xs) s = bind (x s) (λ a. bind (in_order xs a.0) (λ b. Ok (b.0, a.1 ∷ b.1)))
+
+  -- the same, what stands in the place of each part joined into one list
+  abbrev pub joined : List (Rebuilds S (List X)) → Rebuilds S (List X)
+  joined [] s = Ok (s, [])
+  joined (x ∷ xs) s = bind (x s) (λ a. bind (joined xs a.0) (λ b. Ok (b.0, a.1 ++ b.1)))
+
+  -- a part that may be left out
+  abbrev pub if_there : Option (Rebuilds S X) → Rebuilds S (Option X)
+  if_there None s = Ok (s, None)
+  if_there (Some x) s = bind (x s) (λ a. Ok (a.0, Some a.1))
+
+module _ {S : Type 0} (rules : Rules S) where
+  -- a terminal, from its blocks
+  abbrev pub of_terminal : ReactiveTerminal-F (Rebuilds S (List ReactiveStatement)) (Rebuilds S ReactiveTerminal) (Rebuilds S PrunedReactiveScopeBlock) (Rebuilds S ReactiveScopeBlock) (Rebuilds S ReactiveBlock) (Rebuilds S ReactiveSwitchCase) (Rebuilds S ReactiveTerminalStatement) → Rebuilds S ReactiveTerminal
+  of_terminal (layer.Break target kind id) s = Ok (s, term.Break target kind id)
+  of_terminal (layer.Continue target kind id) s = Ok (s, term.Continue target kind id)
+  of_terminal (layer.Return value id) s = Ok (s, term.Return value id)
+  of_terminal (layer.Throw value id) s = Ok (s, term.Throw value id)
+  of_terminal (layer.Switch test cases id) s = bind (in_order cases s) (λ a. Ok (a.0, term.Switch test a.1 id))
+  of_terminal (layer.DoWhile body test id) s = bind (body s) (λ a. Ok (a.0, term.DoWhile a.1 test id))
+  of_terminal (layer.While test body id) s = bind (body s) (λ a. Ok (a.0, term.While test a.1 id))
+  of_terminal (layer.For init test update body id) s = bind (body s) (λ a. Ok (a.0, term.For init test update a.1 id))
+  of_terminal (layer.ForOf init test body span id) s = bind (body s) (λ a. Ok (a.0, term.ForOf init test a.1 span id))
+  of_terminal (layer.ForIn init body span id) s = bind (body s) (λ a. Ok (a.0, term.ForIn init a.1 span id))
+  of_terminal (layer.If test consequent alternate id) s = bind (consequent s) (λ a. bind (if_there alternate a.0) (λ b. Ok (b.0, term.If test a.1 b.1 id)))
+  of_terminal (layer.Label body id) s = bind (body s) (λ a. Ok (a.0, term.Label a.1 id))
+  of_terminal (layer.Try body binding handler id) s = bind (body s) (λ a. bind (handler a.0) (λ b. Ok (b.0, term.Try a.1 binding b.1 id)))
+
+  -- a statement, by the rule for it
+  abbrev pub of_statement : ReactiveStatement-F (Rebuilds S (List ReactiveStatement)) (Rebuilds S ReactiveTerminal) (Rebuilds S PrunedReactiveScopeBlock) (Rebuilds S ReactiveScopeBlock) (Rebuilds S ReactiveBlock) (Rebuilds S ReactiveSwitchCase) (Rebuilds S ReactiveTerminalStatement) → Rebuilds S (List ReactiveStatement)
+  of_statement (layer.Instruction x) s = rules.row x s
+  of_statement (layer.Terminal x) s = bind (x s) (λ a. rules.terminal a.1 a.0)
+  of_statement (layer.Scope x) s = bind (x (rules.into_scope s)) (λ a. rules.scope s a.1 a.0)
+  of_statement (layer.PrunedScope x) s = bind (x s) (λ a. rules.pruned_scope a.1 a.0)
+
+  abbrev pub of_labeled : ReactiveTerminalStatement-F (Rebuilds S (List ReactiveStatement)) (Rebuilds S ReactiveTerminal) (Rebuilds S PrunedReactiveScopeBlock) (Rebuilds S ReactiveScopeBlock) (Rebuilds S ReactiveBlock) (Rebuilds S ReactiveSwitchCase) (Rebuilds S ReactiveTerminalStatement) → Rebuilds S ReactiveTerminalStatement
+  of_labeled x s = bind (x.terminal s) (λ a. Ok (a.0, record { terminal = a.1; label = x.label }))
+
+  abbrev pub of_scope : ReactiveScopeBlock-F (Rebuilds S (List ReactiveStatement)) (Rebuilds S ReactiveTerminal) (Rebuilds S PrunedReactiveScopeBlock) (Rebuilds S ReactiveScopeBlock) (Rebuilds S ReactiveBlock) (Rebuilds S ReactiveSwitchCase) (Rebuilds S ReactiveTerminalStatement) → Rebuilds S ReactiveScopeBlock
+  of_scope x s = bind (x.instructions s) (λ a. Ok (a.0, record { scope = x.scope; instructions = a.1 }))
+
+  abbrev pub of_pruned_scope : PrunedReactiveScopeBlock-F (Rebuilds S (List ReactiveStatement)) (Rebuilds S ReactiveTerminal) (Rebuilds S PrunedReactiveScopeBlock) (Rebuilds S ReactiveScopeBlock) (Rebuilds S ReactiveBlock) (Rebuilds S ReactiveSwitchCase) (Rebuilds S ReactiveTerminalStatement) → Rebuilds S PrunedReactiveScopeBlock
+  of_pruned_scope x s = bind (x.instructions s) (λ a. Ok (a.0, record { scope = x.scope; instructions = a.1 }))
+
+  abbrev pub of_block : ReactiveBlock-F (Rebuilds S (List ReactiveStatement)) (Rebuilds S ReactiveTerminal) (Rebuilds S PrunedReactiveScopeBlock) (Rebuilds S ReactiveScopeBlock) (Rebuilds S ReactiveBlock) (Rebuilds S ReactiveSwitchCase) (Rebuilds S ReactiveTerminalStatement) → Rebuilds S ReactiveBlock
+  of_block x s = bind (joined x.statements s) (λ a. Ok (a.0, record { statements = a.1 }))
+
+  abbrev pub of_case : ReactiveSwitchCase-F (Rebuilds S (List ReactiveStatement)) (Rebuilds S ReactiveTerminal) (Rebuilds S PrunedReactiveScopeBlock) (Rebuilds S ReactiveScopeBlock) (Rebuilds S ReactiveBlock) (Rebuilds S ReactiveSwitchCase) (Rebuilds S ReactiveTerminalStatement) → Rebuilds S ReactiveSwitchCase
+  of_case x s = bind (if_there x.block s) (λ a. Ok (a.0, roll-ReactiveSwitchCase (record { test = x.test; block = a.1 })))
+
+  -- the block rebuilt, and what stands in the place of one statement
+  unfoldable pub rebuilt_block : ReactiveBlock → Rebuilds S ReactiveBlock
+  rebuilt_block = fold-ReactiveBlock (Rebuilds S (List ReactiveStatement)) (Rebuilds S ReactiveTerminal) (Rebuilds S PrunedReactiveScopeBlock) (Rebuilds S ReactiveScopeBlock) (Rebuilds S ReactiveBlock) (Rebuilds S ReactiveSwitchCase) (Rebuilds S ReactiveTerminalStatement) of_statement of_terminal of_pruned_scope of_scope of_block of_case of_labeled
+
+  unfoldable pub rebuilt_statement : ReactiveStatement → Rebuilds S (List ReactiveStatement)
+  rebuilt_statement = fold-ReactiveStatement (Rebuilds S (List ReactiveStatement)) (Rebuilds S ReactiveTerminal) (Rebuilds S PrunedReactiveScopeBlock) (Rebuilds S ReactiveScopeBlock) (Rebuilds S ReactiveBlock) (Rebuilds S ReactiveSwitchCase) (Rebuilds S ReactiveTerminalStatement) of_statement of_terminal of_pruned_scope of_scope of_block of_case of_labeled
+
+  -- the other parts with their insides rebuilt
+  unfoldable pub rebuilt_terminal : ReactiveTerminal → Rebuilds S ReactiveTerminal
+  rebuilt_terminal = fold-ReactiveTerminal (Rebuilds S (List ReactiveStatement)) (Rebuilds S ReactiveTerminal) (Rebuilds S PrunedReactiveScopeBlock) (Rebuilds S ReactiveScopeBlock) (Rebuilds S ReactiveBlock) (Rebuilds S ReactiveSwitchCase) (Rebuilds S ReactiveTerminalStatement) of_statement of_terminal of_pruned_scope of_scope of_block of_case of_labeled
+
+  unfoldable pub rebuilt_labeled : ReactiveTerminalStatement → Rebuilds S ReactiveTerminalStatement
+  rebuilt_labeled = fold-ReactiveTerminalStatement (Rebuilds S (List ReactiveStatement)) (Rebuilds S ReactiveTerminal) (Rebuilds S PrunedReactiveScopeBlock) (Rebuilds S ReactiveScopeBlock) (Rebuilds S ReactiveBlock) (Rebuilds S ReactiveSwitchCase) (Rebuilds S ReactiveTerminalStatement) of_statement of_terminal of_pruned_scope of_scope of_block of_case of_labeled
+
+  unfoldable pub rebuilt_scope : ReactiveScopeBlock → Rebuilds S ReactiveScopeBlock
+  rebuilt_scope = fold-ReactiveScopeBlock (Rebuilds S (List ReactiveStatement)) (Rebuilds S ReactiveTerminal) (Rebuilds S PrunedReactiveScopeBlock) (Rebuilds S ReactiveScopeBlock) (Rebuilds S ReactiveBlock) (Rebuilds S ReactiveSwitchCase) (Rebuilds S ReactiveTerminalStatement) of_statement of_terminal of_pruned_scope of_scope of_block of_case of_labeled
+
+  unfoldable pub rebuilt_pruned_scope : PrunedReactiveScopeBlock → Rebuilds S PrunedReactiveScopeBlock
+  rebuilt_pruned_scope = fold-PrunedReactiveScopeBlock (Rebuilds S (List ReactiveStatement)) (Rebuilds S ReactiveTerminal) (Rebuilds S PrunedReactiveScopeBlock) (Rebuilds S ReactiveScopeBlock) (Rebuilds S ReactiveBlock) (Rebuilds S ReactiveSwitchCase) (Rebuilds S ReactiveTerminalStatement) of_statement of_terminal of_pruned_scope of_scope of_block of_case of_labeled
+
+  unfoldable pub rebuilt_case : ReactiveSwitchCase → Rebuilds S ReactiveSwitchCase
+  rebuilt_case = fold-ReactiveSwitchCase (Rebuilds S (List ReactiveStatement)) (Rebuilds S ReactiveTerminal) (Rebuilds S PrunedReactiveScopeBlock) (Rebuilds S ReactiveScopeBlock) (Rebuilds S ReactiveBlock) (Rebuilds S ReactiveSwitchCase) (Rebuilds S ReactiveTerminalStatement) of_statement of_terminal of_pruned_scope of_scope of_block of_case of_labeled

@@ -1,0 +1,40 @@
+-- The steps of a pass over statements, and the steps of the rewriting walk that they make.
+--
+-- Such a pass skips rows and values. It notes a scope block before its inside, and says what stands in the place of a
+-- terminal and of a scope block once its inside is done.
+use Rattle.std.specs.Prelude.{Ok}
+use Rattle.rc_tree.specs.Outcome.{Walk, bind}
+use Rattle.rc_tree.specs.Run.{Hook}
+use Rattle.rc_tree.specs.RewriteSteps.{RewriteSteps, skips, still}
+use Rattle.rc_tree.specs.declared.scope.ReactiveScopeBlock.{ReactiveScopeBlock}
+use Rattle.rc_tree.specs.declared.statement.ReactiveStatement.{ReactiveStatement}
+use Rattle.rc_tree.specs.declared.terminal.ReactiveTerminalStatement.{ReactiveTerminalStatement}
+use Rattle.rc_tree.specs.declared.transform.Transformed.{Transformed}
+use Rattle.rc_tree.specs.declared.visitor.Enter.{Enter}
+use Rattle.rc_tree.specs.declared.visitor.Enter.TheVariants.{Inside}
+
+-- the step of each hook of a pass over statements
+pub record StatementSteps (S : Type 0) : Type 0 where
+  pub enter_scope : ReactiveScopeBlock → Walk S
+  pub transform_terminal : Hook S ReactiveTerminalStatement (Transformed ReactiveStatement)
+  pub transform_scope : Hook S ReactiveScopeBlock (Transformed ReactiveStatement)
+
+-- the steps of the walk; no step changes the transform
+module _ {T S : Type 0} (steps : T → StatementSteps S) where
+  abbrev pub enters_scope : Hook (T × S) ReactiveScopeBlock Enter
+  enters_scope w x = bind ((steps w.0).enter_scope x w.1) (λ r. Ok (Inside, ((w.0, r.1), x)))
+
+  abbrev pub transforms_terminal : Hook (T × S) ReactiveTerminalStatement (Transformed ReactiveStatement)
+  transforms_terminal w x = bind ((steps w.0).transform_terminal w.1 x) (λ r. Ok (r.0, ((w.0, r.1.0), r.1.1)))
+
+  abbrev pub transforms_scope : Hook (T × S) ReactiveScopeBlock (Transformed ReactiveStatement)
+  transforms_scope w x = bind ((steps w.0).transform_scope w.1 x) (λ r. Ok (r.0, ((w.0, r.1.0), r.1.1)))
+
+  abbrev pub over_statements : RewriteSteps (T × S)
+  over_statements = record still {
+    enter_instruction = skips;
+    enter_value = λ id. skips;
+    enter_scope = enters_scope;
+    transform_terminal = transforms_terminal;
+    transform_scope = transforms_scope;
+  }
