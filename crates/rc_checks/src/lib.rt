@@ -5,8 +5,6 @@ mod break_targets;
 mod labels;
 mod membership;
 mod scope_blocks;
-#[cfg(test)]
-mod tests;
 mod unused_scopes;
 
 pub use break_targets::assert_well_formed_break_targets;

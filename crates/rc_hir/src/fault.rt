@@ -15,7 +15,7 @@ pub enum Fault {
     Todo { block: BlockId },
     /// That scope has an early return already; it is the lowest such scope.
     EarlyReturnSet { scope: ScopeId },
-    /// The last operand of that scope, visited at that id, stands outside its block.
+    /// The last operand outside the blocks of its scope is visited at that id and has that scope.
     ScopeCompleted { id: EvaluationOrder, scope: ScopeId },
     /// The escape record needs that name before it has a node.
     Uninitialised { declaration: DeclarationId },

@@ -2,10 +2,7 @@
 
 mod bad_input;
 mod broken_graphs;
-mod component;
-mod copies;
 mod devices;
-mod forms;
 mod graphs;
 mod lines;
 mod names;

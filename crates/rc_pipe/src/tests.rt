@@ -1,4 +1,4 @@
-//! Worked values.
+//! The fates of a tree's scopes.
 
 mod fates;
 mod graph;

@@ -4,7 +4,6 @@ pub mod RewriteValueLemmas
 pub mod RewriteStatementKnownLemmas
 pub mod RewriteStatementLemmas
 pub mod RewriteKeepLemmas
-pub mod UnnamedLemmas
 pub mod OutcomeLemmas
 pub mod ReadLemmas
 pub mod ReadStatementLemmas

@@ -9,8 +9,6 @@ pub mod RewriteSteps
 pub mod NoDeeper
 pub mod StatementSteps
 pub mod StatementsNoDeeper
-pub mod Looks
-pub mod Unnamed
 pub mod Rewrite
 pub mod RewriteKeeps
 pub mod Rebuilt

@@ -10,8 +10,6 @@ mod scope;
 mod statement;
 mod statements;
 mod terminal;
-#[cfg(test)]
-mod tests;
 mod transform;
 mod value;
 mod visitor;
@@ -19,6 +17,7 @@ mod visitor;
 pub use function::ReactiveFunction;
 pub use kind::ReactiveTerminalTargetKind;
 pub use read::function::{visit_hir_function, visit_reactive_function};
+pub use rewrite::transform_reactive_function;
 pub use scope::{PrunedReactiveScopeBlock, ReactiveScopeBlock};
 pub use statement::{ReactiveBlock, ReactiveStatement};
 pub use statements::{OverStatements, StatementTransform};

@@ -5,16 +5,16 @@ ghost use Rattle.rc_tree.specs.Outcome.{Gives};
 ghost use Rattle.rc_tree.specs.Read.{read_block};
 ghost use Rattle.rc_tree.specs.ReadFunction.{read_function};
 ghost use Rattle.rc_tree.specs.declared.visitor.Enter.TheVariants as enter;
-ghost use Rattle.rc_tree.specs.declared.tests.recorder.Part.TheVariants as part;
-ghost use Rattle.rc_tree.specs.declared.tests.recorder.Visit.TheVariants as visit;
+ghost use Rattle.rc_tree_tests.specs.declared.tests.recorder.Part.TheVariants as part;
+ghost use Rattle.rc_tree_tests.specs.declared.tests.recorder.Visit.TheVariants as visit;
 
-use crate::{
+use rc_hir::{Environment, Fault, Place};
+use rc_names::{EvaluationOrder, List};
+use rc_tree::{
     Enter, PrunedReactiveScopeBlock, ReactiveBlock, ReactiveFunction, ReactiveFunctionVisitor,
     ReactiveInstruction, ReactiveScopeBlock, ReactiveTerminalStatement, ReactiveValue,
     visit_reactive_function,
 };
-use rc_hir::{Environment, Fault, Place};
-use rc_names::{EvaluationOrder, List};
 use std::alloc::Global;
 
 /// A part that is entered and left, by its number.

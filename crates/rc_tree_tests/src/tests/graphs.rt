@@ -2,12 +2,12 @@
 
 use crate::tests::recorder::{Part, Recorder, Visit};
 use crate::tests::trees::place;
-use crate::visit_hir_function;
 use rc_hir::{
     BasicBlock, Environment, Fault, Hir, HirFunction, Instruction, InstructionValue,
     LoweredFunction, ParamPattern, SpreadPattern, TableName, Terminal,
 };
 use rc_names::{BlockId, EvaluationOrder, FunctionId, InstructionId, Keyed, List};
+use rc_tree::visit_hir_function;
 use std::alloc::{AllocError, Global};
 use std::test::Fail;
 

@@ -1,10 +1,10 @@
 //! Which scope blocks become pruned ones.
 
-use crate::prune_unused_scopes;
 use crate::tests::outline::{Line, outline};
 use crate::tests::trees::{
     both, function, only, pruned_scope_around, return_at, row, scope_around,
 };
+use rc_checks::prune_unused_scopes;
 use rc_hir::{
     DeclarationEntry, Environment, Fault, MutableRange, ReactiveScope, ReactiveScopeDeclaration,
     TableName,

@@ -1,10 +1,10 @@
 //! The check of jumps: which jumps are looked at, and which labels are met by then.
 
-use crate::assert_well_formed_break_targets;
 use crate::tests::small_trees::{
     break_to, continue_to, empty, function, if_taken, label_around, labeled, only, pruned_scope,
     scope,
 };
+use rc_checks::assert_well_formed_break_targets;
 use rc_hir::{Environment, Fault};
 use rc_names::BlockId;
 use rc_tree::{ReactiveBlock, ReactiveTerminal};

@@ -3,25 +3,25 @@
 ghost use Rattle.std.specs.Prelude.{◌≡◌, ◌==◌, [], ◌∷◌, ◌++◌, Ok, Err, IfOk, if◌then◌else◌, is_none, refl};
 ghost use Rattle.rc_hir.specs.declared.fault.Fault.TheVariants as faults;
 ghost use Rattle.rc_hir.specs.declared.fault.TableName.TheVariants as tables;
-ghost use Rattle.rc_tree.specs.Looks.{looks_no_deeper};
+ghost use Rattle.rc_tree_tests.specs.Looks.{looks_no_deeper};
 ghost use Rattle.rc_tree.specs.Rewrite.{rewrite_block};
 ghost use Rattle.rc_tree.specs.RewriteSteps.{keeps_it};
-ghost use Rattle.rc_tree.specs.Unnamed.{GivesWay, without_name};
+ghost use Rattle.rc_tree_tests.specs.Unnamed.{GivesWay, without_name};
 ghost use Rattle.rc_tree.specs.declared.statement.ReactiveStatement.TheVariants as stmt;
-ghost use Rattle.rc_tree.specs.declared.tests.recorder.Part.TheVariants as part;
-ghost use Rattle.rc_tree.specs.declared.tests.recorder.Visit.TheVariants as visit;
+ghost use Rattle.rc_tree_tests.specs.declared.tests.recorder.Part.TheVariants as part;
+ghost use Rattle.rc_tree_tests.specs.declared.tests.recorder.Visit.TheVariants as visit;
 ghost use Rattle.rc_tree.specs.declared.transform.Transformed.TheVariants as answer;
 ghost use Rattle.rc_tree.specs.declared.visitor.Enter.TheVariants as enter;
 
-use crate::rewrite::{transform_reactive_function, transform_stmt};
 use crate::tests::recorder::{Part, Visit};
-use crate::{
+use rc_hir::{Environment, Fault, Place, TableName};
+use rc_names::{EvaluationOrder, List};
+use rc_tree::rewrite::{transform_reactive_function, transform_stmt};
+use rc_tree::{
     Enter, PrunedReactiveScopeBlock, ReactiveBlock, ReactiveFunction, ReactiveFunctionTransform,
     ReactiveInstruction, ReactiveScopeBlock, ReactiveStatement, ReactiveTerminal,
     ReactiveTerminalStatement, ReactiveValue, Transformed,
 };
-use rc_hir::{Environment, Fault, Place, TableName};
-use rc_names::{EvaluationOrder, List};
 use std::alloc::Global;
 
 /// Writes each visit down, in order. A `Label` without a name gives way to its statements, a scope block to a pruned

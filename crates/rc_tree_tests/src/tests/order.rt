@@ -1,6 +1,5 @@
 //! The read walk's order, over every part of a tree.
 
-use crate::read::traverse_terminal;
 use crate::tests::parts::{
     ForOrder, Written, for_loop, put_call, put_contexts, put_destructure, put_do_while, put_ends,
     put_expressions, put_for, put_for_in, put_for_of, put_if, put_jumps, put_label, put_scopes,
@@ -8,9 +7,10 @@ use crate::tests::parts::{
 };
 use crate::tests::recorder::{Part, Recorder, Visit, visits};
 use crate::tests::trees::{empty, function, load, note, row, statement};
-use crate::{ReactiveBlock, ReactiveStatement, ReactiveTerminalStatement};
 use rc_hir::{Environment, Fault};
 use rc_names::List;
+use rc_tree::read::traverse_terminal;
+use rc_tree::{ReactiveBlock, ReactiveStatement, ReactiveTerminalStatement};
 use std::alloc::{AllocError, Global};
 use std::test::Fail;
 

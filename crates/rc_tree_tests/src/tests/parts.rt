@@ -4,16 +4,16 @@ use crate::tests::recorder::{Part, Visit};
 use crate::tests::trees::{
     empty, load, load_visits, note, place, returning, returning_visits, row, statement,
 };
-use crate::{
-    PrunedReactiveScopeBlock, ReactiveBlock, ReactiveInstruction, ReactiveScopeBlock,
-    ReactiveStatement, ReactiveSwitchCase, ReactiveTerminal, ReactiveTerminalTargetKind,
-    ReactiveValue,
-};
 use rc_hir::{
     ArrayPatternElement, InstructionKind, InstructionValue, LValue, LValuePattern, LogicalOperator,
     Pattern, PlaceOrSpread, SpreadPattern,
 };
 use rc_names::{BlockId, Boxed, EvaluationOrder, List, ScopeId, Text};
+use rc_tree::{
+    PrunedReactiveScopeBlock, ReactiveBlock, ReactiveInstruction, ReactiveScopeBlock,
+    ReactiveStatement, ReactiveSwitchCase, ReactiveTerminal, ReactiveTerminalTargetKind,
+    ReactiveValue,
+};
 use std::alloc::{AllocError, Global};
 
 /// The order of a `for` behind its test, which the two walks differ in.

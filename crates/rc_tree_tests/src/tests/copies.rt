@@ -3,10 +3,10 @@
 use crate::tests::order::{rows, statements, walked};
 use crate::tests::parts::{ForOrder, Written, for_loop};
 use crate::tests::trees::{empty, function, load, place, returning, row, statement};
-use crate::{
+use rc_names::{CloneIn, ScopeId};
+use rc_tree::{
     PrunedReactiveScopeBlock, ReactiveScopeBlock, ReactiveSwitchCase, ReactiveTerminalStatement,
 };
-use rc_names::{CloneIn, ScopeId};
 use std::test::Fail;
 
 #[test]

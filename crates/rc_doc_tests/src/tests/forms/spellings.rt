@@ -2,8 +2,7 @@
 
 use super::changes::is_document_with;
 use super::document::DOCUMENT;
-use crate::status::Status;
-use crate::tests::tree;
+use rc_doc::read_doc;
 use serde_json::Value;
 use std::alloc::Global;
 use std::test::Fail;
@@ -101,8 +100,9 @@ fn no_key_of_a_block_stands_twice(rt: HostRuntime) -> Result<(), Fail> {
 }
 
 #[test]
-fn the_program_takes_the_document(rt: HostRuntime) -> Result<(), Fail> {
-    let (status, _) = tree(rt.alloc(), DOCUMENT.as_bytes())?;
-    assert_eq!(rt; status, Status::Refused);
+fn the_document_with_every_form_is_read(rt: HostRuntime) -> Result<(), Fail> {
+    let alloc = rt.alloc();
+    let document = Value::from_str(alloc, DOCUMENT)?;
+    assert!(rt; read_doc(alloc, &document)?.is_some());
     Ok(())
 }

@@ -1,12 +1,12 @@
 //! Small parts of trees, and the visits of their walks.
 
 use crate::tests::recorder::{Part, Visit};
-use crate::{
+use rc_hir::{Effect, InstructionValue, Place};
+use rc_names::{Boxed, EvaluationOrder, IdentifierId, List};
+use rc_tree::{
     ReactiveBlock, ReactiveFunction, ReactiveInstruction, ReactiveStatement, ReactiveTerminal,
     ReactiveTerminalStatement, ReactiveValue,
 };
-use rc_hir::{Effect, InstructionValue, Place};
-use rc_names::{Boxed, EvaluationOrder, IdentifierId, List};
 use std::alloc::{AllocError, Global};
 
 /// A place that is read.

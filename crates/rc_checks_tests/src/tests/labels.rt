@@ -1,12 +1,12 @@
 //! Unused labels, on small trees.
 
 use crate::labels::UnusedLabels;
-use crate::prune_unused_labels;
 use crate::tests::outline::{Line, outline};
 use crate::tests::trees::{
     block, both, break_to, continue_to, function, if_then, label_around, only, return_at, row,
     scope_around, switch_around, while_around,
 };
+use rc_checks::prune_unused_labels;
 use rc_hir::{Environment, Fault};
 use rc_names::{KeySet, List};
 use rc_tree::ReactiveTerminalTargetKind::{Implicit, Labeled};

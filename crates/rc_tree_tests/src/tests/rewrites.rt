@@ -1,6 +1,5 @@
 //! The rewriting walk: its order over every part of a tree, and what stands in place of statements.
 
-use crate::rewrite::traverse_terminal;
 use crate::tests::order::{as_body, long, operands, rows, statements, walked};
 use crate::tests::parts::{ForOrder, Written, for_loop};
 use crate::tests::recorder::{Part, Visit};
@@ -8,12 +7,13 @@ use crate::tests::rewriter::{Rewriter, answer, rewritten};
 use crate::tests::trees::{
     empty, function, load, load_visits, note, place, returning, returning_visits, row, statement,
 };
-use crate::{
+use rc_hir::{Environment, Fault, TableName};
+use rc_names::{BlockId, Boxed, EvaluationOrder, List, ScopeId};
+use rc_tree::rewrite::traverse_terminal;
+use rc_tree::{
     ReactiveBlock, ReactiveInstruction, ReactiveLabel, ReactiveScopeBlock, ReactiveStatement,
     ReactiveTerminal, ReactiveTerminalStatement, Transformed,
 };
-use rc_hir::{Environment, Fault, TableName};
-use rc_names::{BlockId, Boxed, EvaluationOrder, List, ScopeId};
 use std::alloc::{AllocError, Global};
 use std::test::Fail;
 

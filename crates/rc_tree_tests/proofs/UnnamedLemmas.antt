@@ -8,7 +8,7 @@ use Rattle.rc_tree.specs.Outcome.{Gives}
 use Rattle.rc_tree.specs.Run.{Run, Spent, Failed, Done, bind, after, last, settled}
 use Rattle.rc_tree.specs.Rewrite.{block_to, terminal_at, rewrite_statement}
 use Rattle.rc_tree.specs.RewriteSteps.{RewriteSteps}
-use Rattle.rc_tree.specs.Unnamed.{unnamed, without_name, TakesOut, GivesWay}
+use Rattle.rc_tree_tests.specs.Unnamed.{unnamed, without_name, TakesOut, GivesWay}
 use Rattle.rc_tree.specs.declared.statement.ReactiveBlock.{ReactiveBlock}
 use Rattle.rc_tree.specs.declared.statement.ReactiveStatement.{ReactiveStatement, size-ReactiveStatement}
 use Rattle.rc_tree.specs.declared.statement.ReactiveStatement.TheVariants as stmt

@@ -1,9 +1,9 @@
 //! The check of membership: which operands are outside, and which of them is named.
 
-use crate::assert_scope_instructions_within_scopes;
 use crate::tests::small_trees::{
     empty, function, if_taken, labeled, load, only, pruned_scope, return_of, scope,
 };
+use rc_checks::assert_scope_instructions_within_scopes;
 use rc_hir::{Environment, Fault, Identifier, MutableRange, ReactiveScope, TableName};
 use rc_names::{DeclarationId, EvaluationOrder, List, ScopeId, TypeId};
 use rc_tree::{ReactiveBlock, ReactiveStatement};
