@@ -1,7 +1,7 @@
 //! Emptying the blocks of a level of statements, before the level is let go.
 //!
-//! Each call moves what stands in the blocks of its part to the end of the list `inside`, as far as there is memory. What is
-//! left is no deeper than it was, and what is taken is less deep than the part, so letting go comes to an end.
+//! Each call moves what stands in the blocks of its part to the end of the list `inside`, as far as there is memory. The
+//! part is then no deeper than it was, and what was taken is less deep than the part: so letting go comes to an end.
 
 ghost use Rattle.std.specs.Prelude.{◌≤◌, ◌<◌, ℕ};
 ghost use denote.Param.Weighed.{most};
@@ -9,8 +9,8 @@ ghost use Rattle.rc_tree.specs.declared.scope.PrunedReactiveScopeBlock.{size-Pru
 ghost use Rattle.rc_tree.specs.declared.scope.ReactiveScopeBlock.{size-ReactiveScopeBlock};
 ghost use Rattle.rc_tree.specs.declared.statement.ReactiveBlock.{size-ReactiveBlock};
 ghost use Rattle.rc_tree.specs.declared.statement.ReactiveStatement.{size-ReactiveStatement};
-ghost use Rattle.rc_tree.specs.declared.terminal.ReactiveTerminal.{size-ReactiveTerminal};
 ghost use Rattle.rc_tree.specs.declared.terminal.ReactiveSwitchCase.{size-ReactiveSwitchCase};
+ghost use Rattle.rc_tree.specs.declared.terminal.ReactiveTerminal.{size-ReactiveTerminal};
 
 use crate::scope::{PrunedReactiveScopeBlock, ReactiveScopeBlock};
 use crate::statement::{ReactiveBlock, ReactiveStatement};
