@@ -1,6 +1,6 @@
 //! A list.
 
-ghost use Rattle.std.specs.Prelude.{◌≡◌, [], ◌∷◌, ◌++◌, ◌↔◌, length, slice_get, reverse, IsTrue, IsNone, IfOk, IfSome, IfNone, OnOk, OnErr};
+ghost use Rattle.std.specs.Prelude.{◌≡◌, [], ◌∷◌, ◌++◌, ◌↔◌, length, slice_get, reverse, IsTrue, IsOk, IsNone, IfOk, IfSome, IfNone, OnOk, OnErr};
 ghost use Rattle.std.specs.Borrow.{sem};
 ghost use Rattle.std.specs.Option.{option_copied, option_copied_mut};
 ghost use Rattle.rc_names.specs.Lends.list.{lends_item};
@@ -91,6 +91,22 @@ impl<T> List<T> {
         List {
             items: mem::replace(&mut self.items, Vec::new(alloc)),
         }
+    }
+
+    /// Takes all entries of another list to the end. The only error is want of memory, after which nothing changed; an
+    /// empty list needs none.
+    pub fn take_from(&mut self, more: &mut List<T>) -> Result<(), AllocError>
+        ensures ok { OnOk result (self.new ≡ self.old ++ more.old) }
+        ensures left { OnOk result (more.new ≡ []) }
+        ensures err { OnErr result (self.new ≡ self.old) }
+        ensures kept { OnErr result (more.new ≡ more.old) }
+        ensures no_memory { self.old ≡ [] → IsOk result }
+    {
+        if self.items.is_empty() {
+            mem::swap(&mut self.items, &mut more.items);
+            return Ok(());
+        }
+        self.items.append(&mut more.items)
     }
 
     /// The entries, for a loop over them.

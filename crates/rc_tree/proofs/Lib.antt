@@ -16,3 +16,4 @@ pub mod StillKeepsLemmas
 pub mod StatementsKeepLemmas
 pub mod RebuiltFaultsLemmas
 pub mod StatementsFollowLemmas
+pub mod DropLemmas

@@ -2,6 +2,7 @@
 #![tactic(auto)]
 
 mod copies;
+mod drops;
 mod function;
 mod kind;
 pub mod read;
