@@ -12,6 +12,7 @@ pub mod StatementsNoDeeper
 pub mod Looks
 pub mod Unnamed
 pub mod Rewrite
+pub mod RewriteInPlace
 pub mod RewriteKeeps
 pub mod Rebuilt
 pub mod TreeNames
