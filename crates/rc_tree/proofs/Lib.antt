@@ -1,7 +1,9 @@
+pub mod PlaceLemmas
 pub mod RewriteRunLemmas
 pub mod RewriteKnownLemmas
 pub mod RewriteValueLemmas
 pub mod RewriteStatementKnownLemmas
+pub mod RewriteInPlaceLemmas
 pub mod RewriteStatementLemmas
 pub mod RewriteKeepLemmas
 pub mod OutcomeLemmas

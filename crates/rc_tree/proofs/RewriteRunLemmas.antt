@@ -1,12 +1,13 @@
 -- How bounded computations join: a first one that answers, one that fails, a step before and after, a list in turn.
-use Rattle.std.proofs.Common.{◌≡◌, ◌⊎◌, ◌≤◌, inl, inr, ℕ, max, List, [], ◌∷◌, ◌++◌, reverse, Result, Ok, Err, refl, sym, ap, ◌∙◌, subst, arith}
+use Rattle.std.proofs.Common.{◌≡◌, ◌⊎◌, ◌≤◌, inl, inr, ℕ, max, List, [], ◌∷◌, ◌++◌, reverse, take, drop, slice_get, slice_set, length, Some, ◌+◌, suc, add-one, Result, Ok, Err, refl, sym, ap, ◌∙◌, subst, arith}
 use denote.Param.Weighed.{most, most-append}
 use Rattle.std.proofs.lemmas.List.{reverse-append}
 use Rattle.rc_hir.specs.declared.fault.Fault.{Fault}
 use Rattle.rc_hir.specs.declared.fault.Fault.TheVariants.{NoMemory}
 use Rattle.rc_tree.proofs.OutcomeLemmas.{gives_next, gives_fault}
+use Rattle.rc_tree.proofs.PlaceLemmas.{ends_with, at_place, take_set, drop_set, taken_all}
 use Rattle.rc_tree.specs.Outcome.{Gives}
-use Rattle.rc_tree.specs.Run.{Run, Spent, Failed, Done, bind, after, last, Meets, Known, settled, Hook, Part, Into, in_turn}
+use Rattle.rc_tree.specs.Run.{Run, Spent, Failed, Done, bind, after, last, Meets, Known, settled, Hook, Part, Into, in_turn, kept_into}
 use Rattle.rc_tree.specs.Rewrite.{by_answer}
 use Rattle.rc_tree.specs.declared.visitor.Enter.{Enter}
 use Rattle.rc_tree.specs.declared.visitor.Enter.TheVariants.{Inside}
@@ -140,10 +141,6 @@ module _ {W X : Type 0} (into : Into W X) (whole : Run (Unit {0} × (W × List X
       by (inl e) = subst (λ f. Meets f (Ok tt) (w, done)) (sym e) tt
       by (inr e) = subst (λ f. Meets f (Ok tt) (w, done)) (sym e) (inr (refl, refl))
 
--- the entries that are left are no deeper than all
-pub most_pop : {X : Type 0} (μ : X → ℕ) (left rest : List X) (x : X) → left ≡ rest ++ x ∷ [] → (μ x ≤ most μ left) × (most μ rest ≤ most μ left)
-most_pop μ left rest x e = let k : most μ left ≡ max (most μ rest) (max (μ x) 0) = ap (most μ) e ∙ most-append μ rest (x ∷ []) in (omega arith, omega arith)
-
 pub most-reverse : {X : Type 0} (μ : X → ℕ) (xs : List X) → most μ (reverse xs) ≡ most μ xs
 most-reverse μ [] = refl
 most-reverse μ (x ∷ xs) = let k : most μ (reverse (x ∷ xs)) ≡ max (most μ (reverse xs)) (max (μ x) 0) = ap (most μ) (reverse-append (x ∷ []) xs) ∙ most-append μ (reverse xs) (x ∷ []) in omega (arith, k, most-reverse μ xs)
@@ -151,6 +148,60 @@ most-reverse μ (x ∷ xs) = let k : most μ (reverse (x ∷ xs)) ≡ max (most 
 pub turned_twice : {X : Type 0} (xs : List X) → reverse (reverse xs) ≡ xs
 turned_twice [] = refl
 turned_twice (x ∷ xs) = ap reverse (reverse-append (x ∷ []) xs) ∙ reverse-append (reverse xs) (x ∷ []) ∙ ap (λ l. x ∷ l) (turned_twice xs)
+
+-- the loop over a list whose last entry is walked first, and taken off then
+module _ {W X : Type 0} (into : Into W X) (whole : Run (Unit {0} × (W × List X))) (w : W) (done left : List X)
+    (so : So into whole (in_turn into w done (reverse left))) (full : left ≡ [] → ⊥) where
+  -- the last entry was walked
+  pub so_next_last : (w1 : W) (done1 left1 : List X) → ((rest : List X) (x : X) → left ≡ rest ++ x ∷ [] → left1 ≡ rest)
+      → ((rest : List X) (x : X) → left ≡ rest ++ x ∷ [] → Meets (into w done x) (Ok tt) (w1, done1))
+      → So into whole (in_turn into w1 done1 (reverse left1))
+  so_next_last w1 done1 left1 off walked =
+      let p = ends_with left full in
+      subst (λ l. So into whole (in_turn into w1 done1 (reverse l))) (sym (off p.0 p.1 p.2))
+      (so_next into whole w done left p.0 p.1 w1 done1 so p.2 (walked p.0 p.1 p.2))
+
+  -- its walk failed
+  pub so_fault_last : (fault : Fault) (s t : W × List X)
+      → ((rest : List X) (x : X) → left ≡ rest ++ x ∷ [] → Meets (into w done x) (Err fault) s) → Meets whole (Err fault) t
+  so_fault_last fault s t walked =
+      let p = ends_with left full in
+      so_fault into whole w done left p.0 p.1 fault s t so p.2 (walked p.0 p.1 p.2)
+
+-- the loop over a list whose entries are walked in their places
+module _ {W X : Type 0} (part : Part W X) (whole : Run (Unit {0} × (W × List X))) where
+  abbrev So_at : W → List X → ℕ → Type 0
+  So_at w xs i = So (kept_into part) whole (in_turn (kept_into part) w (take i xs) (drop i xs))
+
+  -- what is left at a place is the entry there, and what is left behind it
+  opened : (w : W) (xs : List X) (i : ℕ) (x : X) → So_at w xs i → slice_get xs i ≡ Some x
+      → So (kept_into part) whole (in_turn (kept_into part) w (take i xs) (x ∷ drop (suc i) xs))
+  opened w xs i x so e =
+      subst (λ l. So (kept_into part) whole (in_turn (kept_into part) w (take i xs) l)) (at_place xs i x e) so
+
+  -- an entry was walked
+  pub place_next : (w : W) (xs : List X) (i : ℕ) (x : X) (w1 : W) (y : X) → So_at w xs i → slice_get xs i ≡ Some x
+      → Meets (part w x) (Ok tt) (w1, y) → So_at w1 (slice_set xs i y) (i + 1)
+  place_next w xs i x w1 y so e h =
+      rw (add-one, take_set xs i x y e, drop_set xs i y)
+      (so_step (kept_into part) whole w (take i xs) x (drop (suc i) xs) w1 (take i xs ++ y ∷ []) (opened w xs i x so e)
+      (meets_made (part w x) (λ z. take i xs ++ z ∷ []) (Ok tt) w1 y h))
+
+  -- an entry's walk failed
+  pub place_fault : (w : W) (xs : List X) (i : ℕ) (x : X) (fault : Fault) (s : W × X) (t : W × List X) → So_at w xs i
+      → slice_get xs i ≡ Some x → Meets (part w x) (Err fault) s → Meets whole (Err fault) t
+  place_fault w xs i x fault s t so e h =
+      so_stop (kept_into part) whole w (take i xs) x (drop (suc i) xs) fault (s.0, take i xs) t (opened w xs i x so e)
+      (meets_fault (part w x) (λ r. Done (tt, (r.1.0, take i xs ++ r.1.1 ∷ []))) fault s (s.0, take i xs) h)
+
+  -- no entry is left
+  pub place_end : (w : W) (xs : List X) (n : ℕ) → So_at w xs n → length xs ≤ n → Meets whole (Ok tt) (w, xs)
+  place_end w xs n so h =
+      let p = taken_all xs n h in
+      let behind : So (kept_into part) whole (in_turn (kept_into part) w (take n xs) []) =
+      subst (λ l. So (kept_into part) whole (in_turn (kept_into part) w (take n xs) l)) p.1 so in
+      so_end (kept_into part) whole w xs []
+      (subst (λ l. So (kept_into part) whole (in_turn (kept_into part) w l [])) p.0 behind) refl
 
 -- with these `search` follows visits
 pub ruleset visiting = (gives_next, gives_fault)

@@ -1,5 +1,5 @@
 -- The rewriting walk of blocks and statements: by its first step to any depth, and as a step since its depth is enough.
-use Rattle.std.proofs.Common.{◌≡◌, inl, inr, arith, ℕ, zero, suc, List, [], ◌++◌, Option, Some, Result, Ok, Err, refl, sym, subst}
+use Rattle.std.proofs.Common.{◌≡◌, inl, inr, arith, ℕ, zero, suc, List, [], Option, Some, Result, Ok, Err, refl, sym, subst}
 use Rattle.rc_hir.specs.declared.fault.Fault.{Fault}
 use Rattle.rc_hir.specs.declared.function.HirFunction.{HirFunction}
 use Rattle.rc_names.specs.declared.numbers.EvaluationOrder.{EvaluationOrder}
@@ -7,7 +7,7 @@ use Rattle.rc_tree.proofs.RewriteRunLemmas.{gives_settled, meets_made}
 use Rattle.rc_tree.proofs.RewriteStatementKnownLemmas.{known_block_to, known_block_inside, known_statement, known_scope_inside, known_pruned_scope_inside, known_terminal_inside}
 use Rattle.rc_tree.specs.Outcome.{Gives, perhaps}
 use Rattle.rc_tree.specs.Run.{Done, bind, after, Meets, Hook, Part, in_turn, kept_into, perhaps_part, perhaps_hook}
-use Rattle.rc_tree.specs.Rewrite.{by_answer, in_place, case_at, cases_at, parts_at, terminal_inside, terminal_at, scope_inside, scope_at, pruned_scope_inside, pruned_scope_at, statement_at, into_at, statements_at, block_inside, block_to, rewrite_block, rewrite_value, inside_block, inside_scope, inside_pruned_scope, inside_terminal, rewrite_statement}
+use Rattle.rc_tree.specs.Rewrite.{by_answer, case_at, cases_at, parts_at, terminal_inside, terminal_at, scope_inside, scope_at, pruned_scope_inside, pruned_scope_at, statement_at, into_at, statements_at, block_inside, block_to, rewrite_block, rewrite_value, inside_block, inside_scope, inside_pruned_scope, inside_terminal, rewrite_statement}
 use Rattle.rc_tree.specs.RewriteSteps.{RewriteSteps, EntersNoDeeper}
 use Rattle.rc_tree.specs.declared.scope.PrunedReactiveScopeBlock.{PrunedReactiveScopeBlock, size-PrunedReactiveScopeBlock}
 use Rattle.rc_tree.specs.declared.scope.ReactiveScopeBlock.{ReactiveScopeBlock, size-ReactiveScopeBlock}
@@ -58,12 +58,6 @@ module _ {T S : Type 0} (v : RewriteSteps (T × S)) (functions : T → List HirF
       → Meets (pruned_scope_at v functions inner w x) r t
   unfolding pruned_scope_at
   meets_pruned_scope_at inner w x r t h = h
-
-  pub meets_into_at : (inner : Part (T × S) ReactiveBlock) (w : T × S) (done : List ReactiveStatement) (x : ReactiveStatement) (r : Result (Unit {0}) Fault) (t : (T × S) × List ReactiveStatement)
-      → Meets (bind (statement_at v functions inner w x) (λ a. Done (tt, (a.1.0, done ++ in_place a.0 a.1.1)))) r t
-      → Meets (into_at v functions inner w done x) r t
-  unfolding into_at
-  meets_into_at inner w done x r t h = h
 
   pub meets_case_at : (inner : Part (T × S) ReactiveBlock) (id : EvaluationOrder) (w : T × S) (x : ReactiveSwitchCase) (r : Result (Unit {0}) Fault) (t : (T × S) × ReactiveSwitchCase)
       → Meets (after (perhaps (v.visit_place id) (out-ReactiveSwitchCase x).test w) (λ a. bind (perhaps_part inner a.1 (out-ReactiveSwitchCase x).block) (λ b.
@@ -140,4 +134,4 @@ module _ {T S : Type 0} (v : RewriteSteps (T × S)) (functions : T → List HirF
         (known_statement v functions n (block_to v functions n) (known_block_to v functions enters n) enters w x (omega arith)) (h n)
 
 -- with these `search` follows the rewriting walk of a statement through its calls
-pub ruleset rewriting_statements = (gives_perhaps_hook, meets_block_to, meets_terminal_at, meets_scope_at, meets_pruned_scope_at, meets_into_at, meets_case_at, gives_rewrite_block, gives_inside_block, gives_inside_scope, gives_inside_pruned_scope, gives_inside_terminal, gives_rewrite_statement)
+pub ruleset rewriting_statements = (gives_perhaps_hook, meets_block_to, meets_terminal_at, meets_scope_at, meets_pruned_scope_at, meets_case_at, gives_rewrite_block, gives_inside_block, gives_inside_scope, gives_inside_pruned_scope, gives_inside_terminal, gives_rewrite_statement)

@@ -10,6 +10,7 @@ pub mod NoDeeper
 pub mod StatementSteps
 pub mod StatementsNoDeeper
 pub mod Rewrite
+pub mod RewriteInPlace
 pub mod RewriteKeeps
 pub mod Rebuilt
 pub mod TreeNames

@@ -1,10 +1,11 @@
 //! The rewriting walk of blocks, statements and scopes.
 #![tactic(auto, using(crate::proofs::RewriteRunLemmas::rewriting, crate::proofs::RewriteStatementLemmas::rewriting_statements))]
 
-ghost use Rattle.std.specs.Prelude.{◌≡◌, ◌++◌, ◌∷◌, ℕ, [], IsOk, OnOk};
+ghost use Rattle.std.specs.Prelude.{◌≡◌, ◌++◌, ◌∷◌, ℕ, [], IsOk, List as Entries, OnOk};
 ghost use Rattle.rc_tree.specs.Outcome.{Gives};
-ghost use Rattle.rc_tree.specs.Run.{Meets, kept_into, perhaps_hook, perhaps_part};
-ghost use Rattle.rc_tree.specs.Rewrite.{block_inside, block_to, case_at, cases_at, in_place, inside_block, inside_pruned_scope, inside_scope, inside_terminal, into_at, parts_at, pruned_scope_at, pruned_scope_inside, rewrite_block, rewrite_statement, rewrite_value, scope_at, scope_inside, statement_at, statements_at, terminal_at, terminal_inside};
+ghost use Rattle.rc_tree.specs.Run.{Meets, perhaps_hook, perhaps_part};
+ghost use Rattle.rc_tree.specs.Rewrite.{block_inside, block_to, case_at, cases_at, in_place, inside_block, inside_pruned_scope, inside_scope, inside_terminal, into_at, parts_at, pruned_scope_at, pruned_scope_inside, rewrite_block, rewrite_statement, rewrite_value, scope_at, scope_inside, statements_at, terminal_at, terminal_inside};
+ghost use Rattle.rc_tree.specs.RewriteInPlace.{answer_at, held_at, put_at};
 
 use crate::rewrite::value::{walk_instruction, walk_value};
 use crate::rewrite::visits::visit_place_if;
@@ -81,7 +82,8 @@ pub fn transform_stmt<T: ReactiveFunctionTransform>(
 ) -> Result<Transformed<ReactiveStatement>, Fault>
     ensures { Gives (rewrite_statement T.steps T.functions (transform.old, state.old) stmt.old) result ((transform.new, state.new), stmt.new) }
 {
-    walk_statement(alloc, transform, stmt, state)
+    walk_held(alloc, transform, stmt, state)?;
+    ask(transform, stmt, state)
 }
 
 /// Walks a block.
@@ -129,8 +131,9 @@ fn walk_statements<T: ReactiveFunctionTransform>(
 }
 
 /// Walks statements, each of them moved and none copied; no answer of a hook is walked.
+///
+/// A statement that is being walked stays in its list, so that the walk's own frames hold references alone.
 #[cycle(rewrite_tree)]
-#[tactic(auto, using(crate::proofs::RewriteRunLemmas::rewriting_lists))]
 fn walk_list<T: ReactiveFunctionTransform>(
     alloc: Global,
     transform: &mut T,
@@ -141,56 +144,49 @@ fn walk_list<T: ReactiveFunctionTransform>(
 {
     let mut left = statements.take();
     left.reverse();
-    while let Some(statement) = left.pop() {
-        walk_statement_into(alloc, transform, statement, statements, state)?;
+    'statement: while !left.is_empty() {
+        walk_last_into(alloc, transform, &mut left, statements, state)?;
     }
     Ok(())
 }
 
-/// Walks a statement and puts what stands in its place at the end of what is done.
+/// Walks the last of the statements that are left, and puts what stands in its place at the end of what is done.
 #[cycle(rewrite_tree)]
-fn walk_statement_into<T: ReactiveFunctionTransform>(
+fn walk_last_into<T: ReactiveFunctionTransform>(
     alloc: Global,
     transform: &mut T,
-    mut statement: ReactiveStatement,
+    left: &mut List<ReactiveStatement>,
     done: &mut List<ReactiveStatement>,
     state: &mut T::State,
 ) -> Result<(), Fault>
-    ensures { (n : ℕ) → Meets (into_at T.steps T.functions (block_to T.steps T.functions n) (transform.old, state.old) done.old statement) result ((transform.new, state.new), done.new) }
+    ensures left { (rest : Entries ReactiveStatement) → (x : ReactiveStatement) → left.old ≡ rest ++ x ∷ [] → OnOk result (left.new ≡ rest) }
+    ensures done { (n : ℕ) → (rest : Entries ReactiveStatement) → (x : ReactiveStatement) → left.old ≡ rest ++ x ∷ [] → Meets (into_at T.steps T.functions (block_to T.steps T.functions n) (transform.old, state.old) done.old x) result ((transform.new, state.new), done.new) }
 {
-    let answer = walk_statement(alloc, transform, &mut statement, state)?;
-    put(done, statement, answer)?;
-    Ok(())
+    let Some(last) = left.len().checked_sub(1) else {
+        return Ok(());
+    };
+    let Some(statement) = left.get_mut(last) else {
+        return Ok(());
+    };
+    walk_held(alloc, transform, statement, state)?;
+    put_last(transform, left, done, state)
 }
 
-/// Walks a statement and asks its `transform_` hook, whatever the depth.
+/// Walks what a statement holds, whatever the depth.
 #[cycle(rewrite_tree)]
-fn walk_statement<T: ReactiveFunctionTransform>(
+fn walk_held<T: ReactiveFunctionTransform>(
     alloc: Global,
     transform: &mut T,
     statement: &mut ReactiveStatement,
     state: &mut T::State,
-) -> Result<Transformed<ReactiveStatement>, Fault>
-    ensures { (n : ℕ) → Meets (statement_at T.steps T.functions (block_to T.steps T.functions n) (transform.old, state.old) statement.old) result ((transform.new, state.new), statement.new) }
+) -> Result<(), Fault>
+    ensures { (n : ℕ) → Meets (held_at T.steps T.functions (block_to T.steps T.functions n) (transform.old, state.old) statement.old) result ((transform.new, state.new), statement.new) }
 {
     match statement {
-        ReactiveStatement::Instruction(row) => {
-            walk_instruction(alloc, transform, row, state)?;
-            transform.transform_instruction(row, state)
-        }
-        ReactiveStatement::Terminal(stmt) => {
-            let stmt = stmt.get_mut();
-            walk_terminal(alloc, transform, stmt, state)?;
-            transform.transform_terminal(stmt, state)
-        }
-        ReactiveStatement::Scope(scope) => {
-            walk_scope(alloc, transform, scope, state)?;
-            transform.transform_scope(scope, state)
-        }
-        ReactiveStatement::PrunedScope(scope) => {
-            walk_pruned_scope(alloc, transform, scope, state)?;
-            transform.transform_pruned_scope(scope, state)
-        }
+        ReactiveStatement::Instruction(row) => walk_instruction(alloc, transform, row, state),
+        ReactiveStatement::Terminal(stmt) => walk_terminal(alloc, transform, stmt.get_mut(), state),
+        ReactiveStatement::Scope(scope) => walk_scope(alloc, transform, scope, state),
+        ReactiveStatement::PrunedScope(scope) => walk_pruned_scope(alloc, transform, scope, state),
     }
 }
 
@@ -398,9 +394,8 @@ fn walk_parts<T: ReactiveFunctionTransform>(
     }
 }
 
-/// Walks the cases of a switch, each of them moved and none copied.
+/// Walks the cases of a switch, each in its place.
 #[cycle(rewrite_tree)]
-#[tactic(auto, using(crate::proofs::RewriteRunLemmas::rewriting_lists))]
 fn walk_cases<T: ReactiveFunctionTransform>(
     alloc: Global,
     transform: &mut T,
@@ -410,28 +405,12 @@ fn walk_cases<T: ReactiveFunctionTransform>(
 ) -> Result<(), Fault>
     ensures { (n : ℕ) → Meets (cases_at T.steps T.functions (block_to T.steps T.functions n) id (transform.old, state.old) cases.old) result ((transform.new, state.new), cases.new) }
 {
-    let mut left = cases.take();
-    left.reverse();
-    while let Some(case) = left.pop() {
-        walk_case_into(alloc, transform, id, case, cases, state)?;
+    for i in 0..cases.len() {
+        let Some(case) = cases.get_mut(i) else {
+            return Ok(());
+        };
+        walk_case(alloc, transform, id, case, state)?;
     }
-    Ok(())
-}
-
-/// Walks a case of a switch and puts it at the end of those that are done.
-#[cycle(rewrite_tree)]
-fn walk_case_into<T: ReactiveFunctionTransform>(
-    alloc: Global,
-    transform: &mut T,
-    id: EvaluationOrder,
-    mut case: ReactiveSwitchCase,
-    done: &mut List<ReactiveSwitchCase>,
-    state: &mut T::State,
-) -> Result<(), Fault>
-    ensures { (n : ℕ) → Meets (kept_into (case_at T.steps T.functions (block_to T.steps T.functions n) id) (transform.old, state.old) done.old case) result ((transform.new, state.new), done.new) }
-{
-    walk_case(alloc, transform, id, &mut case, state)?;
-    done.push(case)?;
     Ok(())
 }
 
@@ -479,6 +458,55 @@ fn walk_value_if<T: ReactiveFunctionTransform>(
     match value {
         Some(value) => walk_value(alloc, transform, id, value, state),
         None => Ok(()),
+    }
+}
+
+/// Asks what stands in place of the last statement, and puts it at the end of what is done.
+#[inline(never)]
+fn put_last<T: ReactiveFunctionTransform>(
+    transform: &mut T,
+    left: &mut List<ReactiveStatement>,
+    done: &mut List<ReactiveStatement>,
+    state: &mut T::State,
+) -> Result<(), Fault>
+    ensures left { (rest : Entries ReactiveStatement) → (x : ReactiveStatement) → left.old ≡ rest ++ x ∷ [] → left.new ≡ rest }
+    ensures done { (rest : Entries ReactiveStatement) → (x : ReactiveStatement) → left.old ≡ rest ++ x ∷ [] → Gives (put_at T.steps (transform.old, state.old) done.old x) result ((transform.new, state.new), done.new) }
+{
+    match left.pop() {
+        Some(statement) => put_asked(transform, statement, done, state),
+        None => Ok(()),
+    }
+}
+
+/// Asks what stands in place of a statement, and puts it at the end of what is done.
+#[tactic(auto, using(crate::proofs::RewriteRunLemmas::visiting))]
+fn put_asked<T: ReactiveFunctionTransform>(
+    transform: &mut T,
+    mut statement: ReactiveStatement,
+    done: &mut List<ReactiveStatement>,
+    state: &mut T::State,
+) -> Result<(), Fault>
+    ensures { Gives (put_at T.steps (transform.old, state.old) done.old statement) result ((transform.new, state.new), done.new) }
+{
+    let answer = ask(transform, &mut statement, state)?;
+    put(done, statement, answer)?;
+    Ok(())
+}
+
+/// Asks the `transform_` hook of a statement what stands in its place.
+#[tactic(auto, using(crate::proofs::RewriteRunLemmas::visiting))]
+fn ask<T: ReactiveFunctionTransform>(
+    transform: &mut T,
+    statement: &mut ReactiveStatement,
+    state: &mut T::State,
+) -> Result<Transformed<ReactiveStatement>, Fault>
+    ensures { Gives (answer_at T.steps (transform.old, state.old) statement.old) result ((transform.new, state.new), statement.new) }
+{
+    match statement {
+        ReactiveStatement::Instruction(row) => transform.transform_instruction(row, state),
+        ReactiveStatement::Terminal(stmt) => transform.transform_terminal(stmt.get_mut(), state),
+        ReactiveStatement::Scope(scope) => transform.transform_scope(scope, state),
+        ReactiveStatement::PrunedScope(scope) => transform.transform_pruned_scope(scope, state),
     }
 }
 

@@ -1,16 +1,22 @@
-use Rattle.std.proofs.Common.{◌≡◌, ◌∙◌, ◌++◌, inr, Ok, Err, refl, sym, ap, subst, arith}
+use Rattle.std.proofs.Common.{◌≡◌, ◌≤◌, ◌+◌, ◌∙◌, ◌++◌, ◌∷◌, [], List, length, slice_set, inr, Ok, Err, refl, sym, ap, subst, arith, rules}
+use denote.Param.Weighed.{most}
 use Rattle.std.proofs.lemmas.Result.{err_from_is_err_and}
-use Rattle.rc_tree.proofs.RewriteRunLemmas.{meets_next, meets_fault, meets_inside, meets_inside_fault, so_next, most_pop, most-reverse, turned_twice}
-use Rattle.rc_tree.proofs.RewriteStatementLemmas.{meets_block_to, meets_terminal_at, meets_scope_at, meets_pruned_scope_at, meets_into_at, meets_For, both_same, cases_at-in_turn, statements_at-in_turn}
-use Rattle.rc_tree.specs.Run.{Done, Meets, kept_into, perhaps_hook}
-use Rattle.rc_tree.specs.Rewrite.{block_inside, block_to, case_at, cases_at, in_place, into_at, parts_at, pruned_scope_inside, rewrite_value, scope_inside, statement_at, statements_at, terminal_inside}
+use Rattle.rc_tree.proofs.PlaceLemmas.{ends_full, last_set, last_is, last_there, taken_off, length_set, past_end, most_place, any_case}
+use Rattle.rc_tree.proofs.RewriteRunLemmas.{meets_inside, meets_inside_fault, so_next_last, so_fault_last, so_end, place_next, place_fault, place_end, most-reverse, turned_twice}
+use Rattle.rc_tree.proofs.RewriteInPlaceLemmas.{meets_put, meets_put_fault}
+use Rattle.rc_tree.proofs.RewriteStatementLemmas.{meets_block_to, meets_terminal_at, meets_scope_at, meets_pruned_scope_at, meets_For, both_same, cases_at-in_turn, statements_at-in_turn}
+use Rattle.rc_tree.specs.Run.{Meets, perhaps_hook}
+use Rattle.rc_tree.specs.Rewrite.{block_inside, block_to, case_at, cases_at, into_at, parts_at, pruned_scope_inside, rewrite_value, scope_inside, statements_at, terminal_inside}
+use Rattle.rc_tree.specs.RewriteInPlace.{held_at}
+use Rattle.rc_tree.specs.declared.statement.ReactiveStatement.{ReactiveStatement}
 use Rattle.rc_tree.specs.declared.terminal.ReactiveTerminal.TheVariants as term
 use Rattle.rc_tree.proofs.statement.ReactiveStatement.TheLaws as statement
 use Rattle.rc_tree.proofs.terminal.ReactiveSwitchCase.TheLaws as switch_case
 use Rattle.rc_tree.proofs.rewrite.statement.+rewrite_tree.Goals as goal
 
-pub walk_list-loop-statement-init : goal.walk_list-loop-statement-init
-walk_list-loop-statement-init g t c = record {
+-- at first everything is left
+pub walk_list-statement-init : goal.walk_list-statement-init
+walk_list-statement-init g t c = record {
   no_deeper = rw (c.reverse.ensures, c.take-left.ensures.list) (omega (arith, most-reverse statement.the_size c.args.statements.now));
   so_far = λ n.
       let steps = g.T.ReactiveFunctionTransform.steps in
@@ -19,37 +25,181 @@ walk_list-loop-statement-init g t c = record {
       (inr (statements_at-in_turn steps functions (block_to steps functions n) (c.args.transform.now, c.args.state.now) c.args.statements.now));
 }
 
-pub walk_list-loop-statement-preserved : goal.walk_list-loop-statement-preserved
-walk_list-loop-statement-preserved g t c = record {
-  no_deeper = omega (arith, c.loop-statement.invariant.no_deeper, (most_pop statement.the_size c.loop-statement.left c.pop.new.self c.in-Some.statement c.in-Some.ensures.last).1);
+-- one statement less is left
+pub walk_list-statement-smaller : goal.walk_list-statement-smaller
+walk_list-statement-smaller g t c =
+    let full : c.statement.left ≡ [] → ⊥ = search rules in
+    (taken_off statement.the_size c.statement.left c.walk_last_into.new.left c.in_ok-walk_last_into.ensures.left full).0
+
+pub walk_list-statement-preserved : goal.walk_list-statement-preserved
+walk_list-statement-preserved g t c =
+    let full : c.statement.left ≡ [] → ⊥ = search rules in
+    record {
+      no_deeper = omega (
+        arith,
+        c.statement.invariant.no_deeper,
+        (taken_off statement.the_size c.statement.left c.walk_last_into.new.left c.in_ok-walk_last_into.ensures.left full).1,
+      );
+      so_far = λ n.
+          let steps = g.T.ReactiveFunctionTransform.steps in
+          let functions = g.T.ReactiveFunctionTransform.functions in
+          so_next_last (into_at steps functions (block_to steps functions n))
+          (statements_at steps functions (block_to steps functions n) (c.args.transform.now, c.args.state.now) c.args.statements.now)
+          (c.statement.transform, c.statement.state) c.statement.statements c.statement.left (c.statement.invariant.so_far n) full
+          (c.walk_last_into.new.transform, c.walk_last_into.new.state) c.walk_last_into.new.done c.walk_last_into.new.left
+          c.in_ok-walk_last_into.ensures.left (c.in_ok-walk_last_into.ensures.done n);
+    }
+
+-- nothing is left
+pub walk_list-returns : goal.walk_list-returns
+walk_list-returns g t c =
+    let none : c.statement.left ≡ [] = search rules in
+    λ n.
+    let steps = g.T.ReactiveFunctionTransform.steps in
+    let functions = g.T.ReactiveFunctionTransform.functions in
+    so_end (into_at steps functions (block_to steps functions n))
+    (statements_at steps functions (block_to steps functions n) (c.args.transform.now, c.args.state.now) c.args.statements.now)
+    (c.statement.transform, c.statement.state) c.statement.statements c.statement.left (c.statement.invariant.so_far n) none
+
+-- the last statement's walk fails
+pub walk_list-returns-in_err-walk_last_into : goal.walk_list-returns-in_err-walk_last_into
+walk_list-returns-in_err-walk_last_into g t c =
+    let full : c.statement.left ≡ [] → ⊥ = search rules in
+    λ n.
+    let steps = g.T.ReactiveFunctionTransform.steps in
+    let functions = g.T.ReactiveFunctionTransform.functions in
+    let p = err_from_is_err_and c.from_residual.result c.from_residual.ensures.1 in
+    rw (p.1, p.2) (so_fault_last (into_at steps functions (block_to steps functions n))
+    (statements_at steps functions (block_to steps functions n) (c.args.transform.now, c.args.state.now) c.args.statements.now)
+    (c.statement.transform, c.statement.state) c.statement.statements c.statement.left (c.statement.invariant.so_far n) full
+    c.in_err-walk_last_into.field-0.0 ((c.walk_last_into.new.transform, c.walk_last_into.new.state), c.walk_last_into.new.done)
+    ((c.walk_last_into.new.transform, c.walk_last_into.new.state), c.walk_last_into.new.done) (c.in_err-walk_last_into.ensures.done n))
+
+-- a list that ends with an entry isn't empty
+pub walk_last_into-returns-in_default : goal.walk_last_into-returns-in_default
+walk_last_into-returns-in_default g t c =
+    let bad : (rest : List ReactiveStatement) (x : ReactiveStatement) → c.args.left.now ≡ rest ++ x ∷ [] → ⊥ =
+    λ rest x e. c.in_default.ensures (let h = ends_full c.args.left.now rest x e in omega (arith, c.len.ensures, h)) in
+    record {
+      left = λ rest x e. absurd (bad rest x e);
+      done = λ n rest x e. absurd (bad rest x e);
+    }
+
+-- and its last entry is found
+pub walk_last_into-returns-in_default-get_mut : goal.walk_last_into-returns-in_default-get_mut
+walk_last_into-returns-in_default-get_mut g t c =
+    let at : c.in-Some.last + 1 ≡ length c.args.left.now = omega (arith, c.in-Some.ensures, c.len.ensures) in
+    let bad : (rest : List ReactiveStatement) (x : ReactiveStatement) → c.args.left.now ≡ rest ++ x ∷ [] → ⊥ =
+    λ rest x e. last_there c.args.left.now rest x c.in-Some.last e at c.in_default-get_mut.ensures.value in
+    record {
+      left = λ rest x e. absurd (bad rest x e);
+      done = λ n rest x e. absurd (bad rest x e);
+    }
+
+-- the walk of what the last statement holds fails
+pub walk_last_into-returns-in_err-walk_held : goal.walk_last_into-returns-in_err-walk_held
+walk_last_into-returns-in_err-walk_held g t c =
+    let steps = g.T.ReactiveFunctionTransform.steps in
+    let functions = g.T.ReactiveFunctionTransform.functions in
+    let fault = c.in_err-walk_held.field-0.0 in
+    let p = err_from_is_err_and c.from_residual.result c.from_residual.ensures.1 in
+    let at : c.in-Some.last + 1 ≡ length c.args.left.now = omega (arith, c.in-Some.ensures, c.len.ensures) in
+    record {
+      left = λ rest x e. rw p.1 tt;
+      done = λ n rest x e. rw (p.1, p.2) (meets_put_fault steps functions (block_to steps functions n) (c.args.transform.now, c.args.state.now) c.args.done.now x fault
+          ((c.walk_held.new.transform, c.walk_held.new.state), c.walk_held.new.statement) ((c.walk_held.new.transform, c.walk_held.new.state), c.args.done.now)
+          (subst (λ y. Meets (held_at steps functions (block_to steps functions n) (c.args.transform.now, c.args.state.now) y) (Err fault)
+          ((c.walk_held.new.transform, c.walk_held.new.state), c.walk_held.new.statement))
+          (sym (last_is c.args.left.now rest x c.in-Some-get_mut.statement.now c.in-Some.last e at c.in-Some-get_mut.ensures.value)) (c.in_err-walk_held.ensures n)));
+    }
+
+-- the walk of what the last statement holds, and then what stands in its place
+pub walk_last_into-returns : goal.walk_last_into-returns
+walk_last_into-returns g t c =
+    let steps = g.T.ReactiveFunctionTransform.steps in
+    let functions = g.T.ReactiveFunctionTransform.functions in
+    let x1 = c.walk_held.new.statement in
+    let at : c.in-Some.last + 1 ≡ length c.args.left.now = omega (arith, c.in-Some.ensures, c.len.ensures) in
+    record {
+      left = λ rest x e. any_case c.put_last.result (c.put_last.ensures.left rest x1 (last_set c.args.left.now rest x x1 c.in-Some.last e at));
+      done = λ n rest x e. meets_put steps functions (block_to steps functions n) (c.args.transform.now, c.args.state.now) (c.walk_held.new.transform, c.walk_held.new.state)
+          c.args.done.now x x1 c.put_last.result ((c.put_last.new.transform, c.put_last.new.state), c.put_last.new.done)
+          (subst (λ y. Meets (held_at steps functions (block_to steps functions n) (c.args.transform.now, c.args.state.now) y) (Ok tt)
+          ((c.walk_held.new.transform, c.walk_held.new.state), x1))
+          (sym (last_is c.args.left.now rest x c.in-Some-get_mut.statement.now c.in-Some.last e at c.in-Some-get_mut.ensures.value)) (c.in_ok-walk_held.ensures n))
+          (c.put_last.ensures.done rest x1 (last_set c.args.left.now rest x x1 c.in-Some.last e at));
+    }
+
+-- at first every case is left
+pub walk_cases-loop-i-init : goal.walk_cases-loop-i-init
+walk_cases-loop-i-init g t c = record {
+  as_long = refl;
+  no_deeper = omega arith;
   so_far = λ n.
       let steps = g.T.ReactiveFunctionTransform.steps in
       let functions = g.T.ReactiveFunctionTransform.functions in
-      so_next (into_at steps functions (block_to steps functions n)) (statements_at steps functions (block_to steps functions n) (c.args.transform.now, c.args.state.now) c.args.statements.now)
-      (c.loop-statement.transform, c.loop-statement.state) c.loop-statement.statements c.loop-statement.left c.pop.new.self c.in-Some.statement
-      (c.walk_statement_into.new.transform, c.walk_statement_into.new.state) c.walk_statement_into.new.done (c.loop-statement.invariant.so_far n) c.in-Some.ensures.last (c.in_ok-walk_statement_into.ensures n);
+      inr (cases_at-in_turn steps functions (block_to steps functions n) c.args.id (c.args.transform.now, c.args.state.now) c.args.cases.now);
 }
 
-pub walk_cases-loop-case-init : goal.walk_cases-loop-case-init
-walk_cases-loop-case-init g t c = record {
-  no_deeper = rw (c.reverse.ensures, c.take-left.ensures.list) (omega (arith, most-reverse switch_case.the_size c.args.cases.now));
+-- a case that is left is no deeper than all
+pub walk_cases-walk_case-requires : goal.walk_cases-walk_case-requires
+walk_cases-walk_case-requires g t c κs =
+    let h : switch_case.the_size c.in-Some.case.now ≤ most switch_case.the_size c.args.cases.now =
+    omega (
+      arith,
+      c.loop-i.invariant.no_deeper,
+      (most_place switch_case.the_size c.loop-i.cases c.loop-i.i c.in-Some.case.now c.in-Some.case.now (sym c.in-Some.ensures.value)).0,
+    ) in
+    search (rules, h)
+
+pub walk_cases-loop-i-preserved : goal.walk_cases-loop-i-preserved
+walk_cases-loop-i-preserved g t c = record {
+  as_long = length_set c.loop-i.cases c.loop-i.i c.walk_case.new.case ∙ c.loop-i.invariant.as_long;
+  no_deeper = omega (
+    arith,
+    c.loop-i.invariant.no_deeper,
+    (most_place switch_case.the_size c.loop-i.cases c.loop-i.i c.in-Some.case.now c.walk_case.new.case (sym c.in-Some.ensures.value)).1,
+  );
   so_far = λ n.
       let steps = g.T.ReactiveFunctionTransform.steps in
       let functions = g.T.ReactiveFunctionTransform.functions in
-      rw (c.reverse.ensures, c.take-left.ensures.list, c.take-left.ensures.left, turned_twice c.args.cases.now)
-      (inr (cases_at-in_turn steps functions (block_to steps functions n) c.args.id (c.args.transform.now, c.args.state.now) c.args.cases.now));
+      place_next (case_at steps functions (block_to steps functions n) c.args.id)
+      (cases_at steps functions (block_to steps functions n) c.args.id (c.args.transform.now, c.args.state.now) c.args.cases.now)
+      (c.loop-i.transform, c.loop-i.state) c.loop-i.cases c.loop-i.i c.in-Some.case.now (c.walk_case.new.transform, c.walk_case.new.state) c.walk_case.new.case
+      (c.loop-i.invariant.so_far n) (sym c.in-Some.ensures.value) (c.in_ok-walk_case.ensures n);
 }
 
-pub walk_cases-loop-case-preserved : goal.walk_cases-loop-case-preserved
-walk_cases-loop-case-preserved g t c = record {
-  no_deeper = omega (arith, c.loop-case.invariant.no_deeper, (most_pop switch_case.the_size c.loop-case.left c.pop.new.self c.in-Some.case c.in-Some.ensures.last).1);
-  so_far = λ n.
-      let steps = g.T.ReactiveFunctionTransform.steps in
-      let functions = g.T.ReactiveFunctionTransform.functions in
-      so_next (kept_into (case_at steps functions (block_to steps functions n) c.args.id)) (cases_at steps functions (block_to steps functions n) c.args.id (c.args.transform.now, c.args.state.now) c.args.cases.now)
-      (c.loop-case.transform, c.loop-case.state) c.loop-case.cases c.loop-case.left c.pop.new.self c.in-Some.case
-      (c.walk_case_into.new.transform, c.walk_case_into.new.state) c.walk_case_into.new.done (c.loop-case.invariant.so_far n) c.in-Some.ensures.last (c.in_ok-walk_case_into.ensures n);
-}
+-- no case is left
+pub walk_cases-returns : goal.walk_cases-returns
+walk_cases-returns g t c = λ n.
+    let steps = g.T.ReactiveFunctionTransform.steps in
+    let functions = g.T.ReactiveFunctionTransform.functions in
+    place_end (case_at steps functions (block_to steps functions n) c.args.id)
+    (cases_at steps functions (block_to steps functions n) c.args.id (c.args.transform.now, c.args.state.now) c.args.cases.now)
+    (c.loop-i.transform, c.loop-i.state) c.loop-i.cases c.loop-i.i (c.loop-i.invariant.so_far n)
+    (omega (arith, c.loop-i-test.false, c.len-i-end.ensures, c.loop-i.invariant.as_long))
+
+pub walk_cases-returns-in_default : goal.walk_cases-returns-in_default
+walk_cases-returns-in_default g t c = λ n.
+    let steps = g.T.ReactiveFunctionTransform.steps in
+    let functions = g.T.ReactiveFunctionTransform.functions in
+    place_end (case_at steps functions (block_to steps functions n) c.args.id)
+    (cases_at steps functions (block_to steps functions n) c.args.id (c.args.transform.now, c.args.state.now) c.args.cases.now)
+    (c.loop-i.transform, c.loop-i.state) c.loop-i.cases c.loop-i.i (c.loop-i.invariant.so_far n)
+    (past_end c.loop-i.cases c.loop-i.i c.in_default.ensures.value)
+
+-- a case's walk fails
+pub walk_cases-returns-in_err-walk_case : goal.walk_cases-returns-in_err-walk_case
+walk_cases-returns-in_err-walk_case g t c = λ n.
+    let steps = g.T.ReactiveFunctionTransform.steps in
+    let functions = g.T.ReactiveFunctionTransform.functions in
+    let p = err_from_is_err_and c.from_residual.result c.from_residual.ensures.1 in
+    rw (p.1, p.2) (place_fault (case_at steps functions (block_to steps functions n) c.args.id)
+    (cases_at steps functions (block_to steps functions n) c.args.id (c.args.transform.now, c.args.state.now) c.args.cases.now)
+    (c.loop-i.transform, c.loop-i.state) c.loop-i.cases c.loop-i.i c.in-Some.case.now c.in_err-walk_case.field-0.0
+    ((c.walk_case.new.transform, c.walk_case.new.state), c.walk_case.new.case)
+    ((c.walk_case.new.transform, c.walk_case.new.state), slice_set c.loop-i.cases c.loop-i.i c.walk_case.new.case)
+    (c.loop-i.invariant.so_far n) (sym c.in-Some.ensures.value) (c.in_err-walk_case.ensures n))
 
 -- the inside fails
 pub walk_block_to-returns-in_err-walk_statements-in-Inside : goal.walk_block_to-returns-in_err-walk_statements-in-Inside
@@ -100,27 +250,6 @@ walk_terminal-returns-in_ok-walk_inside_terminal-in-Inside g t c = λ n.
     (meets_inside (steps.enter_terminal (c.args.transform.now, c.args.state.now) c.args.stmt.now) (terminal_inside steps functions (block_to steps functions n)) steps.leave_terminal
     ((c.enter_terminal.new.self, c.enter_terminal.new.state), c.enter_terminal.new.stmt) ((c.walk_inside_terminal.new.transform, c.walk_inside_terminal.new.state), c.walk_inside_terminal.new.stmt) c.leave_terminal.result ((c.leave_terminal.new.self, c.leave_terminal.new.state), c.leave_terminal.new.stmt)
     (c.in_ok-enter_terminal.ensures.step ∙ ap (λ a. Ok (a, ((c.enter_terminal.new.self, c.enter_terminal.new.state), c.enter_terminal.new.stmt))) c.in-Inside.is) (c.in_ok-walk_inside_terminal-in-Inside.ensures n) c.leave_terminal.ensures.step)
-
--- the statement's walk fails
-pub walk_statement_into-returns-in_err-answer : goal.walk_statement_into-returns-in_err-answer
-walk_statement_into-returns-in_err-answer g t c = λ n.
-    let steps = g.T.ReactiveFunctionTransform.steps in
-    let functions = g.T.ReactiveFunctionTransform.functions in
-    let fault = c.in_err-answer.field-0.0 in
-    let p = err_from_is_err_and c.from_residual.result c.from_residual.ensures.1 in
-    rw (p.1, p.2) (meets_into_at steps functions (block_to steps functions n) (c.args.transform.now, c.args.state.now) c.args.done.now c.args.statement (Err fault) ((c.walk_statement.new.transform, c.walk_statement.new.state), c.args.done.now)
-    (meets_fault (statement_at steps functions (block_to steps functions n) (c.args.transform.now, c.args.state.now) c.args.statement) (λ a. Done (tt, (a.1.0, c.args.done.now ++ in_place a.0 a.1.1))) fault
-    ((c.walk_statement.new.transform, c.walk_statement.new.state), c.walk_statement.new.statement) ((c.walk_statement.new.transform, c.walk_statement.new.state), c.args.done.now) (c.in_err-answer.ensures n)))
-
--- the statement's walk, and then what stands in its place
-pub walk_statement_into-returns : goal.walk_statement_into-returns
-walk_statement_into-returns g t c = λ n.
-    let steps = g.T.ReactiveFunctionTransform.steps in
-    let functions = g.T.ReactiveFunctionTransform.functions in
-    meets_into_at steps functions (block_to steps functions n) (c.args.transform.now, c.args.state.now) c.args.done.now c.args.statement (Ok tt) ((c.walk_statement.new.transform, c.walk_statement.new.state), c.put.new.done)
-    (meets_next (statement_at steps functions (block_to steps functions n) (c.args.transform.now, c.args.state.now) c.args.statement) (λ a. Done (tt, (a.1.0, c.args.done.now ++ in_place a.0 a.1.1))) c.in_ok-answer.answer
-    ((c.walk_statement.new.transform, c.walk_statement.new.state), c.walk_statement.new.statement) (Ok tt) ((c.walk_statement.new.transform, c.walk_statement.new.state), c.put.new.done) (c.in_ok-answer.ensures n)
-    (inr (refl, ap (λ done. ((c.walk_statement.new.transform, c.walk_statement.new.state), done)) c.in_ok-put.ensures)))
 
 -- the body of a `For`, behind four steps
 pub walk_parts-returns-in_ok-walk_value_if-in-For : goal.walk_parts-returns-in_ok-walk_value_if-in-For
