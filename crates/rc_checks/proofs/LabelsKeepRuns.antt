@@ -61,10 +61,3 @@ pub labels_keep_runs : (before after : ReactiveFunction) → after ≡ record be
     IsWithoutUnusedLabels before.body after.body → (env : Environment) (events : List Event) (end : End) →
     IsBodyRun before env events end ↔ IsBodyRun after env events end
 labels_keep_runs before after header without env events end = same_body_runs before after env without events end
-
--- and so does a call, where its answer is that the body is without its unused labels
-pub kept_runs : (before after : ReactiveFunction) (env : Environment) (result : Result (Unit {0}) Fault) →
-    OnOk result (IsWithoutUnusedLabels before.body after.body) →
-    OnOk result ((events : List Event) (end : End) → IsBodyRun before env events end ↔ IsBodyRun after env events end)
-kept_runs before after env (Ok done) without = same_body_runs before after env without
-kept_runs before after env (Err fault) without = tt
