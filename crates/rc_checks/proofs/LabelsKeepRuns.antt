@@ -2,7 +2,7 @@
 --
 -- The body is the tree of a plain one, and so is what it is rebuilt to (`RebuiltPlainLemmas`); both have the same runs
 -- (`PlainLabelsKeepRuns`). A tree stands for one plain tree at most, so a run of the one body is one of the other.
-use Rattle.std.proofs.Common.{◌≡◌, ◌↔◌, List, [], Result, Ok, Err, OnOk, sym, ap, ◌∙◌, subst}
+use Rattle.std.proofs.Common.{◌≡◌, ◌↔◌, List, [], Result, Ok, sym, ap, ◌∙◌, subst}
 use Rattle.rc_hir.specs.declared.environment.Environment.{Environment}
 use Rattle.rc_hir.specs.declared.fault.Fault.{Fault}
 use Rattle.rc_tree.specs.Rebuilt.{rebuilt_block}

@@ -8,13 +8,17 @@
 //!
 //! After oxc's prune_unused_labels.
 
-ghost use Rattle.std.specs.Prelude.{◌≡◌, ◌↔◌, ◌++◌, ◌∷◌, ◌<◌, [], drop, is_some, length, map, option_map, reverse, take, IfErr, IfOk, IsOk, OnOk, List as Events};
-ghost use Rattle.rc_checks.specs.Labels.{IsWithoutUnusedLabels, flattened, is_named, label_after, label_rules, targets_behind, with_jump};
-ghost use Rattle.rc_checks.specs.LabelPruning.{PutsLast, added_if, behind, done_before, label_in, opened, refilled};
+ghost use Rattle.std.specs.Prelude.{◌≡◌, ◌↔◌, ◌++◌, ◌∷◌, ◌<◌, [], drop, is_some, length, map, option_map, reverse};
+ghost use Rattle.std.specs.Prelude.{take, IfErr, IfOk, IsOk, OnOk, List as Events};
+ghost use Rattle.rc_checks.specs.Labels.{IsWithoutUnusedLabels, flattened, is_named, label_after, label_rules};
+ghost use Rattle.rc_checks.specs.Labels.{targets_behind, with_jump};
+ghost use Rattle.rc_checks.specs.LabelPruning.{PutsLast, Statements, added_if, behind, done_before, label_in};
+ghost use Rattle.rc_checks.specs.LabelPruning.{opened, refilled};
 ghost use Rattle.rc_hir.specs.declared.fault.Fault.TheVariants as fault;
 ghost use Rattle.rc_runs.specs.BodyRun.{IsBodyRun};
 ghost use Rattle.rc_runs.specs.Event.{End, Event};
-ghost use Rattle.rc_tree.specs.Rebuilt.{if_there, in_order, joined, rebuilt_block, rebuilt_case, rebuilt_statement, rebuilt_terminal};
+ghost use Rattle.rc_tree.specs.Rebuilt.{if_there, in_order, joined, rebuilt_block, rebuilt_case};
+ghost use Rattle.rc_tree.specs.Rebuilt.{rebuilt_statement, rebuilt_terminal};
 ghost use Rattle.rc_tree.specs.declared.statement.ReactiveStatement.TheVariants as stmts;
 ghost use Rattle.rc_tree.specs.declared.terminal.ReactiveTerminal.{out-ReactiveTerminal};
 
@@ -59,7 +63,8 @@ fn prune_into(
     done: &mut List<ReactiveStatement>,
     targets: &mut KeySet<BlockId>,
 ) -> Result<(), AllocError>
-    ensures put { OnOk result (behind done.old (joined (map (rebuilt_statement label_rules) left.old) targets.old) ≡ Ok (targets.new, done.new)) }
+    ensures put { OnOk result (behind done.old (joined (map (rebuilt_statement label_rules) left.old) targets.old)
+        ≡ Ok (targets.new, done.new)) }
     ensures none_left { OnOk result (left.new ≡ []) }
 {
     left.reverse();
@@ -120,7 +125,8 @@ fn prune_labeled(
     done: &mut List<ReactiveStatement>,
     targets: &mut KeySet<BlockId>,
 ) -> Result<bool, AllocError>
-    ensures { IfOk result (λ stays. behind done.old (rebuilt_statement label_rules (stmts.Terminal stmt.old) targets.old)
+    ensures { IfOk result (λ stays.
+        behind done.old (rebuilt_statement label_rules (stmts.Terminal stmt.old) targets.old)
         ≡ Ok (targets.new, done.new ++ added_if stays (stmts.Terminal stmt.new))) }
 {
     let start = done.len();
@@ -141,7 +147,8 @@ fn prune_terminal(
     done: &mut List<ReactiveStatement>,
     targets: &mut KeySet<BlockId>,
 ) -> Result<(), AllocError>
-    ensures { OnOk result (opened done.old (rebuilt_terminal label_rules terminal.old targets.old) ≡ Ok (targets.new, (terminal.new, done.new))) }
+    ensures { OnOk result (opened done.old (rebuilt_terminal label_rules terminal.old targets.old)
+        ≡ Ok (targets.new, (terminal.new, done.new))) }
 {
     match terminal {
         ReactiveTerminal::Break { .. } => Ok(()),
@@ -176,7 +183,8 @@ fn prune_cases(
     cases: &mut List<ReactiveSwitchCase>,
     targets: &mut KeySet<BlockId>,
 ) -> Result<(), AllocError>
-    ensures { OnOk result (in_order (map (rebuilt_case label_rules) cases.old) targets.old ≡ Ok (targets.new, cases.new)) }
+    ensures { OnOk result (in_order (map (rebuilt_case label_rules) cases.old) targets.old
+        ≡ Ok (targets.new, cases.new)) }
 {
     let mut left = cases.take();
     left.reverse();
@@ -193,7 +201,8 @@ fn prune_block_if(
     block: &mut Option<ReactiveBlock>,
     targets: &mut KeySet<BlockId>,
 ) -> Result<(), AllocError>
-    ensures { OnOk result (if_there (option_map (rebuilt_block label_rules) block.old) targets.old ≡ Ok (targets.new, block.new)) }
+    ensures { OnOk result (if_there (option_map (rebuilt_block label_rules) block.old) targets.old
+        ≡ Ok (targets.new, block.new)) }
 {
     match block {
         Some(block) => prune_block(block, targets),
@@ -208,7 +217,7 @@ fn put_last(
     stays: bool,
     done: &mut List<ReactiveStatement>,
 ) -> Result<(), AllocError>
-    ensures { (rest : Events ReactiveStatement) (last : ReactiveStatement) → left.old ≡ rest ++ last ∷ []
+    ensures { (rest : Statements) (last : ReactiveStatement) → left.old ≡ rest ++ last ∷ []
         → OnOk result ((left.new ≡ rest) × (done.new ≡ done.old ++ added_if stays last)) }
 {
     match left.pop() {

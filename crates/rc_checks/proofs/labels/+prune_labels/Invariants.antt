@@ -1,5 +1,5 @@
 -- What is left is no deeper than all, and what is put so far with what is left is all that is put.
-use Rattle.std.proofs.Common.{◌≡◌, ◌≤◌, ℕ, length, map, reverse}
+use Rattle.std.proofs.Common.{◌≡◌, ◌≤◌, length, map, reverse}
 use denote.Param.Weighed.{most}
 use Rattle.rc_checks.specs.LabelPruning.{behind}
 use Rattle.rc_checks.specs.Labels.{label_rules}

@@ -1,4 +1,4 @@
-use Rattle.std.proofs.Common.{◌≡◌, ◌++◌, ◌∷◌, ◌<◌, [], drop, length, reverse, take, slice_set, IfOk, IsOk, OnOk}
+use Rattle.std.proofs.Common.{◌≡◌, ◌++◌, drop, length, reverse, take}
 use Rattle.rc_checks.proofs.labels.take_back.Given as goal
 
 -- what is left to take back is what is done from the start on
