@@ -2,7 +2,8 @@
 --
 -- A part is pruned in its place, but for a `Label`: its statements are put where it stands, at the end of what is done,
 -- before it is judged. One that stays takes them back.
-use Rattle.std.specs.Prelude.{◌≡◌, ℕ, Bool, true, false, List, [], ◌∷◌, ◌++◌, Option, None, Some, Result, Ok, drop, reverse, take}
+use Rattle.std.specs.Prelude.{◌≡◌, ℕ, Bool, true, false, List, [], ◌∷◌, ◌++◌, Option, None, Some, Result, Ok}
+use Rattle.std.specs.Prelude.{drop, reverse, take}
 use Rattle.rc_checks.specs.Labels.{OpenTerminal, Targets, label_rules}
 use Rattle.rc_hir.specs.declared.fault.Fault.{Fault}
 use Rattle.rc_names.specs.declared.numbers.EvaluationOrder.{EvaluationOrder}

@@ -10,8 +10,7 @@
 
 ghost use Rattle.std.specs.Prelude.{◌≡◌, ◌↔◌, ◌++◌, ◌∷◌, ◌<◌, [], drop, is_some, length, map, option_map, reverse};
 ghost use Rattle.std.specs.Prelude.{take, IfErr, IfOk, IsOk, OnOk, List as Events};
-ghost use Rattle.rc_checks.specs.Labels.{IsWithoutUnusedLabels, flattened, is_named, label_after, label_rules};
-ghost use Rattle.rc_checks.specs.Labels.{targets_behind, with_jump};
+ghost use Rattle.rc_checks.specs.Labels.{IsWithoutUnusedLabels, flattened, label_rules};
 ghost use Rattle.rc_checks.specs.LabelPruning.{PutsLast, Statements, added_if, behind, done_before, label_in};
 ghost use Rattle.rc_checks.specs.LabelPruning.{opened, refilled};
 ghost use Rattle.rc_hir.specs.declared.fault.Fault.TheVariants as fault;
@@ -22,11 +21,14 @@ ghost use Rattle.rc_tree.specs.Rebuilt.{rebuilt_statement, rebuilt_terminal};
 ghost use Rattle.rc_tree.specs.declared.statement.ReactiveStatement.TheVariants as stmts;
 ghost use Rattle.rc_tree.specs.declared.terminal.ReactiveTerminal.{out-ReactiveTerminal};
 
+mod targets;
+
+use crate::labels::targets::{mark, names_label, note_target};
 use rc_hir::{Environment, Fault};
 use rc_names::{BlockId, KeySet, List};
 use rc_tree::{
-    ReactiveBlock, ReactiveFunction, ReactiveLabel, ReactiveStatement, ReactiveSwitchCase,
-    ReactiveTerminal, ReactiveTerminalStatement, ReactiveTerminalTargetKind,
+    ReactiveBlock, ReactiveFunction, ReactiveStatement, ReactiveSwitchCase, ReactiveTerminal,
+    ReactiveTerminalStatement,
 };
 use std::alloc::{AllocError, Global};
 
@@ -221,7 +223,8 @@ fn put_last(
         → OnOk result ((left.new ≡ rest) × (done.new ≡ done.old ++ added_if stays last)) }
 {
     match left.pop() {
-        Some(last) => { if stays { done.push(last) } else { let_go(last) } }
+        Some(last) if stays => done.push(last),
+        Some(last) => let_go(last),
         None => Ok(()),
     }
 }
@@ -267,39 +270,6 @@ fn take_back(
     Ok(())
 }
 
-/// Notes the target of a labeled break or continue.
-fn note_target(terminal: &ReactiveTerminal, targets: &mut KeySet<BlockId>) -> Result<(), AllocError>
-    ensures { OnOk result (targets.new ≡ targets_behind (out-ReactiveTerminal terminal.now) targets.old) }
-{
-    match terminal {
-        ReactiveTerminal::Break {
-            target,
-            target_kind,
-            id: _,
-        } => note_jump(*target_kind, *target, targets),
-        ReactiveTerminal::Continue {
-            target,
-            target_kind,
-            id: _,
-        } => note_jump(*target_kind, *target, targets),
-        _ => Ok(()),
-    }
-}
-
-/// Notes a target, where the jump is labeled.
-fn note_jump(
-    kind: ReactiveTerminalTargetKind,
-    target: BlockId,
-    targets: &mut KeySet<BlockId>,
-) -> Result<(), AllocError>
-    ensures { OnOk result (targets.new ≡ with_jump kind target targets.old) }
-{
-    if let ReactiveTerminalTargetKind::Labeled = kind {
-        targets.insert(target)?;
-    }
-    Ok(())
-}
-
 /// Whether the terminal is a `Label` that nothing names.
 fn gives_way(stmt: &ReactiveTerminalStatement, targets: &KeySet<BlockId>) -> bool
     ensures { result ≡ is_some (flattened targets.now stmt.now.label (out-ReactiveTerminal stmt.now.terminal)) }
@@ -310,26 +280,5 @@ fn gives_way(stmt: &ReactiveTerminalStatement, targets: &KeySet<BlockId>) -> boo
     match &stmt.terminal {
         ReactiveTerminal::Label { .. } => true,
         _ => false,
-    }
-}
-
-/// Whether a target is the label, where there is one.
-fn names_label(targets: &KeySet<BlockId>, label: &Option<ReactiveLabel>) -> bool
-    ensures { result ≡ is_named targets.now label.now }
-{
-    match label {
-        Some(label) => targets.contains(label.id),
-        None => false,
-    }
-}
-
-/// Makes a label that nothing names implicit.
-fn mark(stmt: &mut ReactiveTerminalStatement, targets: &KeySet<BlockId>)
-    ensures { stmt.new ≡ record { terminal = stmt.old.terminal; label = label_after targets.now stmt.old.label } }
-{
-    if let Some(label) = &mut stmt.label {
-        if !targets.contains(label.id) {
-            label.implicit = true;
-        }
     }
 }
