@@ -1,77 +1,178 @@
--- Label pruning by the rewriting walk: its steps follow its rules, so a call leaves the body without its unused labels, with
--- the runs that it had, and no fault comes but want of memory.
-use Rattle.std.proofs.Common.{◌≡◌, ◌↔◌, List, [], Option, None, Some, Result, Ok, Err, refl, subst}
-use Rattle.std.specs.Prelude.{IfErr, OnOk}
-use Rattle.rc_checks.proofs.LabelsKeepRuns.{kept_runs}
-use Rattle.rc_checks.specs.LabelSteps.{answer_for, behind, label_steps, left_of, taken}
-use Rattle.rc_checks.specs.Labels.{IsWithoutUnusedLabels, Targets, in_place_of, label_rules}
-use Rattle.rc_hir.specs.declared.environment.Environment.{Environment}
+-- Label pruning follows its rules: what each call on lists, blocks and statements leaves, over plain variables.
+use Rattle.std.proofs.Common.{◌≡◌, ◌∙◌, ◌≤◌, ◌<◌, ◌+◌, ◌-◌, ◌⊎◌, inl, inr, ℕ, Bool, List, [], ◌∷◌, ◌++◌}
+use Rattle.std.proofs.Common.{Option, None, Some, Result, Ok, Err, OnOk, append_assoc, drop, get_or, length, map}
+use Rattle.std.proofs.Common.{option_map, reverse, set, slice_get, slice_set, take, refl, sym, ap, arith}
+use Rattle.std.proofs.lemmas.List.{drop_all, drop_more, length-append, reverse-append, take-append-drop}
+use Rattle.std.proofs.lemmas.Option.{get_or_from_slice_get, slice_get_cases, slice_get_within}
+use Rattle.std.proofs.lemmas.Result.{on_ok_weaker}
+use Rattle.std.proofs.Math.Seq.{set-append_seam}
+use Rattle.rc_checks.specs.LabelPruning.{PutsLast, added_if, behind}
+use Rattle.rc_checks.specs.Labels.{IsWithoutUnusedLabels, Targets, label_rules}
 use Rattle.rc_hir.specs.declared.fault.Fault.{Fault}
-use Rattle.rc_hir.specs.declared.fault.Fault.TheVariants.{NoMemory}
-use Rattle.rc_hir.specs.declared.function.HirFunction.{HirFunction}
-use Rattle.rc_runs.specs.BodyRun.{IsBodyRun}
-use Rattle.rc_runs.specs.Event.{End, Event}
-use Rattle.rc_tree.proofs.RebuiltFaultsLemmas.{leaves_no_fault}
-use Rattle.rc_tree.proofs.StatementsFollowLemmas.{statements_rebuilt}
-use Rattle.rc_tree.specs.Follows.{Leaves}
-use Rattle.rc_tree.specs.Outcome.{Gives}
-use Rattle.rc_tree.specs.Rebuilt.{FaultsOnly}
-use Rattle.rc_tree.specs.Rewrite.{in_place, rewrite_block}
-use Rattle.rc_tree.specs.StatementSteps.{over_statements}
-use Rattle.rc_tree.specs.StatementsFollow.{StatementsFollow}
-use Rattle.rc_tree.specs.StatementsNoDeeper.{over_statements_no_deeper}
-use Rattle.rc_tree.specs.declared.function.ReactiveFunction.{ReactiveFunction}
+use Rattle.rc_tree.proofs.RebuiltLemmas.{if_some, rebuilt-block, rebuilt-case, rebuilt-scope, rebuilt-pruned_scope}
+use Rattle.rc_tree.proofs.RebuiltLemmas.{rebuilt-Instruction, rebuilt-Scope, rebuilt-PrunedScope}
+use Rattle.rc_tree.specs.Outcome.{bind}
+use Rattle.rc_tree.specs.Rebuilt.{if_there, in_order, joined, rebuilt_block, rebuilt_case, rebuilt_statement}
+use Rattle.rc_tree.specs.declared.scope.PrunedReactiveScopeBlock.{PrunedReactiveScopeBlock}
+use Rattle.rc_tree.specs.declared.scope.ReactiveScopeBlock.{ReactiveScopeBlock}
 use Rattle.rc_tree.specs.declared.statement.ReactiveBlock.{ReactiveBlock}
 use Rattle.rc_tree.specs.declared.statement.ReactiveStatement.{ReactiveStatement}
 use Rattle.rc_tree.specs.declared.statement.ReactiveStatement.TheVariants as stmt
-use Rattle.rc_tree.specs.declared.terminal.ReactiveTerminalStatement.{ReactiveTerminalStatement}
+use Rattle.rc_tree.specs.declared.terminal.ReactiveSwitchCase.{ReactiveSwitchCase}
+use Rattle.rc_tree.specs.declared.terminal.ReactiveSwitchCase.{out-ReactiveSwitchCase, roll-ReactiveSwitchCase}
+use Rattle.rc_tree.specs.declared.value.ReactiveInstruction.{ReactiveInstruction}
 
--- the answer, with what is left of the terminal, puts the rule's statements in its place
-placed : (targets : Targets) (x : ReactiveTerminalStatement) (statements : Option (List ReactiveStatement))
-    → in_place (answer_for statements) (stmt.Terminal (left_of targets statements x)) ≡ in_place_of targets x statements
-placed targets x (Some statements) = refl
-placed targets x None = refl
+-- what statements make of a state, one after the other
+abbrev pub all_of : List ReactiveStatement → Targets → Result (Targets × List ReactiveStatement) Fault
+all_of statements t = joined (map (rebuilt_statement label_rules) statements) t
 
--- the walk keeps nothing besides the targets
-labels_follow : StatementsFollow {R = Unit {0}} label_rules label_steps (λ r targets. targets) (λ r targets. r)
-labels_follow = record {
-  row = λ s x. refl;
-  pruned_scope = λ s x. refl;
-  enter_scope = λ r s x. refl;
-  terminal = λ r s x. (refl, placed (behind x s) x (taken (behind x s) x));
-  scope = λ r met s x. (refl, refl);
-}
+-- the same of the cases of a switch
+abbrev pub all_cases : List ReactiveSwitchCase → Targets → Result (Targets × List ReactiveSwitchCase) Fault
+all_cases cases t = in_order (map (rebuilt_case label_rules) cases) t
 
--- no rule gives a fault
-labels_no_fault : FaultsOnly label_rules (λ fault. ⊥)
-labels_no_fault = record {
-  row = λ x s. tt;
-  terminal = λ x s. tt;
-  pruned_scope = λ x s. tt;
-  scope = λ met x s. tt;
-}
+pub by_ok : {A : Type 0} (a b : A) → ◌≡◌ {A = Result A Fault} (Ok a) (Ok b) → a ≡ b
+by_ok a b e = cc
 
-without : (x y : ReactiveBlock) (result : Result (Unit {0}) Fault) → Leaves label_rules x [] y result → OnOk result (IsWithoutUnusedLabels x y)
-without x y (Ok a) h = record { targets = h.0.0; rebuilt = h.0.1 }
-without x y (Err fault) h = tt
+-- what stands behind nothing
+pub behind_nothing : {X : Type 0} (part : Result (Targets × List X) Fault) → behind [] part ≡ part
+behind_nothing (Ok a) = refl
+behind_nothing (Err fault) = refl
 
--- what is known of a call that gives what the walk gives, from no targets
-module _ {T : Type 0} (functions : T → List HirFunction) where
-  labels_left : (t t1 : T) (s s1 : Targets) (x y : ReactiveBlock) (result : Result (Unit {0}) Fault) → s ≡ []
-      → Gives (rewrite_block (over_statements {T = T} (λ t. label_steps)) functions (t, s) x) result ((t1, s1), y) → Leaves label_rules x [] y result
-  labels_left t t1 s s1 x y result e h =
-      statements_rebuilt label_rules (λ t. label_steps) (λ r targets. targets) (λ r targets. r) (over_statements_no_deeper (λ t. label_steps)) functions t labels_follow tt [] x y (t1, s1) result
-      (subst (λ s. Gives (rewrite_block (over_statements {T = T} (λ t. label_steps)) functions (t, s) x) result ((t1, s1), y)) e h)
+-- what is done and a front, then a part behind both
+behind_front : {X : Type 0} (done front : List X) (part : Result (Targets × List X) Fault)
+    → behind done (bind part (λ b. Ok (b.0, front ++ b.1))) ≡ behind (done ++ front) part
+behind_front done front (Ok b) = ap (λ l. Ok (b.0, l)) (sym (append_assoc done front b.1))
+behind_front done front (Err fault) = refl
 
-  pub without_unused_labels : (t t1 : T) (s s1 : Targets) (x y : ReactiveBlock) (result : Result (Unit {0}) Fault) → s ≡ []
-      → Gives (rewrite_block (over_statements {T = T} (λ t. label_steps)) functions (t, s) x) result ((t1, s1), y) → OnOk result (IsWithoutUnusedLabels x y)
-  without_unused_labels t t1 s s1 x y result e h = without x y result (labels_left t t1 s s1 x y result e h)
+turned : {X : Type 0} (left rest : List X) (x : X) → left ≡ rest ++ x ∷ [] → reverse left ≡ x ∷ reverse rest
+turned left rest x e = ap reverse e ∙ reverse-append rest (x ∷ [])
 
-  pub only_want_of_memory : (t t1 : T) (s s1 : Targets) (x y : ReactiveBlock) (result : Result (Unit {0}) Fault) → s ≡ []
-      → Gives (rewrite_block (over_statements {T = T} (λ t. label_steps)) functions (t, s) x) result ((t1, s1), y) → IfErr result (λ fault. fault ≡ NoMemory)
-  only_want_of_memory t t1 s s1 x y result e h = leaves_no_fault label_rules labels_no_fault x y [] result (labels_left t t1 s s1 x y result e h)
+-- the next statement's part of what is put
+module _ (left rest : List ReactiveStatement) (last : ReactiveStatement) (t t1 : Targets)
+    (done done1 : List ReactiveStatement) (is_last : left ≡ rest ++ last ∷ [])
+    (put : behind done (rebuilt_statement label_rules last t) ≡ Ok (t1, done1)) where
+  next_behind : (part : Result (Targets × List ReactiveStatement) Fault) → behind done part ≡ Ok (t1, done1)
+      → behind done (bind part (λ a. bind (all_of (reverse rest) a.0) (λ b. Ok (b.0, a.1 ++ b.1))))
+      ≡ behind done1 (all_of (reverse rest) t1)
+  next_behind (Ok a) e =
+      let same : (a.0, done ++ a.1) ≡ (t1, done1) = by_ok (a.0, done ++ a.1) (t1, done1) e in
+      behind_front done a.1 (all_of (reverse rest) a.0)
+      ∙ ap (λ (p : Targets × List ReactiveStatement). behind p.1 (all_of (reverse rest) p.0)) same
+  next_behind (Err fault) e = let bad : ⊥ = cc in absurd bad
 
-  pub same_runs : (t t1 : T) (s s1 : Targets) (before after : ReactiveFunction) (env : Environment) (result : Result (Unit {0}) Fault) → s ≡ []
-      → Gives (rewrite_block (over_statements {T = T} (λ t. label_steps)) functions (t, s) before.body) result ((t1, s1), after.body)
-      → OnOk result ((events : List Event) (end : End) → IsBodyRun before env events end ↔ IsBodyRun after env events end)
-  same_runs t t1 s s1 before after env result e h = kept_runs before after env result (without_unused_labels t t1 s s1 before.body after.body result e h)
+  pub next_put : behind done (all_of (reverse left) t) ≡ behind done1 (all_of (reverse rest) t1)
+  next_put = ap (λ l. behind done (all_of l t)) (turned left rest last is_last)
+      ∙ next_behind (rebuilt_statement label_rules last t) put
+
+-- a block that may be left out
+pub same_if : (block : Option ReactiveBlock) (t : Targets)
+    → if_some (rebuilt_block label_rules) block t ≡ if_there (option_map (rebuilt_block label_rules) block) t
+same_if None t = refl
+same_if (Some block) t = refl
+
+-- the next case of those that are put
+module _ (left rest : List ReactiveSwitchCase) (case : ReactiveSwitchCase) (t t1 : Targets)
+    (done : List ReactiveSwitchCase) (block1 : Option ReactiveBlock) where
+  abbrev case1 : ReactiveSwitchCase
+  case1 = roll-ReactiveSwitchCase (record { test = (out-ReactiveSwitchCase case).test; block = block1 })
+
+  pub next_case : left ≡ rest ++ case ∷ []
+      → if_there (option_map (rebuilt_block label_rules) (out-ReactiveSwitchCase case).block) t ≡ Ok (t1, block1)
+      → behind done (all_cases (reverse left) t) ≡ behind (done ++ case1 ∷ []) (all_cases (reverse rest) t1)
+  next_case is_last h = ap (λ l. behind done (all_cases l t)) (turned left rest case is_last)
+      ∙ rw (rebuilt-case label_rules case t, same_if (out-ReactiveSwitchCase case).block t, h)
+      (behind_front done (case1 ∷ []) (all_cases (reverse rest) t1))
+
+-- the last entry of a list, changed in its place
+module _ {X : Type 0} (left : List X) (x : X) (is : slice_get left (length left - 1) ≡ Some x) where
+  abbrev rest_of : List X
+  rest_of = take (length left - 1) left
+
+  last_splits : left ≡ rest_of ++ x ∷ []
+  last_splits =
+      let within : length left - 1 < length left = slice_get_within left (length left - 1) x is in
+      let rest : drop (length left - 1) left ≡ x ∷ [] = drop_more left (length left - 1) x within
+      ∙ ap (λ y. y ∷ drop (length left - 1 + 1) left) (get_or_from_slice_get left (length left - 1) x x is)
+      ∙ ap (λ l. x ∷ l) (drop_all (length left - 1 + 1) left (omega (arith, within))) in
+      sym (take-append-drop (length left - 1) left) ∙ ap (λ l. rest_of ++ l) rest
+
+  last_changed : (y : X) → slice_set left (length left - 1) y ≡ rest_of ++ y ∷ []
+  last_changed y =
+      let whole : length (rest_of ++ x ∷ []) ≡ length rest_of + 1 = length-append rest_of (x ∷ []) in
+      let count : length (rest_of ++ x ∷ []) - 1 ≡ length rest_of = omega (arith, whole) in
+      ap (λ l. set l (length l - 1) y) last_splits ∙ ap (λ n. set (rest_of ++ x ∷ []) n y) count
+      ∙ set-append_seam rest_of x [] y
+
+-- a list that isn't empty has a last entry
+pub no_last : {X : Type 0} (left : List X) (count : ℕ) → count ≡ length left → 0 < length left
+    → None ≡ slice_get left (count - 1) → ⊥
+no_last {X = X} left count is more none = by (slice_get_cases left (length left - 1)).1
+  where
+    missing : slice_get left (length left - 1) ≡ None
+    missing = ap (λ n. slice_get left (n - 1)) (sym is) ∙ sym none
+
+    by : ((x : X) × (length left - 1 < length left) × (slice_get left (length left - 1) ≡ Some x)
+        × (get_or left (length left - 1) x ≡ x))
+        ⊎ ((length left ≤ length left - 1) × (slice_get left (length left - 1) ≡ None)) → ⊥
+    by (inl h) = cc
+    by (inr h) = omega (arith, h.0, more)
+
+-- the last statement, pruned in its place and put
+module _ {E : Type 0} (r : Result (Unit {0}) E) (left left1 left2 done done1 done2 : List ReactiveStatement)
+    (t t1 : Targets) (stays : Bool)
+    (put : (rest : List ReactiveStatement) (last : ReactiveStatement) → left1 ≡ rest ++ last ∷ []
+    → OnOk r ((left2 ≡ rest) × (done2 ≡ done1 ++ added_if stays last))) where
+  pub puts_last : (count : ℕ) (x y : ReactiveStatement) → count ≡ length left → Some x ≡ slice_get left (count - 1)
+      → left1 ≡ slice_set left (count - 1) y
+      → behind done (rebuilt_statement label_rules x t) ≡ Ok (t1, done1 ++ added_if stays y)
+      → OnOk r (PutsLast left t done left2 t1 done2)
+  puts_last count x y is there changed pruned =
+      let last : slice_get left (length left - 1) ≡ Some x =
+      ap (λ n. slice_get left (n - 1)) (sym is) ∙ sym there in
+      let left1-is : left1 ≡ take (length left - 1) left ++ y ∷ [] =
+      changed ∙ ap (λ n. slice_set left (n - 1) y) is ∙ last_changed left x last y in
+      on_ok_weaker r
+      (λ h. record {
+        last = x;
+        is_last = last_splits left x last ∙ ap (λ l. l ++ x ∷ []) (sym h.0);
+        put = pruned ∙ ap (λ l. Ok (t1, l)) (sym h.1);
+      })
+      (put (take (length left - 1) left) y left1-is)
+
+-- rows and scope blocks stay
+module _ (done : List ReactiveStatement) (t t1 : Targets) where
+  pub row_stays : (row : ReactiveInstruction)
+      → behind done (rebuilt_statement label_rules (stmt.Instruction row) t) ≡ Ok (t, done ++ stmt.Instruction row ∷ [])
+  row_stays row = rw (rebuilt-Instruction label_rules row t) refl
+
+  pub scope_stays : (scope : ReactiveScopeBlock) (body1 : ReactiveBlock)
+      → rebuilt_block label_rules scope.instructions t ≡ Ok (t1, body1)
+      → behind done (rebuilt_statement label_rules (stmt.Scope scope) t)
+      ≡ Ok (t1, done ++ stmt.Scope (record { scope = scope.scope; instructions = body1 }) ∷ [])
+  scope_stays scope body1 h = rw (rebuilt-Scope label_rules scope t, rebuilt-scope label_rules scope t, h) refl
+
+  pub pruned_scope_stays : (scope : PrunedReactiveScopeBlock) (body1 : ReactiveBlock)
+      → rebuilt_block label_rules scope.instructions t ≡ Ok (t1, body1)
+      → behind done (rebuilt_statement label_rules (stmt.PrunedScope scope) t)
+      ≡ Ok (t1, done ++ stmt.PrunedScope (record { scope = scope.scope; instructions = body1 }) ∷ [])
+  pruned_scope_stays scope body1 h =
+      rw (rebuilt-PrunedScope label_rules scope t, rebuilt-pruned_scope label_rules scope t, h) refl
+
+-- a block of statements
+abbrev pub as_block : Targets × List ReactiveStatement → Result (Targets × ReactiveBlock) Fault
+as_block a = Ok (a.0, record { statements = a.1 })
+
+pub block_pruned : (x : ReactiveBlock) (t t1 : Targets) (done1 : List ReactiveStatement)
+    → behind [] (all_of x.statements t) ≡ Ok (t1, done1)
+    → rebuilt_block label_rules x t ≡ Ok (t1, record { statements = done1 })
+block_pruned x t t1 done1 h = rw (rebuilt-block label_rules x t) (by (all_of x.statements t) h)
+  where
+    by : (part : Result (Targets × List ReactiveStatement) Fault) → behind [] part ≡ Ok (t1, done1)
+        → bind part as_block ≡ Ok (t1, record { statements = done1 })
+    by (Ok a) e = ap (λ (r : Result (Targets × List ReactiveStatement) Fault). bind r as_block) e
+    by (Err fault) e = let bad : ⊥ = cc in absurd bad
+
+-- a block that is pruned from the empty set of targets
+pub without_labels : (before after : ReactiveBlock) (t t1 : Targets) → t ≡ []
+    → rebuilt_block label_rules before t ≡ Ok (t1, after) → IsWithoutUnusedLabels before after
+without_labels before after t t1 none e = record { targets = t1; rebuilt = rw none at e }

@@ -2,7 +2,7 @@
 --
 -- The body is the tree of a plain one, and so is what it is rebuilt to (`RebuiltPlainLemmas`); both have the same runs
 -- (`PlainLabelsKeepRuns`). A tree stands for one plain tree at most, so a run of the one body is one of the other.
-use Rattle.std.proofs.Common.{◌≡◌, ◌↔◌, List, [], Result, Ok, Err, OnOk, sym, ap, ◌∙◌, subst}
+use Rattle.std.proofs.Common.{◌≡◌, ◌↔◌, List, [], Result, Ok, sym, ap, ◌∙◌, subst}
 use Rattle.rc_hir.specs.declared.environment.Environment.{Environment}
 use Rattle.rc_hir.specs.declared.fault.Fault.{Fault}
 use Rattle.rc_tree.specs.Rebuilt.{rebuilt_block}
@@ -61,10 +61,3 @@ pub labels_keep_runs : (before after : ReactiveFunction) → after ≡ record be
     IsWithoutUnusedLabels before.body after.body → (env : Environment) (events : List Event) (end : End) →
     IsBodyRun before env events end ↔ IsBodyRun after env events end
 labels_keep_runs before after header without env events end = same_body_runs before after env without events end
-
--- and so does a call, where its answer is that the body is without its unused labels
-pub kept_runs : (before after : ReactiveFunction) (env : Environment) (result : Result (Unit {0}) Fault) →
-    OnOk result (IsWithoutUnusedLabels before.body after.body) →
-    OnOk result ((events : List Event) (end : End) → IsBodyRun before env events end ↔ IsBodyRun after env events end)
-kept_runs before after env (Ok done) without = same_body_runs before after env without
-kept_runs before after env (Err fault) without = tt

@@ -5,6 +5,8 @@ mod TargetsLemmas
 mod PlainLabelsKeepRuns
 pub mod LabelsKeepRuns
 mod LabelLemmas
+mod OpenedLabels
+mod JudgedLabels
 pub mod LabelsKeep
 pub mod OpenScopesLemmas
 pub mod AmongLemmas

@@ -6,7 +6,7 @@ pub mod Membership
 pub mod OpenScopes
 pub mod MembershipSteps
 pub mod Labels
-pub mod LabelSteps
+pub mod LabelPruning
 pub mod UnusedScopes
 pub mod UnusedScopesSteps
 pub mod ScopeBlocks

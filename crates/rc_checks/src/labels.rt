@@ -1,26 +1,34 @@
 //! Unused labels: a `Label` that nothing names gives way to its statements, and any other label that nothing names
 //! becomes implicit.
 //!
-//! One walk notes the targets of labeled breaks and continues. A terminal is judged behind its inside, so that the jumps
-//! to its label are noted by then.
+//! One pass notes the targets of labeled breaks and continues. A terminal is judged behind its inside, so that the jumps
+//! to its label are noted by then. The statements of a `Label` are put where the `Label` stands before it is judged: one
+//! that gives way has nothing left to move, and one that stays takes them back. So no statement is moved once for each
+//! level around it.
 //!
 //! After oxc's prune_unused_labels.
 
-ghost use Rattle.std.specs.Prelude.{◌≡◌, ◌↔◌, IfErr, OnOk, List as Events};
-ghost use Rattle.rc_checks.specs.Labels.{IsWithoutUnusedLabels, is_named, label_after, targets_behind, with_jump};
-ghost use Rattle.rc_checks.specs.LabelSteps.{label_steps, taken, without};
+ghost use Rattle.std.specs.Prelude.{◌≡◌, ◌↔◌, ◌++◌, ◌∷◌, ◌<◌, [], drop, is_some, length, map, option_map, reverse};
+ghost use Rattle.std.specs.Prelude.{take, IfErr, IfOk, IsOk, OnOk, List as Events};
+ghost use Rattle.rc_checks.specs.Labels.{IsWithoutUnusedLabels, flattened, label_rules};
+ghost use Rattle.rc_checks.specs.LabelPruning.{PutsLast, Statements, added_if, behind, done_before, label_in};
+ghost use Rattle.rc_checks.specs.LabelPruning.{opened, refilled};
 ghost use Rattle.rc_hir.specs.declared.fault.Fault.TheVariants as fault;
 ghost use Rattle.rc_runs.specs.BodyRun.{IsBodyRun};
 ghost use Rattle.rc_runs.specs.Event.{End, Event};
+ghost use Rattle.rc_tree.specs.Rebuilt.{if_there, in_order, joined, rebuilt_block, rebuilt_case};
+ghost use Rattle.rc_tree.specs.Rebuilt.{rebuilt_statement, rebuilt_terminal};
+ghost use Rattle.rc_tree.specs.declared.statement.ReactiveStatement.TheVariants as stmts;
 ghost use Rattle.rc_tree.specs.declared.terminal.ReactiveTerminal.{out-ReactiveTerminal};
 
+mod targets;
+
+use crate::labels::targets::{mark, names_label, note_target};
 use rc_hir::{Environment, Fault};
 use rc_names::{BlockId, KeySet, List};
-use rc_tree::rewrite::transform_reactive_function;
 use rc_tree::{
-    OverStatements, ReactiveFunction, ReactiveLabel, ReactiveScopeBlock, ReactiveStatement,
-    ReactiveTerminal, ReactiveTerminalStatement, ReactiveTerminalTargetKind, StatementTransform,
-    Transformed,
+    ReactiveBlock, ReactiveFunction, ReactiveStatement, ReactiveSwitchCase, ReactiveTerminal,
+    ReactiveTerminalStatement,
 };
 use std::alloc::{AllocError, Global};
 
@@ -36,122 +44,241 @@ pub fn prune_unused_labels(
         → IsBodyRun func.old env.now events end ↔ IsBodyRun func.new env.now events end) }
     ensures only { IfErr result (λ it. it ≡ fault.NoMemory) }
 {
-    let mut transform = OverStatements {
-        env,
-        pass: UnusedLabels,
-    };
     let mut targets = KeySet::new(alloc);
-    transform_reactive_function(alloc, func, &mut transform, &mut targets)
+    prune_block(&mut func.body, &mut targets)?;
+    Ok(())
 }
 
-/// The pass over statements; its state is the set of targets.
-#[derive(Clone, Copy)]
-pub(crate) struct UnusedLabels;
-
-impl StatementTransform for UnusedLabels {
-    type State = KeySet<BlockId>;
-
-    ghost steps = { λ it. label_steps };
-
-    fn enter_scope(
-        &self,
-        _scope: &ReactiveScopeBlock,
-        _targets: &mut KeySet<BlockId>,
-    ) -> Result<(), Fault> {
-        Ok(())
-    }
-
-    fn transform_terminal(
-        &self,
-        stmt: &mut ReactiveTerminalStatement,
-        targets: &mut KeySet<BlockId>,
-    ) -> Result<Transformed<ReactiveStatement>, Fault> {
-        note_target(&stmt.terminal, targets)?;
-        match flatten(stmt, targets) {
-            Some(statements) => Ok(Transformed::ReplaceMany(statements)),
-            None => {
-                mark(stmt, targets);
-                Ok(Transformed::Keep)
-            }
-        }
-    }
-
-    fn transform_scope(
-        &self,
-        _scope: &mut ReactiveScopeBlock,
-        _targets: &mut KeySet<BlockId>,
-    ) -> Result<Transformed<ReactiveStatement>, Fault> {
-        Ok(Transformed::Keep)
-    }
-}
-
-/// Notes the target of a labeled break or continue.
-fn note_target(terminal: &ReactiveTerminal, targets: &mut KeySet<BlockId>) -> Result<(), AllocError>
-    ensures { OnOk result (targets.new ≡ targets_behind (out-ReactiveTerminal terminal.now) targets.old) }
+/// Prunes a block in its place.
+#[cycle(prune_labels)]
+fn prune_block(block: &mut ReactiveBlock, targets: &mut KeySet<BlockId>) -> Result<(), AllocError>
+    ensures { OnOk result (rebuilt_block label_rules block.old targets.old ≡ Ok (targets.new, block.new)) }
 {
-    match terminal {
-        ReactiveTerminal::Break {
-            target,
-            target_kind,
-            id: _,
-        } => note_jump(*target_kind, *target, targets),
-        ReactiveTerminal::Continue {
-            target,
-            target_kind,
-            id: _,
-        } => note_jump(*target_kind, *target, targets),
-        _ => Ok(()),
-    }
+    let mut left = block.statements.take();
+    prune_into(&mut left, &mut block.statements, targets)
 }
 
-/// Notes a target, where the jump is labeled.
-fn note_jump(
-    kind: ReactiveTerminalTargetKind,
-    target: BlockId,
+/// Prunes statements and puts what stands in their places at the end of what is done.
+#[cycle(prune_labels)]
+fn prune_into(
+    left: &mut List<ReactiveStatement>,
+    done: &mut List<ReactiveStatement>,
     targets: &mut KeySet<BlockId>,
 ) -> Result<(), AllocError>
-    ensures { OnOk result (targets.new ≡ with_jump kind target targets.old) }
+    ensures put { OnOk result (behind done.old (joined (map (rebuilt_statement label_rules) left.old) targets.old)
+        ≡ Ok (targets.new, done.new)) }
+    ensures none_left { OnOk result (left.new ≡ []) }
 {
-    if let ReactiveTerminalTargetKind::Labeled = kind {
-        targets.insert(target)?;
+    left.reverse();
+    while !left.is_empty() {
+        prune_last(left, done, targets)?;
     }
     Ok(())
 }
 
-/// Takes the statements of a `Label` that nothing names.
-fn flatten(
+/// Prunes the last statement that is left and puts what stands in its place at the end of what is done. It is pruned in
+/// its place, so that no call around another holds a statement.
+#[cycle(prune_labels)]
+fn prune_last(
+    left: &mut List<ReactiveStatement>,
+    done: &mut List<ReactiveStatement>,
+    targets: &mut KeySet<BlockId>,
+) -> Result<(), AllocError>
+    requires { 0 < length left.old }
+    ensures { OnOk result (PutsLast left.old targets.old done.old left.new targets.new done.new) }
+{
+    let mut stays = false;
+    let last = left.len() - 1;
+    if let Some(statement) = left.get_mut(last) {
+        stays = prune_statement(statement, done, targets)?;
+    }
+    put_last(left, stays, done)
+}
+
+/// Prunes a statement in its place and answers whether it stays. One that doesn't has its statements at the end of what
+/// is done.
+#[cycle(prune_labels)]
+fn prune_statement(
+    statement: &mut ReactiveStatement,
+    done: &mut List<ReactiveStatement>,
+    targets: &mut KeySet<BlockId>,
+) -> Result<bool, AllocError>
+    ensures { IfOk result (λ stays. behind done.old (rebuilt_statement label_rules statement.old targets.old)
+        ≡ Ok (targets.new, done.new ++ added_if stays statement.new)) }
+{
+    match statement {
+        ReactiveStatement::Instruction(_) => Ok(true),
+        ReactiveStatement::Terminal(stmt) => prune_labeled(stmt.get_mut(), done, targets),
+        ReactiveStatement::Scope(scope) => {
+            prune_block(&mut scope.instructions, targets)?;
+            Ok(true)
+        }
+        ReactiveStatement::PrunedScope(scope) => {
+            prune_block(&mut scope.instructions, targets)?;
+            Ok(true)
+        }
+    }
+}
+
+/// Prunes a terminal in its place and answers whether it stays: all do but a `Label` that nothing names.
+#[cycle(prune_labels)]
+fn prune_labeled(
     stmt: &mut ReactiveTerminalStatement,
-    targets: &KeySet<BlockId>,
-) -> Option<List<ReactiveStatement>>
-    ensures taken { result ≡ taken targets.now stmt.old }
-    ensures left { stmt.new ≡ without result stmt.old }
+    done: &mut List<ReactiveStatement>,
+    targets: &mut KeySet<BlockId>,
+) -> Result<bool, AllocError>
+    ensures { IfOk result (λ stays.
+        behind done.old (rebuilt_statement label_rules (stmts.Terminal stmt.old) targets.old)
+        ≡ Ok (targets.new, done.new ++ added_if stays (stmts.Terminal stmt.new))) }
+{
+    let start = done.len();
+    prune_terminal(&mut stmt.terminal, done, targets)?;
+    note_target(&stmt.terminal, targets)?;
+    if gives_way(stmt, targets) {
+        return Ok(false);
+    }
+    refill(&mut stmt.terminal, done, start)?;
+    mark(stmt, targets);
+    Ok(true)
+}
+
+/// Prunes the inside of a terminal in its place, but for a `Label`, whose statements are put at the end of what is done.
+#[cycle(prune_labels)]
+fn prune_terminal(
+    terminal: &mut ReactiveTerminal,
+    done: &mut List<ReactiveStatement>,
+    targets: &mut KeySet<BlockId>,
+) -> Result<(), AllocError>
+    ensures { OnOk result (opened done.old (rebuilt_terminal label_rules terminal.old targets.old)
+        ≡ Ok (targets.new, (terminal.new, done.new))) }
+{
+    match terminal {
+        ReactiveTerminal::Break { .. } => Ok(()),
+        ReactiveTerminal::Continue { .. } => Ok(()),
+        ReactiveTerminal::Return { .. } => Ok(()),
+        ReactiveTerminal::Throw { .. } => Ok(()),
+        ReactiveTerminal::Switch { cases, .. } => prune_cases(cases, targets),
+        ReactiveTerminal::DoWhile { loop_block, .. } => prune_block(loop_block, targets),
+        ReactiveTerminal::While { loop_block, .. } => prune_block(loop_block, targets),
+        ReactiveTerminal::For { loop_block, .. } => prune_block(loop_block, targets),
+        ReactiveTerminal::ForOf { loop_block, .. } => prune_block(loop_block, targets),
+        ReactiveTerminal::ForIn { loop_block, .. } => prune_block(loop_block, targets),
+        ReactiveTerminal::If {
+            consequent,
+            alternate,
+            ..
+        } => {
+            prune_block(consequent, targets)?;
+            prune_block_if(alternate, targets)
+        }
+        ReactiveTerminal::Label { block, .. } => prune_into(&mut block.statements, done, targets),
+        ReactiveTerminal::Try { block, handler, .. } => {
+            prune_block(block, targets)?;
+            prune_block(handler, targets)
+        }
+    }
+}
+
+/// Prunes the cases of a switch, each of them moved and none copied.
+#[cycle(prune_labels)]
+fn prune_cases(
+    cases: &mut List<ReactiveSwitchCase>,
+    targets: &mut KeySet<BlockId>,
+) -> Result<(), AllocError>
+    ensures { OnOk result (in_order (map (rebuilt_case label_rules) cases.old) targets.old
+        ≡ Ok (targets.new, cases.new)) }
+{
+    let mut left = cases.take();
+    left.reverse();
+    while let Some(mut case) = left.pop() {
+        prune_block_if(&mut case.block, targets)?;
+        cases.push(case)?;
+    }
+    Ok(())
+}
+
+/// Prunes a block that may be left out.
+#[cycle(prune_labels)]
+fn prune_block_if(
+    block: &mut Option<ReactiveBlock>,
+    targets: &mut KeySet<BlockId>,
+) -> Result<(), AllocError>
+    ensures { OnOk result (if_there (option_map (rebuilt_block label_rules) block.old) targets.old
+        ≡ Ok (targets.new, block.new)) }
+{
+    match block {
+        Some(block) => prune_block(block, targets),
+        None => Ok(()),
+    }
+}
+
+/// Takes the last statement that is left; one that stays is put at the end of what is done.
+#[inline(never)]
+fn put_last(
+    left: &mut List<ReactiveStatement>,
+    stays: bool,
+    done: &mut List<ReactiveStatement>,
+) -> Result<(), AllocError>
+    ensures { (rest : Statements) (last : ReactiveStatement) → left.old ≡ rest ++ last ∷ []
+        → OnOk result ((left.new ≡ rest) × (done.new ≡ done.old ++ added_if stays last)) }
+{
+    match left.pop() {
+        Some(last) if stays => done.push(last),
+        Some(last) => let_go(last),
+        None => Ok(()),
+    }
+}
+
+/// Lets a statement go.
+fn let_go(_statement: ReactiveStatement) -> Result<(), AllocError>
+    ensures { IsOk result }
+{
+    Ok(())
+}
+
+/// Puts the statements that are done from the start on back into a `Label`.
+fn refill(
+    terminal: &mut ReactiveTerminal,
+    done: &mut List<ReactiveStatement>,
+    start: usize,
+) -> Result<(), AllocError>
+    ensures whole { OnOk result (terminal.new ≡ refilled done.old start (label_in terminal.old) terminal.old) }
+    ensures left { OnOk result (done.new ≡ done_before done.old start (label_in terminal.old)) }
+{
+    match terminal {
+        ReactiveTerminal::Label { block, .. } => take_back(&mut block.statements, done, start),
+        _ => Ok(()),
+    }
+}
+
+/// Takes the statements from the start on off the end of what is done, in front of the others turned round.
+#[inline(never)]
+fn take_back(
+    statements: &mut List<ReactiveStatement>,
+    done: &mut List<ReactiveStatement>,
+    start: usize,
+) -> Result<(), AllocError>
+    ensures taken { OnOk result (statements.new ≡ drop start done.old ++ reverse statements.old) }
+    ensures left { OnOk result (done.new ≡ take start done.old) }
+{
+    while done.len() > start {
+        if let Some(last) = done.pop() {
+            statements.push(last)?;
+        }
+    }
+    statements.reverse();
+    Ok(())
+}
+
+/// Whether the terminal is a `Label` that nothing names.
+fn gives_way(stmt: &ReactiveTerminalStatement, targets: &KeySet<BlockId>) -> bool
+    ensures { result ≡ is_some (flattened targets.now stmt.now.label (out-ReactiveTerminal stmt.now.terminal)) }
 {
     if names_label(targets, &stmt.label) {
-        return None;
+        return false;
     }
-    match &mut stmt.terminal {
-        ReactiveTerminal::Label { block, id: _ } => Some(block.statements.take()),
-        _ => None,
-    }
-}
-
-/// Whether a target is the label, where there is one.
-fn names_label(targets: &KeySet<BlockId>, label: &Option<ReactiveLabel>) -> bool
-    ensures { result ≡ is_named targets.now label.now }
-{
-    match label {
-        Some(label) => targets.contains(label.id),
-        None => false,
-    }
-}
-
-/// Makes a label that nothing names implicit.
-fn mark(stmt: &mut ReactiveTerminalStatement, targets: &KeySet<BlockId>)
-    ensures { stmt.new ≡ record { terminal = stmt.old.terminal; label = label_after targets.now stmt.old.label } }
-{
-    if let Some(label) = &mut stmt.label {
-        if !targets.contains(label.id) {
-            label.implicit = true;
-        }
+    match &stmt.terminal {
+        ReactiveTerminal::Label { .. } => true,
+        _ => false,
     }
 }

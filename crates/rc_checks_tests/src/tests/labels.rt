@@ -1,17 +1,15 @@
 //! Unused labels, on small trees.
 
-use crate::labels::UnusedLabels;
 use crate::tests::outline::{Line, outline};
 use crate::tests::trees::{
-    block, both, break_to, continue_to, function, if_then, label_around, only, return_at, row,
+    both, break_to, continue_to, function, if_then, label_around, only, return_at, row,
     scope_around, switch_around, while_around,
 };
 use rc_checks::prune_unused_labels;
 use rc_hir::{Environment, Fault};
-use rc_names::{KeySet, List};
+use rc_names::List;
+use rc_tree::ReactiveStatement;
 use rc_tree::ReactiveTerminalTargetKind::{Implicit, Labeled};
-use rc_tree::rewrite::transform_stmt;
-use rc_tree::{OverStatements, ReactiveStatement, Transformed};
 use std::alloc::{AllocError, Global};
 use std::test::Fail;
 
@@ -191,29 +189,53 @@ fn a_label_in_a_label_gives_way_alone(rt: HostRuntime) -> Result<(), Fail> {
     Ok(())
 }
 
+/// A row, a `Label` that nothing names, and a row.
+fn label_between_rows(alloc: Global) -> Result<List<ReactiveStatement>, AllocError> {
+    let inside = both(alloc, row(3), break_to(alloc, 4, 6, Implicit)?)?;
+    let mut statements = both(alloc, row(1), label_around(alloc, 2, Some(6), inside)?)?;
+    statements.push(row(5))?;
+    Ok(statements)
+}
+
 #[test]
 fn an_unnamed_label_is_replaced_by_many(rt: HostRuntime) -> Result<(), Fail> {
     let alloc = rt.alloc();
-    let env = Environment::empty(alloc);
-    let mut transform = OverStatements {
-        env: &env,
-        pass: UnusedLabels,
-    };
-    let mut targets = KeySet::new(alloc);
-    let inside = both(alloc, row(2), break_to(alloc, 3, 2, Implicit)?)?;
-    let mut stmt = label_around(alloc, 1, Some(2), inside)?;
-    let Transformed::ReplaceMany(statements) = transform_stmt(
-        alloc,
-        &mut transform,
-        &mut stmt,
-        &mut targets,
-    )?
-    else {
-        return Err(Fail::new("the label isn't replaced"));
-    };
-    let expected = [Line::Row(2), Line::Break(2, Implicit)];
+    let expected = [
+        Line::Row(1),
+        Line::Row(3),
+        Line::Break(6, Implicit),
+        Line::Row(5),
+    ];
     assert_eq!(rt;
-        outline(alloc, &block(statements))?.as_slice(),
+        pruned(alloc, label_between_rows(alloc)?)?.as_slice(),
+        expected.as_slice()
+    );
+    Ok(())
+}
+
+/// Behind a row, a `Label` that nothing names; in it, behind a row, one with a labeled break to it; and a row.
+fn named_in_unnamed(alloc: Global) -> Result<List<ReactiveStatement>, AllocError> {
+    let inside = both(alloc, row(5), break_to(alloc, 6, 8, Labeled)?)?;
+    let named = label_around(alloc, 4, Some(8), inside)?;
+    let mut around = both(alloc, row(3), named)?;
+    around.push(row(7))?;
+    both(alloc, row(1), label_around(alloc, 2, Some(9), around)?)
+}
+
+#[test]
+fn a_named_label_keeps_its_own_statements(rt: HostRuntime) -> Result<(), Fail> {
+    let alloc = rt.alloc();
+    let expected = [
+        Line::Row(1),
+        Line::Row(3),
+        Line::Label(4, Some((8, false))),
+        Line::Row(5),
+        Line::Break(8, Labeled),
+        Line::End,
+        Line::Row(7),
+    ];
+    assert_eq!(rt;
+        pruned(alloc, named_in_unnamed(alloc)?)?.as_slice(),
         expected.as_slice()
     );
     Ok(())

@@ -1,12 +1,15 @@
--- what the walk gives, read from the empty set of targets
-use Rattle.rc_checks.proofs.LabelLemmas.{only_want_of_memory, same_runs, without_unused_labels}
+-- what the pruned block is, from the empty set of targets
+use Rattle.std.proofs.Common.{refl}
+use Rattle.rc_checks.proofs.LabelLemmas.{without_labels}
+use Rattle.rc_checks.proofs.LabelsKeepRuns.{labels_keep_runs}
 use Rattle.rc_checks.proofs.labels.prune_unused_labels.Goals as goal
 
 pub returns-clause-ok : goal.returns-clause-ok
-returns-clause-ok c = without_unused_labels _ _ _ _ _ _ _ _ c.new-targets.ensures c.transform_reactive_function.ensures.walk
+returns-clause-ok c = without_labels c.args.func.now.body c.prune_block.new.block c.new-targets.result
+    c.prune_block.new.targets c.new-targets.ensures c.in_ok-prune_block.ensures
 
 pub returns-clause-kept_runs : goal.returns-clause-kept_runs
-returns-clause-kept_runs c = same_runs _ _ _ _ _ _ _ c.args.env.now _ c.new-targets.ensures c.transform_reactive_function.ensures.walk
-
-pub returns-clause-only : goal.returns-clause-only
-returns-clause-only c = only_want_of_memory _ _ _ _ _ _ _ _ c.new-targets.ensures c.transform_reactive_function.ensures.walk
+returns-clause-kept_runs c =
+    labels_keep_runs c.args.func.now (record c.args.func.now { body = c.prune_block.new.block }) refl
+    (without_labels c.args.func.now.body c.prune_block.new.block c.new-targets.result c.prune_block.new.targets
+    c.new-targets.ensures c.in_ok-prune_block.ensures) c.args.env.now
