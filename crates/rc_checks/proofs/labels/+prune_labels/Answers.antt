@@ -7,7 +7,8 @@ use Rattle.rc_checks.proofs.LabelLemmas.{pruned_scope_stays, puts_last, row_stay
 use Rattle.rc_checks.proofs.OpenedLabels.{opened-Break, opened-Continue, opened-Return, opened-Throw, opened-Switch}
 use Rattle.rc_checks.proofs.OpenedLabels.{opened-DoWhile, opened-While, opened-For, opened-ForOf, opened-ForIn}
 use Rattle.rc_checks.proofs.OpenedLabels.{opened-If, opened-Label, opened-Try}
-use Rattle.rc_tree.proofs.RewriteRunLemmas.{most_pop, most-reverse}
+use Rattle.rc_tree.proofs.PlaceLemmas.{most_pop}
+use Rattle.rc_tree.proofs.RewriteRunLemmas.{most-reverse}
 use Rattle.rc_tree.proofs.statement.ReactiveStatement.TheLaws as statement
 use Rattle.rc_tree.proofs.terminal.ReactiveSwitchCase.TheLaws as switch_case
 use Rattle.rc_tree.specs.declared.statement.ReactiveStatement.TheVariants as stmt
