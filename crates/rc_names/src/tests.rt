@@ -23,6 +23,18 @@ fn a_list_is_taken_whole(rt: HostRuntime) -> Result<(), Fail> {
 }
 
 #[test]
+fn a_list_takes_from_others(rt: HostRuntime) -> Result<(), Fail> {
+    let mut list = List::new(rt.alloc());
+    let mut first = List::from_slice(rt.alloc(), &[7, 8])?;
+    let mut second = List::from_slice(rt.alloc(), &[9])?;
+    list.take_from(&mut first)?;
+    list.take_from(&mut second)?;
+    assert!(rt; first.is_empty() && second.is_empty());
+    assert_eq!(rt; list.as_slice(), [7, 8, 9].as_slice());
+    Ok(())
+}
+
+#[test]
 fn an_entry_is_changed_in_its_place(rt: HostRuntime) -> Result<(), Fail> {
     let mut list = List::new(rt.alloc());
     list.push(7)?;
