@@ -1,6 +1,7 @@
 //! Walks and copies of trees that are written here, against visits written by hand.
 
 mod copies;
+mod drops;
 mod graphs;
 mod order;
 mod parts;

@@ -1,0 +1,30 @@
+//! Trees that are let go.
+
+use crate::tests::trees::{empty, place, statement};
+use rc_names::EvaluationOrder;
+use rc_tree::{ReactiveBlock, ReactiveTerminal};
+use std::alloc::{AllocError, Global};
+use std::test::Fail;
+
+/// `If`s one in the other.
+fn nested(alloc: Global, levels: u32) -> Result<ReactiveBlock, AllocError> {
+    let mut block = empty(alloc);
+    for level in 0..levels {
+        let terminal = ReactiveTerminal::If {
+            test: place(0),
+            consequent: block,
+            alternate: None,
+            id: EvaluationOrder(level),
+        };
+        block = empty(alloc);
+        block.statements.push(statement(alloc, terminal)?)?;
+    }
+    Ok(block)
+}
+
+#[test]
+fn a_hundred_thousand_levels_are_let_go(rt: HostRuntime) -> Result<(), Fail> {
+    let block = nested(rt.alloc(), 100_000)?;
+    assert_eq!(rt; block.statements.len(), 1);
+    Ok(())
+}
