@@ -24,7 +24,7 @@ walk_list-statement-init g t c = record {
       let functions = g.T.ReactiveFunctionTransform.functions in
       rw (c.reverse.ensures, c.take-left.ensures.list, c.take-left.ensures.left, turned_twice c.args.statements.now)
       (inr (statements_at-in_turn steps functions (block_to steps functions n)
-          (c.args.transform.now, c.args.state.now) c.args.statements.now));
+      (c.args.transform.now, c.args.state.now) c.args.statements.now));
 }
 
 -- one statement less is left
@@ -48,11 +48,11 @@ walk_list-statement-preserved g t c =
           let functions = g.T.ReactiveFunctionTransform.functions in
           so_next_last (into_at steps functions (block_to steps functions n))
           (statements_at steps functions (block_to steps functions n)
-              (c.args.transform.now, c.args.state.now) c.args.statements.now)
+          (c.args.transform.now, c.args.state.now) c.args.statements.now)
           (c.statement.transform, c.statement.state) c.statement.statements c.statement.left
-              (c.statement.invariant.so_far n) full
+          (c.statement.invariant.so_far n) full
           (c.walk_last_into.new.transform, c.walk_last_into.new.state) c.walk_last_into.new.done
-              c.walk_last_into.new.left
+          c.walk_last_into.new.left
           c.in_ok-walk_last_into.ensures.left (c.in_ok-walk_last_into.ensures.done n);
     }
 
@@ -65,9 +65,9 @@ walk_list-returns g t c =
     let functions = g.T.ReactiveFunctionTransform.functions in
     so_end (into_at steps functions (block_to steps functions n))
     (statements_at steps functions (block_to steps functions n)
-        (c.args.transform.now, c.args.state.now) c.args.statements.now)
+    (c.args.transform.now, c.args.state.now) c.args.statements.now)
     (c.statement.transform, c.statement.state) c.statement.statements c.statement.left
-        (c.statement.invariant.so_far n) none
+    (c.statement.invariant.so_far n) none
 
 -- the last statement's walk fails
 pub walk_list-returns-in_err-walk_last_into : goal.walk_list-returns-in_err-walk_last_into
@@ -79,13 +79,15 @@ walk_list-returns-in_err-walk_last_into g t c =
     let p = err_from_is_err_and c.from_residual.result c.from_residual.ensures.1 in
     rw (p.1, p.2) (so_fault_last (into_at steps functions (block_to steps functions n))
     (statements_at steps functions (block_to steps functions n)
-        (c.args.transform.now, c.args.state.now) c.args.statements.now)
+    (c.args.transform.now, c.args.state.now) c.args.statements.now)
     (c.statement.transform, c.statement.state) c.statement.statements c.statement.left
-        (c.statement.invariant.so_far n) full
-    c.in_err-walk_last_into.field-0.0 ((c.walk_last_into.new.transform, c.walk_last_into.new.state),
-        c.walk_last_into.new.done)
+    (c.statement.invariant.so_far n) full
+    c.in_err-walk_last_into.field-0.0 (
+      (c.walk_last_into.new.transform, c.walk_last_into.new.state),
+      c.walk_last_into.new.done,
+    )
     ((c.walk_last_into.new.transform, c.walk_last_into.new.state), c.walk_last_into.new.done)
-        (c.in_err-walk_last_into.ensures.done n))
+    (c.in_err-walk_last_into.ensures.done n))
 
 -- a list that ends with an entry isn't empty
 pub walk_last_into-returns-in_default : goal.walk_last_into-returns-in_default
@@ -121,12 +123,12 @@ walk_last_into-returns-in_err-walk_held g t c =
       done = λ n rest x e. rw (p.1, p.2) (meets_put_fault steps functions (block_to steps functions n)
           (c.args.transform.now, c.args.state.now) c.args.done.now x fault
           ((c.walk_held.new.transform, c.walk_held.new.state), c.walk_held.new.statement)
-              ((c.walk_held.new.transform, c.walk_held.new.state), c.args.done.now)
+          ((c.walk_held.new.transform, c.walk_held.new.state), c.args.done.now)
           (subst (λ y. Meets (held_at steps functions (block_to steps functions n)
-              (c.args.transform.now, c.args.state.now) y) (Err fault)
+          (c.args.transform.now, c.args.state.now) y) (Err fault)
           ((c.walk_held.new.transform, c.walk_held.new.state), c.walk_held.new.statement))
           (sym (last_is c.args.left.now rest x c.in-Some-get_mut.statement.now c.in-Some.last e at
-              c.in-Some-get_mut.ensures.value)) (c.in_err-walk_held.ensures n)));
+          c.in-Some-get_mut.ensures.value)) (c.in_err-walk_held.ensures n)));
     }
 
 -- the walk of what the last statement holds, and then what stands in its place
@@ -143,10 +145,10 @@ walk_last_into-returns g t c =
           (c.args.transform.now, c.args.state.now) (c.walk_held.new.transform, c.walk_held.new.state)
           c.args.done.now x x1 c.put_last.result ((c.put_last.new.transform, c.put_last.new.state), c.put_last.new.done)
           (subst (λ y. Meets (held_at steps functions (block_to steps functions n)
-              (c.args.transform.now, c.args.state.now) y) (Ok tt)
+          (c.args.transform.now, c.args.state.now) y) (Ok tt)
           ((c.walk_held.new.transform, c.walk_held.new.state), x1))
           (sym (last_is c.args.left.now rest x c.in-Some-get_mut.statement.now c.in-Some.last e at
-              c.in-Some-get_mut.ensures.value)) (c.in_ok-walk_held.ensures n))
+          c.in-Some-get_mut.ensures.value)) (c.in_ok-walk_held.ensures n))
           (c.put_last.ensures.done rest x1 (last_set c.args.left.now rest x x1 c.in-Some.last e at));
     }
 
@@ -159,7 +161,7 @@ walk_cases-loop-i-init g t c = record {
       let steps = g.T.ReactiveFunctionTransform.steps in
       let functions = g.T.ReactiveFunctionTransform.functions in
       inr (cases_at-in_turn steps functions (block_to steps functions n) c.args.id
-          (c.args.transform.now, c.args.state.now) c.args.cases.now);
+      (c.args.transform.now, c.args.state.now) c.args.cases.now);
 }
 
 -- a case that is left is no deeper than all
@@ -188,9 +190,9 @@ walk_cases-loop-i-preserved g t c = record {
       let functions = g.T.ReactiveFunctionTransform.functions in
       place_next (case_at steps functions (block_to steps functions n) c.args.id)
       (cases_at steps functions (block_to steps functions n) c.args.id
-          (c.args.transform.now, c.args.state.now) c.args.cases.now)
+      (c.args.transform.now, c.args.state.now) c.args.cases.now)
       (c.loop-i.transform, c.loop-i.state) c.loop-i.cases c.loop-i.i c.in-Some.case.now
-          (c.walk_case.new.transform, c.walk_case.new.state) c.walk_case.new.case
+      (c.walk_case.new.transform, c.walk_case.new.state) c.walk_case.new.case
       (c.loop-i.invariant.so_far n) (sym c.in-Some.ensures.value) (c.in_ok-walk_case.ensures n);
 }
 
@@ -201,7 +203,7 @@ walk_cases-returns g t c = λ n.
     let functions = g.T.ReactiveFunctionTransform.functions in
     place_end (case_at steps functions (block_to steps functions n) c.args.id)
     (cases_at steps functions (block_to steps functions n) c.args.id
-        (c.args.transform.now, c.args.state.now) c.args.cases.now)
+    (c.args.transform.now, c.args.state.now) c.args.cases.now)
     (c.loop-i.transform, c.loop-i.state) c.loop-i.cases c.loop-i.i (c.loop-i.invariant.so_far n)
     (omega (arith, c.loop-i-test.false, c.len-i-end.ensures, c.loop-i.invariant.as_long))
 
@@ -211,7 +213,7 @@ walk_cases-returns-in_default g t c = λ n.
     let functions = g.T.ReactiveFunctionTransform.functions in
     place_end (case_at steps functions (block_to steps functions n) c.args.id)
     (cases_at steps functions (block_to steps functions n) c.args.id
-        (c.args.transform.now, c.args.state.now) c.args.cases.now)
+    (c.args.transform.now, c.args.state.now) c.args.cases.now)
     (c.loop-i.transform, c.loop-i.state) c.loop-i.cases c.loop-i.i (c.loop-i.invariant.so_far n)
     (past_end c.loop-i.cases c.loop-i.i c.in_default.ensures.value)
 
@@ -223,7 +225,7 @@ walk_cases-returns-in_err-walk_case g t c = λ n.
     let p = err_from_is_err_and c.from_residual.result c.from_residual.ensures.1 in
     rw (p.1, p.2) (place_fault (case_at steps functions (block_to steps functions n) c.args.id)
     (cases_at steps functions (block_to steps functions n) c.args.id
-        (c.args.transform.now, c.args.state.now) c.args.cases.now)
+    (c.args.transform.now, c.args.state.now) c.args.cases.now)
     (c.loop-i.transform, c.loop-i.state) c.loop-i.cases c.loop-i.i c.in-Some.case.now c.in_err-walk_case.field-0.0
     ((c.walk_case.new.transform, c.walk_case.new.state), c.walk_case.new.case)
     ((c.walk_case.new.transform, c.walk_case.new.state), slice_set c.loop-i.cases c.loop-i.i c.walk_case.new.case)
