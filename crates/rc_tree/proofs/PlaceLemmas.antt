@@ -41,7 +41,8 @@ set_behind [] x y behind = refl
 set_behind (z ∷ before) x y behind = ap (λ l. z ∷ l) (set_behind before x y behind)
 
 -- the place of the last entry
-last_place : {X : Type 0} (left rest : List X) (x : X) (i : ℕ) → left ≡ rest ++ x ∷ [] → i + 1 ≡ length left → i ≡ length rest
+last_place : {X : Type 0} (left rest : List X) (x : X) (i : ℕ) → left ≡ rest ++ x ∷ [] → i + 1 ≡ length left
+    → i ≡ length rest
 last_place left rest x i e k =
     let h : length left ≡ length rest + 1 = ap length e ∙ length-append rest (x ∷ []) in
     omega (arith, k, h)
@@ -77,7 +78,8 @@ most_pop μ left rest x e =
     (omega arith, omega arith)
 
 -- the last entry taken off
-pub taken_off : {X : Type 0} (μ : X → ℕ) (left new : List X) → ((rest : List X) (x : X) → left ≡ rest ++ x ∷ [] → new ≡ rest)
+pub taken_off : {X : Type 0} (μ : X → ℕ) (left new : List X)
+    → ((rest : List X) (x : X) → left ≡ rest ++ x ∷ [] → new ≡ rest)
     → (left ≡ [] → ⊥) → (length new < length left) × (most μ new ≤ most μ left)
 taken_off μ left new off full =
     let p = ends_with left full in

@@ -16,7 +16,8 @@ use Rattle.rc_tree.specs.declared.statement.ReactiveStatement.TheVariants as stm
 use Rattle.rc_tree.specs.declared.transform.Transformed.{Transformed}
 
 -- what is made of the answer of the last step is made of it at once
-step_behind : {W X Y A B : Type 0} (h : Run (Unit {0} × (W × X))) (step : W → X → Result (A × Y) Fault) (make : A × Y → B)
+step_behind : {W X Y A B : Type 0} (h : Run (Unit {0} × (W × X))) (step : W → X → Result (A × Y) Fault)
+    (make : A × Y → B)
     → bind (bind h (λ a. last (step a.1.0 a.1.1))) (λ a. Done (make a))
     ≡ bind h (λ a. last (outcome.bind (step a.1.0 a.1.1) (λ b. Ok (make b))))
 step_behind Spent step make = refl
@@ -48,16 +49,20 @@ module _ {W X Y A : Type 0} (make : Y → X) (step : Hook W Y A) (answer : Hook 
     part_asked (Failed fault) = refl
     part_asked (Done d) = last_answered (step d.1.0 d.1.1) ∙ ap last (sym (agree d.1.0 d.1.1))
 
-    row_asked : (r : Result (Unit {0} × (W × Y)) Fault) → after r (λ a. after (step a.1.0 a.1.1) (λ b. Done (answered b)))
+    row_asked : (r : Result (Unit {0} × (W × Y)) Fault)
+        → after r (λ a. after (step a.1.0 a.1.1) (λ b. Done (answered b)))
         ≡ bind (after r (λ a. Done (walked a))) (λ a. last (answer a.1.0 a.1.1))
     row_asked (Ok d) = part_asked (Done d)
     row_asked (Err fault) = refl
 
-module _ {T S : Type 0} (v : RewriteSteps (T × S)) (functions : T → List HirFunction) (inner : Part (T × S) ReactiveBlock) where
+module _ {T S : Type 0} (v : RewriteSteps (T × S)) (functions : T → List HirFunction)
+    (inner : Part (T × S) ReactiveBlock) where
   layer_asked : (w : T × S) (l : Statement-F)
-      → statement_layer v functions inner w l ≡ bind (held_layer v functions inner w l) (λ a. last (answer_at v a.1.0 a.1.1))
+      → statement_layer v functions inner w l
+      ≡ bind (held_layer v functions inner w l) (λ a. last (answer_at v a.1.0 a.1.1))
   layer_asked w (layer.Instruction x) =
-      row_asked stmt.Instruction v.transform_instruction (answer_at v) (λ w y. ap (answer_layer v w) (stmt.outs-Instruction y))
+      row_asked stmt.Instruction v.transform_instruction (answer_at v)
+      (λ w y. ap (answer_layer v w) (stmt.outs-Instruction y))
       (rewrite_instruction v functions w x)
   layer_asked w (layer.Terminal x) =
       part_asked stmt.Terminal v.transform_terminal (answer_at v) (λ w y. ap (answer_layer v w) (stmt.outs-Terminal y))
@@ -66,7 +71,8 @@ module _ {T S : Type 0} (v : RewriteSteps (T × S)) (functions : T → List HirF
       part_asked stmt.Scope v.transform_scope (answer_at v) (λ w y. ap (answer_layer v w) (stmt.outs-Scope y))
       (scope_at v functions inner w x)
   layer_asked w (layer.PrunedScope x) =
-      part_asked stmt.PrunedScope v.transform_pruned_scope (answer_at v) (λ w y. ap (answer_layer v w) (stmt.outs-PrunedScope y))
+      part_asked stmt.PrunedScope v.transform_pruned_scope (answer_at v)
+      (λ w y. ap (answer_layer v w) (stmt.outs-PrunedScope y))
       (pruned_scope_at v functions inner w x)
 
   statement_asked : (w : T × S) (x : ReactiveStatement)
@@ -74,14 +80,16 @@ module _ {T S : Type 0} (v : RewriteSteps (T × S)) (functions : T → List HirF
   statement_asked w x = layer_asked w (out-ReactiveStatement x)
 
   into_put : (w : T × S) (done : List ReactiveStatement) (x : ReactiveStatement)
-      → into_at v functions inner w done x ≡ bind (held_at v functions inner w x) (λ a. last (put_at v a.1.0 done a.1.1))
+      → into_at v functions inner w done x
+      ≡ bind (held_at v functions inner w x) (λ a. last (put_at v a.1.0 done a.1.1))
   unfolding into_at
   into_put w done x =
       ap (λ r. bind r (λ a. Done (tt, (a.1.0, done ++ in_place a.0 a.1.1)))) (statement_asked w x)
       ∙ step_behind (held_at v functions inner w x) (answer_at v) (λ a. (tt, (a.1.0, done ++ in_place a.0 a.1.1)))
 
   -- what a statement holds was walked, and its `transform_` step is asked
-  pub meets_asked : (w w1 : T × S) (x x1 : ReactiveStatement) (r : Result (Transformed ReactiveStatement) Fault) (t : (T × S) × ReactiveStatement)
+  pub meets_asked : (w w1 : T × S) (x x1 : ReactiveStatement) (r : Result (Transformed ReactiveStatement) Fault)
+      (t : (T × S) × ReactiveStatement)
       → Meets (held_at v functions inner w x) (Ok tt) (w1, x1) → Gives (answer_at v w1 x1) r t
       → Meets (statement_at v functions inner w x) r t
   meets_asked w w1 x x1 r t h k =
@@ -97,7 +105,8 @@ module _ {T S : Type 0} (v : RewriteSteps (T × S)) (functions : T → List HirF
       (meets_fault (held_at v functions inner w x) (λ a. last (answer_at v a.1.0 a.1.1)) fault s t h)
 
   -- the same, with what stands in the statement's place at the end of those that are done
-  pub meets_put : (w w1 : T × S) (done : List ReactiveStatement) (x x1 : ReactiveStatement) (r : Result (Unit {0}) Fault)
+  pub meets_put : (w w1 : T × S) (done : List ReactiveStatement) (x x1 : ReactiveStatement)
+      (r : Result (Unit {0}) Fault)
       (t : (T × S) × List ReactiveStatement) → Meets (held_at v functions inner w x) (Ok tt) (w1, x1)
       → Gives (put_at v w1 done x1) r t → Meets (into_at v functions inner w done x) r t
   meets_put w w1 done x x1 r t h k =

@@ -163,7 +163,8 @@ module _ {W X : Type 0} (into : Into W X) (whole : Run (Unit {0} × (W × List X
 
   -- its walk failed
   pub so_fault_last : (fault : Fault) (s t : W × List X)
-      → ((rest : List X) (x : X) → left ≡ rest ++ x ∷ [] → Meets (into w done x) (Err fault) s) → Meets whole (Err fault) t
+      → ((rest : List X) (x : X) → left ≡ rest ++ x ∷ [] → Meets (into w done x) (Err fault) s)
+      → Meets whole (Err fault) t
   so_fault_last fault s t walked =
       let p = ends_with left full in
       so_fault into whole w done left p.0 p.1 fault s t so p.2 (walked p.0 p.1 p.2)

@@ -1,5 +1,5 @@
--- The rewriting walk of a statement in two: the walk of what it holds, which changes the statement in its place, and then
--- its `transform_` step, with what that puts in the statement's place.
+-- The rewriting walk of a statement in two: the walk of what it holds, which changes the statement in its place, and
+-- then its `transform_` step, with what that puts in the statement's place.
 use Rattle.std.specs.Prelude.{List, ◌++◌, Result, Ok}
 use Rattle.rc_hir.specs.declared.fault.Fault.{Fault}
 use Rattle.rc_hir.specs.declared.function.HirFunction.{HirFunction}
@@ -29,7 +29,8 @@ module _ {W : Type 0} (v : RewriteSteps W) where
   abbrev pub answer_layer : W → Statement-F → Result (Transformed ReactiveStatement × (W × ReactiveStatement)) Fault
   answer_layer w (layer.Instruction x) =
       outcome.bind (v.transform_instruction w x) (λ a. Ok (a.0, (a.1.0, stmt.Instruction a.1.1)))
-  answer_layer w (layer.Terminal x) = outcome.bind (v.transform_terminal w x) (λ a. Ok (a.0, (a.1.0, stmt.Terminal a.1.1)))
+  answer_layer w (layer.Terminal x) =
+      outcome.bind (v.transform_terminal w x) (λ a. Ok (a.0, (a.1.0, stmt.Terminal a.1.1)))
   answer_layer w (layer.Scope x) = outcome.bind (v.transform_scope w x) (λ a. Ok (a.0, (a.1.0, stmt.Scope a.1.1)))
   answer_layer w (layer.PrunedScope x) =
       outcome.bind (v.transform_pruned_scope w x) (λ a. Ok (a.0, (a.1.0, stmt.PrunedScope a.1.1)))
@@ -38,15 +39,18 @@ module _ {W : Type 0} (v : RewriteSteps W) where
   answer_at w x = answer_layer w (out-ReactiveStatement x)
 
   -- a statement's `transform_` step, and what stands in its place at the end of those that are done
-  abbrev pub put_at : W → List ReactiveStatement → ReactiveStatement → Result (Unit {0} × (W × List ReactiveStatement)) Fault
+  abbrev pub put_at : W → List ReactiveStatement → ReactiveStatement
+      → Result (Unit {0} × (W × List ReactiveStatement)) Fault
   put_at w done x = outcome.bind (answer_at w x) (λ a. Ok (tt, (a.1.0, done ++ in_place a.0 a.1.1)))
 
-module _ {T S : Type 0} (v : RewriteSteps (T × S)) (functions : T → List HirFunction) (inner : Part (T × S) ReactiveBlock) where
+module _ {T S : Type 0} (v : RewriteSteps (T × S)) (functions : T → List HirFunction)
+    (inner : Part (T × S) ReactiveBlock) where
   -- the walk of what each form holds
   abbrev pub held_layer : (T × S) → Statement-F → Run (Unit {0} × ((T × S) × ReactiveStatement))
   held_layer w (layer.Instruction x) =
       after (rewrite_instruction v functions w x) (λ a. Done (tt, (a.1.0, stmt.Instruction a.1.1)))
-  held_layer w (layer.Terminal x) = bind (terminal_at v functions inner w x) (λ a. Done (tt, (a.1.0, stmt.Terminal a.1.1)))
+  held_layer w (layer.Terminal x) =
+      bind (terminal_at v functions inner w x) (λ a. Done (tt, (a.1.0, stmt.Terminal a.1.1)))
   held_layer w (layer.Scope x) = bind (scope_at v functions inner w x) (λ a. Done (tt, (a.1.0, stmt.Scope a.1.1)))
   held_layer w (layer.PrunedScope x) =
       bind (pruned_scope_at v functions inner w x) (λ a. Done (tt, (a.1.0, stmt.PrunedScope a.1.1)))

@@ -17,12 +17,14 @@ use Rattle.rc_tree.proofs.rewrite.statement.+rewrite_tree.Goals as goal
 -- at first everything is left
 pub walk_list-statement-init : goal.walk_list-statement-init
 walk_list-statement-init g t c = record {
-  no_deeper = rw (c.reverse.ensures, c.take-left.ensures.list) (omega (arith, most-reverse statement.the_size c.args.statements.now));
+  no_deeper = rw (c.reverse.ensures, c.take-left.ensures.list) (omega
+      (arith, most-reverse statement.the_size c.args.statements.now));
   so_far = λ n.
       let steps = g.T.ReactiveFunctionTransform.steps in
       let functions = g.T.ReactiveFunctionTransform.functions in
       rw (c.reverse.ensures, c.take-left.ensures.list, c.take-left.ensures.left, turned_twice c.args.statements.now)
-      (inr (statements_at-in_turn steps functions (block_to steps functions n) (c.args.transform.now, c.args.state.now) c.args.statements.now));
+      (inr (statements_at-in_turn steps functions (block_to steps functions n)
+      (c.args.transform.now, c.args.state.now) c.args.statements.now));
 }
 
 -- one statement less is left
@@ -38,15 +40,19 @@ walk_list-statement-preserved g t c =
       no_deeper = omega (
         arith,
         c.statement.invariant.no_deeper,
-        (taken_off statement.the_size c.statement.left c.walk_last_into.new.left c.in_ok-walk_last_into.ensures.left full).1,
+        (taken_off statement.the_size c.statement.left c.walk_last_into.new.left c.in_ok-walk_last_into.ensures.left
+            full).1,
       );
       so_far = λ n.
           let steps = g.T.ReactiveFunctionTransform.steps in
           let functions = g.T.ReactiveFunctionTransform.functions in
           so_next_last (into_at steps functions (block_to steps functions n))
-          (statements_at steps functions (block_to steps functions n) (c.args.transform.now, c.args.state.now) c.args.statements.now)
-          (c.statement.transform, c.statement.state) c.statement.statements c.statement.left (c.statement.invariant.so_far n) full
-          (c.walk_last_into.new.transform, c.walk_last_into.new.state) c.walk_last_into.new.done c.walk_last_into.new.left
+          (statements_at steps functions (block_to steps functions n)
+          (c.args.transform.now, c.args.state.now) c.args.statements.now)
+          (c.statement.transform, c.statement.state) c.statement.statements c.statement.left
+          (c.statement.invariant.so_far n) full
+          (c.walk_last_into.new.transform, c.walk_last_into.new.state) c.walk_last_into.new.done
+          c.walk_last_into.new.left
           c.in_ok-walk_last_into.ensures.left (c.in_ok-walk_last_into.ensures.done n);
     }
 
@@ -58,8 +64,10 @@ walk_list-returns g t c =
     let steps = g.T.ReactiveFunctionTransform.steps in
     let functions = g.T.ReactiveFunctionTransform.functions in
     so_end (into_at steps functions (block_to steps functions n))
-    (statements_at steps functions (block_to steps functions n) (c.args.transform.now, c.args.state.now) c.args.statements.now)
-    (c.statement.transform, c.statement.state) c.statement.statements c.statement.left (c.statement.invariant.so_far n) none
+    (statements_at steps functions (block_to steps functions n)
+    (c.args.transform.now, c.args.state.now) c.args.statements.now)
+    (c.statement.transform, c.statement.state) c.statement.statements c.statement.left
+    (c.statement.invariant.so_far n) none
 
 -- the last statement's walk fails
 pub walk_list-returns-in_err-walk_last_into : goal.walk_list-returns-in_err-walk_last_into
@@ -70,10 +78,16 @@ walk_list-returns-in_err-walk_last_into g t c =
     let functions = g.T.ReactiveFunctionTransform.functions in
     let p = err_from_is_err_and c.from_residual.result c.from_residual.ensures.1 in
     rw (p.1, p.2) (so_fault_last (into_at steps functions (block_to steps functions n))
-    (statements_at steps functions (block_to steps functions n) (c.args.transform.now, c.args.state.now) c.args.statements.now)
-    (c.statement.transform, c.statement.state) c.statement.statements c.statement.left (c.statement.invariant.so_far n) full
-    c.in_err-walk_last_into.field-0.0 ((c.walk_last_into.new.transform, c.walk_last_into.new.state), c.walk_last_into.new.done)
-    ((c.walk_last_into.new.transform, c.walk_last_into.new.state), c.walk_last_into.new.done) (c.in_err-walk_last_into.ensures.done n))
+    (statements_at steps functions (block_to steps functions n)
+    (c.args.transform.now, c.args.state.now) c.args.statements.now)
+    (c.statement.transform, c.statement.state) c.statement.statements c.statement.left
+    (c.statement.invariant.so_far n) full
+    c.in_err-walk_last_into.field-0.0 (
+      (c.walk_last_into.new.transform, c.walk_last_into.new.state),
+      c.walk_last_into.new.done,
+    )
+    ((c.walk_last_into.new.transform, c.walk_last_into.new.state), c.walk_last_into.new.done)
+    (c.in_err-walk_last_into.ensures.done n))
 
 -- a list that ends with an entry isn't empty
 pub walk_last_into-returns-in_default : goal.walk_last_into-returns-in_default
@@ -106,11 +120,15 @@ walk_last_into-returns-in_err-walk_held g t c =
     let at : c.in-Some.last + 1 ≡ length c.args.left.now = omega (arith, c.in-Some.ensures, c.len.ensures) in
     record {
       left = λ rest x e. rw p.1 tt;
-      done = λ n rest x e. rw (p.1, p.2) (meets_put_fault steps functions (block_to steps functions n) (c.args.transform.now, c.args.state.now) c.args.done.now x fault
-          ((c.walk_held.new.transform, c.walk_held.new.state), c.walk_held.new.statement) ((c.walk_held.new.transform, c.walk_held.new.state), c.args.done.now)
-          (subst (λ y. Meets (held_at steps functions (block_to steps functions n) (c.args.transform.now, c.args.state.now) y) (Err fault)
+      done = λ n rest x e. rw (p.1, p.2) (meets_put_fault steps functions (block_to steps functions n)
+          (c.args.transform.now, c.args.state.now) c.args.done.now x fault
+          ((c.walk_held.new.transform, c.walk_held.new.state), c.walk_held.new.statement)
+          ((c.walk_held.new.transform, c.walk_held.new.state), c.args.done.now)
+          (subst (λ y. Meets (held_at steps functions (block_to steps functions n)
+          (c.args.transform.now, c.args.state.now) y) (Err fault)
           ((c.walk_held.new.transform, c.walk_held.new.state), c.walk_held.new.statement))
-          (sym (last_is c.args.left.now rest x c.in-Some-get_mut.statement.now c.in-Some.last e at c.in-Some-get_mut.ensures.value)) (c.in_err-walk_held.ensures n)));
+          (sym (last_is c.args.left.now rest x c.in-Some-get_mut.statement.now c.in-Some.last e at
+          c.in-Some-get_mut.ensures.value)) (c.in_err-walk_held.ensures n)));
     }
 
 -- the walk of what the last statement holds, and then what stands in its place
@@ -121,12 +139,16 @@ walk_last_into-returns g t c =
     let x1 = c.walk_held.new.statement in
     let at : c.in-Some.last + 1 ≡ length c.args.left.now = omega (arith, c.in-Some.ensures, c.len.ensures) in
     record {
-      left = λ rest x e. any_case c.put_last.result (c.put_last.ensures.left rest x1 (last_set c.args.left.now rest x x1 c.in-Some.last e at));
-      done = λ n rest x e. meets_put steps functions (block_to steps functions n) (c.args.transform.now, c.args.state.now) (c.walk_held.new.transform, c.walk_held.new.state)
+      left = λ rest x e. any_case c.put_last.result (c.put_last.ensures.left rest x1
+          (last_set c.args.left.now rest x x1 c.in-Some.last e at));
+      done = λ n rest x e. meets_put steps functions (block_to steps functions n)
+          (c.args.transform.now, c.args.state.now) (c.walk_held.new.transform, c.walk_held.new.state)
           c.args.done.now x x1 c.put_last.result ((c.put_last.new.transform, c.put_last.new.state), c.put_last.new.done)
-          (subst (λ y. Meets (held_at steps functions (block_to steps functions n) (c.args.transform.now, c.args.state.now) y) (Ok tt)
+          (subst (λ y. Meets (held_at steps functions (block_to steps functions n)
+          (c.args.transform.now, c.args.state.now) y) (Ok tt)
           ((c.walk_held.new.transform, c.walk_held.new.state), x1))
-          (sym (last_is c.args.left.now rest x c.in-Some-get_mut.statement.now c.in-Some.last e at c.in-Some-get_mut.ensures.value)) (c.in_ok-walk_held.ensures n))
+          (sym (last_is c.args.left.now rest x c.in-Some-get_mut.statement.now c.in-Some.last e at
+          c.in-Some-get_mut.ensures.value)) (c.in_ok-walk_held.ensures n))
           (c.put_last.ensures.done rest x1 (last_set c.args.left.now rest x x1 c.in-Some.last e at));
     }
 
@@ -138,7 +160,8 @@ walk_cases-loop-i-init g t c = record {
   so_far = λ n.
       let steps = g.T.ReactiveFunctionTransform.steps in
       let functions = g.T.ReactiveFunctionTransform.functions in
-      inr (cases_at-in_turn steps functions (block_to steps functions n) c.args.id (c.args.transform.now, c.args.state.now) c.args.cases.now);
+      inr (cases_at-in_turn steps functions (block_to steps functions n) c.args.id
+      (c.args.transform.now, c.args.state.now) c.args.cases.now);
 }
 
 -- a case that is left is no deeper than all
@@ -148,7 +171,8 @@ walk_cases-walk_case-requires g t c κs =
     omega (
       arith,
       c.loop-i.invariant.no_deeper,
-      (most_place switch_case.the_size c.loop-i.cases c.loop-i.i c.in-Some.case.now c.in-Some.case.now (sym c.in-Some.ensures.value)).0,
+      (most_place switch_case.the_size c.loop-i.cases c.loop-i.i c.in-Some.case.now c.in-Some.case.now
+          (sym c.in-Some.ensures.value)).0,
     ) in
     search (rules, h)
 
@@ -158,14 +182,17 @@ walk_cases-loop-i-preserved g t c = record {
   no_deeper = omega (
     arith,
     c.loop-i.invariant.no_deeper,
-    (most_place switch_case.the_size c.loop-i.cases c.loop-i.i c.in-Some.case.now c.walk_case.new.case (sym c.in-Some.ensures.value)).1,
+    (most_place switch_case.the_size c.loop-i.cases c.loop-i.i c.in-Some.case.now c.walk_case.new.case
+        (sym c.in-Some.ensures.value)).1,
   );
   so_far = λ n.
       let steps = g.T.ReactiveFunctionTransform.steps in
       let functions = g.T.ReactiveFunctionTransform.functions in
       place_next (case_at steps functions (block_to steps functions n) c.args.id)
-      (cases_at steps functions (block_to steps functions n) c.args.id (c.args.transform.now, c.args.state.now) c.args.cases.now)
-      (c.loop-i.transform, c.loop-i.state) c.loop-i.cases c.loop-i.i c.in-Some.case.now (c.walk_case.new.transform, c.walk_case.new.state) c.walk_case.new.case
+      (cases_at steps functions (block_to steps functions n) c.args.id
+      (c.args.transform.now, c.args.state.now) c.args.cases.now)
+      (c.loop-i.transform, c.loop-i.state) c.loop-i.cases c.loop-i.i c.in-Some.case.now
+      (c.walk_case.new.transform, c.walk_case.new.state) c.walk_case.new.case
       (c.loop-i.invariant.so_far n) (sym c.in-Some.ensures.value) (c.in_ok-walk_case.ensures n);
 }
 
@@ -175,7 +202,8 @@ walk_cases-returns g t c = λ n.
     let steps = g.T.ReactiveFunctionTransform.steps in
     let functions = g.T.ReactiveFunctionTransform.functions in
     place_end (case_at steps functions (block_to steps functions n) c.args.id)
-    (cases_at steps functions (block_to steps functions n) c.args.id (c.args.transform.now, c.args.state.now) c.args.cases.now)
+    (cases_at steps functions (block_to steps functions n) c.args.id
+    (c.args.transform.now, c.args.state.now) c.args.cases.now)
     (c.loop-i.transform, c.loop-i.state) c.loop-i.cases c.loop-i.i (c.loop-i.invariant.so_far n)
     (omega (arith, c.loop-i-test.false, c.len-i-end.ensures, c.loop-i.invariant.as_long))
 
@@ -184,7 +212,8 @@ walk_cases-returns-in_default g t c = λ n.
     let steps = g.T.ReactiveFunctionTransform.steps in
     let functions = g.T.ReactiveFunctionTransform.functions in
     place_end (case_at steps functions (block_to steps functions n) c.args.id)
-    (cases_at steps functions (block_to steps functions n) c.args.id (c.args.transform.now, c.args.state.now) c.args.cases.now)
+    (cases_at steps functions (block_to steps functions n) c.args.id
+    (c.args.transform.now, c.args.state.now) c.args.cases.now)
     (c.loop-i.transform, c.loop-i.state) c.loop-i.cases c.loop-i.i (c.loop-i.invariant.so_far n)
     (past_end c.loop-i.cases c.loop-i.i c.in_default.ensures.value)
 
@@ -195,7 +224,8 @@ walk_cases-returns-in_err-walk_case g t c = λ n.
     let functions = g.T.ReactiveFunctionTransform.functions in
     let p = err_from_is_err_and c.from_residual.result c.from_residual.ensures.1 in
     rw (p.1, p.2) (place_fault (case_at steps functions (block_to steps functions n) c.args.id)
-    (cases_at steps functions (block_to steps functions n) c.args.id (c.args.transform.now, c.args.state.now) c.args.cases.now)
+    (cases_at steps functions (block_to steps functions n) c.args.id
+    (c.args.transform.now, c.args.state.now) c.args.cases.now)
     (c.loop-i.transform, c.loop-i.state) c.loop-i.cases c.loop-i.i c.in-Some.case.now c.in_err-walk_case.field-0.0
     ((c.walk_case.new.transform, c.walk_case.new.state), c.walk_case.new.case)
     ((c.walk_case.new.transform, c.walk_case.new.state), slice_set c.loop-i.cases c.loop-i.i c.walk_case.new.case)
