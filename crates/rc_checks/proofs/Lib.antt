@@ -9,7 +9,6 @@ mod OpenedLabels
 mod JudgedLabels
 pub mod LabelsKeep
 pub mod OpenScopesLemmas
-pub mod AmongLemmas
 pub mod MembershipWalk
 pub mod MembershipLemmas
 pub mod OperandsKnown
