@@ -15,6 +15,7 @@ mod VisitsForms
 pub mod VisitsKnown
 mod ScopeBlocksLemmas
 pub mod ScopesOfBlocks
+pub mod NamesStay
 pub mod UsedScopesStay
 mod UnusedScopesKeepErase
 mod UnusedScopesLemmas

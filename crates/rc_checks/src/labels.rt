@@ -12,6 +12,7 @@ ghost use Rattle.rc_checks.specs.LabelSteps.{label_steps, taken, without};
 ghost use Rattle.rc_hir.specs.declared.fault.Fault.TheVariants as fault;
 ghost use Rattle.rc_runs.specs.BodyRun.{IsBodyRun};
 ghost use Rattle.rc_runs.specs.Event.{End, Event};
+ghost use Rattle.rc_tree.specs.TreeNames.{TreeInTables};
 ghost use Rattle.rc_tree.specs.declared.terminal.ReactiveTerminal.{out-ReactiveTerminal};
 
 use rc_hir::{Environment, Fault};
@@ -34,6 +35,7 @@ pub fn prune_unused_labels(
     ensures header { func.new ≡ record func.old { body = func.new.body } }
     ensures kept_runs { OnOk result ((events : Events Event) (end : End)
         → IsBodyRun func.old env.now events end ↔ IsBodyRun func.new env.now events end) }
+    ensures known { OnOk result (TreeInTables func.old env.now → TreeInTables func.new env.now) }
     ensures only { IfErr result (λ it. it ≡ fault.NoMemory) }
 {
     let mut transform = OverStatements {
