@@ -1,12 +1,11 @@
 -- Label pruning keeps each measure that counts no label and that a `Label` adds nothing to.
-use Rattle.std.proofs.Common.{◌≡◌, ◌∙◌, List, [], ◌∷◌, ◌++◌, Bool, true, false, if◌then◌else◌, Option, None, Some, Result, Ok, refl, sym, ap, subst}
+use Rattle.std.proofs.Common.{◌≡◌, ◌∙◌, [], ◌∷◌, ◌++◌, Bool, true, false, if◌then◌else◌, Option, None, Some, Result, Ok, refl, sym, ap}
 use Rattle.std.proofs.lemmas.List.{append-nil}
 use Rattle.rc_hir.specs.declared.fault.Fault.{Fault}
 use Rattle.rc_names.specs.declared.numbers.EvaluationOrder.{EvaluationOrder}
 use Rattle.rc_tree.specs.RewriteKeeps.{Measure, block, one, Compositional}
 use Rattle.rc_tree.specs.TreeNames.{names_in, names_in_statement, names_in_terminal}
 use Rattle.rc_tree.specs.declared.statement.ReactiveBlock.{ReactiveBlock}
-use Rattle.rc_tree.specs.declared.statement.ReactiveStatement.{ReactiveStatement}
 use Rattle.rc_tree.specs.declared.statement.ReactiveStatement.TheOpen as layer
 use Rattle.rc_tree.specs.declared.statement.ReactiveStatement.TheVariants as stmt
 use Rattle.rc_tree.specs.declared.terminal.ReactiveLabel.{ReactiveLabel}
@@ -14,7 +13,7 @@ use Rattle.rc_tree.specs.declared.terminal.ReactiveTerminal.{ReactiveTerminal, o
 use Rattle.rc_tree.specs.declared.terminal.ReactiveTerminal.TheVariants as term
 use Rattle.rc_tree.specs.declared.terminal.ReactiveTerminalStatement.{ReactiveTerminalStatement}
 use Rattle.rc_tree.proofs.TreeNamesLemmas.{of_list, block-names, names_laws, names_measure, statement-Terminal, terminal-Label}
-use Rattle.rc_runs.proofs.RebuiltKeeps.{rebuilt_keeps}
+use Rattle.rc_runs.proofs.RebuiltKeeps.{only_answer, rebuilt_keeps}
 use Rattle.rc_checks.specs.Labels.{IsWithoutUnusedLabels, OpenTerminal, Targets, flattened, in_place_of, is_named, label_after, label_rules, targets_behind}
 
 -- a block has one form without its unused labels
@@ -23,11 +22,6 @@ one_without_labels before after other a b =
     let same : ◌≡◌ {A = Result (Targets × ReactiveBlock) Fault} (Ok (a.targets, after)) (Ok (b.targets, other)) = sym a.rebuilt ∙ b.rebuilt in
     let pair : ◌≡◌ {A = Targets × ReactiveBlock} (a.targets, after) (b.targets, other) = cc in
     ap (λ p. p.1) pair
-
--- what an answer of one list has
-only_answer : {S L : Type 0} (measure : List ReactiveStatement → L) (s : S) (xs : List ReactiveStatement) (a : S × List ReactiveStatement)
-    → ◌≡◌ {A = Result (S × List ReactiveStatement) Fault} (Ok (s, xs)) (Ok a) → measure a.1 ≡ measure xs
-only_answer {S = S} measure s xs a e = let same : ◌≡◌ {A = S × List ReactiveStatement} a (s, xs) = cc in ap (λ b. measure b.1) same
 
 module _ {V I L C P : Type 0} (m : Measure V I L C P) (laws : Compositional m)
     (blind : (x : ReactiveTerminalStatement) (label : Option ReactiveLabel) → one m (stmt.Terminal (record { terminal = x.terminal; label = label })) ≡ one m (stmt.Terminal x))

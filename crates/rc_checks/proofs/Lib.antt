@@ -16,6 +16,7 @@ mod VisitsForms
 pub mod VisitsKnown
 mod ScopeBlocksLemmas
 pub mod ScopesOfBlocks
+pub mod NamesStay
 pub mod UsedScopesStay
 mod UnusedScopesKeepErase
 mod UnusedScopesLemmas

@@ -19,6 +19,7 @@ ghost use Rattle.rc_runs.specs.Event.{End, Event};
 ghost use Rattle.rc_tree.specs.Rebuilt.{if_there, in_order, joined, rebuilt_block, rebuilt_case};
 ghost use Rattle.rc_tree.specs.Rebuilt.{rebuilt_statement, rebuilt_terminal};
 ghost use Rattle.rc_tree.specs.declared.statement.ReactiveStatement.TheVariants as stmts;
+ghost use Rattle.rc_tree.specs.TreeNames.{TreeInTables};
 ghost use Rattle.rc_tree.specs.declared.terminal.ReactiveTerminal.{out-ReactiveTerminal};
 
 mod targets;
@@ -42,6 +43,7 @@ pub fn prune_unused_labels(
     ensures header { func.new ≡ record func.old { body = func.new.body } }
     ensures kept_runs { OnOk result ((events : Events Event) (end : End)
         → IsBodyRun func.old env.now events end ↔ IsBodyRun func.new env.now events end) }
+    ensures known { OnOk result (TreeInTables func.old env.now → TreeInTables func.new env.now) }
     ensures only { IfErr result (λ it. it ≡ fault.NoMemory) }
 {
     let mut targets = KeySet::new(alloc);

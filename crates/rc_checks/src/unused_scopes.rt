@@ -9,6 +9,7 @@ ghost use Rattle.std.specs.Prelude.{◌≡◌, ◌⊎◌, IfErr, OnOk};
 ghost use Rattle.std.specs.List.{list_any};
 ghost use Rattle.rc_hir.specs.declared.fault.Fault.TheVariants as faults;
 ghost use Rattle.rc_runs.specs.Erase.{erased};
+ghost use Rattle.rc_tree.specs.TreeNames.{TreeInTables};
 ghost use Rattle.rc_tree.specs.declared.terminal.ReactiveTerminal.{out-ReactiveTerminal};
 ghost use Rattle.rc_checks.specs.ScopeBlocks.{NamesScopeOutside, scope_blocks, staying_blocks};
 ghost use Rattle.rc_checks.specs.UnusedScopes as spec;
@@ -38,6 +39,7 @@ pub fn prune_unused_scopes(
     ensures header { func.new ≡ record func.old { body = func.new.body } }
     ensures stays { OnOk result (scope_blocks func.new.body ≡ staying_blocks env.now func.old.body) }
     ensures kept_erased { OnOk result (erased func.new ≡ erased func.old) }
+    ensures known { OnOk result (TreeInTables func.old env.now → TreeInTables func.new env.now) }
 
     ensures refused { IfErr result (λ fault. (fault ≡ faults.NoMemory)
         ⊎ spec.NamesFirstScopeOutside env.now func.old.body fault) }

@@ -2,6 +2,7 @@
 use Rattle.std.proofs.Common.{◌∙◌, ◌↔◌, List, map, ap, subst}
 use Rattle.rc_hir.specs.declared.function.HirFunction.{HirFunction}
 use Rattle.rc_hir.specs.declared.environment.Environment.{Environment}
+use Rattle.rc_tree.specs.TreeNames.{TreeInTables}
 use Rattle.rc_tree.specs.declared.function.ReactiveFunction.{ReactiveFunction}
 use Rattle.rc_runs.specs.BodyRun.{IsBodyRun}
 use Rattle.rc_runs.specs.Event.{Event, End}
@@ -9,13 +10,29 @@ use Rattle.rc_runs.specs.Spelled.{Spells}
 use Rattle.rc_runs.proofs.OneTree.{spells_one_function}
 use Rattle.rc_runs.proofs.GraphToBody.{graph_to_function}
 use Rattle.rc_runs.proofs.BodyToGraph.{function_to_graph}
+use Rattle.rc_runs.proofs.SpelledNames.{spelled_names_held}
 use Rattle.rc_checks.specs.ScopesIn.{scopes_in}
-use Rattle.rc_checks.proofs.LabelsKeep.{one_without_labels}
+use Rattle.rc_checks.proofs.LabelsKeep.{labels_keep_names, one_without_labels}
+use Rattle.rc_checks.proofs.NamesStay.{still_known, unused_scopes_keep_names}
 use Rattle.rc_checks.proofs.ScopesOfBlocks.{scopes_in-blocks}
 use Rattle.rc_pipe.specs.declared.pipeline.Pruned.{Pruned}
 use Rattle.rc_pipe.specs.Fates.{AreFates}
 use Rattle.rc_pipe.specs.Headline.{HasAnswer, IsAccepted, IsAnswer}
 use Rattle.rc_pipe.specs.Passes.{AreInside, IsPruned}
+
+-- the passes leave the numbers of the spelled function, and those are in their tables
+known_of_pruned : (hir : HirFunction) (env : Environment) → IsAccepted hir env
+    → (spelled : ReactiveFunction) → Spells hir env spelled
+    → (func : ReactiveFunction) → IsPruned env spelled func → TreeInTables func env
+known_of_pruned hir env accepted spelled spells func passes =
+    let same =
+    unused_scopes_keep_names env passes.labeled func.body passes.scopes
+    ∙ labels_keep_names spelled.body passes.labeled passes.labels
+    in
+    still_known env spelled func same (record {
+      tree = spelled_names_held hir env accepted.names.graph spelled spells;
+      environment = accepted.names.environment;
+    })
 
 pub headline_holds : (hir : HirFunction) (env : Environment) (pruned : Pruned) → IsAccepted hir env
     → (spelled : ReactiveFunction) → Spells hir env spelled → IsPruned env spelled pruned.func
@@ -31,6 +48,7 @@ headline_holds hir env pruned accepted spelled spells passes same_runs told = re
   body_to_graph = λ events end run. function_to_graph hir env spelled spells events end ((same_runs events end).1 run);
   left = scopes_in-blocks pruned.func.body ∙ ap (map (λ block. block.scope)) passes.stays;
   fates = told;
+  known = known_of_pruned hir env accepted spelled spells pruned.func passes;
 }
 
 -- what is answered has an answer

@@ -1,6 +1,6 @@
 -- What the passes refuse of a spelled function: operands outside, and nothing else.
-use Rattle.std.proofs.Common.{◌≡◌, ◌⊎◌, inl, inr, ℕ, zero, ◌<◌, ◌+◌, List, [], ◌∷◌, ◌++◌, length, get_or, Option, None, Some, Result, Ok, Err, All, OnOk, ◌↔◌, sym, subst}
-use Rattle.rc_hir.specs.Names.{IsInTable, IsOutside, NamesInTables, lengths}
+use Rattle.std.proofs.Common.{◌≡◌, ◌∙◌, ◌⊎◌, inl, inr, ℕ, List, Result, Ok, Err, All, OnOk, ◌↔◌, sym, subst, ap}
+use Rattle.rc_hir.specs.Names.{IsInTable, lengths}
 use Rattle.rc_hir.specs.PartNames.{Name}
 use Rattle.rc_hir.specs.declared.environment.Environment.{Environment}
 use Rattle.rc_hir.specs.declared.fault.Fault.{Fault}
@@ -19,12 +19,16 @@ use Rattle.rc_runs.specs.Spelled.{Spells}
 use Rattle.rc_runs.proofs.ErasedRuns.{same_erased_same_runs}
 use Rattle.rc_runs.proofs.SpelledNames.{spelled_names_held}
 use Rattle.rc_checks.specs.Labels.{IsWithoutUnusedLabels}
+use Rattle.rc_checks.specs.Membership.{IsFirstUnknown}
+use Rattle.rc_checks.specs.ScopeBlocks.{scope_blocks, staying_blocks}
 use Rattle.rc_checks.specs.ScopesIn.{scopes_in}
+use Rattle.rc_checks.specs.UnusedScopes.{IsWithoutUnusedScopes}
+use Rattle.rc_checks.specs.Visits.{visits_of}
 use Rattle.rc_checks.proofs.LabelsKeep.{labels_keep_names}
 use Rattle.rc_checks.proofs.UnusedScopesFaults.{scopes_are_there}
 use Rattle.rc_checks.proofs.VisitsKnown.{no_unknown}
 use Rattle.rc_pipe.specs.Headline.{IsAccepted, IsCause}
-use Rattle.rc_pipe.specs.Passes.{IsPassFault, LacksNumber, OfLabeled}
+use Rattle.rc_pipe.specs.Passes.{AreInside, EndsOutside, IsPassFault, IsPruned, LacksNumber, OfLabeled}
 use Rattle.rc_pipe.proofs.NoJumpIsMet.{no_jump_is_met}
 
 -- runs that are kept up to a function are kept up to one with the same statements outside its scopes
@@ -37,15 +41,57 @@ runs_through env first second third (Ok done) same e = λ events end.
     (λ run. there.1 (here.0 run), λ run. here.1 (there.0 run))
 runs_through env first second third (Err fault) same e = tt
 
+-- a function that lost its unused labels and then its unused scopes is pruned, where no operand was outside between
+pub pruned_by_both : (env : Environment) (first second third : ReactiveFunction) (result : Result (Unit {0}) Fault)
+    → IsWithoutUnusedLabels first.body second.body → second ≡ record first { body = second.body }
+    → AreInside env second.body
+    → OnOk result (IsWithoutUnusedScopes env second.body third.body)
+    → OnOk result (scope_blocks third.body ≡ staying_blocks env second.body)
+    → third ≡ record second { body = third.body } → OnOk result (IsPruned env first third)
+pruned_by_both env first second third (Ok done) labels kept inside scopes stays header = record {
+  labeled = second.body;
+  labels = labels;
+  inside = inside;
+  scopes = scopes;
+  stays = stays;
+  header = header ∙ (λ i. record (kept i) { body = third.body });
+}
+pruned_by_both env first second third (Err fault) labels kept inside scopes stays header = tt
+
+module _ (env : Environment) (func : ReactiveFunction) (labeled : ReactiveBlock)
+    (labels : IsWithoutUnusedLabels func.body labeled) where
+  -- what the check of operands refuses, once unused labels are pruned, is a fault of the passes
+  pub outside_fault : (fault : Fault)
+      → ((id : EvaluationOrder) (scope : ScopeId) → fault ≡ faults.ScopeCompleted id scope
+      → EndsOutside env labeled id scope)
+      → ((table : TableName) (index : ℕ) → fault ≡ faults.BadName table index
+      → IsFirstUnknown env (scopes_in labeled) (visits_of env.functions labeled) (faults.BadName table index))
+      → (fault ≡ faults.NoMemory)
+      ⊎ (((id : EvaluationOrder) × (scope : ScopeId) × (fault ≡ faults.ScopeCompleted id scope))
+      ⊎ ((table : TableName) × (index : ℕ) × (fault ≡ faults.BadName table index)))
+      → IsPassFault env func fault
+  outside_fault fault completed unknown (inl memory) = subst (IsPassFault env func) (sym memory) tt
+  outside_fault fault completed unknown (inr (inl it)) =
+      subst (IsPassFault env func) (sym it.2)
+      (record { labeled = labeled; labels = labels; holds = completed it.0 it.1 it.2 })
+  outside_fault fault completed unknown (inr (inr it)) =
+      subst (IsPassFault env func) (sym it.2)
+      (record { labeled = labeled; labels = labels; holds = inl (unknown it.0 it.1 it.2) })
+
 module _ (hir : HirFunction) (env : Environment) (accepted : IsAccepted hir env) (func : ReactiveFunction) (spelled : Spells hir env func) where
   -- the numbers of the function without its unused labels are in their tables
-  labeled_names : (labeled : ReactiveBlock) → IsWithoutUnusedLabels func.body labeled → All (IsInTable (lengths env (length hir.instructions))) (names_in labeled)
-  labeled_names labeled labels = subst (All (IsInTable (lengths env (length hir.instructions)))) (sym (labels_keep_names func.body labeled labels)) (spelled_names_held hir env accepted.names.graph func spelled)
+  labeled_names : (labeled : ReactiveBlock) → IsWithoutUnusedLabels func.body labeled
+      → All (IsInTable (lengths env 0)) (names_in labeled)
+  labeled_names labeled labels =
+      subst (All (IsInTable (lengths env 0))) (sym (labels_keep_names func.body labeled labels))
+      (spelled_names_held hir env accepted.names.graph func spelled)
 
   nothing_lacks : (fault : Fault) (labeled : ReactiveBlock) → IsWithoutUnusedLabels func.body labeled → LacksNumber env fault labeled → ⊥
   nothing_lacks fault labeled labels (inl unknown) =
-      no_unknown env (length hir.instructions) (scopes_in labeled) accepted.names.functions accepted.names.environment labeled (labeled_names labeled labels) fault unknown
-  nothing_lacks fault labeled labels (inr missing) = scopes_are_there env (length hir.instructions) fault labeled (labeled_names labeled labels) missing
+      no_unknown env 0 (scopes_in labeled) accepted.names.functions accepted.names.environment labeled
+      (labeled_names labeled labels) fault unknown
+  nothing_lacks fault labeled labels (inr missing) =
+      scopes_are_there env 0 fault labeled (labeled_names labeled labels) missing
 
   -- what a pass refuses of a spelled function has a cause
   pub pass_cause : (fault : Fault) → IsPassFault env func fault → IsCause hir env fault

@@ -5,6 +5,7 @@ use Rattle.rc_hir.specs.declared.fault.Fault.TheVariants as faults
 use Rattle.rc_hir.specs.declared.function.HirFunction.{HirFunction}
 use Rattle.rc_hir.specs.declared.environment.Environment.{Environment}
 use Rattle.rc_hir.specs.Names.{NamesInTables, NamesOutside}
+use Rattle.rc_tree.specs.TreeNames.{TreeInTables}
 use Rattle.rc_tree.specs.declared.function.ReactiveFunction.{ReactiveFunction}
 use Rattle.rc_pipe.specs.declared.pipeline.Pruned.{Pruned}
 use Rattle.rc_runs.specs.Event.{Event, End}
@@ -53,6 +54,8 @@ pub record IsAnswer (hir : HirFunction) (env : Environment) (pruned : Pruned) : 
   pub left : scopes_in pruned.func.body ≡ map (λ block. block.scope) (staying_blocks env passes.labeled)
   -- each scope of the spelled tree is listed once, by rising number, with its fate
   pub fates : AreFates (scopes_in spelled.body) pruned.func.body pruned.fates
+  -- every number of the answered function and of the environment is in its table
+  pub known : TreeInTables pruned.func env
 
 -- Why a fault is answered. Each cause but want of memory asks that those above it in the order don't hold.
 abbrev pub IsCause : HirFunction → Environment → Fault → Type 0

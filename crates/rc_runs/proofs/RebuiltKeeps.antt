@@ -28,11 +28,18 @@ answer_of {B = B} (Err fault) next b e = absurd (never fault b e)
     never : (fault : Fault) (b : B) → ◌≡◌ {A = Result B Fault} (Err fault) (Ok b) → ⊥
     never fault b e = cc
 
-same_answer : {A : Type 0} (a b : A) → ◌≡◌ {A = Result A Fault} (Ok a) (Ok b) → b ≡ a
+pub same_answer : {A : Type 0} (a b : A) → ◌≡◌ {A = Result A Fault} (Ok a) (Ok b) → b ≡ a
 same_answer a b e = cc
 
-made_answer : {A B : Type 0} (first : Result A Fault) (make : A → B) (b : B) → bind first (λ a. Ok (make a)) ≡ Ok b → (a : A) × (first ≡ Ok a) × (b ≡ make a)
+pub made_answer : {A B : Type 0} (first : Result A Fault) (make : A → B) (b : B) → bind first (λ a. Ok (make a)) ≡ Ok b
+    → (a : A) × (first ≡ Ok a) × (b ≡ make a)
 made_answer first make b e = let found = answer_of first (λ a. Ok (make a)) b e in (found.0, found.1, same_answer (make found.0) b found.2)
+
+-- a rule that always answers with that list
+pub only_answer : {S L : Type 0} (measure : List ReactiveStatement → L) (s : S) (xs : List ReactiveStatement)
+    (a : S × List ReactiveStatement)
+    → ◌≡◌ {A = Result (S × List ReactiveStatement) Fault} (Ok (s, xs)) (Ok a) → measure a.1 ≡ measure xs
+only_answer measure s xs a e = ap (λ b. measure b.1) (same_answer (s, xs) a e)
 
 module _ {S V I L C P : Type 0} (m : Measure V I L C P) (laws : Compositional m) (rules : Rules S)
     (row : (x : ReactiveInstruction) (s : S) (a : S × List ReactiveStatement) → rules.row x s ≡ Ok a → m.statements a.1 ≡ one m (stmt.Instruction x))

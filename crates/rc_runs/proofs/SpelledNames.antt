@@ -1,4 +1,4 @@
--- The numbers of a spelled tree are in their tables, where those of its graph are.
+-- The numbers of a spelled tree are in their tables, where those of its graph are; none of them names a row.
 use Rattle.std.proofs.Common.{◌≡◌, ◌∙◌, ◌⊎◌, inl, inr, ℕ, ◌<◌, ◌≤◌, List, [], ◌∷◌, ◌++◌, length, get_or, Bool, Option, None, Some, option_and_then, option_map, slice_get, refl, sym, ap, subst}
 use Rattle.std.specs.List.{All, flat_map}
 use Rattle.std.proofs.lemmas.List.Elements.{All-append}
@@ -7,13 +7,16 @@ use Rattle.std.proofs.lemmas.Option.{slice_get_cases}
 use Rattle.rc_names.specs.declared.numbers.BlockId.{BlockId}
 use Rattle.rc_names.specs.declared.numbers.EvaluationOrder.{EvaluationOrder}
 use Rattle.rc_names.specs.declared.numbers.InstructionId.{InstructionId}
+use Rattle.rc_names.specs.declared.numbers.ScopeId.{ScopeId}
 use Rattle.rc_hir.specs.GraphNames.{Name, block_names, function_names, instruction_names, parameter_names, place_names, row_name, terminal_names, under_key}
 use Rattle.rc_hir.specs.PartNames.{scope_name}
+use Rattle.rc_hir.specs.ValueNames.{value_names}
 use Rattle.rc_hir.specs.Names.{FunctionInTables, IsInTable, lengths}
 use Rattle.rc_hir.specs.declared.environment.Environment.{Environment}
 use Rattle.rc_hir.specs.declared.function.BasicBlock.{BasicBlock}
 use Rattle.rc_hir.specs.declared.function.HirFunction.{HirFunction}
 use Rattle.rc_hir.specs.declared.function.Instruction.{Instruction}
+use Rattle.rc_hir.specs.declared.place.Place.{Place}
 use Rattle.rc_hir.specs.declared.terminal.Terminal.{Terminal}
 use Rattle.rc_tree.specs.declared.function.ReactiveFunction.{ReactiveFunction}
 use Rattle.rc_tree.specs.declared.scope.PrunedReactiveScopeBlock.{PrunedReactiveScopeBlock}
@@ -36,19 +39,46 @@ use Rattle.rc_runs.specs.declared.frames.Way.TheVariants.{NoFrame, LeavesScope, 
 use Rattle.rc_runs.proofs.GraphLemmas.{same_block-eq, usable_block-at}
 use Rattle.rc_tree.specs.TreeNames.{names_in, names_in_statement, names_in_terminal}
 use Rattle.rc_runs.proofs.AllLemmas.{All-none, All-left, All-right, All-flat_map}
+use Rattle.rc_runs.proofs.NoRowNamed.{IsNoRow, NoRows, all_in_environment, place_no_row, scope_no_row, value_no_row}
 use Rattle.rc_tree.proofs.TreeNamesLemmas.{of_list, block-names, row-names, value-Instruction, statement-Instruction, statement-Terminal, statement-Scope, statement-PrunedScope, terminal-Break, terminal-Return, terminal-If, terminal-Label}
 
 module _ (hir : HirFunction) (env : Environment) (named : FunctionInTables env hir) where
-  -- each of the numbers is in its table
-  abbrev Held : List Name → Type 0
-  Held names = All (IsInTable (lengths env (length hir.instructions))) names
-
+  -- the number is in its table
   abbrev InTable : Name → Type 0
-  InTable = IsInTable (lengths env (length hir.instructions))
+  InTable = IsInTable (lengths env 0)
+
+  abbrev Held : List Name → Type 0
+  Held names = All InTable names
+
+  -- the same where the rows of the graph are a table too
+  abbrev InGraph : Name → Type 0
+  InGraph = IsInTable (lengths env (length hir.instructions))
+
+  abbrev HeldByGraph : List Name → Type 0
+  HeldByGraph names = All InGraph names
 
   -- what stands behind the parameters and the context
-  blocks_and_rows : Held (flat_map (under_key block_names) hir.body.blocks ++ flat_map instruction_names hir.instructions)
-  blocks_and_rows = All-right InTable (flat_map place_names hir.context) _ (All-right InTable (flat_map parameter_names hir.params) _ named)
+  blocks_and_rows : HeldByGraph
+      (flat_map (under_key block_names) hir.body.blocks ++ flat_map instruction_names hir.instructions)
+  blocks_and_rows =
+      All-right InGraph (flat_map place_names hir.context) _
+      (All-right InGraph (flat_map parameter_names hir.params) _ named)
+
+  -- numbers that name no row
+  rowless : (names : List Name) → NoRows names → HeldByGraph names → Held names
+  rowless names = all_in_environment env (length hir.instructions) names
+
+  place_held : (place : Place) → HeldByGraph (place_names place) → Held (place_names place)
+  place_held place = rowless (place_names place) (place_no_row place)
+
+  scope_held : (of : ScopeId) → HeldByGraph (scope_name of) → Held (scope_name of)
+  scope_held of = rowless (scope_name of) (scope_no_row of)
+
+  instruction_held : (row : Instruction) → HeldByGraph (instruction_names row) → Held (instruction_names row)
+  instruction_held row =
+      rowless (instruction_names row)
+      (All-append IsNoRow (place_names row.lvalue) (value_names row.value) (place_no_row row.lvalue)
+      (value_no_row row.value))
 
   -- the numbers of each of these rows
   abbrev RowsHeld : List Instruction → Type 0
@@ -63,7 +93,10 @@ module _ (hir : HirFunction) (env : Environment) (named : FunctionInTables env h
       by (inl found) =
           let same : found.0 ≡ row = cc in
           subst (λ x. Held (instruction_names x)) same
-          (All-flat_map InTable instruction_names hir.instructions (All-right InTable (flat_map (under_key block_names) hir.body.blocks) _ blocks_and_rows) place found.0 found.1 found.3)
+          (instruction_held found.0
+          (All-flat_map InGraph instruction_names hir.instructions
+          (All-right InGraph (flat_map (under_key block_names) hir.body.blocks) _ blocks_and_rows)
+          place found.0 found.1 found.3))
       by (inr past) = absurd (let no : ⊥ = cc in no)
 
   found_rows : (numbers : List InstructionId) (rows : List Instruction) → rows_of hir.instructions numbers ≡ Some rows → RowsHeld rows
@@ -79,7 +112,7 @@ module _ (hir : HirFunction) (env : Environment) (named : FunctionInTables env h
 
   -- the numbers of a block with its rows
   abbrev BlockHeld : Block → Type 0
-  BlockHeld b = RowsHeld b.rows × Held (terminal_names b.terminal)
+  BlockHeld b = RowsHeld b.rows × HeldByGraph (terminal_names b.terminal)
 
   block_held : (key : BlockId) (b : Block) → block_at hir key ≡ Some b → BlockHeld b
   unfolding block_at
@@ -90,13 +123,17 @@ module _ (hir : HirFunction) (env : Environment) (named : FunctionInTables env h
       filled basic found None f w = absurd (let no : ⊥ = cc in no)
       filled basic found (Some rows) f w =
           let held = Contains-from_lookup same_block-eq key basic hir.body.blocks found in
-          let here : Held (flat_map row_name basic.instructions ++ terminal_names basic.terminal) =
-          All-flat_map InTable (under_key block_names) hir.body.blocks (All-left InTable (flat_map (under_key block_names) hir.body.blocks) _ blocks_and_rows)
+          let here : HeldByGraph (flat_map row_name basic.instructions ++ terminal_names basic.terminal) =
+          All-flat_map InGraph (under_key block_names) hir.body.blocks
+          (All-left InGraph (flat_map (under_key block_names) hir.body.blocks) _ blocks_and_rows)
           held.0 (key, basic) held.1 held.2
           in
           let whole : Block = record { rows = rows; terminal = basic.terminal } in
           let same : whole ≡ b = cc in
-          subst BlockHeld same (found_rows basic.instructions rows f, All-right InTable (flat_map row_name basic.instructions) (terminal_names basic.terminal) here)
+          subst BlockHeld same (
+            found_rows basic.instructions rows f,
+            All-right InGraph (flat_map row_name basic.instructions) (terminal_names basic.terminal) here,
+          )
 
       go : (found : Option BasicBlock) → basic_block hir key ≡ found → option_and_then (with_rows hir) found ≡ Some b → BlockHeld b
       go None found e = absurd (let no : ⊥ = cc in no)
@@ -148,33 +185,41 @@ module _ (hir : HirFunction) (env : Environment) (named : FunctionInTables env h
         subst (λ s. Held (of_list (statements_of s))) (sym w) (rows_first b.rows rest here.0 (held_terminal here.1 d))
 
     held_terminal : {terminal : Terminal} {next handler : Option BlockId} {frames : List Frame} {statements : Statements} {used : List BlockId} →
-        Held (terminal_names terminal) → SpellsTerminal hir env terminal next frames handler statements used → Held (of_list (statements_of statements))
+        HeldByGraph (terminal_names terminal) → SpellsTerminal hir env terminal next frames handler statements used →
+        Held (of_list (statements_of statements))
     held_terminal held (returns {value = value} {id = id}) =
-        one_statement (TerminalStatement (Return value id) None) Nil (terminal_first (Return value id) None (place_names value) (terminal-Return value id) held) (All-none InTable)
+        one_statement (TerminalStatement (Return value id) None) Nil
+        (terminal_first (Return value id) None (place_names value) (terminal-Return value id) (place_held value held))
+        (All-none InTable)
     held_terminal held unreachable = All-none InTable
     held_terminal held (breaks {target = target} {id = id} {frames = frames} {statements = statements} e) = break_held (break_way frames target) target id statements e
     held_terminal held (and_rest {statement = statement} {rest = rest} d r w) = one_statement statement rest (held_statement held d) (held_rest r)
 
     held_statement : {terminal : Terminal} {next handler : Option BlockId} {frames : List Frame} {o : Bool} {f : BlockId} {statement : Statement} {used : List BlockId} →
-        Held (terminal_names terminal) → SpellsStatement hir env terminal next frames handler o f statement used → Held (names_in_statement (statement_of statement))
+        HeldByGraph (terminal_names terminal) →
+        SpellsStatement hir env terminal next frames handler o f statement used →
+        Held (names_in_statement (statement_of statement))
     held_statement held (if_only {test = test} {id = id} {label = own} {part = part} i l s falls d) =
         terminal_first (If test part Absent id) own (place_names test ++ (names_in (block_of part) ++ [])) (terminal-If test (block_of part) None id)
-        (All-append InTable (place_names test) _ held (All-append InTable (names_in (block_of part)) [] (block_first part (held_list d)) (All-none InTable)))
+        (All-append InTable (place_names test) _ (place_held test held)
+        (All-append InTable (names_in (block_of part)) [] (block_first part (held_list d)) (All-none InTable)))
     held_statement held (if_else {test = test} {id = id} {label = own} {part = part} {other = other} i l s d e w) =
         terminal_first (If test part (Present other) id) own (place_names test ++ (names_in (block_of part) ++ names_in (block_of other)))
         (terminal-If test (block_of part) (Some (block_of other)) id)
-        (All-append InTable (place_names test) _ held
+        (All-append InTable (place_names test) _ (place_held test held)
         (All-append InTable (names_in (block_of part)) (names_in (block_of other)) (block_first part (held_list d)) (block_first other (held_list e))))
     held_statement held (label {id = id} {label = own} {part = part} i l d) =
         terminal_first (Label part id) own (names_in (block_of part)) (terminal-Label (block_of part) id) (block_first part (held_list d))
     held_statement held (scope {scope = of} {part = part} i d) =
         let x : ReactiveScopeBlock = record { scope = of; instructions = block_of part } in
         by_same (names_in_statement (stmt.Scope x)) (scope_name of ++ names_in (block_of part)) (statement-Scope x)
-        (All-append InTable (scope_name of) (names_in (block_of part)) held (block_first part (held_list d)))
+        (All-append InTable (scope_name of) (names_in (block_of part)) (scope_held of held)
+        (block_first part (held_list d)))
     held_statement held (pruned_scope {scope = of} {part = part} i d) =
         let x : PrunedReactiveScopeBlock = record { scope = of; instructions = block_of part } in
         by_same (names_in_statement (stmt.PrunedScope x)) (scope_name of ++ names_in (block_of part)) (statement-PrunedScope x)
-        (All-append InTable (scope_name of) (names_in (block_of part)) held (block_first part (held_list d)))
+        (All-append InTable (scope_name of) (names_in (block_of part)) (scope_held of held)
+        (block_first part (held_list d)))
 
     held_rest : {o : Bool} {f : BlockId} {next handler : Option BlockId} {frames : List Frame} {statements : Statements} {used : List BlockId} →
         SpellsRest hir env o f next frames handler statements used → Held (of_list (statements_of statements))

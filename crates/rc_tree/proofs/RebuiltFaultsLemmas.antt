@@ -144,12 +144,3 @@ module _ (IsSuch : Fault → Type 0) where
     leaves_faults x y s (Ok u) h = tt
     leaves_faults x y s (Err fault) (h, inl e) = inl e
     leaves_faults x y s (Err fault) (h, inr e) = inr (subst (λ r. IfErr r IsSuch) e (rebuilt_faults x s))
-
--- a call that rebuilds a block by rules that have no fault ends by want of memory, if it fails
-pub leaves_no_fault : {S : Type 0} (rules : Rules S) → FaultsOnly rules (λ fault. ⊥) → (x y : ReactiveBlock) (s : S) (result : Result (Unit {0}) Fault)
-    → Leaves rules x s y result → IfErr result (λ fault. fault ≡ NoMemory)
-leaves_no_fault rules only x y s (Ok u) h = tt
-leaves_no_fault rules only x y s (Err fault) h = elim (leaves_faults (λ fault. ⊥) rules only x y s (Err fault) h) [
-  | inl e ↦ e
-  | inr none ↦ absurd none
-]

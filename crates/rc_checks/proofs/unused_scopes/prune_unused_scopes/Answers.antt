@@ -1,4 +1,5 @@
 use Rattle.std.proofs.Common.{refl}
+use Rattle.rc_checks.proofs.NamesStay.{known_without_scopes}
 use Rattle.rc_checks.proofs.UnusedScopesLemmas.{left_without_unused, left_staying, left_erased, left_first_outside, left_outside}
 use Rattle.rc_checks.proofs.unused_scopes.prune_unused_scopes.Goals as goal
 
@@ -17,6 +18,11 @@ pub returns-clause-kept_erased : goal.returns-clause-kept_erased
 returns-clause-kept_erased c =
     let call = c.transform_reactive_function in
     left_erased (λ it. it.pass.env.now) _ _ _ _ c.args.env.now c.args.func.now call.new.func call.result call.ensures.walk call.ensures.header
+
+pub returns-clause-known : goal.returns-clause-known
+returns-clause-known c =
+    let call = c.transform_reactive_function in
+    known_without_scopes c.args.env.now c.args.func.now call.new.func call.result (returns-clause-ok c)
 
 pub returns-clause-refused : goal.returns-clause-refused
 returns-clause-refused c =
