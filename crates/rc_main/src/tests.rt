@@ -6,6 +6,7 @@ mod devices;
 mod graphs;
 mod lines;
 mod names;
+mod pruned;
 mod refusals;
 mod rows;
 

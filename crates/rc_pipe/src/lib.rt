@@ -9,8 +9,4 @@ mod passes;
 mod pipeline;
 
 pub use fates::{Fate, ScopeFate};
-
-#[cfg(test)]
-mod tests;
-
 pub use pipeline::{Pruned, build_and_prune};

@@ -1,6 +1,5 @@
 //! A small graph that is built in code, with its tree and its fates.
 
-use crate::{Fate, Pruned, ScopeFate, build_and_prune};
 use rc_hir::{
     BasicBlock, Effect, Environment, Fault, GotoVariant, Hir, HirFunction, HirType, Identifier,
     MutableRange, Place, ReactiveScope, Terminal,
@@ -8,6 +7,7 @@ use rc_hir::{
 use rc_names::{
     BlockId, DeclarationId, EvaluationOrder, IdentifierId, Keyed, List, ScopeId, TypeId,
 };
+use rc_pipe::{Fate, Pruned, ScopeFate, build_and_prune};
 use std::alloc::Global;
 use std::test::Fail;
 

@@ -1,0 +1,5 @@
+//! Tests of each container and of typed numbers.
+#![tactic(auto)]
+
+#[cfg(test)]
+mod tests;

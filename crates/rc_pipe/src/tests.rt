@@ -1,4 +1,0 @@
-//! The fates of a tree's scopes.
-
-mod fates;
-mod graph;
