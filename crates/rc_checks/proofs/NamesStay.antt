@@ -1,5 +1,5 @@
--- Pruning unused scopes leaves the numbers of a tree, as label pruning does. So where each of them is in its table, each
--- still is.
+-- Pruning unused scopes leaves the numbers of a tree, as label pruning does. So where each of them is in its table,
+-- each still is.
 use Rattle.std.proofs.Common.{◌≡◌, ◌∙◌, Bool, true, false, List, [], ◌∷◌, ◌++◌, Option, None, Some, Result, Ok, Err, All, OnOk, refl, sym, ap, subst, slice_get}
 use Rattle.rc_hir.specs.Names.{IsInTable, lengths}
 use Rattle.rc_hir.specs.declared.environment.Environment.{Environment}
