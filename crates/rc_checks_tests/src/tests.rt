@@ -4,6 +4,7 @@ mod break_targets;
 mod labels;
 mod membership;
 mod outline;
+mod pruning;
 mod small_trees;
 mod trees;
 mod unused_scopes;

@@ -198,7 +198,7 @@ fn label_between_rows(alloc: Global) -> Result<List<ReactiveStatement>, AllocErr
 }
 
 #[test]
-fn an_unnamed_label_is_replaced_by_many(rt: HostRuntime) -> Result<(), Fail> {
+fn the_statements_of_an_unnamed_label_stand_in_its_place(rt: HostRuntime) -> Result<(), Fail> {
     let alloc = rt.alloc();
     let expected = [
         Line::Row(1),
