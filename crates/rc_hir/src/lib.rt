@@ -38,3 +38,6 @@ pub use scope::{
 };
 pub use terminal::{Case, GotoVariant, Terminal};
 pub use types::{HirType, Shape, ShapeRow};
+
+#[cfg(test)]
+mod tests;

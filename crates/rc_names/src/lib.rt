@@ -28,3 +28,6 @@ pub use numbers::{
 pub use span::Span;
 pub use table::Table;
 pub use text::Text;
+
+#[cfg(test)]
+mod tests;

@@ -1,7 +1,7 @@
 //! The operands of some values, patterns and terminals.
 
 use super::graphs::{debugger, nested, one_function, one_row, read};
-use rc_hir::{
+use crate::{
     ArrayPatternElement, Case, Effect, Environment, Fault, InstructionKind, InstructionValue,
     LValue, Pattern, Place, PlaceOrSpread, SpreadPattern, TableName, Terminal,
     each_instruction_value_lvalue, each_instruction_value_operand, each_pattern_operand,

@@ -1,7 +1,7 @@
 //! The counters, and what the shapes tell.
 
 use super::graphs::environment;
-use rc_hir::{Environment, Fault, HirType, Shape, ShapeRow};
+use crate::{Environment, Fault, HirType, Shape, ShapeRow};
 use rc_names::{BlockId, IdentifierId, List, Table, TypeId};
 use std::test::Fail;
 

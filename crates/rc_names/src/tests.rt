@@ -1,6 +1,6 @@
 //! Each container once, with memory at hand: no clause says that a call finds memory.
 
-use rc_names::{BlockId, Boxed, CloneIn, EvaluationOrder, KeySet, Keyed, List, Name, Table, Text};
+use crate::{BlockId, Boxed, CloneIn, EvaluationOrder, KeySet, Keyed, List, Name, Table, Text};
 use std::test::Fail;
 
 #[test]

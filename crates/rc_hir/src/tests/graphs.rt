@@ -1,6 +1,6 @@
 //! Graphs and environments that several tests start from.
 
-use rc_hir::{
+use crate::{
     BasicBlock, Effect, Environment, Fault, Hir, HirFunction, HirType, Identifier, Instruction,
     InstructionValue, LoweredFunction, MutableRange, ParamPattern, Place, ReactiveScope,
     ReactiveScopeEarlyReturn, Terminal,

@@ -1,7 +1,7 @@
 //! Numbers inside and outside their tables.
 
 use super::graphs::{nested, one_function, one_row, two_returns_in_a_scope, with_an_early_return};
-use rc_hir::{Fault, TableName, check_names};
+use crate::{Fault, TableName, check_names};
 use rc_names::{CloneIn, DeclarationId, IdentifierId};
 use std::test::Fail;
 
