@@ -17,22 +17,29 @@ use Rattle.rc_runs.proofs.RebuiltKeeps.{only_answer, rebuilt_keeps}
 use Rattle.rc_checks.specs.Labels.{IsWithoutUnusedLabels, OpenTerminal, Targets, flattened, in_place_of, is_named, label_after, label_rules, targets_behind}
 
 -- a block has one form without its unused labels
-pub one_without_labels : (before after other : ReactiveBlock) → IsWithoutUnusedLabels before after → IsWithoutUnusedLabels before other → after ≡ other
+pub one_without_labels : (before after other : ReactiveBlock) → IsWithoutUnusedLabels before after
+    → IsWithoutUnusedLabels before other → after ≡ other
 one_without_labels before after other a b =
-    let same : ◌≡◌ {A = Result (Targets × ReactiveBlock) Fault} (Ok (a.targets, after)) (Ok (b.targets, other)) = sym a.rebuilt ∙ b.rebuilt in
+    let same : ◌≡◌ {A = Result (Targets × ReactiveBlock) Fault} (Ok (a.targets, after)) (Ok (b.targets, other)) = sym
+    a.rebuilt ∙ b.rebuilt in
     let pair : ◌≡◌ {A = Targets × ReactiveBlock} (a.targets, after) (b.targets, other) = cc in
     ap (λ p. p.1) pair
 
 module _ {V I L C P : Type 0} (m : Measure V I L C P) (laws : Compositional m)
-    (blind : (x : ReactiveTerminalStatement) (label : Option ReactiveLabel) → one m (stmt.Terminal (record { terminal = x.terminal; label = label })) ≡ one m (stmt.Terminal x))
-    (opens : (x : ReactiveTerminalStatement) (body : ReactiveBlock) (id : EvaluationOrder) → x.terminal ≡ term.Label body id → block m body ≡ one m (stmt.Terminal x)) where
-  placed_keeps : (targets : Targets) (x : ReactiveTerminalStatement) (l : OpenTerminal) → out-ReactiveTerminal x.terminal ≡ l
+    (blind : (x : ReactiveTerminalStatement) (label : Option ReactiveLabel)
+    → one m (stmt.Terminal (record { terminal = x.terminal; label = label })) ≡ one m (stmt.Terminal x))
+    (opens : (x : ReactiveTerminalStatement) (body : ReactiveBlock) (id : EvaluationOrder)
+    → x.terminal ≡ term.Label body id → block m body ≡ one m (stmt.Terminal x)) where
+  placed_keeps : (targets : Targets) (x : ReactiveTerminalStatement) (l : OpenTerminal)
+      → out-ReactiveTerminal x.terminal ≡ l
       → m.statements (in_place_of targets x (flattened targets x.label l)) ≡ one m (stmt.Terminal x)
   placed_keeps targets x (layer.Label body id) e = split (is_named targets x.label)
     where
-      split : (named : Bool) → m.statements (in_place_of targets x (if named then None else Some body.statements)) ≡ one m (stmt.Terminal x)
+      split : (named : Bool) → m.statements (in_place_of targets x (if named then None else Some body.statements))
+          ≡ one m (stmt.Terminal x)
       split true = blind x (label_after targets x.label)
-      split false = opens x body id (sym (roll-out-ReactiveTerminal x.terminal) ∙ ap roll-ReactiveTerminal e ∙ term.rolls-Label body id)
+      split false = opens x body id (sym (roll-out-ReactiveTerminal x.terminal) ∙ ap roll-ReactiveTerminal e
+          ∙ term.rolls-Label body id)
   placed_keeps targets x (layer.Break target kind id) e = blind x (label_after targets x.label)
   placed_keeps targets x (layer.Continue target kind id) e = blind x (label_after targets x.label)
   placed_keeps targets x (layer.Return value id) e = blind x (label_after targets x.label)
@@ -53,23 +60,31 @@ module _ {V I L C P : Type 0} (m : Measure V I L C P) (laws : Compositional m)
       (λ x s a e. only_answer m.statements s (stmt.Instruction x ∷ []) a e)
       (λ x s a e.
       let targets = targets_behind (out-ReactiveTerminal x.terminal) s in
-      only_answer m.statements targets (in_place_of targets x (flattened targets x.label (out-ReactiveTerminal x.terminal))) a e
+      only_answer m.statements targets (in_place_of targets x
+      (flattened targets x.label (out-ReactiveTerminal x.terminal))) a e
       ∙ placed_keeps targets x (out-ReactiveTerminal x.terminal) refl)
       (λ x s a e. only_answer m.statements s (stmt.PrunedScope x ∷ []) a e)
       (λ met x s a e. only_answer m.statements s (stmt.Scope x ∷ []) a e)
       before [] (is.targets, after) is.rebuilt
 
 -- the numbers of a tree stay
-pub labels_keep_names : (before after : ReactiveBlock) → IsWithoutUnusedLabels before after → names_in after ≡ names_in before
+pub labels_keep_names : (before after : ReactiveBlock) → IsWithoutUnusedLabels before after
+    → names_in after ≡ names_in before
 labels_keep_names before after is =
     block-names after ∙ labels_keep names_measure names_laws blind opens before after is ∙ sym (block-names before)
   where
-    with_rest : (x y : ReactiveTerminalStatement) → x.terminal ≡ y.terminal → of_list (stmt.Terminal x ∷ []) ≡ of_list (stmt.Terminal y ∷ [])
-    with_rest x y same = ap (λ names. names ++ []) (statement-Terminal x ∙ ap names_in_terminal same ∙ sym (statement-Terminal y))
+    with_rest : (x y : ReactiveTerminalStatement) → x.terminal ≡ y.terminal
+        → of_list (stmt.Terminal x ∷ []) ≡ of_list (stmt.Terminal y ∷ [])
+    with_rest x y same = ap (λ names. names ++ []) (statement-Terminal x ∙ ap names_in_terminal same
+        ∙ sym (statement-Terminal y))
 
-    blind : (x : ReactiveTerminalStatement) (label : Option ReactiveLabel) → one names_measure (stmt.Terminal (record { terminal = x.terminal; label = label })) ≡ one names_measure (stmt.Terminal x)
+    blind : (x : ReactiveTerminalStatement) (label : Option ReactiveLabel)
+        → one names_measure (stmt.Terminal (record { terminal = x.terminal; label = label }))
+        ≡ one names_measure (stmt.Terminal x)
     blind x label = with_rest (record { terminal = x.terminal; label = label }) x refl
 
-    opens : (x : ReactiveTerminalStatement) (body : ReactiveBlock) (id : EvaluationOrder) → x.terminal ≡ term.Label body id → block names_measure body ≡ one names_measure (stmt.Terminal x)
+    opens : (x : ReactiveTerminalStatement) (body : ReactiveBlock) (id : EvaluationOrder)
+        → x.terminal ≡ term.Label body id → block names_measure body ≡ one names_measure (stmt.Terminal x)
     opens x body id is =
-        sym (block-names body) ∙ sym (terminal-Label body id) ∙ ap names_in_terminal (sym is) ∙ sym (statement-Terminal x) ∙ sym (append-nil (names_in_statement (stmt.Terminal x)))
+        sym (block-names body) ∙ sym (terminal-Label body id) ∙ ap names_in_terminal (sym is)
+        ∙ sym (statement-Terminal x) ∙ sym (append-nil (names_in_statement (stmt.Terminal x)))

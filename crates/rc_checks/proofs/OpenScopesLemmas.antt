@@ -29,8 +29,10 @@ scopes_equivalence = record {
 
 -- lists turned round
 
-slice_get-front : {A : Type 0} (xs ys : List A) (k : ℕ) (x : A) → slice_get xs k ≡ Some x → slice_get (xs ++ ys) k ≡ Some x
-slice_get-front [] ys k x is = let z : None ≡ Some x = sym (slice_get_past [] k (omega arith)) ∙ is in let bad : ⊥ = cc in absurd bad
+slice_get-front : {A : Type 0} (xs ys : List A) (k : ℕ) (x : A) → slice_get xs k ≡ Some x
+    → slice_get (xs ++ ys) k ≡ Some x
+slice_get-front [] ys k x is =
+    let z : None ≡ Some x = sym (slice_get_past [] k (omega arith)) ∙ is in let bad : ⊥ = cc in absurd bad
 slice_get-front (y ∷ xs) ys zero x is = is
 slice_get-front (y ∷ xs) ys (suc k) x is = slice_get-front xs ys k x is
 
@@ -59,68 +61,99 @@ record Found (scopes : List ScopeId) (scope : ScopeId) (place : ℕ) : Type 0 wh
   at : slice_get (reverse scopes) place ≡ Some found
   same : same_scope scope found ≡ true
 
-found_at : (scopes : List ScopeId) (scope : ScopeId) (place : ℕ) → outermost_place scopes scope ≡ Some place → Found scopes scope place
+found_at : (scopes : List ScopeId) (scope : ScopeId) (place : ℕ) → outermost_place scopes scope ≡ Some place
+    → Found scopes scope place
 found_at [] scope place is = let bad : ⊥ = cc in absurd bad
-found_at (inner ∷ outer) scope place is = go (outermost_place outer scope) refl (same_scope scope inner) refl is (found_at outer scope)
+found_at (inner ∷ outer) scope place is =
+    go (outermost_place outer scope) refl (same_scope scope inner) refl is (found_at outer scope)
   where
     turned : reverse (inner ∷ outer) ≡ reverse outer ++ inner ∷ []
     turned = reverse-append (inner ∷ []) outer
 
-    go : (o : Option ℕ) → outermost_place outer scope ≡ o → (b : Bool) → same_scope scope inner ≡ b → outer_or o b (length outer) ≡ Some place →
+    go : (o : Option ℕ) → outermost_place outer scope ≡ o → (b : Bool) → same_scope scope inner ≡ b
+        → outer_or o b (length outer) ≡ Some place →
         ((p : ℕ) → outermost_place outer scope ≡ Some p → Found outer scope p) → Found (inner ∷ outer) scope place
     go (Some q) was b here at later =
         let f = later place (was ∙ at) in
-        record { found = f.found; at = ap (λ l. slice_get l place) turned ∙ slice_get-front (reverse outer) (inner ∷ []) place f.found f.at; same = f.same }
+        record {
+          found = f.found;
+          at = ap (λ l. slice_get l place) turned
+              ∙ slice_get-front (reverse outer) (inner ∷ []) place f.found f.at;
+          same = f.same;
+        }
     go None was true here at later =
-        let last : length (reverse outer) ≡ place = length-reverse outer ∙ (let own : length outer ≡ place = cc in own) in
-        record { found = inner; at = ap (λ l. slice_get l place) turned ∙ subst (λ k. slice_get (reverse outer ++ inner ∷ []) k ≡ Some inner) last (slice_get-last (reverse outer) inner); same = here }
+        let last : length (reverse outer) ≡ place = length-reverse outer
+        ∙ (let own : length outer ≡ place = cc in own) in
+        record {
+          found = inner;
+          at = ap (λ l. slice_get l place) turned
+              ∙ subst (λ k. slice_get (reverse outer ++ inner ∷ []) k ≡ Some inner) last
+              (slice_get-last (reverse outer) inner);
+          same = here;
+        }
     go None was false here at later = let bad : ⊥ = cc in absurd bad
 
-none_open : (scopes : List ScopeId) (scope : ScopeId) → outermost_place scopes scope ≡ None → is_among scopes scope ≡ false
+none_open : (scopes : List ScopeId) (scope : ScopeId) → outermost_place scopes scope ≡ None
+    → is_among scopes scope ≡ false
 none_open [] scope is = refl
-none_open (inner ∷ outer) scope is = go (outermost_place outer scope) refl (same_scope scope inner) refl is (none_open outer scope)
+none_open (inner ∷ outer) scope is =
+    go (outermost_place outer scope) refl (same_scope scope inner) refl is (none_open outer scope)
   where
-    go : (o : Option ℕ) → outermost_place outer scope ≡ o → (b : Bool) → same_scope scope inner ≡ b → outer_or o b (length outer) ≡ None →
-        (outermost_place outer scope ≡ None → is_among outer scope ≡ false) → (same_scope scope inner || is_among outer scope) ≡ false
+    go : (o : Option ℕ) → outermost_place outer scope ≡ o → (b : Bool) → same_scope scope inner ≡ b
+        → outer_or o b (length outer) ≡ None →
+        (outermost_place outer scope ≡ None → is_among outer scope ≡ false)
+        → (same_scope scope inner || is_among outer scope) ≡ false
     go (Some q) was b here at later = let bad : ⊥ = cc in absurd bad
     go None was true here at later = let bad : ⊥ = cc in absurd bad
     go None was false here at later = ap (λ b. b || is_among outer scope) here ∙ later was
 
-is_open : (scopes : List ScopeId) (scope : ScopeId) (place : ℕ) → outermost_place scopes scope ≡ Some place → is_among scopes scope ≡ true
+is_open : (scopes : List ScopeId) (scope : ScopeId) (place : ℕ) → outermost_place scopes scope ≡ Some place
+    → is_among scopes scope ≡ true
 is_open scopes scope place is =
     let f = found_at scopes scope place is in
-    sym (among-reverse scopes scope) ∙ any_passes_from_place (same_scope scope) (reverse scopes) place f.found f.at f.same
+    sym (among-reverse scopes scope) ∙ any_passes_from_place (same_scope scope) (reverse scopes) place f.found f.at
+    f.same
 
 -- what a look-up finds
 
-module _ (scopes : List ScopeId) (places : List (ScopeId × ℕ)) (scope : ScopeId) (kept : ArePlaces (reverse scopes) places) where
-  pub stands_there : (found : ScopeId) (place : ℕ) → lookup (same_scope scope) places ≡ Some place → slice_get scopes place ≡ Some found →
+module _ (scopes : List ScopeId) (places : List (ScopeId × ℕ)) (scope : ScopeId)
+    (kept : ArePlaces (reverse scopes) places) where
+  pub stands_there : (found : ScopeId) (place : ℕ) → lookup (same_scope scope) places ≡ Some place
+      → slice_get scopes place ≡ Some found →
       same_scope found scope ≡ is_among (reverse scopes) scope
   stands_there found place there at = go (outermost_place (reverse scopes) scope) refl
     where
-      by : (b : Bool) → same_scope found scope ≡ b → is_among (reverse scopes) scope ≡ false → b ≡ is_among (reverse scopes) scope
+      by : (b : Bool) → same_scope found scope ≡ b → is_among (reverse scopes) scope ≡ false
+          → b ≡ is_among (reverse scopes) scope
       by true same none =
-          let among : is_among scopes scope ≡ true = any_passes_from_place (same_scope scope) scopes place found at (scopes_equivalence.symm scope found ∙ same) in
+          let among : is_among scopes scope ≡ true = any_passes_from_place (same_scope scope) scopes place found at
+          (scopes_equivalence.symm scope found ∙ same) in
           absurd (true≢false (sym among ∙ sym (among-reverse scopes scope) ∙ none))
       by false same none = sym none
 
-      go : (o : Option ℕ) → outermost_place (reverse scopes) scope ≡ o → same_scope found scope ≡ is_among (reverse scopes) scope
+      go : (o : Option ℕ) → outermost_place (reverse scopes) scope ≡ o
+          → same_scope found scope ≡ is_among (reverse scopes) scope
       go (Some q) was =
           let same_place : q ≡ place = (let z : Some q ≡ Some place = sym (kept scope q was) ∙ there in cc) in
           let f = found_at (reverse scopes) scope q was in
-          let here : slice_get scopes q ≡ Some f.found = ap (λ l. slice_get l q) (sym (reverse-reverse scopes)) ∙ f.at in
-          let one : f.found ≡ found = (let z : Some f.found ≡ Some found = sym here ∙ ap (slice_get scopes) same_place ∙ at in cc) in
-          ap (λ (x : ScopeId). same_scope x scope) (sym one) ∙ scopes_equivalence.symm f.found scope ∙ f.same ∙ sym (is_open (reverse scopes) scope q was)
+          let here : slice_get scopes q ≡ Some f.found = ap (λ l. slice_get l q) (sym (reverse-reverse scopes))
+          ∙ f.at in
+          let one : f.found ≡ found = (let z : Some f.found ≡ Some found = sym here ∙ ap (slice_get scopes) same_place
+          ∙ at in cc) in
+          ap (λ (x : ScopeId). same_scope x scope) (sym one) ∙ scopes_equivalence.symm f.found scope ∙ f.same
+          ∙ sym (is_open (reverse scopes) scope q was)
       go None was = by (same_scope found scope) refl (none_open (reverse scopes) scope was)
 
-  pub nothing_there : (place : ℕ) → lookup (same_scope scope) places ≡ Some place → slice_get scopes place ≡ None → false ≡ is_among (reverse scopes) scope
+  pub nothing_there : (place : ℕ) → lookup (same_scope scope) places ≡ Some place → slice_get scopes place ≡ None
+      → false ≡ is_among (reverse scopes) scope
   nothing_there place there at = go (outermost_place (reverse scopes) scope) refl
     where
       go : (o : Option ℕ) → outermost_place (reverse scopes) scope ≡ o → false ≡ is_among (reverse scopes) scope
       go (Some q) was =
           let same_place : q ≡ place = (let z : Some q ≡ Some place = sym (kept scope q was) ∙ there in cc) in
           let f = found_at (reverse scopes) scope q was in
-          let z : Some f.found ≡ None = sym f.at ∙ ap (λ l. slice_get l q) (reverse-reverse scopes) ∙ ap (slice_get scopes) same_place ∙ at in
+          let z : Some f.found ≡ None = sym f.at ∙ ap (λ l. slice_get l q) (reverse-reverse scopes)
+          ∙ ap (slice_get scopes) same_place ∙ at in
           let bad : ⊥ = cc in
           absurd bad
       go None was = sym (none_open (reverse scopes) scope was)
@@ -135,25 +168,33 @@ module _ (scopes : List ScopeId) (places : List (ScopeId × ℕ)) (scope : Scope
 -- a place that is put in
 
 module _ (scope : ScopeId) (place : ℕ) where
-  lookup-insert_there : (places : List (ScopeId × ℕ)) → lookup (same_scope scope) (insert_entry same_scope places scope place) ≡ Some place
+  lookup-insert_there : (places : List (ScopeId × ℕ)) → lookup (same_scope scope)
+      (insert_entry same_scope places scope place) ≡ Some place
   lookup-insert_there [] = ap (λ b. cond b (Some place) None) (scopes_equivalence.refl scope)
   lookup-insert_there (e ∷ es) = go (same_scope scope e.0) refl (lookup-insert_there es)
     where
-      go : (b : Bool) → same_scope scope e.0 ≡ b → lookup (same_scope scope) (insert_entry same_scope es scope place) ≡ Some place →
-          lookup (same_scope scope) (if b then (e.0, place) ∷ es else e ∷ insert_entry same_scope es scope place) ≡ Some place
+      go : (b : Bool) → same_scope scope e.0 ≡ b → lookup (same_scope scope) (insert_entry same_scope es scope place)
+          ≡ Some place →
+          lookup (same_scope scope) (if b then (e.0, place) ∷ es else e ∷ insert_entry same_scope es scope place)
+          ≡ Some place
       go true is later = ap (λ b. cond b (Some place) (lookup (same_scope scope) es)) is
-      go false is later = ap (λ b. cond b (Some e.1) (lookup (same_scope scope) (insert_entry same_scope es scope place))) is ∙ later
+      go false is later = ap (λ b. cond b (Some e.1) (lookup (same_scope scope)
+          (insert_entry same_scope es scope place))) is ∙ later
 
   lookup-insert_other : (places : List (ScopeId × ℕ)) (key : ScopeId) → same_scope scope key ≡ false →
       lookup (same_scope key) (insert_entry same_scope places scope place) ≡ lookup (same_scope key) places
   lookup-insert_other [] key apart = ap (λ b. cond b (Some place) None) (scopes_equivalence.symm key scope ∙ apart)
   lookup-insert_other (e ∷ es) key apart = go (same_scope scope e.0) refl (lookup-insert_other es key apart)
     where
-      go : (b : Bool) → same_scope scope e.0 ≡ b → lookup (same_scope key) (insert_entry same_scope es scope place) ≡ lookup (same_scope key) es →
-          lookup (same_scope key) (if b then (e.0, place) ∷ es else e ∷ insert_entry same_scope es scope place) ≡ lookup (same_scope key) (e ∷ es)
+      go : (b : Bool) → same_scope scope e.0 ≡ b → lookup (same_scope key) (insert_entry same_scope es scope place)
+          ≡ lookup (same_scope key) es →
+          lookup (same_scope key) (if b then (e.0, place) ∷ es else e ∷ insert_entry same_scope es scope place)
+          ≡ lookup (same_scope key) (e ∷ es)
       go true is later =
-          let other : same_scope key e.0 ≡ false = scopes_equivalence.symm key e.0 ∙ sym (scopes_equivalence.congr scope e.0 key is) ∙ apart in
-          ap (λ b. cond b (Some place) (lookup (same_scope key) es)) other ∙ sym (ap (λ b. cond b (Some e.1) (lookup (same_scope key) es)) other)
+          let other : same_scope key e.0 ≡ false = scopes_equivalence.symm key e.0
+          ∙ sym (scopes_equivalence.congr scope e.0 key is) ∙ apart in
+          ap (λ b. cond b (Some place) (lookup (same_scope key) es)) other
+          ∙ sym (ap (λ b. cond b (Some e.1) (lookup (same_scope key) es)) other)
       go false is later = ap (λ z. cond (same_scope key e.0) (Some e.1) z) later
 
 -- opening and closing a scope
@@ -165,39 +206,49 @@ module _ (outer : List ScopeId) (places : List (ScopeId × ℕ)) (scope : ScopeI
   opened_again : ArePlaces outer places → is_among outer scope ≡ true → ArePlaces (scope ∷ outer) places
   opened_again kept among key place is = go (outermost_place outer key) refl (same_scope key scope) refl is
     where
-      go : (o : Option ℕ) → outermost_place outer key ≡ o → (b : Bool) → same_scope key scope ≡ b → outer_or o b (length outer) ≡ Some place → lookup (same_scope key) places ≡ Some place
+      go : (o : Option ℕ) → outermost_place outer key ≡ o → (b : Bool) → same_scope key scope ≡ b
+          → outer_or o b (length outer) ≡ Some place → lookup (same_scope key) places ≡ Some place
       go (Some q) was b here at = kept key place (was ∙ at)
       go None was true here at =
-          let none : is_among outer scope ≡ false = subst (λ k. is_among outer k ≡ false) (same_scope-eq key scope here) (none_open outer key was) in
+          let none : is_among outer scope ≡ false = subst (λ k. is_among outer k ≡ false) (same_scope-eq key scope here)
+          (none_open outer key was) in
           absurd (true≢false (sym among ∙ none))
       go None was false here at = let bad : ⊥ = cc in absurd bad
 
   -- an open scope keeps its place where another is put in
-  not_replaced : (own : ℕ) → ArePlaces outer places → is_among outer scope ≡ false → ArePlaces outer (insert_entry same_scope places scope own)
+  not_replaced : (own : ℕ) → ArePlaces outer places → is_among outer scope ≡ false
+      → ArePlaces outer (insert_entry same_scope places scope own)
   not_replaced own kept none key place is = by (same_scope scope key) refl
     where
-      by : (b : Bool) → same_scope scope key ≡ b → lookup (same_scope key) (insert_entry same_scope places scope own) ≡ Some place
+      by : (b : Bool) → same_scope scope key ≡ b → lookup (same_scope key) (insert_entry same_scope places scope own)
+          ≡ Some place
       by true same =
-          let among : is_among outer scope ≡ true = subst (λ k. is_among outer k ≡ true) (sym (same_scope-eq scope key same)) (is_open outer key place is) in
+          let among : is_among outer scope ≡ true = subst (λ k. is_among outer k ≡ true)
+          (sym (same_scope-eq scope key same)) (is_open outer key place is) in
           absurd (true≢false (sym among ∙ none))
       by false apart = lookup-insert_other scope own places key apart ∙ kept key place is
 
-  newly_opened : ArePlaces outer places → is_among outer scope ≡ false → ArePlaces (scope ∷ outer) (insert_entry same_scope places scope (length outer))
+  newly_opened : ArePlaces outer places → is_among outer scope ≡ false
+      → ArePlaces (scope ∷ outer) (insert_entry same_scope places scope (length outer))
   newly_opened kept none key place is = go (outermost_place outer key) refl (same_scope key scope) refl is
     where
-      go : (o : Option ℕ) → outermost_place outer key ≡ o → (b : Bool) → same_scope key scope ≡ b → outer_or o b (length outer) ≡ Some place →
+      go : (o : Option ℕ) → outermost_place outer key ≡ o → (b : Bool) → same_scope key scope ≡ b
+          → outer_or o b (length outer) ≡ Some place →
           lookup (same_scope key) (insert_entry same_scope places scope (length outer)) ≡ Some place
       go (Some q) was b here at = not_replaced (length outer) kept none key place (was ∙ at)
       go None was true here at =
           let own : length outer ≡ place = cc in
-          subst (λ k. lookup (same_scope k) (insert_entry same_scope places scope (length outer)) ≡ Some place) (sym (same_scope-eq key scope here))
+          subst (λ k. lookup (same_scope k) (insert_entry same_scope places scope (length outer)) ≡ Some place)
+          (sym (same_scope-eq key scope here))
           (lookup-insert_there scope (length outer) places ∙ ap (λ k. Some k) own)
       go None was false here at = let bad : ⊥ = cc in absurd bad
 
-pub after_pop : (result : Option ScopeId) (old new : List ScopeId) (places : List (ScopeId × ℕ)) → IfSome result (λ last. old ≡ new ++ last ∷ []) → IfNone result (new ≡ []) →
+pub after_pop : (result : Option ScopeId) (old new : List ScopeId) (places : List (ScopeId × ℕ))
+    → IfSome result (λ last. old ≡ new ++ last ∷ []) → IfNone result (new ≡ []) →
     ArePlaces (reverse old) places → ArePlaces (reverse new) places
 after_pop (Some last) old new places was none kept =
-    closed (reverse new) places last (subst (λ l. ArePlaces l places) (ap reverse was ∙ reverse-append new (last ∷ [])) kept)
+    closed (reverse new) places last (subst (λ l. ArePlaces l places) (ap reverse was ∙ reverse-append new (last ∷ []))
+    kept)
 after_pop None old new places was none kept = subst (λ l. ArePlaces (reverse l) places) (sym none) nothing
   where
     nothing : ArePlaces [] places
@@ -206,20 +257,28 @@ after_pop None old new places was none kept = subst (λ l. ArePlaces (reverse l)
 -- the list that another was put behind, or not
 module _ {E : Type 0} (result : Result (Unit {0}) E) (old held new : List ScopeId) (scope : ScopeId) (same : held ≡ old)
     (ok : OnOk result (new ≡ held ++ scope ∷ [])) (err : OnErr result (new ≡ held)) where
-  pushed : (places : List (ScopeId × ℕ)) → ArePlaces (reverse old) places → ArePlaces (scope ∷ reverse old) places → ArePlaces (reverse new) places
+  pushed : (places : List (ScopeId × ℕ)) → ArePlaces (reverse old) places → ArePlaces (scope ∷ reverse old) places
+      → ArePlaces (reverse new) places
   pushed places before more = by result ok err
     where
-      by : (r : Result (Unit {0}) E) → OnOk r (new ≡ held ++ scope ∷ []) → OnErr r (new ≡ held) → ArePlaces (reverse new) places
-      by (Ok done) is kept = subst (λ l. ArePlaces l places) (sym (ap reverse (is ∙ ap (λ l. l ++ scope ∷ []) same) ∙ reverse-append old (scope ∷ []))) more
+      by : (r : Result (Unit {0}) E) → OnOk r (new ≡ held ++ scope ∷ []) → OnErr r (new ≡ held)
+          → ArePlaces (reverse new) places
+      by (Ok done) is kept = subst (λ l. ArePlaces l places)
+          (sym (ap reverse (is ∙ ap (λ l. l ++ scope ∷ []) same) ∙ reverse-append old (scope ∷ []))) more
       by (Err error) is kept = subst (λ l. ArePlaces (reverse l) places) (sym (kept ∙ same)) before
 
   -- with its own place put in, where the scope wasn't open
-  pub pushed_new : (places stored : List (ScopeId × ℕ)) (own : ℕ) → ArePlaces (reverse old) places → is_among (reverse old) scope ≡ false →
+  pub pushed_new : (places stored : List (ScopeId × ℕ)) (own : ℕ) → ArePlaces (reverse old) places
+      → is_among (reverse old) scope ≡ false →
       own ≡ length old → stored ≡ insert_entry same_scope places scope own → ArePlaces (reverse new) stored
   pushed_new places stored own kept none last is =
-      let own_place = subst (λ n. ArePlaces (scope ∷ reverse old) (insert_entry same_scope places scope n)) (length-reverse old ∙ sym last) (newly_opened (reverse old) places scope kept none) in
-      subst (λ p. ArePlaces (reverse new) p) (sym is) (pushed (insert_entry same_scope places scope own) (not_replaced (reverse old) places scope own kept none) own_place)
+      let own_place = subst (λ n. ArePlaces (scope ∷ reverse old) (insert_entry same_scope places scope n))
+      (length-reverse old ∙ sym last) (newly_opened (reverse old) places scope kept none) in
+      subst (λ p. ArePlaces (reverse new) p) (sym is) (pushed (insert_entry same_scope places scope own)
+      (not_replaced (reverse old) places scope own kept none) own_place)
 
   -- and without, where it was
-  pub pushed_again : (places stored : List (ScopeId × ℕ)) → ArePlaces (reverse old) places → is_among (reverse old) scope ≡ true → stored ≡ places → ArePlaces (reverse new) stored
-  pushed_again places stored kept among is = subst (λ p. ArePlaces (reverse new) p) (sym is) (pushed places kept (opened_again (reverse old) places scope kept among))
+  pub pushed_again : (places stored : List (ScopeId × ℕ)) → ArePlaces (reverse old) places
+      → is_among (reverse old) scope ≡ true → stored ≡ places → ArePlaces (reverse new) stored
+  pushed_again places stored kept among is = subst (λ p. ArePlaces (reverse new) p) (sym is)
+      (pushed places kept (opened_again (reverse old) places scope kept among))

@@ -165,7 +165,8 @@ held-DoWhile body test id = ap held_terminal (sym (term.rolls-DoWhile body test 
 
 pub held-While : (test : ReactiveValue) (body : ReactiveBlock) (id : EvaluationOrder)
     → held_terminal (term.While test body id) ≡ held body
-held-While test body id = ap held_terminal (sym (term.rolls-While test body id)) ∙ opened_terminal (layer.While test body id)
+held-While test body id =
+    ap held_terminal (sym (term.rolls-While test body id)) ∙ opened_terminal (layer.While test body id)
 
 pub held-For : (init : ReactiveValue) (test : ReactiveValue) (update : Option ReactiveValue) (body : ReactiveBlock)
     (id : EvaluationOrder) → held_terminal (term.For init test update body id) ≡ held body

@@ -33,12 +33,14 @@ scopes_in_scope =
 
 abbrev scopes_in_pruned_scope : PrunedReactiveScopeBlock → Scopes
 scopes_in_pruned_scope =
-    fold-PrunedReactiveScopeBlock Scopes Scopes Scopes Scopes Scopes Scopes Scopes scopes.of_statement scopes.of_terminal
+    fold-PrunedReactiveScopeBlock Scopes Scopes Scopes Scopes Scopes Scopes Scopes scopes.of_statement
+    scopes.of_terminal
     scopes.of_pruned_scope scopes.of_scope scopes.of_block scopes.of_case scopes.of_labelled
 
 abbrev scopes_in_labeled : ReactiveTerminalStatement → Scopes
 scopes_in_labeled =
-    fold-ReactiveTerminalStatement Scopes Scopes Scopes Scopes Scopes Scopes Scopes scopes.of_statement scopes.of_terminal
+    fold-ReactiveTerminalStatement Scopes Scopes Scopes Scopes Scopes Scopes Scopes scopes.of_statement
+    scopes.of_terminal
     scopes.of_pruned_scope scopes.of_scope scopes.of_block scopes.of_case scopes.of_labelled
 
 -- each part, with what is claimed of it
@@ -111,14 +113,16 @@ abbrev with_scopes_statement : layer.ReactiveStatement-F ReactiveStatement React
 with_scopes_statement = map-ReactiveStatement ReactiveStatement ReactiveTerminal PrunedReactiveScopeBlock
     ReactiveScopeBlock ReactiveBlock ReactiveSwitchCase ReactiveTerminalStatement
     Scopes Scopes Scopes Scopes Scopes Scopes Scopes
-    scopes_in_statement scopes_in_terminal scopes_in_pruned_scope scopes_in_scope scopes_in scopes_in_case scopes_in_labeled
+    scopes_in_statement scopes_in_terminal scopes_in_pruned_scope scopes_in_scope scopes_in scopes_in_case
+    scopes_in_labeled
 
 abbrev with_held_statement : layer.ReactiveStatement-F ReactiveStatement ReactiveTerminal PrunedReactiveScopeBlock
     ReactiveScopeBlock ReactiveBlock ReactiveSwitchCase ReactiveTerminalStatement
     → layer.ReactiveStatement-F Held Held Held Held Held Held Held
 with_held_statement = map-ReactiveStatement ReactiveStatement ReactiveTerminal PrunedReactiveScopeBlock
     ReactiveScopeBlock ReactiveBlock ReactiveSwitchCase ReactiveTerminalStatement
-    Held Held Held Held Held Held Held held_statement held_terminal held_pruned_scope held_scope held held_case held_labeled
+    Held Held Held Held Held Held Held held_statement held_terminal held_pruned_scope held_scope held held_case
+    held_labeled
 
 abbrev with_scopes_terminal : layer.ReactiveTerminal-F ReactiveStatement ReactiveTerminal PrunedReactiveScopeBlock
     ReactiveScopeBlock ReactiveBlock ReactiveSwitchCase ReactiveTerminalStatement
@@ -126,14 +130,16 @@ abbrev with_scopes_terminal : layer.ReactiveTerminal-F ReactiveStatement Reactiv
 with_scopes_terminal = map-ReactiveTerminal ReactiveStatement ReactiveTerminal PrunedReactiveScopeBlock
     ReactiveScopeBlock ReactiveBlock ReactiveSwitchCase ReactiveTerminalStatement
     Scopes Scopes Scopes Scopes Scopes Scopes Scopes
-    scopes_in_statement scopes_in_terminal scopes_in_pruned_scope scopes_in_scope scopes_in scopes_in_case scopes_in_labeled
+    scopes_in_statement scopes_in_terminal scopes_in_pruned_scope scopes_in_scope scopes_in scopes_in_case
+    scopes_in_labeled
 
 abbrev with_held_terminal : layer.ReactiveTerminal-F ReactiveStatement ReactiveTerminal PrunedReactiveScopeBlock
     ReactiveScopeBlock ReactiveBlock ReactiveSwitchCase ReactiveTerminalStatement
     → layer.ReactiveTerminal-F Held Held Held Held Held Held Held
 with_held_terminal = map-ReactiveTerminal ReactiveStatement ReactiveTerminal PrunedReactiveScopeBlock ReactiveScopeBlock
     ReactiveBlock ReactiveSwitchCase ReactiveTerminalStatement
-    Held Held Held Held Held Held Held held_statement held_terminal held_pruned_scope held_scope held held_case held_labeled
+    Held Held Held Held Held Held Held held_statement held_terminal held_pruned_scope held_scope held held_case
+    held_labeled
 
 statement_layer : (y : layer.ReactiveStatement-F OfStatement OfTerminal OfPrunedScope OfScope OfBlock OfCase OfLabeled)
     → scopes.of_statement (with_scopes_statement (bare_statement y))
@@ -171,8 +177,10 @@ pub scopes_in-blocks : (x : ReactiveBlock) → scopes_in x ≡ map (λ (block : 
 unfolding held held_statement held_terminal held_pruned_scope held_scope held_case held_labeled
 scopes_in-blocks =
     ind-ReactiveBlock
-    (λ x. scopes_in_statement x ≡ scopes_of (held_statement x)) (λ x. scopes_in_terminal x ≡ scopes_of (held_terminal x))
-    (λ x. scopes_in_pruned_scope x ≡ scopes_of (held_pruned_scope x)) (λ x. scopes_in_scope x ≡ scopes_of (held_scope x))
+    (λ x. scopes_in_statement x ≡ scopes_of (held_statement x))
+    (λ x. scopes_in_terminal x ≡ scopes_of (held_terminal x))
+    (λ x. scopes_in_pruned_scope x ≡ scopes_of (held_pruned_scope x))
+    (λ x. scopes_in_scope x ≡ scopes_of (held_scope x))
     (λ x. scopes_in x ≡ scopes_of (held x)) (λ x. scopes_in_case x ≡ scopes_of (held_case x))
     (λ x. scopes_in_labeled x ≡ scopes_of (held_labeled x))
     (λ x y is. subst (λ z. scopes_in_statement (roll-ReactiveStatement z)
@@ -183,7 +191,8 @@ scopes_in-blocks =
     (fold-roll-ReactiveStatement Held Held Held Held Held Held Held blocks.of_statement blocks.of_terminal
     blocks.of_pruned_scope blocks.of_scope blocks.of_block blocks.of_case blocks.of_labeled (bare_statement y))
     (statement_layer y)))
-    (λ x y is. subst (λ z. scopes_in_terminal (roll-ReactiveTerminal z) ≡ scopes_of (held_terminal (roll-ReactiveTerminal z))) is
+    (λ x y is. subst (λ z. scopes_in_terminal (roll-ReactiveTerminal z)
+    ≡ scopes_of (held_terminal (roll-ReactiveTerminal z))) is
     (opened _ _ _ _ (fold-roll-ReactiveTerminal Scopes Scopes Scopes Scopes Scopes Scopes Scopes scopes.of_statement
     scopes.of_terminal scopes.of_pruned_scope scopes.of_scope scopes.of_block scopes.of_case scopes.of_labelled
     (bare_terminal y)) (fold-roll-ReactiveTerminal Held Held Held Held Held Held Held blocks.of_statement
@@ -214,7 +223,8 @@ scopes_in-blocks =
     blocks.of_pruned_scope blocks.of_scope blocks.of_block blocks.of_case blocks.of_labeled
     (record { statements = map (λ e. e.0) y.statements }))
     (list_scopes scopes_in_statement held_statement y.statements)))
-    (λ x y is. subst (λ z. scopes_in_case (roll-ReactiveSwitchCase z) ≡ scopes_of (held_case (roll-ReactiveSwitchCase z))) is
+    (λ x y is. subst (λ z. scopes_in_case (roll-ReactiveSwitchCase z)
+    ≡ scopes_of (held_case (roll-ReactiveSwitchCase z))) is
     (opened _ _ _ _ (fold-roll-ReactiveSwitchCase Scopes Scopes Scopes Scopes Scopes Scopes Scopes
     scopes.of_statement scopes.of_terminal scopes.of_pruned_scope scopes.of_scope scopes.of_block scopes.of_case
     scopes.of_labelled (record { test = y.test; block = bare_if y.block }))

@@ -139,7 +139,8 @@ module _ (env : Environment) where
         let put : is_target (insert_key same_block targets target) target ≡ true = is_target-inserted targets target in
         subst (λ b. is_target (insert_key same_block targets target) b ≡ true) (same_break target block e) put
     statement_names targets block break_unlabeled e = absurd (let bad : ⊥ = cc in bad)
-    statement_names targets block (took_arm {consequent = taken} {alternate = other} {label = label} {inner = o} r q) e =
+    statement_names targets block (took_arm {consequent = taken} {alternate = other} {label = label} {inner = o} r q)
+        e =
         let named = list_names targets block r (inner_break label o block (sym q ∙ e)) in
         is_target-alternate other (pruned_list taken targets).0 block named
     statement_names targets block (took_other {consequent = taken} {label = label} {inner = inner} r q) e =

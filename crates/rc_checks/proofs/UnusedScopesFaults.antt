@@ -20,7 +20,8 @@ use Rattle.rc_checks.specs.UnusedScopes.{NamesFirstScopeOutside, judged, unused_
 past_end : {X : Type 0} (xs : List X) (i : ℕ) → slice_get xs i ≡ None → length xs ≤ i
 past_end {X = X} xs i none = by (slice_get_cases xs i).1
   where
-    by : ((x : X) × (i < length xs) × (slice_get xs i ≡ Some x) × (get_or xs i x ≡ x)) ⊎ ((length xs ≤ i) × (slice_get xs i ≡ None)) → length xs ≤ i
+    by : ((x : X) × (i < length xs) × (slice_get xs i ≡ Some x) × (get_or xs i x ≡ x))
+        ⊎ ((length xs ≤ i) × (slice_get xs i ≡ None)) → length xs ≤ i
     by (inl found) = absurd (let some : slice_get xs i ≡ Some found.0 = found.2 in let no : ⊥ = cc in no)
     by (inr past) = past.0
 
@@ -30,11 +31,14 @@ module _ (env : Environment) (rows : ℕ) (fault : Fault) where
 
   -- the rule for a scope block faults where its scope is outside the table
   scope_fault : (around : Bool) (x : ReactiveScopeBlock) (returns : Bool)
-      → ◌≡◌ {A = Result (Bool × List ReactiveStatement) Fault} (bind (judged (slice_get env.scopes x.scope.0) returns x) (λ statement. Ok (around, statement ∷ []))) (Err fault) → Any (IsOutside (lengths env rows) fault) (scope_name x.scope)
+      → ◌≡◌ {A = Result (Bool × List ReactiveStatement) Fault}
+      (bind (judged (slice_get env.scopes x.scope.0) returns x) (λ statement. Ok (around, statement ∷ [])))
+      (Err fault) → Any (IsOutside (lengths env rows) fault) (scope_name x.scope)
   scope_fault around x returns e = by (slice_get env.scopes x.scope.0) refl e
     where
       by : (found : Option ReactiveScope) → slice_get env.scopes x.scope.0 ≡ found
-          → ◌≡◌ {A = Result (Bool × List ReactiveStatement) Fault} (bind (judged found returns x) (λ statement. Ok (around, statement ∷ []))) (Err fault)
+          → ◌≡◌ {A = Result (Bool × List ReactiveStatement) Fault}
+          (bind (judged found returns x) (λ statement. Ok (around, statement ∷ []))) (Err fault)
           → Any (IsOutside (lengths env rows) fault) (scope_name x.scope)
       by None is h =
           let same : fault ≡ BadName Scopes x.scope.0 = cc in
@@ -42,9 +46,11 @@ module _ (env : Environment) (rows : ℕ) (fault : Fault) where
           (0, name, omega arith, refl, (same, past_end env.scopes x.scope.0 is))
       by (Some scope) is h = absurd (answered _ h)
 
-  pub scopes_are_there : (body : ReactiveBlock) → All (IsInTable (lengths env rows)) (names_in body) → NamesFirstScopeOutside env body fault → ⊥
+  pub scopes_are_there : (body : ReactiveBlock) → All (IsInTable (lengths env rows)) (names_in body)
+      → NamesFirstScopeOutside env body fault → ⊥
   scopes_are_there body all missing =
-      contrary (rebuilt_faults (unused_scope_rules env) fault (IsOutside (lengths env rows) fault) (λ x s e. answered _ e) (λ x s e. answered _ e) (λ x s e. answered _ e) scope_fault body false missing)
+      contrary (rebuilt_faults (unused_scope_rules env) fault (IsOutside (lengths env rows) fault)
+      (λ x s e. answered _ e) (λ x s e. answered _ e) (λ x s e. answered _ e) scope_fault body false missing)
     where
       contrary : Any (IsOutside (lengths env rows) fault) (names_in body) → ⊥
       contrary some =

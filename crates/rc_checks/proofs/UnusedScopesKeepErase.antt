@@ -15,16 +15,20 @@ use Rattle.rc_checks.specs.UnusedScopesSteps.{answer_for, answer_if, unused_scop
 use Rattle.rc_checks.specs.declared.unused_scopes.Returns.{Returns}
 
 -- what stands in the place of a scope block has its contents
-by_use : (used : Bool) (scope : ReactiveScopeBlock) → erased_statements (in_place (answer_if used scope).0 (stmt.Scope (answer_if used scope).1)) ≡ erased_statements (stmt.Scope scope ∷ [])
+by_use : (used : Bool) (scope : ReactiveScopeBlock) → erased_statements
+    (in_place (answer_if used scope).0 (stmt.Scope (answer_if used scope).1))
+    ≡ erased_statements (stmt.Scope scope ∷ [])
 by_use true scope = refl
 by_use false scope = pruned_like_kept (as_pruned scope) scope refl
 
 module _ {T : Type 0} (env_of : T → Environment) where
   by_scope : (found : Option ReactiveScope) (flags : Returns) (scope : ReactiveScopeBlock)
-      → IfOk (answer_for found flags scope) (LeavesLike erase_measure (λ it. unused_scope_steps (env_of it)) stmt.Scope scope)
+      → IfOk (answer_for found flags scope) (LeavesLike erase_measure (λ it. unused_scope_steps (env_of it)) stmt.Scope
+      scope)
   by_scope None flags scope = tt
   by_scope (Some found) flags scope = by_use (is_used found scope.scope flags.met) scope
 
   pub unused_scopes_keep_erase : KeepsMeasure erase_measure (over_statements (λ it. unused_scope_steps (env_of it)))
   unused_scopes_keep_erase =
-      over_statements_keep erase_measure (λ it. unused_scope_steps (env_of it)) (λ t flags x. refl) (λ t flags x. by_scope (slice_get (env_of t).scopes x.scope.0) flags x)
+      over_statements_keep erase_measure (λ it. unused_scope_steps (env_of it)) (λ t flags x. refl)
+      (λ t flags x. by_scope (slice_get (env_of t).scopes x.scope.0) flags x)

@@ -30,13 +30,16 @@ use Rattle.rc_tree.specs.declared.scope.ReactiveScopeBlock.{ReactiveScopeBlock}
 use Rattle.rc_tree.specs.declared.statement.ReactiveBlock.{ReactiveBlock}
 use Rattle.rc_tree.specs.declared.statement.ReactiveStatement.TheVariants as stmt
 
-last_or-append : (first : Option Bool) (flags : List Bool) (flag : Bool) → last_or first (flags ++ flag ∷ []) ≡ Some flag
+last_or-append : (first : Option Bool) (flags : List Bool) (flag : Bool)
+    → last_or first (flags ++ flag ∷ []) ≡ Some flag
 last_or-append first [] flag = refl
 last_or-append first (other ∷ flags) flag = last_or-append (Some other) flags flag
 
-take-before_last : (flags : List Bool) (flag : Bool) → take (length (flags ++ flag ∷ []) - 1) (flags ++ flag ∷ []) ≡ flags
+take-before_last : (flags : List Bool) (flag : Bool) → take (length (flags ++ flag ∷ []) - 1) (flags ++ flag ∷ [])
+    ≡ flags
 take-before_last flags flag =
-    ap (λ n. take n (flags ++ flag ∷ [])) (omega (arith, length-append flags (flag ∷ []))) ∙ take-append_seam flags (flag ∷ [])
+    ap (λ n. take n (flags ++ flag ∷ [])) (omega (arith, length-append flags (flag ∷ [])))
+    ∙ take-append_seam flags (flag ∷ [])
 
 -- what popping takes off is the last flag, and what it leaves are the others
 module _ (old new : List Bool) (last : Option Bool) (none : IsNone last ↔ (old ≡ []))
@@ -90,7 +93,8 @@ judges around met returns block (Some scope) =
     (outside_scope-around around met returns, in_place-answer_if (is_used scope block.scope returns) block)
 
 -- the steps do what the rules say
-scopes_follow : (env : Environment) → StatementsFollow (unused_scope_rules env) (unused_scope_steps env) flags_at around_inside
+scopes_follow : (env : Environment) → StatementsFollow (unused_scope_rules env) (unused_scope_steps env) flags_at
+    around_inside
 scopes_follow env = record {
   row = λ met row. refl;
   pruned_scope = λ met block. refl;
@@ -99,7 +103,8 @@ scopes_follow env = record {
   scope = λ around met returns block. judges around met returns block (slice_get env.scopes block.scope.0);
 }
 
--- a call that gives what the walk gives, with any flags around, leaves the body without its unused scopes, or ends with want
+-- a call that gives what the walk gives, with any flags around, leaves the body without its unused scopes, or ends
+-- with want
 -- of memory or the rules' fault
 module _ {T : Type 0} (env_of : T → Environment) (functions : T → List HirFunction) (t : T) (w : T × Returns)
     (around : List Bool) (env : Environment) where
@@ -132,7 +137,8 @@ module _ {T : Type 0} (env_of : T → Environment) (functions : T → List HirFu
       → IfErr result (λ fault. (fault ≡ NoMemory) ⊎ NamesFirstScopeOutside env before fault)
   left_first_outside before after result gave same = (left before after result gave same).1
 
-  pub left_staying : (before after : ReactiveBlock) (result : Result (Unit {0}) Fault) → Gave before after result → env_of t ≡ env
+  pub left_staying : (before after : ReactiveBlock) (result : Result (Unit {0}) Fault) → Gave before after result
+      → env_of t ≡ env
       → OnOk result (scope_blocks after ≡ staying_blocks env before)
   left_staying before after result gave same = by result (left_without_unused before after result gave same)
     where
@@ -141,7 +147,8 @@ module _ {T : Type 0} (env_of : T → Environment) (functions : T → List HirFu
       by (Ok done) h = (used_scopes_stay env before after h).0
       by (Err fault) h = tt
 
-  pub left_outside : (before after : ReactiveBlock) (result : Result (Unit {0}) Fault) → Gave before after result → env_of t ≡ env
+  pub left_outside : (before after : ReactiveBlock) (result : Result (Unit {0}) Fault) → Gave before after result
+      → env_of t ≡ env
       → IfErr result (λ fault. (fault ≡ NoMemory) ⊎ NamesScopeOutside env before fault)
   left_outside before after result gave same = by result (left_first_outside before after result gave same)
     where

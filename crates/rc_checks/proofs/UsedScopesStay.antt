@@ -1,7 +1,9 @@
--- Where unused scopes are pruned, exactly those scope blocks stay whose scopes give something; and a fault names the scope
+-- Where unused scopes are pruned, exactly those scope blocks stay whose scopes give something; and a fault names the
+-- scope
 -- of a scope block that is outside the table.
 --
--- By induction over the tree. Of each part it is shown what it holds once it is rebuilt, and that the state behind it tells
+-- By induction over the tree. Of each part it is shown what it holds once it is rebuilt, and that the state behind it
+-- tells
 -- whether a `Return` was met before it or stands in it.
 use Rattle.std.proofs.Common.{◌≡◌, ◌∙◌, ◌≤◌, ◌<◌, ◌⊎◌, inl, inr, ℕ, Bool, true, false, List, [], ◌∷◌, ◌++◌, Option, None, Some, Result, Ok, Err, map, refl, sym, ap, subst, slice_get, get_or, length, arith, ◌||◌}
 use Rattle.std.proofs.Math.Bool.{or-false, or_assoc}
@@ -61,14 +63,16 @@ module _ (env : Environment) where
   abbrev NamesOne : List ScopeBlock → Fault → Type 0
   NamesOne blocks fault = (block : ScopeBlock) × Contains blocks block × IsOutside env fault block
 
-  -- of a part that held `before` and is rebuilt from a state: what it holds, and the state behind it; or what the fault names
+  -- of a part that held `before` and is rebuilt from a state: what it holds, and the state behind it; or what the
+  -- fault names
   unfoldable Stays : {X : Type 0} → (X → Held) → Held → Bool → Result (Bool × X) Fault → Type 0
   Stays holds before met (Ok r) = (r.0 ≡ (met || before.returns)) × (holds r.1 ≡ staying before)
   Stays holds before met (Err fault) = NamesOne before.blocks fault
 
   module _ {X Y : Type 0} (holds : X → Held) (holds1 : Y → Held) where
     -- what is made of a part
-    made : (make : X → Y) → ((x : X) → holds1 (make x) ≡ holds x) → (before : Held) (met : Bool) (first : Result (Bool × X) Fault)
+    made : (make : X → Y) → ((x : X) → holds1 (make x) ≡ holds x)
+        → (before : Held) (met : Bool) (first : Result (Bool × X) Fault)
         → Stays holds before met first → Stays holds1 before met (bind first (λ a. Ok (a.0, make a.1)))
     unfolding Stays
     made make same before met (Ok a) h = (h.0, same a.1 ∙ h.1)
@@ -81,7 +85,8 @@ module _ (env : Environment) where
         → Stays holds b met first → ((s : Bool) → Stays holds1 c s (second s))
         → Stays holds2 (both b c) met (bind first (λ a. bind (second a.0) (λ d. Ok (d.0, make a.1 d.1))))
     unfolding Stays
-    made_of_two holds2 make same b c met (Err fault) second h k = (h.0, Contains-append_left b.blocks c.blocks h.0 h.1, h.2)
+    made_of_two holds2 make same b c met (Err fault) second h k =
+        (h.0, Contains-append_left b.blocks c.blocks h.0 h.1, h.2)
     made_of_two {Z} holds2 make same b c met (Ok a) second h k = by (second a.0) (k a.0)
       where
         by : (e : Result (Bool × Y) Fault) → Stays holds1 c a.0 e
@@ -134,7 +139,8 @@ module _ (env : Environment) where
 
   noted_made : {X : Type 0} (make : X → ReactiveTerminal)
       → ((x : X) → is_return (out-ReactiveTerminal (make x)) ≡ false) → (e : Result (Bool × X) Fault)
-      → bind {A = Bool × X} {B = Bool × ReactiveTerminal} e (λ a. Ok (a.0, make a.1)) ≡ noted (bind e (λ a. Ok (a.0, make a.1)))
+      → bind {A = Bool × X} {B = Bool × ReactiveTerminal} e (λ a. Ok (a.0, make a.1))
+      ≡ noted (bind e (λ a. Ok (a.0, make a.1)))
   noted_made make never (Err fault) = refl
   noted_made make never (Ok a) = ap (λ b. Ok (b, make a.1)) (sym (or-false a.0) ∙ ap (λ b. a.0 || b) (sym (never a.1)))
 
@@ -206,7 +212,8 @@ module _ (env : Environment) where
   if_stays : (x : Option KnownBlock) (met : Bool)
       → Stays held_if (held_if (bare_if x)) met (if_some (rebuilt_block rules) (bare_if x) met)
   if_stays None met = as_it_is held_if nothing met None refl refl
-  if_stays (Some x) met = made held held_if (λ y. Some y) (λ y. refl) (held x.0) met (rebuilt_block rules x.0 met) (x.1 met)
+  if_stays (Some x) met =
+      made held held_if (λ y. Some y) (λ y. refl) (held x.0) met (rebuilt_block rules x.0 met) (x.1 met)
 
   cases_stay : (xs : List KnownCase) (met : Bool)
       → Stays (λ x. all_of (map held_case x)) (all_of (map held_case (bare_cases xs))) met
@@ -235,7 +242,8 @@ module _ (env : Environment) where
     block_before = record { scope = id; returns = before.returns }
 
     held_by : (used : Bool) → (used ≡ false → before.returns ≡ false) → stays env block_before ≡ used
-        → held_list (kept_if used rebuilt_scope_block ∷ []) ≡ staying (of_scope (record { scope = id; instructions = before }))
+        → held_list (kept_if used rebuilt_scope_block ∷ [])
+        ≡ staying (of_scope (record { scope = id; instructions = before }))
     held_by true not_used e =
         both-nothing (held_statement (stmt.Scope rebuilt_scope_block)) ∙ held-Scope rebuilt_scope_block
         ∙ ap (λ it. of_scope (record { scope = id; instructions = it })) inside ∙ rw (e) refl
@@ -327,12 +335,14 @@ module _ (env : Environment) where
       (held_terminal x.0.terminal) met (noted (rebuilt_terminal rules x.0.terminal met)) (x.1 met))))
   statement_stays (layer.Scope x) = subst StatementStays (sym (stmt.rolls-Scope x.0)) (λ met.
       subst (λ it. Stays held_list it met (rebuilt_statement rules (stmt.Scope x.0) met)) (sym (held-Scope x.0))
-      (subst (λ e. Stays held_list (of_scope (record { scope = x.0.scope; instructions = held x.0.instructions })) met e)
+      (subst (λ e. Stays held_list (of_scope (record { scope = x.0.scope; instructions = held x.0.instructions })) met
+      e)
       (sym (rebuilt-Scope rules x.0 met ∙ ap (λ e. bind e (λ a. rules.scope met a.1 a.0))
       (rebuilt-scope rules x.0 false) ∙ after_scope met x.0.scope (rebuilt_block rules x.0.instructions false)))
       (scope_stays met x)))
   statement_stays (layer.PrunedScope x) = subst StatementStays (sym (stmt.rolls-PrunedScope x.0)) (λ met.
-      subst (λ it. Stays held_list it met (rebuilt_statement rules (stmt.PrunedScope x.0) met)) (sym (held-PrunedScope x.0))
+      subst (λ it. Stays held_list it met (rebuilt_statement rules (stmt.PrunedScope x.0) met))
+      (sym (held-PrunedScope x.0))
       (subst (λ e. Stays held_list (held x.0.instructions) met e)
       (sym (rebuilt-PrunedScope rules x.0 met ∙ ap (λ e. bind e (λ a. rules.pruned_scope a.1 a.0))
       (rebuilt-pruned_scope rules x.0 met) ∙ after_pruned_scope x.0.scope
@@ -374,11 +384,13 @@ module _ (env : Environment) where
       (with_part held body.0 (rebuilt_block rules) body.1 (λ x. term.While test x id)
       (rebuilt-While rules test body.0 id) (λ x. held-While test x id)
       (λ x. ap is_return (term.outs-While test x id)))
-  terminal_stays (layer.For init test update body id) = subst TerminalStays (sym (term.rolls-For init test update body.0 id))
+  terminal_stays (layer.For init test update body id) =
+      subst TerminalStays (sym (term.rolls-For init test update body.0 id))
       (with_part held body.0 (rebuilt_block rules) body.1 (λ x. term.For init test update x id)
       (rebuilt-For rules init test update body.0 id) (λ x. held-For init test update x id)
       (λ x. ap is_return (term.outs-For init test update x id)))
-  terminal_stays (layer.ForOf init test body span id) = subst TerminalStays (sym (term.rolls-ForOf init test body.0 span id))
+  terminal_stays (layer.ForOf init test body span id) =
+      subst TerminalStays (sym (term.rolls-ForOf init test body.0 span id))
       (with_part held body.0 (rebuilt_block rules) body.1 (λ x. term.ForOf init test x span id)
       (rebuilt-ForOf rules init test body.0 span id) (λ x. held-ForOf init test x span id)
       (λ x. ap is_return (term.outs-ForOf init test x span id)))
@@ -395,7 +407,8 @@ module _ (env : Environment) where
   terminal_stays (layer.Label body id) = subst TerminalStays (sym (term.rolls-Label body.0 id))
       (with_part held body.0 (rebuilt_block rules) body.1 (λ x. term.Label x id) (rebuilt-Label rules body.0 id)
       (λ x. held-Label x id) (λ x. ap is_return (term.outs-Label x id)))
-  terminal_stays (layer.Try body binding handler id) = subst TerminalStays (sym (term.rolls-Try body.0 binding handler.0 id))
+  terminal_stays (layer.Try body binding handler id) =
+      subst TerminalStays (sym (term.rolls-Try body.0 binding handler.0 id))
       (with_two_parts held held body.0 handler.0 (rebuilt_block rules) (rebuilt_block rules) body.1 handler.1
       (λ x y. term.Try x binding y id)
       (rebuilt-Try rules body.0 binding handler.0 id) (λ x y. held-Try x binding y id)
@@ -409,7 +422,8 @@ module _ (env : Environment) where
       (sym (rebuilt-block rules (record { statements = bare_statements xs }) met))
       (made held_list held (λ statements. record { statements = statements })
       (λ statements. held-block (record { statements = statements }))
-      (held_list (bare_statements xs)) met (joined (map (rebuilt_statement rules) (bare_statements xs)) met) (list_stays xs met)))
+      (held_list (bare_statements xs)) met (joined (map (rebuilt_statement rules) (bare_statements xs)) met)
+      (list_stays xs met)))
 
   case_stays : (test : Option Place) (x : Option KnownBlock)
       → CaseStays (roll-ReactiveSwitchCase (record { test = test; block = bare_if x }))
@@ -446,9 +460,11 @@ module _ (env : Environment) where
       (ap (λ it. it.blocks) known.1, ap (λ it. it.returns) known.1)
 
   -- the state behind a tree tells whether a `Return` stands in it outside its scope blocks
-  pub state_tells_returns : (before after : ReactiveBlock) (h : IsWithoutUnusedScopes env before after) → h.returns ≡ returns_in before
+  pub state_tells_returns : (before after : ReactiveBlock) (h : IsWithoutUnusedScopes env before after)
+      → h.returns ≡ returns_in before
   unfolding Stays
-  state_tells_returns before after h = (subst (λ e. Stays held (held before) false e) h.rebuilt (every_block_stays before false)).0
+  state_tells_returns before after h =
+      (subst (λ e. Stays held (held before) false e) h.rebuilt (every_block_stays before false)).0
 
   -- a fault names the scope of one of the scope blocks, and that is outside the table
   pub names_a_scope_block : (before : ReactiveBlock) (fault : Fault) → NamesFirstScopeOutside env before fault

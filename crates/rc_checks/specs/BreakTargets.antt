@@ -43,7 +43,8 @@ abbrev pub OfTerminal : Type 0
 OfTerminal = ReactiveTerminalStatement × Terminals
 
 -- a terminal is met itself, and a scope or pruned scope block is entered
-abbrev pub met_by_statement : ReactiveStatement-F OfStatement OfParts OfPruned OfScope OfBlock OfCase OfTerminal → Terminals
+abbrev pub met_by_statement : ReactiveStatement-F OfStatement OfParts OfPruned OfScope OfBlock OfCase OfTerminal
+    → Terminals
 met_by_statement (layer.Instruction row) = []
 met_by_statement (layer.Terminal x) = x.0 ∷ []
 met_by_statement (layer.Scope x) = x.1
@@ -53,10 +54,12 @@ met_by_statement (layer.PrunedScope x) = x.1
 abbrev pub met_by_parts : ReactiveTerminal-F OfStatement OfParts OfPruned OfScope OfBlock OfCase OfTerminal → Terminals
 met_by_parts parts = []
 
-abbrev pub met_by_pruned_scope : PrunedReactiveScopeBlock-F OfStatement OfParts OfPruned OfScope OfBlock OfCase OfTerminal → Terminals
+abbrev pub met_by_pruned_scope : PrunedReactiveScopeBlock-F OfStatement OfParts OfPruned OfScope OfBlock OfCase
+    OfTerminal → Terminals
 met_by_pruned_scope x = x.instructions.1
 
-abbrev pub met_by_scope : ReactiveScopeBlock-F OfStatement OfParts OfPruned OfScope OfBlock OfCase OfTerminal → Terminals
+abbrev pub met_by_scope : ReactiveScopeBlock-F OfStatement OfParts OfPruned OfScope OfBlock OfCase OfTerminal
+    → Terminals
 met_by_scope x = x.instructions.1
 
 abbrev pub met_by_block : ReactiveBlock-F OfStatement OfParts OfPruned OfScope OfBlock OfCase OfTerminal → Terminals
@@ -65,7 +68,8 @@ met_by_block x = flat_map (λ statement. statement.1) x.statements
 abbrev pub met_by_case : ReactiveSwitchCase-F OfStatement OfParts OfPruned OfScope OfBlock OfCase OfTerminal → Terminals
 met_by_case case = []
 
-abbrev pub met_by_terminal : ReactiveTerminalStatement-F OfStatement OfParts OfPruned OfScope OfBlock OfCase OfTerminal → Terminals
+abbrev pub met_by_terminal : ReactiveTerminalStatement-F OfStatement OfParts OfPruned OfScope OfBlock OfCase OfTerminal
+    → Terminals
 met_by_terminal x = []
 
 -- the terminals that are met in a list

@@ -1,4 +1,5 @@
--- A tree without its unused labels: a `Label` that nothing names gives way to its statements, and every other label that
+-- A tree without its unused labels: a `Label` that nothing names gives way to its statements, and every other label
+-- that
 -- nothing names is implicit.
 --
 -- A label is named by the labeled breaks and continues met so far: those before its statement in the order of the text,
@@ -25,7 +26,8 @@ use Rattle.rc_tree.specs.declared.terminal.ReactiveTerminalStatement.{ReactiveTe
 
 -- a terminal with its blocks
 abbrev pub OpenTerminal : Type 0
-OpenTerminal = ReactiveTerminal-F ReactiveStatement ReactiveTerminal PrunedReactiveScopeBlock ReactiveScopeBlock ReactiveBlock ReactiveSwitchCase ReactiveTerminalStatement
+OpenTerminal = ReactiveTerminal-F ReactiveStatement ReactiveTerminal PrunedReactiveScopeBlock ReactiveScopeBlock
+    ReactiveBlock ReactiveSwitchCase ReactiveTerminalStatement
 
 -- the blocks that the labeled jumps met so far name, each once
 abbrev pub Targets : Type 0

@@ -1,6 +1,7 @@
 -- Operands outside the blocks of their scopes: what the membership check refuses.
 --
--- An operand is outside where its identifier has a scope, the operand is visited inside that scope's range, the scope has
+-- An operand is outside where its identifier has a scope, the operand is visited inside that scope's range, the scope
+-- has
 -- a scope block in the tree, and no block of it is around the operand.
 use Rattle.std.specs.Prelude.{◌≡◌, Bool, ◌&&◌, not, nat_eq, nat_le, nat_lt, List, ◌∷◌, ◌++◌, Option, None, Some, Result, Ok, Err, All, slice_get, if◌then◌else◌}
 use Rattle.std.specs.List.{list_any}
@@ -54,7 +55,8 @@ module _ (env : Environment) (blocks : List ScopeId) where
   -- the operand's own scope, where it is outside of it
   abbrev pub if_outside : PlacedOperand → Option ScopeId → Result (Option ScopeId) Fault
   if_outside operand None = Ok None
-  if_outside operand (Some scope) = bind (range_of env scope) (λ range. Ok (if is_outside operand scope range then Some scope else None))
+  if_outside operand (Some scope) =
+      bind (range_of env scope) (λ range. Ok (if is_outside operand scope range then Some scope else None))
 
   abbrev pub operand_outside : PlacedOperand → Result (Option ScopeId) Fault
   operand_outside operand = bind (scope_of env operand.place.identifier) (if_outside operand)

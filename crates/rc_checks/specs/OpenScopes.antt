@@ -18,4 +18,5 @@ outermost_place (inner ∷ outer) scope = outer_or (outermost_place outer scope)
 -- the outermost place of each open scope is kept; what is kept of other scopes is free
 abbrev pub ArePlaces : List ScopeId → List (ScopeId × ℕ) → Type 0
 ArePlaces scopes places =
-    (scope : ScopeId) (place : ℕ) → outermost_place scopes scope ≡ Some place → lookup (same_scope scope) places ≡ Some place
+    (scope : ScopeId) (place : ℕ) → outermost_place scopes scope ≡ Some place
+    → lookup (same_scope scope) places ≡ Some place

@@ -1,6 +1,7 @@
 -- The scope blocks of a tree, at every depth and in the order of the text, each with whether a `Return` stands in it.
 --
--- A `Return` stands in the innermost scope block around it alone. A pruned block isn't a scope block, so that what stands
+-- A `Return` stands in the innermost scope block around it alone. A pruned block isn't a scope block, so that what
+-- stands
 -- in it stands in the block around.
 use Rattle.std.specs.Prelude.{◌≡◌, ◌≤◌, length, Bool, true, false, List, [], ◌∷◌, ◌++◌, Option, None, Some, slice_get, ◌||◌}
 use Rattle.std.specs.List.{filter, Contains}
@@ -97,7 +98,8 @@ scope_blocks block = (held block).blocks
 
 -- the scope of that block gives something
 abbrev pub stays : Environment → ScopeBlock → Bool
-stays env block = option_map_or (λ scope. is_used scope block.scope block.returns) (slice_get env.scopes block.scope.0) false
+stays env block = option_map_or (λ scope. is_used scope block.scope block.returns) (slice_get env.scopes block.scope.0)
+    false
 
 -- the scope blocks that stay where unused scopes are pruned
 abbrev pub staying_blocks : Environment → ReactiveBlock → List ScopeBlock
@@ -109,4 +111,5 @@ IsOutside env fault block = (fault ≡ BadName Scopes block.scope.0) × (length 
 
 -- the fault names the scope of one of the tree's scope blocks, which is outside the table
 abbrev pub NamesScopeOutside : Environment → ReactiveBlock → Fault → Type 0
-NamesScopeOutside env before fault = (block : ScopeBlock) × Contains (scope_blocks before) block × IsOutside env fault block
+NamesScopeOutside env before fault =
+    (block : ScopeBlock) × Contains (scope_blocks before) block × IsOutside env fault block

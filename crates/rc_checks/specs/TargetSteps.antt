@@ -22,7 +22,8 @@ with_label (Some label) labels = insert_key same_block labels label.id
 -- a target that is none of the labels is a fault
 abbrev pub target_step : Option BlockId → Walk Labels
 target_step None labels = Ok (tt, labels)
-target_step (Some target) labels = if list_any (same_block target) labels then Ok (tt, labels) else Err (BadTarget target)
+target_step (Some target) labels =
+    if list_any (same_block target) labels then Ok (tt, labels) else Err (BadTarget target)
 
 -- a terminal's own label comes before its target
 abbrev pub terminal_step : ReactiveTerminalStatement → Walk Labels

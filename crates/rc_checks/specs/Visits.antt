@@ -72,7 +72,8 @@ module _ (functions : List HirFunction) where
   abbrev pub of_value : ReactiveValue-F VisitsAt Visits → VisitsAt
   of_value (value.Instruction x) id = of_operands id (operands functions x)
   of_value (value.LogicalExpression operator left right) id = followed_by (left id) (right id)
-  of_value (value.ConditionalExpression test consequent alternate) id = followed_by (test id) (followed_by (consequent id) (alternate id))
+  of_value (value.ConditionalExpression test consequent alternate) id =
+      followed_by (test id) (followed_by (consequent id) (alternate id))
   of_value (value.SequenceExpression rows own x) id = followed_by (all_of (λ row. row) rows) (x own)
   of_value (value.OptionalExpression x optional) id = x id
 
@@ -103,10 +104,13 @@ module _ (functions : List HirFunction) where
   of_parts (layer.DoWhile body test id) = followed_by body (value_visits test id)
   of_parts (layer.While test body id) = followed_by (value_visits test id) body
   of_parts (layer.For init test update body id) =
-      followed_by (value_visits init id) (followed_by (value_visits test id) (followed_by body (if_there (λ x. value_visits x id) update)))
-  of_parts (layer.ForOf init test body span id) = followed_by (value_visits init id) (followed_by (value_visits test id) body)
+      followed_by (value_visits init id) (followed_by (value_visits test id)
+      (followed_by body (if_there (λ x. value_visits x id) update)))
+  of_parts (layer.ForOf init test body span id) =
+      followed_by (value_visits init id) (followed_by (value_visits test id) body)
   of_parts (layer.ForIn init body span id) = followed_by (value_visits init id) body
-  of_parts (layer.If test consequent alternate id) = followed_by (one id test) (followed_by consequent (if_there (λ x. x) alternate))
+  of_parts (layer.If test consequent alternate id) =
+      followed_by (one id test) (followed_by consequent (if_there (λ x. x) alternate))
   of_parts (layer.Label body id) = body
   of_parts (layer.Try body binding handler id) = followed_by body (followed_by (if_there (one id) binding) handler)
 

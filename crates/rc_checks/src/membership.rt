@@ -33,7 +33,8 @@ pub fn assert_scope_instructions_within_scopes(
     func: &ReactiveFunction,
     env: &Environment,
 ) -> Result<(), Fault>
-    ensures ok { OnOk result (All (IsInside env.now (spec.scopes_in func.now.body)) (visits_of env.now.functions func.now.body)) }
+    ensures ok { OnOk result
+        (All (IsInside env.now (spec.scopes_in func.now.body)) (visits_of env.now.functions func.now.body)) }
     ensures scope_completed { (id : Order) (scope : Scope) → result ≡ Err (Fault.ScopeCompleted id scope) →
         IsLastOutside env.now (spec.scopes_in func.now.body) (visits_of env.now.functions func.now.body) id scope }
     ensures bad_name { (table : Table) (index : ℕ) → result ≡ Err (Fault.BadName table index) →

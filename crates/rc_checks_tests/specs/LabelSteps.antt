@@ -22,7 +22,8 @@ emptied _ x = x
 
 -- a terminal whose statements were taken, where there are such
 abbrev pub without : Option (List ReactiveStatement) → ReactiveTerminalStatement → ReactiveTerminalStatement
-without (Some statements) x = record { terminal = emptied (out-ReactiveTerminal x.terminal) x.terminal; label = x.label }
+without (Some statements) x =
+    record { terminal = emptied (out-ReactiveTerminal x.terminal) x.terminal; label = x.label }
 without None x = x
 
 -- what is left of a terminal: marked, or without its statements

@@ -20,7 +20,8 @@ same_key m n = m.0 == n.0
 
 -- the blocks so far, and behind them those still to be read
 abbrev pub followed : List Entry → List Value → Option (List Entry)
-followed blocks left = option_and_then (λ entries. if_distinct (blocks ++ entries)) (all_items keyed_block_of (items_view left))
+followed blocks left =
+    option_and_then (λ entries. if_distinct (blocks ++ entries)) (all_items keyed_block_of (items_view left))
 
 -- The blocks so far have distinct keys, and what is read with those still to come is what is read of all.
 pub record ReadSoFar (blocks : List Entry) (left all : List Value) : Type 0 where
@@ -31,19 +32,23 @@ has_key-append : (key : BlockId) (xs ys : List Entry) → has_key key (xs ++ ys)
 has_key-append key [] ys = refl
 has_key-append key (x ∷ xs) ys = grind (arith, nat_tests, has_key-append key xs ys)
 
-clash : (blocks : List Entry) (e : Entry) (es : List Entry) → has_key e.0 blocks ≡ true → are_distinct (blocks ++ e ∷ es) ≡ false
+clash : (blocks : List Entry) (e : Entry) (es : List Entry) → has_key e.0 blocks ≡ true
+    → are_distinct (blocks ++ e ∷ es) ≡ false
 clash [] e es h = cc
 clash (x ∷ blocks) e es h = grind (arith, nat_tests, clash blocks e es, has_key-append x.0 blocks (e ∷ es))
 
-still_distinct : (blocks : List Entry) (e : Entry) → are_distinct blocks ≡ true → has_key e.0 blocks ≡ false → are_distinct (blocks ++ e ∷ []) ≡ true
+still_distinct : (blocks : List Entry) (e : Entry) → are_distinct blocks ≡ true → has_key e.0 blocks ≡ false
+    → are_distinct (blocks ++ e ∷ []) ≡ true
 still_distinct [] e h k = refl
-still_distinct (x ∷ blocks) e h k = grind (arith, nat_tests, still_distinct blocks e, has_key-append x.0 blocks (e ∷ []))
+still_distinct (x ∷ blocks) e h k =
+    grind (arith, nat_tests, still_distinct blocks e, has_key-append x.0 blocks (e ∷ []))
 
 here : (key : BlockId) (blocks : List Entry) → is_some (lookup (same_key key) blocks) ≡ has_key key blocks
 here key [] = refl
 here key (x ∷ blocks) = grind (arith, nat_tests, here key blocks)
 
-appended : (key : BlockId) (b : BasicBlock) (blocks : List Entry) → has_key key blocks ≡ false → insert_entry same_key blocks key b ≡ blocks ++ (key, b) ∷ []
+appended : (key : BlockId) (b : BasicBlock) (blocks : List Entry) → has_key key blocks ≡ false
+    → insert_entry same_key blocks key b ≡ blocks ++ (key, b) ∷ []
 appended key b [] h = refl
 appended key b (x ∷ blocks) h = grind (arith, nat_tests, appended key b blocks)
 
@@ -66,13 +71,16 @@ module _ (blocks : List Entry) (values : List Value) (i : ℕ) (v : Value) (key 
 
   pub repeated_key : is_some (lookup (same_key key) blocks) ≡ true → followed [] values ≡ None
   repeated_key there =
-      sym so_far.read ∙ ap (followed blocks) next_value ∙ rw reads (clash_in blocks (key, b) _ (sym (here key blocks) ∙ there))
+      sym so_far.read ∙ ap (followed blocks) next_value ∙ rw reads
+      (clash_in blocks (key, b) _ (sym (here key blocks) ∙ there))
 
-  pub new_key : (after : List Entry) → after ≡ insert_entry same_key blocks key b → is_some (lookup (same_key key) blocks) ≡ false
+  pub new_key : (after : List Entry) → after ≡ insert_entry same_key blocks key b
+      → is_some (lookup (same_key key) blocks) ≡ false
       → ReadSoFar after (drop (i + 1) values) values
   new_key after inserted missing =
       let fresh : has_key key blocks ≡ false = sym (here key blocks) ∙ missing in
       let pushed : after ≡ blocks ++ (key, b) ∷ [] = inserted ∙ appended key b blocks fresh in
       let step : followed blocks (drop i values) ≡ followed (blocks ++ (key, b) ∷ []) (drop (i + 1) values) =
       ap (followed blocks) next_value ∙ rw reads (push_in blocks (key, b) _) in
-      rw pushed (record { distinct = still_distinct blocks (key, b) so_far.distinct fresh; read = sym step ∙ so_far.read })
+      rw pushed
+      (record { distinct = still_distinct blocks (key, b) so_far.distinct fresh; read = sym step ∙ so_far.read })

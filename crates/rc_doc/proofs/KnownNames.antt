@@ -20,7 +20,8 @@ texts names = map (λ name. name.now) names
 
 pub get_or-texts : (names : List (Bor (List ℕ))) (i : ℕ) (d : Bor (List ℕ)) (name : List ℕ) → i < length names
     → bytes_eq name (get_or names i d).now ≡ true → get_or (texts names) i [] ≡ name
-get_or-texts names i d name lt is = get_or-map (λ known. known.now) names i d [] lt ∙ sym ((bytes_eq-Decides name (get_or names i d).now).0 is)
+get_or-texts names i d name lt is =
+    get_or-map (λ known. known.now) names i d [] lt ∙ sym ((bytes_eq-Decides name (get_or names i d).now).0 is)
 
 pub list_any-drop_more : (names : List (Bor (List ℕ))) (i : ℕ) (d : Bor (List ℕ)) (name : List ℕ) → i < length names
     → bytes_eq name (get_or names i d).now ≡ false
@@ -47,15 +48,19 @@ differs : (name key : List ℕ) → slice_cmp nat_cmp name key ≡ Less → byte
 differs name key below =
     sym (is_eq-slice_cmp key name) ∙ ap is_eq (nat_list_cmp_total.antisymm key name ∙ ap ordering_reverse below)
 
-below_each : (name key : List ℕ) (names : List (List ℕ)) (i : ℕ) → is_below name names ≡ true → are_ascending names ≡ true → i < length names
+below_each : (name key : List ℕ) (names : List (List ℕ)) (i : ℕ) → is_below name names ≡ true
+    → are_ascending names ≡ true → i < length names
     → slice_cmp nat_cmp (get_or names i []) key ≡ Less → slice_cmp nat_cmp name key ≡ Less
 below_each name key [] i first rest lt below = absurd (omega arith)
 below_each name key (n ∷ ns) zero first rest lt below = nat_list_cmp_total.trans name n key (is_less _ first) below
 below_each name key (n ∷ ns) (suc i) first rest lt below =
-    nat_list_cmp_total.trans name n key (is_less _ first) (below_each n key ns i (both _ _ rest).0 (both _ _ rest).1 (omega arith) below)
+    nat_list_cmp_total.trans name n key (is_less _ first)
+    (below_each n key ns i (both _ _ rest).0 (both _ _ rest).1 (omega arith) below)
 
-pub list_any-drop_passed : (key : List ℕ) (names : List (List ℕ)) (i : ℕ) → are_ascending names ≡ true → i < length names
-    → slice_cmp nat_cmp (get_or names i []) key ≡ Less → list_any (bytes_eq key) (drop (suc i) names) ≡ list_any (bytes_eq key) names
+pub list_any-drop_passed : (key : List ℕ) (names : List (List ℕ)) (i : ℕ) → are_ascending names ≡ true
+    → i < length names
+    → slice_cmp nat_cmp (get_or names i []) key ≡ Less → list_any (bytes_eq key) (drop (suc i) names)
+    ≡ list_any (bytes_eq key) names
 list_any-drop_passed key [] i rest lt below = absurd (omega arith)
 list_any-drop_passed key (n ∷ ns) zero rest lt below = rw (differs n key below) refl
 list_any-drop_passed key (n ∷ ns) (suc i) rest lt below =
@@ -63,21 +68,28 @@ list_any-drop_passed key (n ∷ ns) (suc i) rest lt below =
     let apart = differs n key (below_each n key ns i (both _ _ rest).0 (both _ _ rest).1 later below) in
     list_any-drop_passed key ns i (both _ _ rest).1 later below ∙ rw apart refl
 
-here : (key : List ℕ) (names : List (List ℕ)) (i : ℕ) → i < length names → get_or names i [] ≡ key → list_any (bytes_eq key) names ≡ true
+here : (key : List ℕ) (names : List (List ℕ)) (i : ℕ) → i < length names → get_or names i [] ≡ key
+    → list_any (bytes_eq key) names ≡ true
 here key [] i lt is = absurd (omega arith)
 here key (n ∷ ns) zero lt is = rw (ap (λ x. bytes_eq key x) is, (bytes_eq-Decides key key).1 refl) refl
 here key (n ∷ ns) (suc i) lt is = rw (here key ns i (omega arith) is) (either_true (bytes_eq key n))
 
 -- none of these keys is a name that was passed
 abbrev pub AreAhead : List (List ℕ) → ℕ → List Entry → Type 0
-AreAhead names passed keys = AllByRecursion (λ e. list_any (bytes_eq (string_bytes e.0)) (drop passed names) ≡ list_any (bytes_eq (string_bytes e.0)) names) keys
+AreAhead names passed keys = AllByRecursion (λ e. list_any (bytes_eq (string_bytes e.0)) (drop passed names)
+    ≡ list_any (bytes_eq (string_bytes e.0)) names) keys
 
-ahead_of : (names : List (List ℕ)) (i : ℕ) (key : String Global) (left : List Entry) → are_ascending names ≡ true → i < length names
-    → get_or names i [] ≡ string_bytes key → AllByRecursion (λ k. string_cmp key k ≡ Less) (keys_of left) → AreAhead names (i + 1) left
+ahead_of : (names : List (List ℕ)) (i : ℕ) (key : String Global) (left : List Entry) → are_ascending names ≡ true
+    → i < length names
+    → get_or names i [] ≡ string_bytes key → AllByRecursion (λ k. string_cmp key k ≡ Less) (keys_of left)
+    → AreAhead names (i + 1) left
 ahead_of names i key [] rest lt is above = tt
 ahead_of names i key (e ∷ left) rest lt is above =
-    let below : slice_cmp nat_cmp (get_or names i []) (string_bytes e.0) ≡ Less = rw is above.0 in
-    (rw add-one (list_any-drop_passed (string_bytes e.0) names i rest lt below), ahead_of names i key left rest lt is above.1)
+    let below : slice_cmp nat_cmp (get_or names i []) (string_bytes e.0) ≡ Less = rw is above.0 in (
+      rw add-one (list_any-drop_passed (string_bytes e.0) names i rest lt below),
+      ahead_of names i key left rest lt is
+          above.1,
+    )
 
 -- The keys left ascend, those before them are known, and none left is a name that was passed.
 pub record KeysLeft (names : List (List ℕ)) (passed : ℕ) (left all : List Entry) : Type 0 where
@@ -90,7 +102,8 @@ module _ (names : List (List ℕ)) (passed : ℕ) (left all rest : List Entry) (
   keys_left : KeysLeft names passed ((key, v) ∷ rest) all
   keys_left = subst (λ (entries : List Entry). KeysLeft names passed entries all) first so_far
 
-  pub next_key : (i : ℕ) → are_ascending names ≡ true → i < length names → get_or names i [] ≡ string_bytes key → KeysLeft names (i + 1) rest all
+  pub next_key : (i : ℕ) → are_ascending names ≡ true → i < length names → get_or names i [] ≡ string_bytes key
+      → KeysLeft names (i + 1) rest all
   unfolding IsStrictlySortedBy
   next_key i ascending lt is = record {
     ascend = keys_left.ascend.1;
@@ -98,5 +111,6 @@ module _ (names : List (List ℕ)) (passed : ℕ) (left all rest : List Entry) (
     ahead = ahead_of names i key rest ascending lt is keys_left.ascend.0;
   }
 
-  pub unknown_key : list_any (bytes_eq (string_bytes key)) (drop passed names) ≡ false → all_known names (members_view all) ≡ false
+  pub unknown_key : list_any (bytes_eq (string_bytes key)) (drop passed names) ≡ false
+      → all_known names (members_view all) ≡ false
   unknown_key none = sym keys_left.known ∙ rw (sym keys_left.ahead.0 ∙ none) refl

@@ -58,7 +58,8 @@ in_choice false x y h k = k
 
 pub in_place : (place : Place) → NoFloat place_data place
 unfolding place_data
-in_place place = in_choice (is_short place) (number_data place.identifier.0) (long_form place) refl (in_span_items place.span)
+in_place place = in_choice (is_short place) (number_data place.identifier.0) (long_form place) refl
+    (in_span_items place.span)
 
 in_spread : (x : SpreadPattern) → NoFloat spread_data x
 unfolding spread_data
@@ -170,11 +171,15 @@ in_value (kinds.TypeCastExpression value annotation (Some span)) = rw (in_place 
 in_value (kinds.Await value None) = rw (in_place value) refl
 in_value (kinds.Await value (Some span)) = rw (in_place value) refl
 in_value (kinds.NewExpression callee args None) = rw (in_place callee, in_list argument_data in_argument args) refl
-in_value (kinds.NewExpression callee args (Some span)) = rw (in_place callee, in_list argument_data in_argument args) refl
+in_value (kinds.NewExpression callee args (Some span)) =
+    rw (in_place callee, in_list argument_data in_argument args) refl
 in_value (kinds.CallExpression callee args None) = rw (in_place callee, in_list argument_data in_argument args) refl
-in_value (kinds.CallExpression callee args (Some span)) = rw (in_place callee, in_list argument_data in_argument args) refl
-in_value (kinds.MethodCall receiver property args None) = rw (in_place receiver, in_place property, in_list argument_data in_argument args) refl
-in_value (kinds.MethodCall receiver property args (Some span)) = rw (in_place receiver, in_place property, in_list argument_data in_argument args) refl
+in_value (kinds.CallExpression callee args (Some span)) =
+    rw (in_place callee, in_list argument_data in_argument args) refl
+in_value (kinds.MethodCall receiver property args None) =
+    rw (in_place receiver, in_place property, in_list argument_data in_argument args) refl
+in_value (kinds.MethodCall receiver property args (Some span)) =
+    rw (in_place receiver, in_place property, in_list argument_data in_argument args) refl
 in_value (kinds.ObjectExpression properties None) = rw (in_list property_data in_property properties) refl
 in_value (kinds.ObjectExpression properties (Some span)) = rw (in_list property_data in_property properties) refl
 in_value (kinds.ObjectMethod lowered_func None) = rw (in_lowered_function lowered_func) refl
@@ -185,10 +190,14 @@ in_value (kinds.FunctionExpression (Some name) lowered_func None) = rw (in_lower
 in_value (kinds.FunctionExpression (Some name) lowered_func (Some span)) = rw (in_lowered_function lowered_func) refl
 in_value (kinds.ArrayExpression elements None) = rw (in_list element_data in_element elements) refl
 in_value (kinds.ArrayExpression elements (Some span)) = rw (in_list element_data in_element elements) refl
-in_value (kinds.JsxExpression tag props None None) = rw (in_jsx_tag tag, in_list jsx_attribute_data in_jsx_attribute props) refl
-in_value (kinds.JsxExpression tag props None (Some span)) = rw (in_jsx_tag tag, in_list jsx_attribute_data in_jsx_attribute props) refl
-in_value (kinds.JsxExpression tag props (Some children) None) = rw (in_jsx_tag tag, in_list jsx_attribute_data in_jsx_attribute props, in_list place_data in_place children) refl
-in_value (kinds.JsxExpression tag props (Some children) (Some span)) = rw (in_jsx_tag tag, in_list jsx_attribute_data in_jsx_attribute props, in_list place_data in_place children) refl
+in_value (kinds.JsxExpression tag props None None) =
+    rw (in_jsx_tag tag, in_list jsx_attribute_data in_jsx_attribute props) refl
+in_value (kinds.JsxExpression tag props None (Some span)) =
+    rw (in_jsx_tag tag, in_list jsx_attribute_data in_jsx_attribute props) refl
+in_value (kinds.JsxExpression tag props (Some children) None) =
+    rw (in_jsx_tag tag, in_list jsx_attribute_data in_jsx_attribute props, in_list place_data in_place children) refl
+in_value (kinds.JsxExpression tag props (Some children) (Some span)) =
+    rw (in_jsx_tag tag, in_list jsx_attribute_data in_jsx_attribute props, in_list place_data in_place children) refl
 in_value (kinds.JsxFragment children None) = rw (in_list place_data in_place children) refl
 in_value (kinds.JsxFragment children (Some span)) = rw (in_list place_data in_place children) refl
 in_value (kinds.RegExpLiteral pattern flags None) = refl
@@ -199,22 +208,27 @@ in_value (kinds.PropertyLoad object property None) = rw (in_place object, in_pro
 in_value (kinds.PropertyLoad object property (Some span)) = rw (in_place object, in_property_literal property) refl
 in_value (kinds.PropertyDelete object property None) = rw (in_place object, in_property_literal property) refl
 in_value (kinds.PropertyDelete object property (Some span)) = rw (in_place object, in_property_literal property) refl
-in_value (kinds.PropertyStore object property value None) = rw (in_place object, in_property_literal property, in_place value) refl
-in_value (kinds.PropertyStore object property value (Some span)) = rw (in_place object, in_property_literal property, in_place value) refl
+in_value (kinds.PropertyStore object property value None) =
+    rw (in_place object, in_property_literal property, in_place value) refl
+in_value (kinds.PropertyStore object property value (Some span)) =
+    rw (in_place object, in_property_literal property, in_place value) refl
 in_value (kinds.ComputedLoad object property None) = rw (in_place object, in_place property) refl
 in_value (kinds.ComputedLoad object property (Some span)) = rw (in_place object, in_place property) refl
 in_value (kinds.ComputedDelete object property None) = rw (in_place object, in_place property) refl
 in_value (kinds.ComputedDelete object property (Some span)) = rw (in_place object, in_place property) refl
 in_value (kinds.ComputedStore object property value None) = rw (in_place object, in_place property, in_place value) refl
-in_value (kinds.ComputedStore object property value (Some span)) = rw (in_place object, in_place property, in_place value) refl
+in_value (kinds.ComputedStore object property value (Some span)) =
+    rw (in_place object, in_place property, in_place value) refl
 in_value (kinds.LoadGlobal binding None) = rw (in_binding binding) refl
 in_value (kinds.LoadGlobal binding (Some span)) = rw (in_binding binding) refl
 in_value (kinds.StoreGlobal name value None) = rw (in_place value) refl
 in_value (kinds.StoreGlobal name value (Some span)) = rw (in_place value) refl
 in_value (kinds.TaggedTemplateExpression tag quasi None) = rw (in_place tag) refl
 in_value (kinds.TaggedTemplateExpression tag quasi (Some span)) = rw (in_place tag) refl
-in_value (kinds.TemplateLiteral subexprs quasis None) = rw (in_list place_data in_place subexprs, in_list string in_text quasis) refl
-in_value (kinds.TemplateLiteral subexprs quasis (Some span)) = rw (in_list place_data in_place subexprs, in_list string in_text quasis) refl
+in_value (kinds.TemplateLiteral subexprs quasis None) =
+    rw (in_list place_data in_place subexprs, in_list string in_text quasis) refl
+in_value (kinds.TemplateLiteral subexprs quasis (Some span)) =
+    rw (in_list place_data in_place subexprs, in_list string in_text quasis) refl
 in_value (kinds.GetIterator collection None) = rw (in_place collection) refl
 in_value (kinds.GetIterator collection (Some span)) = rw (in_place collection) refl
 in_value (kinds.IteratorNext iterator collection None) = rw (in_place iterator, in_place collection) refl

@@ -64,7 +64,8 @@ module _ (p : Place) where
   pub short_again : p.identifier.0 < 2 ^ 32 → is_short p ≡ true → place_of (place_data p) ≡ Some p
   short_again h k = rw (place_data-short k) (from_short p.identifier.0 p.effect p.reactive p.span h k)
 
-  pub long_again : p.identifier.0 < 2 ^ 32 → is_short p ≡ false → SomeAgain span_of span_data p.span → place_of (place_data p) ≡ Some p
+  pub long_again : p.identifier.0 < 2 ^ 32 → is_short p ≡ false → SomeAgain span_of span_data p.span
+      → place_of (place_data p) ≡ Some p
   long_again h k s = rw (place_data-long k) (from_long p.identifier.0 p.effect p.reactive p.span h s)
 
 -- what a place is printed as, and that it reads again

@@ -9,7 +9,8 @@ use Rattle.rc_doc.specs.Reading.{all_items}
 use Rattle.rc_doc.specs.Showing.{list_data}
 
 -- The values are the printing forms of the entries, and read as them again.
-pub record ShownSoFar {X : Type 0} (reads : Data → Option X) (shows : X → Data) (xs : List X) (shown : List Value) : Type 0 where
+pub record ShownSoFar {X : Type 0} (reads : Data → Option X) (shows : X → Data) (xs : List X) (shown : List Value) :
+    Type 0 where
   pub value : map view shown ≡ map shows xs
   pub again : all_items reads (items_of (map shows xs)) ≡ Some xs
 
@@ -26,18 +27,22 @@ module _ {X : Type 0} (reads : Data → Option X) (shows : X → Data) where
   all_items-append [] d x h = rw h refl
   all_items-append (e ∷ ds) d x h = rw (all_items-append ds d x h) (later x (reads e) (all_items reads (items_of ds)))
 
-  pub next_entry : (xs : List X) (i : ℕ) (x : X) (shown after : List Value) (v : Value) → i < length xs → x ≡ get_or xs i x
+  pub next_entry : (xs : List X) (i : ℕ) (x : X) (shown after : List Value) (v : Value) → i < length xs
+      → x ≡ get_or xs i x
       → ShownSoFar reads shows (take i xs) shown → view v ≡ shows x → reads (shows x) ≡ Some x → after ≡ shown ++ v ∷ []
       → ShownSoFar reads shows (take (i + 1) xs) after
   next_entry xs i x shown after v lt is so_far value again pushed =
       let more : take (i + 1) xs ≡ take i xs ++ x ∷ [] = take_more xs i x lt ∙ ap (λ y. take i xs ++ y ∷ []) (sym is) in
-      let both : map shows (take i xs ++ x ∷ []) ≡ map shows (take i xs) ++ shows x ∷ [] = map-append shows (take i xs) (x ∷ []) in
+      let both : map shows (take i xs ++ x ∷ []) ≡ map shows (take i xs)
+      ++ shows x ∷ [] = map-append shows (take i xs) (x ∷ []) in
       rw (more, pushed) (record {
         value = map-append view shown (v ∷ []) ∙ rw (so_far.value, value) (sym both);
-        again = ap (λ ds. all_items reads (items_of ds)) both ∙ all_items-append (map shows (take i xs)) (shows x) x again ∙ rw so_far.again refl;
+        again = ap (λ ds. all_items reads (items_of ds)) both
+            ∙ all_items-append (map shows (take i xs)) (shows x) x again ∙ rw so_far.again refl;
       })
 
-  pub all_shown : (xs : List X) (i : ℕ) (items : Vec Value Global) → length xs ≤ i → ShownSoFar reads shows (take i xs) items.items
+  pub all_shown : (xs : List X) (i : ℕ) (items : Vec Value Global) → length xs ≤ i
+      → ShownSoFar reads shows (take i xs) items.items
       → view (Array items) ≡ list_data shows xs
   all_shown xs i items le so_far =
       view-Array items ∙ ap (λ ds. array (items_of ds)) (so_far.value ∙ ap (λ ys. map shows ys) (take_all i xs le))

@@ -81,7 +81,8 @@ shaped_type_of d = do
 
 -- the type of an identifier
 abbrev pub type_of : Data → Option HirType
-type_of d = or_tagged (named ((codes "Primitive", types.Primitive) ∷ (codes "Other", types.Other) ∷ [])) shaped_type_of d
+type_of d = or_tagged (named ((codes "Primitive", types.Primitive) ∷ (codes "Other", types.Other) ∷ [])) shaped_type_of
+    d
 
 -- a row of the shapes
 unfoldable pub shape_row_of : Data → Option ShapeRow
@@ -155,7 +156,8 @@ early_return_of d = do
 -- a part of a function whose values may be kept between renders
 unfoldable pub scope_of : Data → Option ReactiveScope
 scope_of d = do
-  _ ← only (codes "declarations" ∷ codes "dependencies" ∷ codes "early_return_value" ∷ codes "merged" ∷ codes "range" ∷ codes "reassignments" ∷ []) d
+  _ ← only (codes "declarations" ∷ codes "dependencies" ∷ codes "early_return_value" ∷ codes "merged" ∷ codes "range" ∷
+      codes "reassignments" ∷ []) d
   range ← field range_of (codes "range") d
   dependencies ← list_field dependency_of (codes "dependencies") d
   declarations ← list_field declaration_entry_of (codes "declarations") d
@@ -176,7 +178,8 @@ scope_of d = do
 -- the tables, and the next number of a block
 unfoldable pub environment_of : Data → Option Environment
 environment_of d = do
-  _ ← only (codes "config" ∷ codes "functions" ∷ codes "identifiers" ∷ codes "next_block" ∷ codes "scopes" ∷ codes "shapes" ∷ codes "types" ∷ []) d
+  _ ← only (codes "config" ∷ codes "functions" ∷ codes "identifiers" ∷ codes "next_block" ∷ codes "scopes" ∷ codes
+      "shapes" ∷ codes "types" ∷ []) d
   identifiers ← table_field identifier_of (codes "identifiers") d
   types ← table_field type_of (codes "types") d
   scopes ← table_field scope_of (codes "scopes") d

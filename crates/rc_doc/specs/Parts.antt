@@ -27,7 +27,8 @@ primitive_content_of d = do
 
 -- a literal of a primitive type
 abbrev pub primitive_value_of : Data → Option PrimitiveValue
-primitive_value_of d = or_tagged (named ((codes "Null", primitives.Null) ∷ (codes "Undefined", primitives.Undefined) ∷ [])) primitive_content_of d
+primitive_value_of d = or_tagged (named ((codes "Null", primitives.Null) ∷ (codes "Undefined", primitives.Undefined) ∷
+    [])) primitive_content_of d
 
 -- a name that belongs to no module
 unfoldable pub global_of : Data → Option NonLocalBinding

@@ -76,7 +76,8 @@ span_items (Some span) = item (span_data span) no_items
 -- identifier, effect, whether it is reactive, and the span if there is one
 abbrev pub long_form : Place → Data
 long_form place =
-    array (item (number_data place.identifier.0) (item (string (effect_name place.effect)) (item (boolean place.reactive) (span_items place.span))))
+    array (item (number_data place.identifier.0) (item (string (effect_name place.effect))
+    (item (boolean place.reactive) (span_items place.span))))
 
 -- the shortest form that says the place
 unfoldable pub place_data : Place → Data
@@ -110,7 +111,8 @@ kind_data kind = string (kind_name kind)
 
 -- a place that is written
 unfoldable pub lvalue_data : LValue → Data
-lvalue_data lvalue = object (no_members ▸ put (codes "kind") (kind_data lvalue.kind) ▸ put (codes "place") (place_data lvalue.place))
+lvalue_data lvalue = object (no_members ▸ put (codes "kind") (kind_data lvalue.kind) ▸ put (codes "place")
+    (place_data lvalue.place))
 
 -- the name of a property that is read, written or deleted
 unfoldable pub property_literal_data : PropertyLiteral → Data
@@ -127,7 +129,8 @@ property_key_data (keys.Computed place) = variant_data (codes "Computed") (place
 -- a property with its place
 unfoldable pub object_property_data : ObjectProperty → Data
 object_property_data property =
-    object (no_members ▸ put (codes "key") (property_key_data property.key) ▸ put (codes "place") (place_data property.place))
+    object (no_members ▸ put (codes "key") (property_key_data property.key) ▸ put (codes "place")
+    (place_data property.place))
 
 -- an entry of an object pattern or of an object literal
 unfoldable pub property_data : ObjectPropertyOrSpread → Data
@@ -148,13 +151,16 @@ element_data elements.Hole = string (codes "Hole")
 
 -- a pattern
 unfoldable pub pattern_data : Pattern → Data
-pattern_data (patterns.Array items) = object (tagged (codes "Array") ▸ put (codes "items") (list_data pattern_element_data items))
-pattern_data (patterns.Object properties) = object (tagged (codes "Object") ▸ put (codes "properties") (list_data property_data properties))
+pattern_data (patterns.Array items) =
+    object (tagged (codes "Array") ▸ put (codes "items") (list_data pattern_element_data items))
+pattern_data (patterns.Object properties) =
+    object (tagged (codes "Object") ▸ put (codes "properties") (list_data property_data properties))
 
 -- a pattern whose places are written
 unfoldable pub lvalue_pattern_data : LValuePattern → Data
 lvalue_pattern_data lvalue =
-    object (no_members ▸ put (codes "kind") (kind_data lvalue.kind) ▸ put (codes "pattern") (pattern_data lvalue.pattern))
+    object (no_members ▸ put (codes "kind") (kind_data lvalue.kind) ▸ put (codes "pattern")
+    (pattern_data lvalue.pattern))
 
 -- ---- other parts
 
@@ -169,7 +175,8 @@ primitive_value_data (primitives.String text) = variant_data (codes "String") (s
 -- a name from outside the function
 unfoldable pub binding_data : NonLocalBinding → Data
 binding_data (bindings.Global name) = object (tagged (codes "Global") ▸ put (codes "name") (string name))
-binding_data (bindings.Module name from) = object (tagged (codes "Module") ▸ put (codes "name") (string name) ▸ put (codes "module") (string from))
+binding_data (bindings.Module name from) =
+    object (tagged (codes "Module") ▸ put (codes "name") (string name) ▸ put (codes "module") (string from))
 
 -- what stands at the head of a JSX element
 unfoldable pub jsx_tag_data : JsxTag → Data
@@ -180,7 +187,8 @@ jsx_tag_data (tags.Builtin name) = variant_data (codes "Builtin") (string name)
 unfoldable pub jsx_attribute_data : JsxAttribute → Data
 jsx_attribute_data (attributes.Attribute name place) =
     object (tagged (codes "Attribute") ▸ put (codes "name") (string name) ▸ put (codes "place") (place_data place))
-jsx_attribute_data (attributes.SpreadAttribute argument) = object (tagged (codes "SpreadAttribute") ▸ put (codes "argument") (place_data argument))
+jsx_attribute_data (attributes.SpreadAttribute argument) =
+    object (tagged (codes "SpreadAttribute") ▸ put (codes "argument") (place_data argument))
 
 -- a nested function, by its number
 unfoldable pub lowered_function_data : LoweredFunction → Data

@@ -50,7 +50,8 @@ case_of d = do
 -- two ways, by a test
 unfoldable pub if_of : Data → Option Terminal
 if_of d = do
-  _ ← only (codes "alternate" ∷ codes "consequent" ∷ codes "fallthrough" ∷ codes "id" ∷ codes "k" ∷ codes "span" ∷ codes "test" ∷ []) d
+  _ ← only (codes "alternate" ∷ codes "consequent" ∷ codes "fallthrough" ∷ codes "id" ∷ codes "k" ∷ codes "span" ∷ codes
+      "test" ∷ []) d
   test ← field place_of (codes "test") d
   consequent ← field block_id_of (codes "consequent") d
   alternate ← field block_id_of (codes "alternate") d
@@ -176,7 +177,8 @@ while_of d = do
 -- a loop with init, test and update
 unfoldable pub for_of : Data → Option Terminal
 for_of d = do
-  _ ← only (codes "fallthrough" ∷ codes "id" ∷ codes "init" ∷ codes "k" ∷ codes "loop_block" ∷ codes "span" ∷ codes "test" ∷ codes "update" ∷ []) d
+  _ ← only (codes "fallthrough" ∷ codes "id" ∷ codes "init" ∷ codes "k" ∷ codes "loop_block" ∷ codes "span" ∷ codes
+      "test" ∷ codes "update" ∷ []) d
   init ← field block_id_of (codes "init") d
   test ← field block_id_of (codes "test") d
   update ← option_field block_id_of (codes "update") d
@@ -189,7 +191,8 @@ for_of d = do
 -- a loop over the values of a collection
 unfoldable pub for_of_of : Data → Option Terminal
 for_of_of d = do
-  _ ← only (codes "fallthrough" ∷ codes "id" ∷ codes "init" ∷ codes "k" ∷ codes "loop_block" ∷ codes "span" ∷ codes "test" ∷ []) d
+  _ ← only (codes "fallthrough" ∷ codes "id" ∷ codes "init" ∷ codes "k" ∷ codes "loop_block" ∷ codes "span" ∷ codes
+      "test" ∷ []) d
   init ← field block_id_of (codes "init") d
   test ← field block_id_of (codes "test") d
   loop_block ← field block_id_of (codes "loop_block") d
@@ -262,7 +265,8 @@ pruned_scope_of d = do
 -- a block whose exceptions are handled
 unfoldable pub try_of : Data → Option Terminal
 try_of d = do
-  _ ← only (codes "block" ∷ codes "fallthrough" ∷ codes "handler" ∷ codes "handler_binding" ∷ codes "id" ∷ codes "k" ∷ codes "span" ∷ []) d
+  _ ← only (codes "block" ∷ codes "fallthrough" ∷ codes "handler" ∷ codes "handler_binding" ∷ codes "id" ∷ codes "k" ∷
+      codes "span" ∷ []) d
   block ← field block_id_of (codes "block") d
   handler_binding ← option_field place_of (codes "handler_binding") d
   handler ← field block_id_of (codes "handler") d

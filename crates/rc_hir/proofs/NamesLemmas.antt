@@ -20,7 +20,8 @@ module _ {X : Type 0} (P : X → Type 0) (xs ys : List X) where
 
   -- some element of the second part of a list is one of the list
   Any-append_right : Any P ys → Any P (xs ++ ys)
-  Any-append_right a = (length xs + a.0, a.1, omega (arith, length-append xs ys, a.2), get_or-append-add xs ys a.0 a.1 ∙ a.3, a.4)
+  Any-append_right a =
+      (length xs + a.0, a.1, omega (arith, length-append xs ys, a.2), get_or-append-add xs ys a.0 a.1 ∙ a.3, a.4)
 
 module _ (tables : Lengths) where
   -- no number is outside its table
@@ -30,24 +31,28 @@ module _ (tables : Lengths) where
 
   module _ (table : TableName) (index : ℕ) where
     -- a number that is in its table
-    pub judges_within : (done : Unit {0}) → index < length_of tables table → Judges tables ((table, index) ∷ []) (Ok done)
+    pub judges_within : (done : Unit {0}) → index < length_of tables table
+        → Judges tables ((table, index) ∷ []) (Ok done)
     unfolding Judges
     judges_within done within = All-cons (IsInTable tables) (table, index) [] within (All-nil (IsInTable tables))
 
     -- a number that is outside its table
-    pub judges_outside : length_of tables table ≤ index → Judges tables ((table, index) ∷ []) (Err (BadName table index))
+    pub judges_outside : length_of tables table ≤ index → Judges tables ((table, index) ∷ [])
+        (Err (BadName table index))
     unfolding Judges
     judges_outside outside = (0, (table, index), omega arith, refl, (refl, outside))
 
   module _ (names : List Name) where
     -- where the answer is no fault, each number is in its table
-    pub judged_ok : (answer : Result (Unit {0}) Fault) → Judges tables names answer → OnOk answer (All (IsInTable tables) names)
+    pub judged_ok : (answer : Result (Unit {0}) Fault) → Judges tables names answer
+        → OnOk answer (All (IsInTable tables) names)
     unfolding Judges
     judged_ok (Ok done) judged = judged
     judged_ok (Err fault) judged = tt
 
     -- where the answer is a fault, it names a number that is outside its table
-    pub judged_bad : (answer : Result (Unit {0}) Fault) → Judges tables names answer → IfErr answer (λ fault. Any (IsOutside tables fault) names)
+    pub judged_bad : (answer : Result (Unit {0}) Fault) → Judges tables names answer
+        → IfErr answer (λ fault. Any (IsOutside tables fault) names)
     unfolding Judges
     judged_bad (Ok done) judged = tt
     judged_bad (Err fault) judged = judged
@@ -65,7 +70,8 @@ module _ (tables : Lengths) where
     unfolding Judges
     judges_stop fault first = Any-append_left (IsOutside tables fault) xs ys first
 
-  module _ {X : Type 0} (f : X → List Name) (xs : List X) (i : ℕ) (x : X) (here : i < length xs) (at : x ≡ get_or xs i x) where
+  module _ {X : Type 0} (f : X → List Name) (xs : List X) (i : ℕ) (x : X) (here : i < length xs)
+      (at : x ≡ get_or xs i x) where
     -- the part at i stands before the parts behind it
     parts_left : flat_map f (drop i xs) ≡ f x ++ flat_map f (drop (i + 1) xs)
     parts_left = rw (drop-cons xs i x, ← at, add-one i) refl
@@ -73,10 +79,12 @@ module _ (tables : Lengths) where
     -- where the numbers of a part are in their tables, the answer is that for the parts behind it
     pub judges_next_part : (done : Unit {0}) (answer : Result (Unit {0}) Fault) → Judges tables (f x) (Ok done)
         → Judges tables (flat_map f (drop (i + 1) xs)) answer → Judges tables (flat_map f (drop i xs)) answer
-    judges_next_part done answer first second = rw parts_left (judges_next (f x) (flat_map f (drop (i + 1) xs)) done answer first second)
+    judges_next_part done answer first second =
+        rw parts_left (judges_next (f x) (flat_map f (drop (i + 1) xs)) done answer first second)
 
     -- a fault for a part is one for it and the parts behind it
-    pub judges_stop_part : (fault : Fault) → Judges tables (f x) (Err fault) → Judges tables (flat_map f (drop i xs)) (Err fault)
+    pub judges_stop_part : (fault : Fault) → Judges tables (f x) (Err fault)
+        → Judges tables (flat_map f (drop i xs)) (Err fault)
     judges_stop_part fault first = rw parts_left (judges_stop (f x) (flat_map f (drop (i + 1) xs)) fault first)
 
   module _ {X : Type 0} (f : X → List Name) (xs : List X) (i : ℕ) where

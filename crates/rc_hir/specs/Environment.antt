@@ -66,4 +66,5 @@ unnamed number type_number span = record {
 -- one more identifier, of a type of its own
 abbrev pub with_identifier : Option Span → Environment → Environment
 with_identifier span env =
-    record (with_type env) { identifiers = env.identifiers ++ unnamed (length env.identifiers) (length env.types) span ∷ [] }
+    record (with_type env)
+    { identifiers = env.identifiers ++ unnamed (length env.identifiers) (length env.types) span ∷ [] }

@@ -42,7 +42,8 @@ module _ (bytes : List ℕ) where
       cc
 
   -- a document that has an answer is not refused
-  no_refusal : (doc doc' : Doc) → IsJsonOfDoc bytes doc → IsJsonOfDoc bytes doc' → IsAnswerable doc → ¬ IsAnswerable doc' → ⊥
+  no_refusal : (doc doc' : Doc) → IsJsonOfDoc bytes doc → IsJsonOfDoc bytes doc' → IsAnswerable doc
+      → ¬ IsAnswerable doc' → ⊥
   no_refusal doc doc' j j' it none = none (subst IsAnswerable (one_document doc doc' j j') it)
 
   -- bytes deserve one status
@@ -69,18 +70,26 @@ module _ (bytes : List ℕ) where
   due_of_read left' status reads = let whole = all_read reads.bytes left' reads.whole in rw whole at reads.due
 
   -- for whose document a text is written with this status, deserves it
-  due_of_text : (left' : Option (List ℕ)) (status : Status) {Writes : List ℕ → Type 0} → Prints status Writes (Some bytes) left' → Due bytes status
+  due_of_text : (left' : Option (List ℕ)) (status : Status) {Writes : List ℕ → Type 0}
+      → Prints status Writes (Some bytes) left' → Due bytes status
   due_of_text left' Done p =
       let whole = all_read p.loaded.bytes left' p.loaded.whole in
       let answer = p.answered.answer in
-      let it : IsAnswerable p.doc = record { accepted = answer.accepted; func = answer.spelled; answer = has_answer p.doc.hir p.doc.env p.answered.pruned answer } in
+      let it : IsAnswerable p.doc =
+      record {
+        accepted = answer.accepted;
+        func = answer.spelled;
+        answer = has_answer p.doc.hir p.doc.env
+            p.answered.pruned answer;
+      } in
       (rw whole at p.loaded.whole.size, (p.doc, rw whole at p.loaded.document, it))
   due_of_text left' Refused p =
       let whole = all_read p.loaded.bytes left' p.loaded.whole in
       (rw whole at p.loaded.whole.size, (p.doc, rw whole at p.loaded.document, p.answered.no_answer))
   due_of_text left' _ p = absurd p.answered
 
-  module _ (words : List (List ℕ)) (left' written written' : Option (List ℕ)) (due : Status) (source_rose sink_rose : Type 0) where
+  module _ (words : List (List ℕ)) (left' written written' : Option (List ℕ)) (due : Status)
+      (source_rose sink_rose : Type 0) where
     -- a text that was written in part is excused by the sink
     written_in_part : (status : Status) {Writes : List ℕ → Type 0} → Prints status Writes (Some bytes) left' → sink_rose
         → Excused source_rose sink_rose status WriteFault
@@ -89,18 +98,25 @@ module _ (bytes : List ℕ) where
     written_in_part _ p rose = absurd p.answered
 
     -- the status is the one that the bytes deserve, or excused
-    pub answers_due : (status : Status) → IsTree words → Due bytes due → Outcome words (Some bytes) left' written written' status
+    pub answers_due : (status : Status) → IsTree words → Due bytes due
+        → Outcome words (Some bytes) left' written written' status
         → (status ≡ ReadFault → source_rose) → (status ≡ WriteFault → sink_rose)
         → (status ≡ due) ⊎ Excused source_rose sink_rose due status
-    answers_due Done tree d outcome read_fault write_fault = inl (due_once Done due (due_of_text left' Done outcome.1) d)
+    answers_due Done tree d outcome read_fault write_fault =
+        inl (due_once Done due (due_of_text left' Done outcome.1) d)
     answers_due Usage tree d outcome read_fault write_fault = absurd (outcome.0 tree)
-    answers_due NotJson tree d outcome read_fault write_fault = inl (due_once NotJson due (due_of_read left' NotJson outcome.1) d)
-    answers_due NotDoc tree d outcome read_fault write_fault = inl (due_once NotDoc due (due_of_read left' NotDoc outcome.1) d)
-    answers_due Refused tree d outcome read_fault write_fault = inl (due_once Refused due (due_of_text left' Refused outcome.1) d)
-    answers_due TooLarge tree d outcome read_fault write_fault = inl (due_once TooLarge due (due_of_many left' outcome.1) d)
+    answers_due NotJson tree d outcome read_fault write_fault =
+        inl (due_once NotJson due (due_of_read left' NotJson outcome.1) d)
+    answers_due NotDoc tree d outcome read_fault write_fault =
+        inl (due_once NotDoc due (due_of_read left' NotDoc outcome.1) d)
+    answers_due Refused tree d outcome read_fault write_fault =
+        inl (due_once Refused due (due_of_text left' Refused outcome.1) d)
+    answers_due TooLarge tree d outcome read_fault write_fault =
+        inl (due_once TooLarge due (due_of_many left' outcome.1) d)
     answers_due ReadFault tree d outcome read_fault write_fault = inr (read_fault refl)
     answers_due WriteFault tree d outcome read_fault write_fault =
         let status = outcome.1.0 in
         let same = due_once status due (due_of_text left' status outcome.1.1) d in
-        inr (subst (λ status. Excused source_rose sink_rose status WriteFault) same (written_in_part status outcome.1.1 (write_fault refl)))
+        inr (subst (λ status. Excused source_rose sink_rose status WriteFault) same
+        (written_in_part status outcome.1.1 (write_fault refl)))
     answers_due NoMemory tree d outcome read_fault write_fault = inr tt

@@ -9,8 +9,10 @@ use Rattle.rc_doc.specs.declared.document.Doc.{Doc}
 use Rattle.rc_main.specs.Outcome.{IsAnswerable}
 
 -- a graph is refused, though it would be answered up to want of memory
-pub no_answer_of : (doc : Doc) (result : Result Pruned Fault) (fault : Fault) → result ≡ Err fault → (fault ≡ faults.NoMemory → ⊥)
-    → ((func : ReactiveFunction) → IsAccepted doc.hir doc.env → HasAnswer doc.hir doc.env func → IsOk result ⊎ (result ≡ Err faults.NoMemory))
+pub no_answer_of : (doc : Doc) (result : Result Pruned Fault) (fault : Fault) → result ≡ Err fault
+    → (fault ≡ faults.NoMemory → ⊥)
+    → ((func : ReactiveFunction) → IsAccepted doc.hir doc.env → HasAnswer doc.hir doc.env func → IsOk result
+    ⊎ (result ≡ Err faults.NoMemory))
     → IsAnswerable doc → ⊥
 no_answer_of doc result fault is other complete it = refuted (complete it.func it.accepted it.answer)
   where

@@ -11,7 +11,8 @@ use Rattle.rc_main.specs.Lines.{Lines, block_lines}
 
 -- a function's two marks and its place in the source
 abbrev pub marks_text : ReactiveFunction → List ℕ
-marks_text func = codes " generator " & bool_text func.generator & codes " async " & bool_text func.is_async & span_text func.span
+marks_text func = codes " generator " & bool_text func.generator & codes " async " & bool_text func.is_async & span_text
+    func.span
 
 -- the first line of a function
 abbrev pub name_text : ReactiveFunction → List ℕ
@@ -50,4 +51,5 @@ fate_lines fates indent = flat_map (λ scope. line indent (scope_fate_text scope
 
 -- the lines of a function and of the fates of its scopes
 abbrev pub lines_of : ReactiveFunction → List ScopeFate → List ℕ
-lines_of func fates = header_lines func & line 0 (codes "body") & block_lines func.body 2 & line 0 (codes "fates") & fate_lines fates 2
+lines_of func fates =
+    header_lines func & line 0 (codes "body") & block_lines func.body 2 & line 0 (codes "fates") & fate_lines fates 2

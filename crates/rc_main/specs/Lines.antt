@@ -70,8 +70,10 @@ TerminalLayer = layer.ReactiveTerminal-F Lines TerminalLines Lines Lines Lines L
 
 -- the first line of a terminal
 abbrev pub head_layer : TerminalLayer → Option ReactiveLabel → List ℕ
-head_layer (layer.Break target kind id) label = codes "break bb" & decimal target.0 & codes " " & kind_text kind & id_text id label
-head_layer (layer.Continue target kind id) label = codes "continue bb" & decimal target.0 & codes " " & kind_text kind & id_text id label
+head_layer (layer.Break target kind id) label =
+    codes "break bb" & decimal target.0 & codes " " & kind_text kind & id_text id label
+head_layer (layer.Continue target kind id) label =
+    codes "continue bb" & decimal target.0 & codes " " & kind_text kind & id_text id label
 head_layer (layer.Return value id) label = codes "return " & place_text value & id_text id label
 head_layer (layer.Throw value id) label = codes "throw " & place_text value & id_text id label
 head_layer (layer.If test consequent alternate id) label = codes "if " & place_text test & id_text id label
@@ -88,30 +90,38 @@ head_layer (layer.Try block binding handler id) label = codes "try" & id_text id
 abbrev pub values_layer : TerminalLayer → Lines
 values_layer (layer.While test loop_block id) indent = value_line (codes "test ") test indent
 values_layer (layer.For init test update loop_block id) indent =
-    value_line (codes "init ") init indent & value_line (codes "test ") test indent & optional_value_line (codes "update ") update indent
-values_layer (layer.ForOf init test loop_block span id) indent = value_line (codes "init ") init indent & value_line (codes "test ") test indent
+    value_line (codes "init ") init indent & value_line (codes "test ") test indent & optional_value_line
+    (codes "update ") update indent
+values_layer (layer.ForOf init test loop_block span id) indent =
+    value_line (codes "init ") init indent & value_line (codes "test ") test indent
 values_layer (layer.ForIn init loop_block span id) indent = value_line (codes "init ") init indent
 values_layer _ indent = []
 
 -- the blocks of a terminal; the test of a do-while stands behind its body
 abbrev pub blocks_layer : TerminalLayer → Lines
-blocks_layer (layer.If test consequent alternate id) indent = part (codes "then") consequent indent & optional_part (codes "else") alternate indent
+blocks_layer (layer.If test consequent alternate id) indent =
+    part (codes "then") consequent indent & optional_part (codes "else") alternate indent
 blocks_layer (layer.Switch test cases id) indent = all_lines cases indent
-blocks_layer (layer.DoWhile loop_block test id) indent = part (codes "body") loop_block indent & value_line (codes "test ") test indent
+blocks_layer (layer.DoWhile loop_block test id) indent =
+    part (codes "body") loop_block indent & value_line (codes "test ") test indent
 blocks_layer (layer.While test loop_block id) indent = part (codes "body") loop_block indent
 blocks_layer (layer.For init test update loop_block id) indent = part (codes "body") loop_block indent
 blocks_layer (layer.ForOf init test loop_block span id) indent = part (codes "body") loop_block indent
 blocks_layer (layer.ForIn init loop_block span id) indent = part (codes "body") loop_block indent
 blocks_layer (layer.Label block id) indent = part (codes "body") block indent
-blocks_layer (layer.Try block binding handler id) indent = part (codes "block") block indent & part (catch_text binding) handler indent
+blocks_layer (layer.Try block binding handler id) indent =
+    part (codes "block") block indent & part (catch_text binding) handler indent
 blocks_layer _ indent = []
 
 abbrev pub terminal_layer : TerminalLayer → TerminalLines
-terminal_layer terminal = record { head = head_layer terminal; values = values_layer terminal; blocks = blocks_layer terminal }
+terminal_layer terminal =
+    record { head = head_layer terminal; values = values_layer terminal; blocks = blocks_layer terminal }
 
-abbrev pub terminal_statement_layer : layer.ReactiveTerminalStatement-F Lines TerminalLines Lines Lines Lines Lines Lines → Lines
+abbrev pub terminal_statement_layer : layer.ReactiveTerminalStatement-F Lines TerminalLines Lines Lines Lines Lines
+    Lines → Lines
 terminal_statement_layer statement indent =
-    line indent (statement.terminal.head statement.label) & statement.terminal.values (deeper indent) & statement.terminal.blocks (deeper indent)
+    line indent (statement.terminal.head statement.label) & statement.terminal.values (deeper indent) &
+    statement.terminal.blocks (deeper indent)
 
 abbrev pub statement_layer : layer.ReactiveStatement-F Lines TerminalLines Lines Lines Lines Lines Lines → Lines
 statement_layer (layer.Instruction row) indent = line indent (row_text row)
@@ -133,16 +143,20 @@ case_layer case = case_part case.test case.block
 
 -- the lines of a statement
 abbrev pub statement_lines : ReactiveStatement → Lines
-statement_lines = fold-ReactiveStatement Lines TerminalLines Lines Lines Lines Lines Lines statement_layer terminal_layer pruned_layer scope_layer block_layer case_layer terminal_statement_layer
+statement_lines = fold-ReactiveStatement Lines TerminalLines Lines Lines Lines Lines Lines statement_layer
+    terminal_layer pruned_layer scope_layer block_layer case_layer terminal_statement_layer
 
 -- the lines of a terminal
 abbrev pub terminal_lines : ReactiveTerminal → TerminalLines
-terminal_lines = fold-ReactiveTerminal Lines TerminalLines Lines Lines Lines Lines Lines statement_layer terminal_layer pruned_layer scope_layer block_layer case_layer terminal_statement_layer
+terminal_lines = fold-ReactiveTerminal Lines TerminalLines Lines Lines Lines Lines Lines statement_layer terminal_layer
+    pruned_layer scope_layer block_layer case_layer terminal_statement_layer
 
 -- the lines of a case
 abbrev pub case_lines : ReactiveSwitchCase → Lines
-case_lines = fold-ReactiveSwitchCase Lines TerminalLines Lines Lines Lines Lines Lines statement_layer terminal_layer pruned_layer scope_layer block_layer case_layer terminal_statement_layer
+case_lines = fold-ReactiveSwitchCase Lines TerminalLines Lines Lines Lines Lines Lines statement_layer terminal_layer
+    pruned_layer scope_layer block_layer case_layer terminal_statement_layer
 
 -- the lines of a block
 abbrev pub block_lines : ReactiveBlock → Lines
-block_lines = fold-ReactiveBlock Lines TerminalLines Lines Lines Lines Lines Lines statement_layer terminal_layer pruned_layer scope_layer block_layer case_layer terminal_statement_layer
+block_lines = fold-ReactiveBlock Lines TerminalLines Lines Lines Lines Lines Lines statement_layer terminal_layer
+    pruned_layer scope_layer block_layer case_layer terminal_statement_layer

@@ -139,13 +139,15 @@ pub record Prints (status : Status) (Writes : List ℕ → Type 0) (left left' :
   pub written : Writes text
 
 -- What each status says of the words, of the bytes taken from the source and of those given to the sink.
-abbrev pub Outcome : List (List ℕ) → Option (List ℕ) → Option (List ℕ) → Option (List ℕ) → Option (List ℕ) → Status → Type 0
+abbrev pub Outcome : List (List ℕ) → Option (List ℕ) → Option (List ℕ) → Option (List ℕ) → Option (List ℕ) → Status
+    → Type 0
 Outcome words left left' written written' Done = IsTree words × Prints Done (Appends written written') left left'
 Outcome words left left' written written' Refused = IsTree words × Prints Refused (Appends written written') left left'
 Outcome words left left' written written' Usage = ¬ IsTree words × (left' ≡ left) × (written' ≡ written)
 Outcome words left left' written written' NotJson = IsTree words × ReadsDue left left' NotJson × (written' ≡ written)
 Outcome words left left' written written' NotDoc = IsTree words × ReadsDue left left' NotDoc × (written' ≡ written)
 Outcome words left left' written written' ReadFault = IsTree words × TookSome left left' × (written' ≡ written)
-Outcome words left left' written written' WriteFault = IsTree words × ((status : Status) × Prints status (AppendsPrefix written written') left left')
+Outcome words left left' written written' WriteFault =
+    IsTree words × ((status : Status) × Prints status (AppendsPrefix written written') left left')
 Outcome words left left' written written' TooLarge = IsTree words × TookTooMany left left' × (written' ≡ written)
 Outcome words left left' written written' NoMemory = IsTree words × (written' ≡ written)

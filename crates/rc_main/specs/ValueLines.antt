@@ -32,8 +32,10 @@ rows_text id rows = codes "seq(" & decimal id.0 & codes ", [" & joined false row
 -- the text of a value over the texts of its parts
 abbrev pub value_layer : ReactiveValue-F (List ℕ) (List ℕ) → List ℕ
 value_layer (Instruction value) = compact_text (value_data value)
-value_layer (LogicalExpression operator left right) = codes "logical(" & operator_text operator & next_text left & next_text right & codes ")"
-value_layer (ConditionalExpression test consequent alternate) = codes "cond(" & test & next_text consequent & next_text alternate & codes ")"
+value_layer (LogicalExpression operator left right) =
+    codes "logical(" & operator_text operator & next_text left & next_text right & codes ")"
+value_layer (ConditionalExpression test consequent alternate) =
+    codes "cond(" & test & next_text consequent & next_text alternate & codes ")"
 value_layer (SequenceExpression rows id value) = rows_text id rows & next_text value & codes ")"
 value_layer (OptionalExpression value optional) = codes "opt(" & bool_text optional & next_text value & codes ")"
 

@@ -27,7 +27,8 @@ entry_named : (hir : HirFunction) → AreNamed hir [] (hir.body.entry ∷ [])
 entry_named hir key = omega arith
 
 -- nothing is used yet, and the entry is named
-pub at_entry : (hir : HirFunction) (marks : Marks) (frames : List Frame) → marks.used ≡ [] → marks.scopes ≡ [] → frames ≡ [] → AtList hir marks frames hir.body.entry
+pub at_entry : (hir : HirFunction) (marks : Marks) (frames : List Frame) → marks.used ≡ [] → marks.scopes ≡ []
+    → frames ≡ [] → AtList hir marks frames hir.body.entry
 unfolding no_marks
 at_entry hir marks frames u s f =
     let used_so : List BlockId → Marks = λ z. record { used = z; scopes = [] } in
@@ -35,12 +36,16 @@ at_entry hir marks frames u s f =
     let empty : no_marks ≡ marks = ap used_so (sym u) ∙ ap opened_so (sym s) in
     record {
       marked = subst (Marked hir) empty (nothing_marked hir);
-      named = subst (λ z. AreNamed hir z (hir.body.entry ∷ live_blocks frames)) (sym u) (subst (λ z. AreNamed hir [] (hir.body.entry ∷ live_blocks z)) (sym f) (entry_named hir));
+      named = subst (λ z. AreNamed hir z (hir.body.entry ∷ live_blocks frames)) (sym u)
+          (subst (λ z. AreNamed hir [] (hir.body.entry ∷ live_blocks z)) (sym f) (entry_named hir));
       owned = subst (AreOwned hir (IsUsed marks)) (sym f) tt;
     }
 
 -- where the entry's list is refused, no function is spelled
-pub none_spelled : (hir : HirFunction) (env : Environment) (marks : Marks) (frames : List Frame) → marks.used ≡ [] → frames ≡ [] →
-    Refused hir (SpellsList hir env hir.body.entry None frames None) marks.used → (func : ReactiveFunction) → Spells hir env func → ⊥
+pub none_spelled : (hir : HirFunction) (env : Environment) (marks : Marks) (frames : List Frame) → marks.used ≡ []
+    → frames ≡ [] →
+    Refused hir (SpellsList hir env hir.body.entry None frames None) marks.used → (func : ReactiveFunction)
+    → Spells hir env func → ⊥
 none_spelled hir env marks frames u f none func s =
-    none s.statements s.body.used (subst (λ z. SpellsList hir env hir.body.entry None z None s.statements s.body.used) (sym f) s.body.list) (subst (λ z. AreSound hir (z ++ s.body.used)) (sym u) s.body.sound)
+    none s.statements s.body.used (subst (λ z. SpellsList hir env hir.body.entry None z None s.statements s.body.used)
+    (sym f) s.body.list) (subst (λ z. AreSound hir (z ++ s.body.used)) (sym u) s.body.sound)

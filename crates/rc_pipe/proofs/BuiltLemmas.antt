@@ -36,10 +36,12 @@ statements_of-join (Cons s a) b = ap (λ z. statement_of s ∷ z) (statements_of
 
 module _ (hir : HirFunction) where
   -- nothing is marked yet
-  pub follows_none : (pending : List BlockId) (marks : Marks) → Marked hir marks → Follows hir pending pending marks marks []
+  pub follows_none : (pending : List BlockId) (marks : Marks) → Marked hir marks
+      → Follows hir pending pending marks marks []
   follows_none pending marks m = record { used = sym (append-nil marks.used); marked = m; named = λ more h. h }
 
-  pub follows_then : {a b c : List BlockId} {old mid new : Marks} {xs ys : List BlockId} → Follows hir a b old mid xs → Follows hir b c mid new ys → Follows hir a c old new (xs ++ ys)
+  pub follows_then : {a b c : List BlockId} {old mid new : Marks} {xs ys : List BlockId} → Follows hir a b old mid xs
+      → Follows hir b c mid new ys → Follows hir a c old new (xs ++ ys)
   follows_then {old = old} {xs = xs} {ys = ys} f g = record {
     used = g.used ∙ ap (λ z. z ++ ys) f.used ∙ append_assoc old.used xs ys;
     marked = g.marked;
@@ -47,27 +49,36 @@ module _ (hir : HirFunction) where
   }
 
   -- fewer of the pending namings are left
-  pub follows_drop : {a b c : List BlockId} {old new : Marks} {xs : List BlockId} → ((key : BlockId) → times key c ≤ times key b) → Follows hir a b old new xs → Follows hir a c old new xs
+  pub follows_drop : {a b c : List BlockId} {old new : Marks} {xs : List BlockId}
+      → ((key : BlockId) → times key c ≤ times key b) → Follows hir a b old new xs → Follows hir a c old new xs
   follows_drop {b = b} {c = c} {new = new} d f = record {
     used = f.used;
     marked = f.marked;
-    named = λ more h. named_fewer hir new.used (c ++ more) (b ++ more) (λ key. omega (arith, d key, times_append key b more, times_append key c more)) (f.named more h);
+    named = λ more h. named_fewer hir new.used (c ++ more) (b ++ more)
+        (λ key. omega (arith, d key, times_append key b more, times_append key c more)) (f.named more h);
   }
 
   -- further namings stay pending beside one that is followed
-  pub follows_beside : {key : BlockId} {more : List BlockId} {old new : Marks} {xs : List BlockId} → Follows hir (key ∷ []) [] old new xs → Follows hir (key ∷ more) more old new xs
-  follows_beside {more = more} f = record { used = f.used; marked = f.marked; named = λ others h. f.named (more ++ others) h }
+  pub follows_beside : {key : BlockId} {more : List BlockId} {old new : Marks} {xs : List BlockId}
+      → Follows hir (key ∷ []) [] old new xs → Follows hir (key ∷ more) more old new xs
+  follows_beside {more = more} f =
+      record { used = f.used; marked = f.marked; named = λ others h. f.named (more ++ others) h }
 
   -- refused in front is refused
-  pub refused_front : (used front back : List BlockId) {blocks : List BlockId} → AreSound hir (used ++ blocks) → blocks ≡ front ++ back → AreSound hir (used ++ front)
-  refused_front used front back s e = front_sound hir (used ++ front) back (subst (AreSound hir) (ap (λ z. used ++ z) e ∙ sym (append_assoc used front back)) s)
+  pub refused_front : (used front back : List BlockId) {blocks : List BlockId} → AreSound hir (used ++ blocks)
+      → blocks ≡ front ++ back → AreSound hir (used ++ front)
+  refused_front used front back s e = front_sound hir (used ++ front) back
+      (subst (AreSound hir) (ap (λ z. used ++ z) e ∙ sym (append_assoc used front back)) s)
 
   -- the same behind what is marked
-  pub refused_back : (used front back : List BlockId) {blocks later : List BlockId} → AreSound hir (used ++ blocks) → blocks ≡ front ++ back → later ≡ used ++ front → AreSound hir (later ++ back)
-  refused_back used front back s e l = subst (AreSound hir) (ap (λ z. used ++ z) e ∙ sym (append_assoc used front back) ∙ ap (λ z. z ++ back) (sym l)) s
+  pub refused_back : (used front back : List BlockId) {blocks later : List BlockId} → AreSound hir (used ++ blocks)
+      → blocks ≡ front ++ back → later ≡ used ++ front → AreSound hir (later ++ back)
+  refused_back used front back s e l =
+      subst (AreSound hir) (ap (λ z. used ++ z) e ∙ sym (append_assoc used front back) ∙ ap (λ z. z ++ back) (sym l)) s
 
   -- nothing stands in `out` yet
-  pub partly_none : (S : Statements → List BlockId → Type 0) (pending : List BlockId) (out : List ReactiveStatement) (marks : Marks) → Marked hir marks → Partly S S hir pending pending out out marks marks
+  pub partly_none : (S : Statements → List BlockId → Type 0) (pending : List BlockId) (out : List ReactiveStatement)
+      (marks : Marks) → Marked hir marks → Partly S S hir pending pending out out marks marks
   partly_none S pending out marks m = record {
     statements = Nil;
     newly = [];
@@ -78,16 +89,20 @@ module _ (hir : HirFunction) where
   }
 
   -- one after the other
-  pub partly_then : (S R T : Statements → List BlockId → Type 0) {a b c : List BlockId} {out mid whole : List ReactiveStatement} {old now new : Marks} →
+  pub partly_then : (S R T : Statements → List BlockId → Type 0) {a b c : List BlockId}
+      {out mid whole : List ReactiveStatement} {old now new : Marks} →
       Partly S R hir a b out mid old now → Partly R T hir b c mid whole now new → Partly S T hir a c out whole old new
   partly_then S R T {out = out} p q = record {
     statements = join p.statements q.statements;
     newly = p.newly ++ q.newly;
-    put = q.put ∙ ap (λ z. z ++ statements_of q.statements) p.put ∙ append_assoc out (statements_of p.statements) (statements_of q.statements)
+    put = q.put ∙ ap (λ z. z ++ statements_of q.statements) p.put
+        ∙ append_assoc out (statements_of p.statements) (statements_of q.statements)
         ∙ ap (λ z. out ++ z) (sym (statements_of-join p.statements q.statements));
     follows = follows_then p.follows q.follows;
-    onward = λ rest used d. subst (λ z. S z ((p.newly ++ q.newly) ++ used)) (sym (join-append p.statements q.statements rest))
-        (subst (S (join p.statements (join q.statements rest))) (sym (append_assoc p.newly q.newly used)) (p.onward (join q.statements rest) (q.newly ++ used) (q.onward rest used d)));
+    onward = λ rest used d. subst (λ z. S z ((p.newly ++ q.newly) ++ used))
+        (sym (join-append p.statements q.statements rest))
+        (subst (S (join p.statements (join q.statements rest))) (sym (append_assoc p.newly q.newly used))
+        (p.onward (join q.statements rest) (q.newly ++ used) (q.onward rest used d)));
     only = λ all used d.
         let h = p.only all used d in
         let k = q.only h.0 h.1 h.2 in
@@ -95,7 +110,8 @@ module _ (hir : HirFunction) where
   }
 
   -- what is left is refused
-  pub partly_refused : (S R : Statements → List BlockId → Type 0) {a b : List BlockId} {out whole : List ReactiveStatement} {old new : Marks} →
+  pub partly_refused : (S R : Statements → List BlockId → Type 0) {a b : List BlockId}
+      {out whole : List ReactiveStatement} {old new : Marks} →
       Partly S R hir a b out whole old new → Refused hir R new.used → Refused hir S old.used
   partly_refused S R {old = old} p none all used d s =
       let h = p.only all used d in
@@ -104,29 +120,35 @@ module _ (hir : HirFunction) where
 module _ (hir : HirFunction) (env : Environment) (next : Option BlockId) (frames : List Frame) where
   -- nothing is left
   pub partly_done : (key : BlockId) (at : Option BlockId) (out : List ReactiveStatement) (old new : Marks) → at ≡ None →
-      Partly (SpellsList hir env key next frames None) (Rest hir env next frames at) hir (key ∷ []) (listed at) [] out old new → MadeList hir env key next frames out old new
+      Partly (SpellsList hir env key next frames None) (Rest hir env next frames at) hir (key ∷ []) (listed at) [] out
+      old new → MadeList hir env key next frames out old new
   partly_done key at out old new e p =
-      let q = subst (λ z. Partly (SpellsList hir env key next frames None) (Rest hir env next frames z) hir (key ∷ []) (listed z) [] out old new) e p in
+      let q = subst (λ z. Partly (SpellsList hir env key next frames None) (Rest hir env next frames z) hir (key ∷ [])
+      (listed z) [] out old new) e p in
       record {
         value = q.statements;
         newly = q.newly;
         is = q.put;
         spelled = subst (λ z. SpellsList hir env key next frames None z q.newly) (join-nil q.statements)
-            (subst (SpellsList hir env key next frames None (join q.statements Nil)) (append-nil q.newly) (q.onward Nil [] (refl, refl)));
+            (subst (SpellsList hir env key next frames None (join q.statements Nil)) (append-nil q.newly)
+            (q.onward Nil [] (refl, refl)));
         follows = q.follows;
       }
 
   rows_join : (rows : List Instruction) (rest : Statements) → rows_before rows rest ≡ join (rows_before rows Nil) rest
   rows_join [] rest = refl
-  rows_join (row ∷ rows) rest = ap (Cons (RowStatement row.id (Some row.lvalue) (Base row.value) row.span)) (rows_join rows rest)
+  rows_join (row ∷ rows) rest =
+      ap (Cons (RowStatement row.id (Some row.lvalue) (Base row.value) row.span)) (rows_join rows rest)
 
   rows_put : (rows : List Instruction) → statements_of (rows_before rows Nil) ≡ map row_statement_of rows
   rows_put [] = refl
   rows_put (row ∷ rows) = ap (λ z. row_statement_of row ∷ z) (rows_put rows)
 
   -- a block: its rows, and then its terminal
-  pub block_partly : (key : BlockId) (found : BasicBlock) (out mid : List ReactiveStatement) (old new : Marks) → (t : IsTaken hir frames key found old new) → mid ≡ out ++ map row_statement_of t.rows →
-      Partly (SpellsList hir env key next frames None) (SpellsTerminal hir env found.terminal next frames None) hir (key ∷ []) (named_blocks found.terminal) out mid old new
+  pub block_partly : (key : BlockId) (found : BasicBlock) (out mid : List ReactiveStatement) (old new : Marks)
+      → (t : IsTaken hir frames key found old new) → mid ≡ out ++ map row_statement_of t.rows →
+      Partly (SpellsList hir env key next frames None) (SpellsTerminal hir env found.terminal next frames None) hir
+      (key ∷ []) (named_blocks found.terminal) out mid old new
   block_partly key found out mid old new t e = record {
     statements = rows_before t.rows Nil;
     newly = key ∷ [];
@@ -137,42 +159,62 @@ module _ (hir : HirFunction) (env : Environment) (next : Option BlockId) (frames
   }
     where
       only : (all : Statements) (used : List BlockId) → SpellsList hir env key next frames None all used →
-          (rest : Statements) × (later : List BlockId) × SpellsTerminal hir env found.terminal next frames None rest later × (used ≡ key ∷ later)
+          (rest : Statements) × (later : List BlockId) × SpellsTerminal hir env found.terminal next frames None rest
+          later × (used ≡ key ∷ later)
       only all used (block {rest = rest} {used = later} {block = other} u l d w) =
           let mine : Block = record { rows = t.rows; terminal = found.terminal } in
           let same : other ≡ mine = (let z = t.usable in cc) in
           (rest, later, terminal_at same d, refl)
 
   -- a block that no tree may use there
-  pub block_refused : (key : BlockId) (marks : Marks) → IsUnusable hir frames key marks → Refused hir (SpellsList hir env key next frames None) marks.used
-  block_refused key marks none all used (block {used = later} {block = found} u l d w) s = none found u l (refused_front hir marks.used (key ∷ []) later s refl)
+  pub block_refused : (key : BlockId) (marks : Marks) → IsUnusable hir frames key marks
+      → Refused hir (SpellsList hir env key next frames None) marks.used
+  block_refused key marks none all used (block {used = later} {block = found} u l d w) s =
+      none found u l (refused_front hir marks.used (key ∷ []) later s refl)
 
   -- a terminal that ends its list
-  pub leaf_partly : (terminal : Terminal) (statements : Statements) (out whole : List ReactiveStatement) (marks : Marks) → Marked hir marks → whole ≡ out ++ statements_of statements →
-      SpellsTerminal hir env terminal next frames None statements [] → GoesOn hir env terminal next frames None out whole marks marks
+  pub leaf_partly : (terminal : Terminal) (statements : Statements) (out whole : List ReactiveStatement) (marks : Marks)
+      → Marked hir marks → whole ≡ out ++ statements_of statements →
+      SpellsTerminal hir env terminal next frames None statements []
+      → GoesOn hir env terminal next frames None out whole marks marks
   leaf_partly terminal statements out whole marks m e d = record {
     statements = statements;
     newly = [];
     put = e;
-    follows = record { used = sym (append-nil marks.used); marked = m; named = λ more h. named_fewer hir marks.used more (named_blocks terminal ++ more) (λ key. omega (arith, times_append key (named_blocks terminal) more)) h };
-    onward = λ rest used h. subst (λ z. SpellsTerminal hir env terminal next frames None (join statements z) used) (sym h.0)
-        (subst (SpellsTerminal hir env terminal next frames None (join statements Nil)) (sym h.1) (subst (λ z. SpellsTerminal hir env terminal next frames None z []) (sym (join-nil statements)) d));
+    follows =
+        record {
+          used = sym (append-nil marks.used);
+          marked = m;
+          named = λ more h. named_fewer hir marks.used more
+              (named_blocks terminal ++ more) (λ key. omega (arith, times_append key (named_blocks terminal) more)) h;
+        };
+    onward = λ rest used h. subst (λ z. SpellsTerminal hir env terminal next frames None (join statements z) used)
+        (sym h.0)
+        (subst (SpellsTerminal hir env terminal next frames None (join statements Nil)) (sym h.1)
+        (subst (λ z. SpellsTerminal hir env terminal next frames None z []) (sym (join-nil statements)) d));
     only = λ all used h. (Nil, [], (refl, refl), (one_terminal h d).1);
   }
 
-  rest_left : (is_open : Bool) (fallthrough : BlockId) (rest : Statements) (used : List BlockId) → Rest hir env next frames (rest_of is_open fallthrough) rest used → SpellsRest hir env is_open fallthrough next frames None rest used
+  rest_left : (is_open : Bool) (fallthrough : BlockId) (rest : Statements) (used : List BlockId)
+      → Rest hir env next frames (rest_of is_open fallthrough) rest used
+      → SpellsRest hir env is_open fallthrough next frames None rest used
   rest_left true fallthrough rest used d = opened d
   rest_left false fallthrough rest used d =
-      subst (λ z. SpellsRest hir env false fallthrough next frames None z used) (sym d.0) (subst (SpellsRest hir env false fallthrough next frames None Nil) (sym d.1) closed)
+      subst (λ z. SpellsRest hir env false fallthrough next frames None z used) (sym d.0)
+      (subst (SpellsRest hir env false fallthrough next frames None Nil) (sym d.1) closed)
 
-  left_rest : (is_open : Bool) (fallthrough : BlockId) (rest : Statements) (used : List BlockId) → SpellsRest hir env is_open fallthrough next frames None rest used → Rest hir env next frames (rest_of is_open fallthrough) rest used
+  left_rest : (is_open : Bool) (fallthrough : BlockId) (rest : Statements) (used : List BlockId)
+      → SpellsRest hir env is_open fallthrough next frames None rest used
+      → Rest hir env next frames (rest_of is_open fallthrough) rest used
   left_rest true fallthrough rest used (opened d) = d
   left_rest false fallthrough rest used closed = (refl, refl)
 
   -- what follows a statement
-  after_statement : {terminal : Terminal} {is_open : Bool} {fallthrough : BlockId} {statement : Statement} {blocks : List BlockId} → SpellsStatement hir env terminal next frames None is_open fallthrough statement blocks →
+  after_statement : {terminal : Terminal} {is_open : Bool} {fallthrough : BlockId} {statement : Statement}
+      {blocks : List BlockId} → SpellsStatement hir env terminal next frames None is_open fallthrough statement blocks →
       (all : Statements) (used : List BlockId) → SpellsTerminal hir env terminal next frames None all used →
-      (rest : Statements) × (later : List BlockId) × SpellsRest hir env is_open fallthrough next frames None rest later × (used ≡ blocks ++ later)
+      (rest : Statements) × (later : List BlockId) × SpellsRest hir env is_open fallthrough next frames None rest later
+      × (used ≡ blocks ++ later)
   after_statement d all used returns = elim d [ ]
   after_statement d all used unreachable = elim d [ ]
   after_statement d all used (breaks e) = elim d [ ]
@@ -181,16 +223,20 @@ module _ (hir : HirFunction) (env : Environment) (next : Option BlockId) (frames
       (rest, later, rest_at (sym h.1) (sym h.0) r, w ∙ ap (λ z. z ++ later) (sym h.3))
 
   -- a statement, and then what its fallthrough spells
-  pub statement_partly : (terminal : Terminal) (is_open : Bool) (fallthrough : BlockId) (statement : Statement) (blocks : List BlockId) (out whole : List ReactiveStatement) (old new : Marks) →
-      SpellsStatement hir env terminal next frames None is_open fallthrough statement blocks → whole ≡ out ++ statement_of statement ∷ [] →
-      Follows hir (named_blocks terminal) (fallthrough ∷ []) old new blocks → GoesOn hir env terminal next frames (rest_of is_open fallthrough) out whole old new
+  pub statement_partly : (terminal : Terminal) (is_open : Bool) (fallthrough : BlockId) (statement : Statement)
+      (blocks : List BlockId) (out whole : List ReactiveStatement) (old new : Marks) →
+      SpellsStatement hir env terminal next frames None is_open fallthrough statement blocks
+      → whole ≡ out ++ statement_of statement ∷ [] →
+      Follows hir (named_blocks terminal) (fallthrough ∷ []) old new blocks
+      → GoesOn hir env terminal next frames (rest_of is_open fallthrough) out whole old new
   statement_partly terminal is_open fallthrough statement blocks out whole old new d e f = record {
     statements = Cons statement Nil;
     newly = blocks;
     put = e;
     follows = follows_drop hir (rest_le is_open) f;
     onward = λ rest used h. and_rest d (rest_left is_open fallthrough rest used h) refl;
-    only = λ all used h. let k = after_statement d all used h in (k.0, k.1, left_rest is_open fallthrough k.0 k.1 k.2, k.3);
+    only = λ all used h. let k = after_statement d all used h in
+        (k.0, k.1, left_rest is_open fallthrough k.0 k.1 k.2, k.3);
   }
     where
       rest_le : (b : Bool) (key : BlockId) → times key (listed (rest_of b fallthrough)) ≤ times key (fallthrough ∷ [])

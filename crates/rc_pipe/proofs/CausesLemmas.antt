@@ -42,7 +42,8 @@ either false rest is = inr is
 past_end : {X : Type 0} (xs : List X) (i : ℕ) → slice_get xs i ≡ None → length xs ≤ i
 past_end {X = X} xs i none = by (slice_get_cases xs i).1
   where
-    by : ((x : X) × (i < length xs) × (slice_get xs i ≡ Some x) × (get_or xs i x ≡ x)) ⊎ ((length xs ≤ i) × (slice_get xs i ≡ None)) → length xs ≤ i
+    by : ((x : X) × (i < length xs) × (slice_get xs i ≡ Some x) × (get_or xs i x ≡ x))
+        ⊎ ((length xs ≤ i) × (slice_get xs i ≡ None)) → length xs ≤ i
     by (inl found) = absurd (let some : slice_get xs i ≡ Some found.0 = found.2 in let no : ⊥ = cc in no)
     by (inr past) = past.0
 
@@ -52,12 +53,15 @@ module _ (hir : HirFunction) (env : Environment) where
   Held name = IsInTable (lengths env (length hir.instructions)) name
 
   -- rows that are there are not past the end
-  none_past : (index : ℕ) (numbers : List InstructionId) → All Held (flat_map row_name numbers) → length hir.instructions ≤ index
+  none_past : (index : ℕ) (numbers : List InstructionId) → All Held (flat_map row_name numbers)
+      → length hir.instructions ≤ index
       → list_any (λ number. nat_eq index number.0) numbers ≡ true → ⊥
   none_past index [] all past any = let no : ⊥ = cc in no
   none_past index (n ∷ ns) all past any =
-      let here : n.0 < length hir.instructions = All-left Held (row_name n) (flat_map row_name ns) all 0 (tables.Instructions, 0) (omega arith) in
-      split here (λ any. none_past index ns (All-right Held (row_name n) (flat_map row_name ns) all) past any) (either (nat_eq index n.0) _ any)
+      let here : n.0 < length hir.instructions = All-left Held (row_name n) (flat_map row_name ns) all 0
+      (tables.Instructions, 0) (omega arith) in
+      split here (λ any. none_past index ns (All-right Held (row_name n) (flat_map row_name ns) all) past any)
+      (either (nat_eq index n.0) _ any)
     where
       split : n.0 < length hir.instructions → (list_any (λ number. nat_eq index number.0) ns ≡ true → ⊥)
           → (nat_eq index n.0 ≡ true) ⊎ (list_any (λ number. nat_eq index number.0) ns ≡ true) → ⊥
@@ -65,10 +69,12 @@ module _ (hir : HirFunction) (env : Environment) where
       split here later (inr any) = later any
 
   -- a block of a named function names no row that isn't there
-  no_row_lacks : FunctionInTables env hir → (key : BlockId) (index : ℕ) → slice_get hir.instructions index ≡ None → At hir key (LacksRow hir index) → ⊥
+  no_row_lacks : FunctionInTables env hir → (key : BlockId) (index : ℕ) → slice_get hir.instructions index ≡ None
+      → At hir key (LacksRow hir index) → ⊥
   no_row_lacks names key index none at =
       let held = Contains-from_lookup same_block-eq key at.block hir.body.blocks at.found in
-      let later : All Held (flat_map place_names hir.context ++ (flat_map (under_key block_names) hir.body.blocks ++ flat_map instruction_names hir.instructions)) =
+      let later : All Held (flat_map place_names hir.context
+      ++ (flat_map (under_key block_names) hir.body.blocks ++ flat_map instruction_names hir.instructions)) =
       All-right Held (flat_map parameter_names hir.params) _ names
       in
       let blocks : All Held (flat_map (under_key block_names) hir.body.blocks) =
@@ -78,12 +84,14 @@ module _ (hir : HirFunction) (env : Environment) where
       let here : All Held (flat_map row_name at.block.instructions ++ terminal_names at.block.terminal) =
       All-flat_map Held (under_key block_names) hir.body.blocks blocks held.0 (key, at.block) held.1 held.2
       in
-      none_past index at.block.instructions (All-left Held (flat_map row_name at.block.instructions) (terminal_names at.block.terminal) here)
+      none_past index at.block.instructions (All-left Held (flat_map row_name at.block.instructions)
+      (terminal_names at.block.terminal) here)
       (past_end hir.instructions index none) at.holds
 
 -- where none of the entries is unbuilt, none is
 none_unbuilt : (entries : List (BlockId × BasicBlock)) → find (λ entry. not (is_built entry.1.terminal)) entries ≡ None
-    → (i : ℕ) (entry : BlockId × BasicBlock) → i < length entries → get_or entries i entry ≡ entry → is_built entry.1.terminal ≡ false → ⊥
+    → (i : ℕ) (entry : BlockId × BasicBlock) → i < length entries → get_or entries i entry ≡ entry
+    → is_built entry.1.terminal ≡ false → ⊥
 none_unbuilt [] none i entry below is unbuilt = omega arith
 none_unbuilt (e ∷ es) none zero entry below is unbuilt =
     let same : is_built e.1.terminal ≡ false = rw is unbuilt in
@@ -100,30 +108,38 @@ none_unbuilt (e ∷ es) none (suc i) entry below is unbuilt =
 
 module _ (hir : HirFunction) (env : Environment) (accepted : IsAccepted hir env) where
   -- what is accepted and has an answer is refused for want of memory alone
-  pub only_memory : (func : ReactiveFunction) → HasAnswer hir env func → (fault : Fault) → IsCause hir env fault → fault ≡ faults.NoMemory
+  pub only_memory : (func : ReactiveFunction) → HasAnswer hir env func → (fault : Fault) → IsCause hir env fault
+      → fault ≡ faults.NoMemory
   only_memory func answer (faults.BadName table index) cause = absurd (outside cause)
     where
-      within : (rows : ℕ) (names : List Name) → All (IsInTable (lengths env rows)) names → Any (IsOutside (lengths env rows) (faults.BadName table index)) names → ⊥
-      within rows names all some = none_outside (IsInTable (lengths env rows)) (IsOutside (lengths env rows) (faults.BadName table index)) (λ name below out. omega (arith, below, out.1)) names all some
+      within : (rows : ℕ) (names : List Name) → All (IsInTable (lengths env rows)) names
+          → Any (IsOutside (lengths env rows) (faults.BadName table index)) names → ⊥
+      within rows names all some = none_outside (IsInTable (lengths env rows))
+          (IsOutside (lengths env rows) (faults.BadName table index)) (λ name below out. omega (arith, below, out.1))
+          names all some
 
       outside : NamesOutside hir env (faults.BadName table index) → ⊥
       outside (inl here) = within (length hir.instructions) (function_names hir) accepted.names.graph here
       outside (inr (inl nested)) =
           none_outside (FunctionInTables env) (NamesOutsideIn env (faults.BadName table index))
-          (λ function all some. within (length function.instructions) (function_names function) all some) env.functions accepted.names.functions nested
+          (λ function all some. within (length function.instructions) (function_names function) all some) env.functions
+          accepted.names.functions nested
       outside (inr (inr table_itself)) = within 0 (environment_names env) accepted.names.environment table_itself
   only_memory func answer (faults.EarlyReturnSet scope) cause =
-      absurd (let some : first_early_return env ≡ Some scope.0 = cause.1 in let none : first_early_return env ≡ None = accepted.no_early_return in let no : ⊥ = cc in no)
+      absurd (let some : first_early_return env ≡ Some scope.0 = cause.1 in
+      let none : first_early_return env ≡ None = accepted.no_early_return in let no : ⊥ = cc in no)
   only_memory func answer faults.NoIds cause = absurd (cause.2 accepted.room)
   only_memory func answer (faults.NotBuilt block) cause =
       absurd (let some : option_map (λ entry. entry.0) (first_unbuilt hir) ≡ Some block = cause.3 in
-      let none : option_map (λ entry. entry.0) (first_unbuilt hir) ≡ None = ap (option_map (λ entry. entry.0)) accepted.built in let no : ⊥ = cc in no)
+      let none : option_map (λ entry. entry.0) (first_unbuilt hir)
+      ≡ None = ap (option_map (λ entry. entry.0)) accepted.built in let no : ⊥ = cc in no)
   only_memory func answer (faults.Malformed block rule) cause = absurd (cause.1 func answer.spelled)
   only_memory func answer faults.NoMemory cause = refl
   only_memory func answer (faults.Todo block) cause = absurd cause
   only_memory func answer (faults.ScopeCompleted id scope) cause =
       let one : cause.1.0 ≡ func = spells_one_function cause.1.1 answer.spelled in
-      let last : OfLabeled func.body (λ body. EndsOutside env body id scope) = subst (λ f. OfLabeled f.body (λ body. EndsOutside env body id scope)) one cause.1.2 in
+      let last : OfLabeled func.body (λ body. EndsOutside env body id scope) = subst
+      (λ f. OfLabeled f.body (λ body. EndsOutside env body id scope)) one cause.1.2 in
       absurd (last_outside env last.labeled id scope (answer.inside last.labeled last.labels) last.holds)
   only_memory func answer (faults.Uninitialised declaration) cause = absurd cause
   only_memory func answer (faults.NoScopeNode scope) cause = absurd cause
@@ -131,9 +147,12 @@ module _ (hir : HirFunction) (env : Environment) (accepted : IsAccepted hir env)
   only_memory func answer (faults.FunctionCycle function) cause = absurd cause
 
   -- what the builder refuses of an accepted graph has a cause
-  pub cause_of : (fault : Fault) → FaultFact hir fault → ((block : BlockId) (rule : Rule) → fault ≡ faults.Malformed block rule → SpellsNone hir env) → IsCause hir env fault
+  pub cause_of : (fault : Fault) → FaultFact hir fault →
+      ((block : BlockId) (rule : Rule) → fault ≡ faults.Malformed block rule → SpellsNone hir env)
+      → IsCause hir env fault
   cause_of (faults.Malformed block rule) fact none = (accepted, none block rule refl, fact)
-  cause_of (faults.BadName tables.Instructions index) fact none = absurd (no_row_lacks hir env accepted.names.graph fact.1.0 index fact.0 fact.1.1)
+  cause_of (faults.BadName tables.Instructions index) fact none =
+      absurd (no_row_lacks hir env accepted.names.graph fact.1.0 index fact.0 fact.1.1)
   cause_of (faults.NotBuilt key) fact none =
       let held = Contains-from_lookup same_block-eq key fact.block hir.body.blocks fact.found in
       absurd (none_unbuilt hir.body.blocks accepted.built held.0 (key, fact.block) held.1 held.2 fact.holds)

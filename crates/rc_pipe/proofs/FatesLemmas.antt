@@ -41,7 +41,8 @@ scopes_exact a b same =
     ap of_number (exact_unsigned a.0 b.0 same)
 
 -- the numbers of scopes in order are in order
-numbers_sorted : (scopes : List ScopeId) → IsStrictlySortedBy scope_cmp scopes → IsStrictlySortedBy nat_cmp (map (λ scope. scope.0) scopes)
+numbers_sorted : (scopes : List ScopeId) → IsStrictlySortedBy scope_cmp scopes
+    → IsStrictlySortedBy nat_cmp (map (λ scope. scope.0) scopes)
 unfolding IsStrictlySortedBy
 numbers_sorted [] sorted = tt
 numbers_sorted (scope ∷ scopes) sorted = (above scopes sorted.0, numbers_sorted scopes sorted.1)
@@ -75,8 +76,10 @@ fate_by_same left other same scope (DissolvedInto into) is = is
 fate_by_same left other same scope AlwaysInvalidating is = is
 
 -- the fates of scopes in order, by those that are left, are the fates of these scopes
-pub fates_told : (scopes : List ScopeId) (body : ReactiveBlock) (ordered left : List ScopeId) → IsStrictlyIncreasing (map (λ scope. scope.0) ordered)
-    → ((scope : ScopeId) → Contains ordered scope ↔ Contains scopes scope) → ((scope : ScopeId) → Contains left scope ↔ Contains (scopes_in body) scope)
+pub fates_told : (scopes : List ScopeId) (body : ReactiveBlock) (ordered left : List ScopeId)
+    → IsStrictlyIncreasing (map (λ scope. scope.0) ordered)
+    → ((scope : ScopeId) → Contains ordered scope ↔ Contains scopes scope)
+    → ((scope : ScopeId) → Contains left scope ↔ Contains (scopes_in body) scope)
     → (fates : List ScopeFate) → listed_scopes fates ≡ ordered → All (HasFate left) fates → AreFates scopes body fates
 fates_told scopes body ordered left rising same same_left fates listed told = record {
   rising = rw listed rising;
@@ -87,24 +90,35 @@ fates_told scopes body ordered left rising same same_left fates listed told = re
 }
 
 -- a scope is in a set exactly where the set has it
-pub set_contains : (set : BTreeSet ScopeId) (scope : ScopeId) → IsTrue (contains scope_cmp set scope) ↔ Contains set.keys scope
+pub set_contains : (set : BTreeSet ScopeId) (scope : ScopeId)
+    → IsTrue (contains scope_cmp set scope) ↔ Contains set.keys scope
 set_contains set scope = btree_set_contains_iff scopes_ordered scopes_exact set scope
 
 -- a further entry lists its scope, with its fate
-pub one_more : (left : List ScopeId) (fates : List ScopeFate) (entry : ScopeFate) (scope : ScopeId) (rest keys : List ScopeId) → entry.scope ≡ scope → HasFate left entry
-    → (listed_scopes fates ++ scope ∷ rest ≡ keys) × All (HasFate left) fates → (listed_scopes (fates ++ entry ∷ []) ++ rest ≡ keys) × All (HasFate left) (fates ++ entry ∷ [])
+pub one_more : (left : List ScopeId) (fates : List ScopeFate) (entry : ScopeFate) (scope : ScopeId)
+    (rest keys : List ScopeId) → entry.scope ≡ scope → HasFate left entry
+    → (listed_scopes fates ++ scope ∷ rest ≡ keys) × All (HasFate left) fates
+    → (listed_scopes (fates ++ entry ∷ []) ++ rest ≡ keys) × All (HasFate left) (fates ++ entry ∷ [])
 one_more left fates entry scope rest keys same has given =
-    let list = ap (λ l. l ++ rest) (map-append (λ e. e.scope) fates (entry ∷ [])) ∙ append_assoc (listed_scopes fates) (entry.scope ∷ []) rest in
-    (list ∙ ap (λ s. listed_scopes fates ++ s ∷ rest) same ∙ given.0, All-append (HasFate left) fates (entry ∷ []) given.1 alone)
+    let list = ap (λ l. l ++ rest) (map-append (λ e. e.scope) fates (entry ∷ []))
+    ∙ append_assoc (listed_scopes fates) (entry.scope ∷ []) rest in (
+      list ∙ ap (λ s. listed_scopes fates ++ s ∷ rest) same
+          ∙ given.0,
+      All-append (HasFate left) fates (entry ∷ []) given.1 alone,
+    )
   where
     alone : All (HasFate left) (entry ∷ [])
     alone zero other below = has
     alone (suc place) other below = absurd (let no : ⊥ = omega (arith, below) in no)
 
 -- the same of what a call answers, where the scopes found in the body are in some order
-pub fates_answered : (scopes : List ScopeId) (body : ReactiveBlock) (found ordered left : List ScopeId) → found ≡ scopes_in body → IsStrictlyIncreasing (map (λ scope. scope.0) ordered)
-    → ((scope : ScopeId) → Contains ordered scope ↔ Contains scopes scope) → ((scope : ScopeId) → Contains left scope ↔ Contains found scope)
-    → (result : Result (List ScopeFate) AllocError) → IfOk result (λ fates. listed_scopes fates ≡ ordered) → IfOk result (All (HasFate left)) → IfOk result (AreFates scopes body)
+pub fates_answered : (scopes : List ScopeId) (body : ReactiveBlock) (found ordered left : List ScopeId)
+    → found ≡ scopes_in body → IsStrictlyIncreasing (map (λ scope. scope.0) ordered)
+    → ((scope : ScopeId) → Contains ordered scope ↔ Contains scopes scope)
+    → ((scope : ScopeId) → Contains left scope ↔ Contains found scope)
+    → (result : Result (List ScopeFate) AllocError) → IfOk result (λ fates. listed_scopes fates ≡ ordered)
+    → IfOk result (All (HasFate left)) → IfOk result (AreFates scopes body)
 fates_answered scopes body found ordered left all rising same same_left (Ok fates) listed told =
-    fates_told scopes body ordered left rising same (λ scope. subst (λ list. Contains left scope ↔ Contains list scope) all (same_left scope)) fates listed told
+    fates_told scopes body ordered left rising same (λ scope. subst (λ list. Contains left scope ↔ Contains list scope)
+    all (same_left scope)) fates listed told
 fates_answered scopes body found ordered left all rising same same_left (Err error) listed told = tt

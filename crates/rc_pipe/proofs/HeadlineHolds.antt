@@ -52,8 +52,10 @@ headline_holds hir env pruned accepted spelled spells passes same_runs told = re
 }
 
 -- what is answered has an answer
-pub has_answer : (hir : HirFunction) (env : Environment) (pruned : Pruned) (answer : IsAnswer hir env pruned) → HasAnswer hir env answer.spelled
+pub has_answer : (hir : HirFunction) (env : Environment) (pruned : Pruned) (answer : IsAnswer hir env pruned)
+    → HasAnswer hir env answer.spelled
 has_answer hir env pruned answer = record {
   spelled = answer.spells;
-  inside = λ labeled labels. subst (AreInside env) (one_without_labels answer.spelled.body answer.passes.labeled labeled answer.passes.labels labels) answer.passes.inside;
+  inside = λ labeled labels. subst (AreInside env) (one_without_labels answer.spelled.body answer.passes.labeled labeled
+      answer.passes.labels labels) answer.passes.inside;
 }

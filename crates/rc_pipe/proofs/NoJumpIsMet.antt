@@ -1,4 +1,5 @@
--- The check of break targets meets no jump in a spelled tree: it enters scopes alone, and a break out of a scope is no statement.
+-- The check of break targets meets no jump in a spelled tree: it enters scopes alone, and a break out of a scope is no
+-- statement.
 use Rattle.std.proofs.Common.{◌≡◌, ◌∙◌, ℕ, zero, suc, List, [], ◌∷◌, ◌++◌, flat_map, slice_get, Bool, true, false, if◌then◌else◌, ◌||◌, Option, None, Some, option_and_then, refl, sym, ap, subst}
 use Rattle.rc_names.specs.declared.numbers.BlockId.{BlockId}
 use Rattle.rc_names.specs.declared.numbers.EvaluationOrder.{EvaluationOrder}
@@ -40,7 +41,8 @@ no_jumps-append (x ∷ xs) ys first second = (first.0, no_jumps-append xs ys fir
 
 no_jump_at : (xs : Terminals) (place : ℕ) (target : BlockId) → NoJumps xs → JumpsTo xs place target → ⊥
 no_jump_at [] place target none jumps = let no : ⊥ = cc in no
-no_jump_at (x ∷ xs) zero target none jumps = let here : jump_target x ≡ Some target = jumps in let not : jump_target x ≡ None = none.0 in let no : ⊥ = cc in no
+no_jump_at (x ∷ xs) zero target none jumps =
+    let here : jump_target x ≡ Some target = jumps in let not : jump_target x ≡ None = none.0 in let no : ⊥ = cc in no
 no_jump_at (x ∷ xs) (suc place) target none jumps = no_jump_at xs place target none.1 jumps
 
 -- each frame is that of a scope
@@ -54,12 +56,15 @@ abbrev IsNoBreak : Way → Type 0
 IsNoBreak (Breaks kind) = ⊥
 IsNoBreak _ = Unit {0}
 
-scopes_way : (innermost in_loop : Bool) (frames : List Frame) (target : BlockId) → AreScopes frames → IsNoBreak (way_from innermost in_loop frames target)
+scopes_way : (innermost in_loop : Bool) (frames : List Frame) (target : BlockId) → AreScopes frames
+    → IsNoBreak (way_from innermost in_loop frames target)
 scopes_way innermost in_loop [] target all = tt
-scopes_way innermost in_loop (frame.Scope of ∷ frames) target all = split (same_block of target) innermost (scopes_way false (in_loop || false) frames target all)
+scopes_way innermost in_loop (frame.Scope of ∷ frames) target all =
+    split (same_block of target) innermost (scopes_way false (in_loop || false) frames target all)
   where
     split : (same innermost : Bool) → IsNoBreak (way_from false (in_loop || false) frames target)
-        → IsNoBreak (if same then way_out_of innermost in_loop (frame.Scope of) else way_from false (in_loop || false) frames target)
+        → IsNoBreak (if same then way_out_of innermost in_loop (frame.Scope of) else way_from false (in_loop || false)
+        frames target)
     split true true later = tt
     split true false later = tt
     split false innermost later = later
@@ -72,21 +77,28 @@ scopes_way innermost in_loop (frame.Loop of again ∷ frames) target all = absur
 abbrev Quiet : Statements → Type 0
 Quiet statements = NoJumps (flat_map met_at (statements_of statements))
 
-one_more : (statement : Statement) (rest : Statements) → NoJumps (met_at (statement_of statement)) → Quiet rest → Quiet (Cons statement rest)
-one_more statement rest first later = no_jumps-append (met_at (statement_of statement)) (flat_map met_at (statements_of rest)) first later
+one_more : (statement : Statement) (rest : Statements) → NoJumps (met_at (statement_of statement)) → Quiet rest
+    → Quiet (Cons statement rest)
+one_more statement rest first later =
+    no_jumps-append (met_at (statement_of statement)) (flat_map met_at (statements_of rest)) first later
 
 rows_quiet : (rows : List Instruction) (rest : Statements) → Quiet rest → Quiet (rows_before rows rest)
 rows_quiet [] rest later = later
 rows_quiet (row ∷ rows) rest later =
-    let x : ReactiveInstruction = record { id = row.id; lvalue = Some row.lvalue; value = val.Instruction row.value; span = row.span } in
-    one_more (RowStatement row.id (Some row.lvalue) (Base row.value) row.span) (rows_before rows rest) (subst NoJumps (sym (met_at-Instruction x)) tt) (rows_quiet rows rest later)
+    let x : ReactiveInstruction =
+    record { id = row.id; lvalue = Some row.lvalue; value = val.Instruction row.value; span = row.span } in
+    one_more (RowStatement row.id (Some row.lvalue) (Base row.value) row.span) (rows_before rows rest)
+    (subst NoJumps (sym (met_at-Instruction x)) tt) (rows_quiet rows rest later)
 
 -- a terminal that is no jump
-still : (terminal : TreeTerminal) (own : Option ReactiveLabel) → jump_target (record { terminal = terminal_of terminal; label = own }) ≡ None
+still : (terminal : TreeTerminal) (own : Option ReactiveLabel)
+    → jump_target (record { terminal = terminal_of terminal; label = own }) ≡ None
     → NoJumps (met_at (statement_of (TerminalStatement terminal own)))
-still terminal own none = subst NoJumps (sym (met_at-Terminal (record { terminal = terminal_of terminal; label = own }))) (none, tt)
+still terminal own none =
+    subst NoJumps (sym (met_at-Terminal (record { terminal = terminal_of terminal; label = own }))) (none, tt)
 
-break_quiet : (way : Way) (target : BlockId) (id : EvaluationOrder) (statements : Statements) → IsNoBreak way → break_statements way target id ≡ Some statements → Quiet statements
+break_quiet : (way : Way) (target : BlockId) (id : EvaluationOrder) (statements : Statements) → IsNoBreak way
+    → break_statements way target id ≡ Some statements → Quiet statements
 break_quiet NoFrame target id statements is e = absurd (let no : ⊥ = cc in no)
 break_quiet LeavesScope target id statements is e = absurd (let no : ⊥ = cc in no)
 break_quiet LeavesCase target id statements is e = absurd (let no : ⊥ = cc in no)
@@ -94,7 +106,8 @@ break_quiet FallsOff target id statements is e = subst Quiet (let same : Nil ≡
 break_quiet (Breaks kind) target id statements is e = absurd is
 
 -- the frames inside a scope
-inside_scopes : (opened : Bool) (fallthrough : BlockId) (frames : List Frame) → AreScopes frames → AreScopes (frames_inside opened (frame.Scope fallthrough) frames)
+inside_scopes : (opened : Bool) (fallthrough : BlockId) (frames : List Frame) → AreScopes frames
+    → AreScopes (frames_inside opened (frame.Scope fallthrough) frames)
 inside_scopes true fallthrough frames all = all
 inside_scopes false fallthrough frames all = all
 
@@ -103,38 +116,53 @@ block_quiet part quiet = subst NoJumps (sym (met_in-statements (block_of part)))
 
 module _ {hir : HirFunction} {env : Environment} where
   mutual
-    quiet_list : {key : BlockId} {next handler : Option BlockId} {frames : List Frame} {statements : Statements} {used : List BlockId} →
+    quiet_list : {key : BlockId} {next handler : Option BlockId} {frames : List Frame} {statements : Statements}
+        {used : List BlockId} →
         SpellsList hir env key next frames handler statements used → AreScopes frames → Quiet statements
-    quiet_list (block {rest = rest} {block = b} usable live d w) all = subst Quiet (sym w) (rows_quiet b.rows rest (quiet_terminal d all))
+    quiet_list (block {rest = rest} {block = b} usable live d w) all =
+        subst Quiet (sym w) (rows_quiet b.rows rest (quiet_terminal d all))
 
-    quiet_terminal : {terminal : Terminal} {next handler : Option BlockId} {frames : List Frame} {statements : Statements} {used : List BlockId} →
+    quiet_terminal : {terminal : Terminal} {next handler : Option BlockId} {frames : List Frame}
+        {statements : Statements} {used : List BlockId} →
         SpellsTerminal hir env terminal next frames handler statements used → AreScopes frames → Quiet statements
     quiet_terminal (returns {value = value} {id = id}) all =
-        one_more (TerminalStatement (Return value id) None) Nil (still (Return value id) None (ap target_of (term.outs-Return value id))) tt
+        one_more (TerminalStatement (Return value id) None) Nil
+        (still (Return value id) None (ap target_of (term.outs-Return value id))) tt
     quiet_terminal unreachable all = tt
     quiet_terminal (breaks {target = target} {id = id} {frames = frames} {statements = statements} e) all =
         break_quiet (break_way frames target) target id statements (scopes_way true false frames target all) e
-    quiet_terminal (and_rest {statement = statement} {rest = rest} d r w) all = one_more statement rest (quiet_statement d all) (quiet_rest r all)
+    quiet_terminal (and_rest {statement = statement} {rest = rest} d r w) all =
+        one_more statement rest (quiet_statement d all) (quiet_rest r all)
 
-    quiet_statement : {terminal : Terminal} {next handler : Option BlockId} {frames : List Frame} {o : Bool} {f : BlockId} {statement : Statement} {used : List BlockId} →
-        SpellsStatement hir env terminal next frames handler o f statement used → AreScopes frames → NoJumps (met_at (statement_of statement))
+    quiet_statement : {terminal : Terminal} {next handler : Option BlockId} {frames : List Frame} {o : Bool}
+        {f : BlockId} {statement : Statement} {used : List BlockId} →
+        SpellsStatement hir env terminal next frames handler o f statement used → AreScopes frames
+        → NoJumps (met_at (statement_of statement))
     quiet_statement (if_only {test = test} {id = id} {label = own} {part = part} i l s falls d) all =
         still (If test part Absent id) own (ap target_of (term.outs-If test (block_of part) None id))
     quiet_statement (if_else {test = test} {id = id} {label = own} {part = part} {other = other} i l s d e w) all =
-        still (If test part (Present other) id) own (ap target_of (term.outs-If test (block_of part) (Some (block_of other)) id))
-    quiet_statement (label {id = id} {label = own} {part = part} i l d) all = still (Label part id) own (ap target_of (term.outs-Label (block_of part) id))
+        still (If test part (Present other) id) own (ap target_of
+        (term.outs-If test (block_of part) (Some (block_of other)) id))
+    quiet_statement (label {id = id} {label = own} {part = part} i l d) all =
+        still (Label part id) own (ap target_of (term.outs-Label (block_of part) id))
     quiet_statement (scope {fallthrough = f} {scope = of} {frames = frames} {opened = o} {part = part} i d) all =
-        subst NoJumps (sym (met_at-Scope (record { scope = of; instructions = block_of part }))) (block_quiet part (quiet_list d (inside_scopes o f frames all)))
+        subst NoJumps (sym (met_at-Scope (record { scope = of; instructions = block_of part })))
+        (block_quiet part (quiet_list d (inside_scopes o f frames all)))
     quiet_statement (pruned_scope {fallthrough = f} {scope = of} {frames = frames} {opened = o} {part = part} i d) all =
-        subst NoJumps (sym (met_at-PrunedScope (record { scope = of; instructions = block_of part }))) (block_quiet part (quiet_list d (inside_scopes o f frames all)))
+        subst NoJumps (sym (met_at-PrunedScope (record { scope = of; instructions = block_of part })))
+        (block_quiet part (quiet_list d (inside_scopes o f frames all)))
 
-    quiet_rest : {o : Bool} {f : BlockId} {next handler : Option BlockId} {frames : List Frame} {statements : Statements} {used : List BlockId} →
+    quiet_rest : {o : Bool} {f : BlockId} {next handler : Option BlockId} {frames : List Frame}
+        {statements : Statements} {used : List BlockId} →
         SpellsRest hir env o f next frames handler statements used → AreScopes frames → Quiet statements
     quiet_rest closed all = tt
     quiet_rest (opened d) all = quiet_list d all
 
   -- no jump is met in a spelled function
-  pub no_jump_is_met : (func : ReactiveFunction) → Spells hir env func → (place : ℕ) (target : BlockId) → JumpsTo (met_in func.body) place target → ⊥
+  pub no_jump_is_met : (func : ReactiveFunction) → Spells hir env func → (place : ℕ) (target : BlockId)
+      → JumpsTo (met_in func.body) place target → ⊥
   no_jump_is_met func spelled place target jumps =
       let same : met_in func.body ≡ met_in (block_of spelled.statements) = ap (λ f. met_in f.body) spelled.whole in
-      no_jump_at (met_in (block_of spelled.statements)) place target (block_quiet spelled.statements (quiet_list spelled.body.list tt)) (subst (λ met. JumpsTo met place target) same jumps)
+      no_jump_at (met_in (block_of spelled.statements)) place target
+      (block_quiet spelled.statements (quiet_list spelled.body.list tt))
+      (subst (λ met. JumpsTo met place target) same jumps)

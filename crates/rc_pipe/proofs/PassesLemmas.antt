@@ -33,7 +33,8 @@ use Rattle.rc_pipe.proofs.NoJumpIsMet.{no_jump_is_met}
 
 -- runs that are kept up to a function are kept up to one with the same statements outside its scopes
 pub runs_through : (env : Environment) (first second third : ReactiveFunction) (result : Result (Unit {0}) Fault)
-    → ((events : List Event) (end : End) → IsBodyRun first env events end ↔ IsBodyRun second env events end) → OnOk result (erased third ≡ erased second)
+    → ((events : List Event) (end : End) → IsBodyRun first env events end ↔ IsBodyRun second env events end)
+    → OnOk result (erased third ≡ erased second)
     → OnOk result ((events : List Event) (end : End) → IsBodyRun first env events end ↔ IsBodyRun third env events end)
 runs_through env first second third (Ok done) same e = λ events end.
     let here = same events end in
@@ -78,7 +79,8 @@ module _ (env : Environment) (func : ReactiveFunction) (labeled : ReactiveBlock)
       subst (IsPassFault env func) (sym it.2)
       (record { labeled = labeled; labels = labels; holds = inl (unknown it.0 it.1 it.2) })
 
-module _ (hir : HirFunction) (env : Environment) (accepted : IsAccepted hir env) (func : ReactiveFunction) (spelled : Spells hir env func) where
+module _ (hir : HirFunction) (env : Environment) (accepted : IsAccepted hir env) (func : ReactiveFunction)
+    (spelled : Spells hir env func) where
   -- the numbers of the function without its unused labels are in their tables
   labeled_names : (labeled : ReactiveBlock) → IsWithoutUnusedLabels func.body labeled
       → All (IsInTable (lengths env 0)) (names_in labeled)
@@ -86,7 +88,8 @@ module _ (hir : HirFunction) (env : Environment) (accepted : IsAccepted hir env)
       subst (All (IsInTable (lengths env 0))) (sym (labels_keep_names func.body labeled labels))
       (spelled_names_held hir env accepted.names.graph func spelled)
 
-  nothing_lacks : (fault : Fault) (labeled : ReactiveBlock) → IsWithoutUnusedLabels func.body labeled → LacksNumber env fault labeled → ⊥
+  nothing_lacks : (fault : Fault) (labeled : ReactiveBlock) → IsWithoutUnusedLabels func.body labeled
+      → LacksNumber env fault labeled → ⊥
   nothing_lacks fault labeled labels (inl unknown) =
       no_unknown env 0 (scopes_in labeled) accepted.names.functions accepted.names.environment labeled
       (labeled_names labeled labels) fault unknown
@@ -97,7 +100,8 @@ module _ (hir : HirFunction) (env : Environment) (accepted : IsAccepted hir env)
   pub pass_cause : (fault : Fault) → IsPassFault env func fault → IsCause hir env fault
   pass_cause (faults.BadTarget target) unmet = absurd (no_jump_is_met func spelled unmet.place target unmet.jumps)
   pass_cause (faults.ScopeCompleted id scope) last = (accepted, (func, spelled, last))
-  pass_cause (faults.BadName table index) lacks = absurd (nothing_lacks (faults.BadName table index) lacks.labeled lacks.labels lacks.holds)
+  pass_cause (faults.BadName table index) lacks =
+      absurd (nothing_lacks (faults.BadName table index) lacks.labeled lacks.labels lacks.holds)
   pass_cause faults.NoMemory fault = tt
   pass_cause (faults.Malformed block rule) fault = absurd fault
   pass_cause (faults.Todo block) fault = absurd fault

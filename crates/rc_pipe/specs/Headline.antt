@@ -69,6 +69,7 @@ IsCause hir env (faults.NotBuilt block) =
 IsCause hir env (faults.Malformed block rule) =
     IsAccepted hir env × SpellsNone hir env × RuleFact hir rule block
 IsCause hir env (faults.ScopeCompleted id scope) =
-    IsAccepted hir env × ((func : ReactiveFunction) × Spells hir env func × OfLabeled func.body (λ body. EndsOutside env body id scope))
+    IsAccepted hir env × ((func : ReactiveFunction) × Spells hir env func
+    × OfLabeled func.body (λ body. EndsOutside env body id scope))
 IsCause hir env faults.NoMemory = ⊤
 IsCause hir env _ = ⊥

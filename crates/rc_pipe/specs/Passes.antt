@@ -41,7 +41,8 @@ pub record OfLabeled (body : ReactiveBlock) (P : ReactiveBlock → Type 0) : Typ
 
 -- a check or a pass has no table entry for the number that the fault names
 abbrev pub LacksNumber : Environment → Fault → ReactiveBlock → Type 0
-LacksNumber env fault body = IsFirstUnknown env (scopes_in body) (visits_of env.functions body) fault ⊎ NamesFirstScopeOutside env body fault
+LacksNumber env fault body =
+    IsFirstUnknown env (scopes_in body) (visits_of env.functions body) fault ⊎ NamesFirstScopeOutside env body fault
 
 -- why the passes refuse a function
 abbrev pub IsPassFault : Environment → ReactiveFunction → Fault → Type 0

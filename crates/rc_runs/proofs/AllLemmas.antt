@@ -9,14 +9,17 @@ module _ {X : Type 0} (P : X → Type 0) where
   All-none = λ k d below. absurd (let no : ⊥ = omega (arith, below) in no)
 
   pub All-left : (xs ys : List X) → All P (xs ++ ys) → All P xs
-  All-left xs ys all = λ k d below. subst P (get_or-append xs ys d k below) (all k d (omega (arith, length-append xs ys)))
+  All-left xs ys all = λ k d below. subst P (get_or-append xs ys d k below)
+      (all k d (omega (arith, length-append xs ys)))
 
   pub All-right : (xs ys : List X) → All P (xs ++ ys) → All P ys
-  All-right xs ys all = λ k d below. subst P (get_or-append-add xs ys k d) (all (length xs + k) d (omega (arith, length-append xs ys)))
+  All-right xs ys all =
+      λ k d below. subst P (get_or-append-add xs ys k d) (all (length xs + k) d (omega (arith, length-append xs ys)))
 
 -- what holds of all that is made of elements holds of what is made of each
 pub All-flat_map : {X Y : Type 0} (P : Y → Type 0) (f : X → List Y) (xs : List X) → All P (flat_map f xs)
     → (i : ℕ) (x : X) → i < length xs → get_or xs i x ≡ x → All P (f x)
 All-flat_map P f [] all i x below is = absurd (let no : ⊥ = omega arith in no)
 All-flat_map P f (y ∷ ys) all zero x below is = subst (λ z. All P (f z)) is (All-left P (f y) (flat_map f ys) all)
-All-flat_map P f (y ∷ ys) all (suc i) x below is = All-flat_map P f ys (All-right P (f y) (flat_map f ys) all) i x (omega arith) is
+All-flat_map P f (y ∷ ys) all (suc i) x below is =
+    All-flat_map P f ys (All-right P (f y) (flat_map f ys) all) i x (omega arith) is

@@ -27,7 +27,8 @@ use Rattle.rc_runs.specs.Erase.{without_flag, erased_value, erased_row, erased_b
 use Rattle.rc_runs.proofs.ErasedPartLemmas.{erased-Instruction, erased-LogicalExpression, erased-ConditionalExpression, erased-SequenceExpression, erased-OptionalExpression, erased-row, erased-block, erased-row_statement, erased-labeled, erased-scope, erased-pruned_scope, erased-case, erased-Switch, erased-DoWhile, erased-While, erased-For, erased-ForOf, erased-ForIn, erased-If, erased-Label, erased-Try}
 
 -- parts of one measure leave the same
-same_block : (block block1 : ReactiveBlock) → erased_statements block1.statements ≡ erased_statements block.statements → erased_block block1 ≡ erased_block block
+same_block : (block block1 : ReactiveBlock) → erased_statements block1.statements ≡ erased_statements block.statements
+    → erased_block block1 ≡ erased_block block
 same_block block block1 e = erased-block block1 ∙ (λ i. record { statements = e i }) ∙ sym (erased-block block)
 
 same_if : (block block1 : Option ReactiveBlock) → AlikeIf (λ x. erased_statements x.statements) block1 block →
@@ -37,18 +38,21 @@ same_if (Some block) (Some block1) e = ap Some (same_block block block1 e)
 same_if None (Some block1) e = absurd e
 same_if (Some block) None e = absurd e
 
-same_value_if : (value value1 : Option ReactiveValue) → AlikeIf erased_value value1 value → option_map erased_value value1 ≡ option_map erased_value value
+same_value_if : (value value1 : Option ReactiveValue) → AlikeIf erased_value value1 value
+    → option_map erased_value value1 ≡ option_map erased_value value
 same_value_if None None e = refl
 same_value_if (Some value) (Some value1) e = ap Some e
 same_value_if None (Some value1) e = absurd e
 same_value_if (Some value) None e = absurd e
 
 -- what a list of one statement leaves
-one_statement : (x : ReactiveStatement) (xs : List ReactiveStatement) → erased_statement x ≡ xs → erased_statements (x ∷ []) ≡ xs
+one_statement : (x : ReactiveStatement) (xs : List ReactiveStatement) → erased_statement x ≡ xs
+    → erased_statements (x ∷ []) ≡ xs
 one_statement x xs e = append-nil (erased_statement x) ∙ e
 
 -- erasing as a measure of parts
-abbrev pub erase_measure : Measure ReactiveValue ReactiveInstruction (List ReactiveStatement) ReactiveSwitchCase ReactiveTerminal
+abbrev pub erase_measure : Measure ReactiveValue ReactiveInstruction (List ReactiveStatement) ReactiveSwitchCase
+    ReactiveTerminal
 erase_measure = record {
   value = erased_value;
   row = erased_row;
@@ -60,12 +64,16 @@ erase_measure = record {
 pub erase_laws : Compositional erase_measure
 erase_laws = record {
   logical = λ operator x x1 y y1 e f.
-      erased-LogicalExpression operator x1 y1 ∙ (λ i. values.LogicalExpression operator (e i) (f i)) ∙ sym (erased-LogicalExpression operator x y);
+      erased-LogicalExpression operator x1 y1 ∙ (λ i. values.LogicalExpression operator (e i) (f i))
+      ∙ sym (erased-LogicalExpression operator x y);
   conditional = λ x x1 y y1 z z1 e f g.
-      erased-ConditionalExpression x1 y1 z1 ∙ (λ i. values.ConditionalExpression (e i) (f i) (g i)) ∙ sym (erased-ConditionalExpression x y z);
+      erased-ConditionalExpression x1 y1 z1 ∙ (λ i. values.ConditionalExpression (e i) (f i) (g i))
+      ∙ sym (erased-ConditionalExpression x y z);
   sequence = λ rows rows1 own x x1 e f.
-      erased-SequenceExpression rows1 own x1 ∙ (λ i. values.SequenceExpression (e i) own (f i)) ∙ sym (erased-SequenceExpression rows own x);
-  optional = λ x x1 mark e. erased-OptionalExpression x1 mark ∙ (λ i. values.OptionalExpression (e i) mark) ∙ sym (erased-OptionalExpression x mark);
+      erased-SequenceExpression rows1 own x1 ∙ (λ i. values.SequenceExpression (e i) own (f i))
+      ∙ sym (erased-SequenceExpression rows own x);
+  optional = λ x x1 mark e. erased-OptionalExpression x1 mark ∙ (λ i. values.OptionalExpression (e i) mark)
+      ∙ sym (erased-OptionalExpression x mark);
   row = λ x y e.
       erased-row (record { id = x.id; lvalue = x.lvalue; value = y; span = x.span })
       ∙ (λ i. record { id = x.id; lvalue = x.lvalue; value = e i; span = x.span })
@@ -76,22 +84,29 @@ erase_laws = record {
       one_statement (statements.Instruction x1) _ (erased-row_statement x1) ∙ (λ i. statements.Instruction (e i) ∷ [])
       ∙ sym (one_statement (statements.Instruction x) _ (erased-row_statement x));
   labeled = λ x t e.
-      one_statement (statements.Terminal (record { terminal = t; label = x.label })) _ (erased-labeled (record { terminal = t; label = x.label }))
+      one_statement (statements.Terminal (record { terminal = t; label = x.label })) _
+      (erased-labeled (record { terminal = t; label = x.label }))
       ∙ (λ i. statements.Terminal (record { terminal = e i; label = x.label }) ∷ [])
       ∙ sym (one_statement (statements.Terminal x) _ (erased-labeled x));
   scope = λ x b e.
-      one_statement (statements.Scope (record { scope = x.scope; instructions = b })) _ (erased-scope (record { scope = x.scope; instructions = b })) ∙ e
+      one_statement (statements.Scope (record { scope = x.scope; instructions = b })) _
+      (erased-scope (record { scope = x.scope; instructions = b })) ∙ e
       ∙ sym (one_statement (statements.Scope x) _ (erased-scope x));
   pruned_scope = λ x b e.
-      one_statement (statements.PrunedScope (record { scope = x.scope; instructions = b })) _ (erased-pruned_scope (record { scope = x.scope; instructions = b })) ∙ e
+      one_statement (statements.PrunedScope (record { scope = x.scope; instructions = b })) _
+      (erased-pruned_scope (record { scope = x.scope; instructions = b })) ∙ e
       ∙ sym (one_statement (statements.PrunedScope x) _ (erased-pruned_scope x));
   case = λ test b b1 e.
-      erased-case test b1 ∙ (λ i. roll-ReactiveSwitchCase (record { test = test; block = same_if b b1 e i })) ∙ sym (erased-case test b);
-  switch = λ test cases cases1 id e. erased-Switch test cases1 id ∙ (λ i. terminals.Switch test (e i) id) ∙ sym (erased-Switch test cases id);
+      erased-case test b1 ∙ (λ i. roll-ReactiveSwitchCase (record { test = test; block = same_if b b1 e i }))
+      ∙ sym (erased-case test b);
+  switch = λ test cases cases1 id e. erased-Switch test cases1 id ∙ (λ i. terminals.Switch test (e i) id)
+      ∙ sym (erased-Switch test cases id);
   do_while = λ body body1 test test1 id e f.
-      erased-DoWhile body1 test1 id ∙ (λ i. terminals.DoWhile (same_block body body1 e i) (f i) id) ∙ sym (erased-DoWhile body test id);
+      erased-DoWhile body1 test1 id ∙ (λ i. terminals.DoWhile (same_block body body1 e i) (f i) id)
+      ∙ sym (erased-DoWhile body test id);
   while = λ test test1 body body1 id e f.
-      erased-While test1 body1 id ∙ (λ i. terminals.While (e i) (same_block body body1 f i) id) ∙ sym (erased-While test body id);
+      erased-While test1 body1 id ∙ (λ i. terminals.While (e i) (same_block body body1 f i) id)
+      ∙ sym (erased-While test body id);
   for = λ init init1 test test1 update update1 body body1 id e f g h.
       erased-For init1 test1 update1 body1 id
       ∙ (λ i. terminals.For (e i) (f i) (same_value_if update update1 g i) (same_block body body1 h i) id)
@@ -100,12 +115,14 @@ erase_laws = record {
       erased-ForOf init1 test1 body1 span id ∙ (λ i. terminals.ForOf (e i) (f i) (same_block body body1 g i) span id)
       ∙ sym (erased-ForOf init test body span id);
   for_in = λ init init1 body body1 span id e f.
-      erased-ForIn init1 body1 span id ∙ (λ i. terminals.ForIn (e i) (same_block body body1 f i) span id) ∙ sym (erased-ForIn init body span id);
+      erased-ForIn init1 body1 span id ∙ (λ i. terminals.ForIn (e i) (same_block body body1 f i) span id)
+      ∙ sym (erased-ForIn init body span id);
   if = λ test consequent consequent1 alternate alternate1 id e f.
       erased-If test consequent1 alternate1 id
       ∙ (λ i. terminals.If test (same_block consequent consequent1 e i) (same_if alternate alternate1 f i) id)
       ∙ sym (erased-If test consequent alternate id);
-  label = λ body body1 id e. erased-Label body1 id ∙ (λ i. terminals.Label (same_block body body1 e i) id) ∙ sym (erased-Label body id);
+  label = λ body body1 id e. erased-Label body1 id ∙ (λ i. terminals.Label (same_block body body1 e i) id)
+      ∙ sym (erased-Label body id);
   try = λ body body1 binding handler handler1 id e f.
       erased-Try body1 binding handler1 id
       ∙ (λ i. terminals.Try (same_block body body1 e i) binding (same_block handler handler1 f i) id)
@@ -114,19 +131,24 @@ erase_laws = record {
 
 -- a call of the walk whose steps keep what is left of their parts keeps what is left of the function
 pub erase_kept : {T S : Type 0} {steps : RewriteSteps (T × S)} → KeepsMeasure erase_measure steps →
-    (functions : T → List HirFunction) (before after : T × S) (old new : ReactiveFunction) (result : Result (Unit {0}) Fault) →
-    Gives (rewrite_block steps functions before old.body) result (after, new.body) → new ≡ record old { body = new.body } →
+    (functions : T → List HirFunction) (before after : T × S) (old new : ReactiveFunction)
+    (result : Result (Unit {0}) Fault) →
+    Gives (rewrite_block steps functions before old.body) result (after, new.body)
+    → new ≡ record old { body = new.body } →
     OnOk result (erased new ≡ erased old)
 erase_kept {steps = steps} keeps functions before after old new result walk header =
-    of_body result (call_keeps erase_measure erase_laws steps functions keeps before after old.body new.body result walk)
+    of_body result (call_keeps erase_measure erase_laws steps functions keeps before after old.body new.body result
+    walk)
   where
-    of_body : (result : Result (Unit {0}) Fault) → OnOk result (erased_statements new.body.statements ≡ erased_statements old.body.statements) →
+    of_body : (result : Result (Unit {0}) Fault) → OnOk result
+        (erased_statements new.body.statements ≡ erased_statements old.body.statements) →
         OnOk result (erased new ≡ erased old)
     of_body (Err fault) e = tt
     of_body (Ok done) e = ap erased header ∙ (λ i. record old { body = same_block old.body new.body e i })
 
 -- what a pass cites of its steps: a block of a scope, kept or pruned, leaves what its statements leave
-pub scope_left : (scope : ReactiveScopeBlock) → erased_statements (statements.Scope scope ∷ []) ≡ erased_statements scope.instructions.statements
+pub scope_left : (scope : ReactiveScopeBlock) → erased_statements (statements.Scope scope ∷ [])
+    ≡ erased_statements scope.instructions.statements
 scope_left scope = one_statement (statements.Scope scope) _ (erased-scope scope)
 
 pub pruned_scope_left : (scope : PrunedReactiveScopeBlock) →
@@ -134,7 +156,8 @@ pub pruned_scope_left : (scope : PrunedReactiveScopeBlock) →
 pruned_scope_left scope = one_statement (statements.PrunedScope scope) _ (erased-pruned_scope scope)
 
 -- a pruned scope block leaves what a scope block with its statements leaves
-pub pruned_like_kept : (pruned : PrunedReactiveScopeBlock) (scope : ReactiveScopeBlock) → pruned.instructions ≡ scope.instructions →
+pub pruned_like_kept : (pruned : PrunedReactiveScopeBlock) (scope : ReactiveScopeBlock)
+    → pruned.instructions ≡ scope.instructions →
     erased_statements (statements.PrunedScope pruned ∷ []) ≡ erased_statements (statements.Scope scope ∷ [])
 pruned_like_kept pruned scope e =
     pruned_scope_left pruned ∙ ap (λ block. erased_statements block.statements) e ∙ sym (scope_left scope)

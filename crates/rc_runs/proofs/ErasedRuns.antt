@@ -1,6 +1,7 @@
 -- A body has the runs that it has without its scopes.
 --
--- A scope block runs as its contents do, which stand in its place, and every other statement stays around parts that keep
+-- A scope block runs as its contents do, which stand in its place, and every other statement stays around parts that
+-- keep
 -- their runs. The flag that is left out plays no part, since its instruction is silent.
 use Rattle.std.proofs.Common.{◌≡◌, ◌↔◌, Bool, true, false, ◌||◌, List, [], ◌∷◌, Option, refl, sym, ap, ◌∙◌, subst}
 use Rattle.rc_names.specs.declared.numbers.EvaluationOrder.{EvaluationOrder}
@@ -23,12 +24,14 @@ use Rattle.rc_runs.proofs.TreeOfLemmas.{block_of-injective}
 use Rattle.rc_runs.proofs.EveryBlockIsPlain.{every_block_is_plain}
 
 -- the flag changes no event: who sets it is silent
-same_silence : (env : Environment) (id : EvaluationOrder) (value : InstructionValue) → is_silent env id (without_flag value) ≡ is_silent env id value
+same_silence : (env : Environment) (id : EvaluationOrder) (value : InstructionValue)
+    → is_silent env id (without_flag value) ≡ is_silent env id value
 unfolding is_silent_value
 same_silence env id (instructions.FinishMemoize manual_memo_id decl pruned span) = refl
 same_silence env id value = refl
 
-seen_stays : (env : Environment) (id : EvaluationOrder) (value : InstructionValue) → is_silent env id value ≡ false → without_flag value ≡ value
+seen_stays : (env : Environment) (id : EvaluationOrder) (value : InstructionValue) → is_silent env id value ≡ false
+    → without_flag value ≡ value
 unfolding is_silent_value
 seen_stays env id (instructions.FinishMemoize manual_memo_id decl pruned span) e = absurd (never (is_unset id) e)
   where
@@ -41,32 +44,39 @@ module _ (env : Environment) where
   -- a row and the same without its flag
   row-keeps_runs : (id : EvaluationOrder) (target : Option Place) (value : Value) (span : Option Span) →
       SameRuns env (alone (RowStatement id target value span)) (alone (RowStatement id target (plain_value value) span))
-  row-keeps_runs id target value span = (statement-keeps_runs env _ _ (there value), statement-keeps_runs env _ _ (back value))
+  row-keeps_runs id target value span =
+      (statement-keeps_runs env _ _ (there value), statement-keeps_runs env _ _ (back value))
     where
-      there : (value : Value) → StatementKeepsRuns env (RowStatement id target value span) (RowStatement id target (plain_value value) span)
+      there : (value : Value) → StatementKeepsRuns env (RowStatement id target value span)
+          (RowStatement id target (plain_value value) span)
       there (Base value) events outcome (quiet_row e) = quiet_row (same_silence env id value ∙ e)
       there (Base value) events outcome (did_row e) =
-          subst (λ done. RunsStatement env (RowStatement id target (Base (without_flag value)) span) (Did done ∷ []) Normal) (seen_stays env id value e)
+          subst (λ done. RunsStatement env (RowStatement id target (Base (without_flag value)) span) (Did done ∷ [])
+          Normal) (seen_stays env id value e)
           (did_row (same_silence env id value ∙ e))
       there (Logical operator left right) events outcome d = elim d [ ]
       there (Conditional test consequent alternate) events outcome d = elim d [ ]
       there (Sequence rows own value) events outcome d = elim d [ ]
       there (Optional value optional) events outcome d = elim d [ ]
 
-      back : (value : Value) → StatementKeepsRuns env (RowStatement id target (plain_value value) span) (RowStatement id target value span)
+      back : (value : Value) → StatementKeepsRuns env (RowStatement id target (plain_value value) span)
+          (RowStatement id target value span)
       back (Base value) events outcome (quiet_row e) = quiet_row (sym (same_silence env id value) ∙ e)
       back (Base value) events outcome (did_row e) =
           let seen : is_silent env id value ≡ false = sym (same_silence env id value) ∙ e in
-          subst (λ done. RunsStatement env (RowStatement id target (Base value) span) (Did done ∷ []) Normal) (sym (seen_stays env id value seen)) (did_row seen)
+          subst (λ done. RunsStatement env (RowStatement id target (Base value) span) (Did done ∷ []) Normal)
+          (sym (seen_stays env id value seen)) (did_row seen)
       back (Logical operator left right) events outcome d = elim d [ ]
       back (Conditional test consequent alternate) events outcome d = elim d [ ]
       back (Sequence rows own value) events outcome d = elim d [ ]
       back (Optional value optional) events outcome d = elim d [ ]
 
   -- a terminal that no run goes through, with its scopes and without
-  same-no_runs : (terminal : TreeTerminal) (label : Option ReactiveLabel) → has_no_runs terminal ≡ true → has_no_runs (plain_terminal terminal) ≡ true →
+  same-no_runs : (terminal : TreeTerminal) (label : Option ReactiveLabel) → has_no_runs terminal ≡ true
+      → has_no_runs (plain_terminal terminal) ≡ true →
       SameRuns env (labeled terminal label) (labeled (plain_terminal terminal) label)
-  same-no_runs terminal label e e' = (no_runs-keeps_runs env terminal label _ e, no_runs-keeps_runs env (plain_terminal terminal) label _ e')
+  same-no_runs terminal label e e' =
+      (no_runs-keeps_runs env terminal label _ e, no_runs-keeps_runs env (plain_terminal terminal) label _ e')
 
   mutual
     -- plain statements have the runs that they have without their scopes
@@ -89,7 +99,8 @@ module _ (env : Environment) where
         let inside = erased_plain-runs body in
         (pruned_contents-keep_runs env scope body _ inside.0, keeps_runs-pruned_contents env scope _ body inside.1)
 
-    plain_terminal-runs : (terminal : TreeTerminal) (label : Option ReactiveLabel) → SameRuns env (labeled terminal label) (labeled (plain_terminal terminal) label)
+    plain_terminal-runs : (terminal : TreeTerminal) (label : Option ReactiveLabel)
+        → SameRuns env (labeled terminal label) (labeled (plain_terminal terminal) label)
     plain_terminal-runs (Break target kind id) label = (same-keeps_runs env _, same-keeps_runs env _)
     plain_terminal-runs (Continue target kind id) label = same-no_runs (Continue target kind id) label refl refl
     plain_terminal-runs (Return value id) label = (same-keeps_runs env _, same-keeps_runs env _)
@@ -97,8 +108,10 @@ module _ (env : Environment) where
     plain_terminal-runs (Switch test cases id) label = same-no_runs (Switch test cases id) label refl refl
     plain_terminal-runs (DoWhile body test id) label = same-no_runs (DoWhile body test id) label refl refl
     plain_terminal-runs (While test body id) label = same-no_runs (While test body id) label refl refl
-    plain_terminal-runs (For init test update body id) label = same-no_runs (For init test update body id) label refl refl
-    plain_terminal-runs (ForOf init test body span id) label = same-no_runs (ForOf init test body span id) label refl refl
+    plain_terminal-runs (For init test update body id) label =
+        same-no_runs (For init test update body id) label refl refl
+    plain_terminal-runs (ForOf init test body span id) label =
+        same-no_runs (ForOf init test body span id) label refl refl
     plain_terminal-runs (ForIn init body span id) label = same-no_runs (ForIn init body span id) label refl refl
     plain_terminal-runs (If test consequent alternate id) label =
         let inside = erased_plain-runs consequent in
@@ -135,7 +148,8 @@ module _ (env : Environment) (events : List Event) (end : End) where
       record {
         statements = plain.0;
         body = sym plain.1;
-        run = (erased_plain-runs env plain.0).1 events (Ended end) (subst (λ statements. RunsList env statements events (Ended end)) (sym same) run.run);
+        run = (erased_plain-runs env plain.0).1 events (Ended end)
+            (subst (λ statements. RunsList env statements events (Ended end)) (sym same) run.run);
       }
 
   -- a body has the runs that it has without its scopes

@@ -38,21 +38,36 @@ PlainRow = (x : ReactiveInstruction) × IsPlain value_of x.value
 rows_plain : (rows : List PlainRow) → IsPlain rows_of (map (λ e. e.0) rows)
 rows_plain [] = (NoRows, refl)
 rows_plain (x ∷ xs) =
-    let rest = rows_plain xs in
-    (Row x.0.id x.0.lvalue x.1.0 x.0.span rest.0, λ i. record { id = x.0.id; lvalue = x.0.lvalue; value = x.1.1 i; span = x.0.span } ∷ rest.1 i)
+    let rest = rows_plain xs in (
+      Row x.0.id x.0.lvalue x.1.0 x.0.span rest.0,
+      λ i. record { id = x.0.id; lvalue = x.0.lvalue; value = x.1.1 i; span = x.0.span } ∷ rest.1 i,
+    )
 
 value_plain : (y : ReactiveValue-F PlainValue PlainRow) →
-    IsPlain value_of (roll-ReactiveValue (map-ReactiveValue PlainValue PlainRow ReactiveValue ReactiveInstruction (λ e. e.0) (λ e. e.0) y))
+    IsPlain value_of (roll-ReactiveValue (map-ReactiveValue PlainValue PlainRow ReactiveValue ReactiveInstruction
+    (λ e. e.0) (λ e. e.0) y))
 value_plain (value_layers.Instruction x) = (Base x, sym (values.rolls-Instruction x))
-value_plain (value_layers.LogicalExpression operator x y) =
-    (Logical operator x.1.0 y.1.0, (λ i. values.LogicalExpression operator (x.1.1 i) (y.1.1 i)) ∙ sym (values.rolls-LogicalExpression operator x.0 y.0))
-value_plain (value_layers.ConditionalExpression x y z) =
-    (Conditional x.1.0 y.1.0 z.1.0, (λ i. values.ConditionalExpression (x.1.1 i) (y.1.1 i) (z.1.1 i)) ∙ sym (values.rolls-ConditionalExpression x.0 y.0 z.0))
+value_plain (value_layers.LogicalExpression operator x y) = (
+  Logical operator x.1.0 y.1.0,
+  (λ i. values.LogicalExpression operator (x.1.1 i) (y.1.1 i))
+      ∙ sym (values.rolls-LogicalExpression operator x.0 y.0),
+)
+value_plain (value_layers.ConditionalExpression x y z) = (
+  Conditional x.1.0 y.1.0 z.1.0,
+  (λ i. values.ConditionalExpression (x.1.1 i) (y.1.1 i) (z.1.1 i))
+      ∙ sym (values.rolls-ConditionalExpression x.0 y.0 z.0),
+)
 value_plain (value_layers.SequenceExpression rows id x) =
-    let first = rows_plain rows in
-    (Sequence first.0 id x.1.0, (λ i. values.SequenceExpression (first.1 i) id (x.1.1 i)) ∙ sym (values.rolls-SequenceExpression (map (λ e. e.0) rows) id x.0))
-value_plain (value_layers.OptionalExpression x optional) =
-    (Optional x.1.0 optional, (λ i. values.OptionalExpression (x.1.1 i) optional) ∙ sym (values.rolls-OptionalExpression x.0 optional))
+    let first = rows_plain rows in (
+      Sequence first.0 id x.1.0,
+      (λ i. values.SequenceExpression (first.1 i) id (x.1.1 i))
+          ∙ sym (values.rolls-SequenceExpression (map (λ e. e.0) rows) id x.0),
+    )
+value_plain (value_layers.OptionalExpression x optional) = (
+  Optional x.1.0 optional,
+  (λ i. values.OptionalExpression (x.1.1 i) optional)
+      ∙ sym (values.rolls-OptionalExpression x.0 optional),
+)
 
 -- each value of the program is the tree of a plain one
 pub every_value_is_plain : (x : ReactiveValue) → IsPlain value_of x
@@ -108,28 +123,36 @@ alternate_plain (Some x) = (Present x.1.0, ap Some x.1.1)
 
 -- first layers of statements and terminals, over parts that are plain
 abbrev PlainStatementLayer : Type 0
-PlainStatementLayer = ReactiveStatement-F PlainStatement PlainTerminal PlainPrunedScope PlainScope PlainBlock PlainCase PlainLabeled
+PlainStatementLayer =
+    ReactiveStatement-F PlainStatement PlainTerminal PlainPrunedScope PlainScope PlainBlock PlainCase PlainLabeled
 
 abbrev PlainTerminalLayer : Type 0
-PlainTerminalLayer = ReactiveTerminal-F PlainStatement PlainTerminal PlainPrunedScope PlainScope PlainBlock PlainCase PlainLabeled
+PlainTerminalLayer = ReactiveTerminal-F PlainStatement PlainTerminal PlainPrunedScope PlainScope PlainBlock PlainCase
+    PlainLabeled
 
 -- the same layers over the parts alone
 abbrev StatementLayer : Type 0
 StatementLayer =
-    ReactiveStatement-F ReactiveStatement ReactiveTerminal PrunedReactiveScopeBlock ReactiveScopeBlock ReactiveBlock ReactiveSwitchCase ReactiveTerminalStatement
+    ReactiveStatement-F ReactiveStatement ReactiveTerminal PrunedReactiveScopeBlock ReactiveScopeBlock ReactiveBlock
+    ReactiveSwitchCase ReactiveTerminalStatement
 
 abbrev TerminalLayer : Type 0
 TerminalLayer =
-    ReactiveTerminal-F ReactiveStatement ReactiveTerminal PrunedReactiveScopeBlock ReactiveScopeBlock ReactiveBlock ReactiveSwitchCase ReactiveTerminalStatement
+    ReactiveTerminal-F ReactiveStatement ReactiveTerminal PrunedReactiveScopeBlock ReactiveScopeBlock ReactiveBlock
+    ReactiveSwitchCase ReactiveTerminalStatement
 
 abbrev bare_statement : PlainStatementLayer → StatementLayer
-bare_statement = map-ReactiveStatement PlainStatement PlainTerminal PlainPrunedScope PlainScope PlainBlock PlainCase PlainLabeled
-    ReactiveStatement ReactiveTerminal PrunedReactiveScopeBlock ReactiveScopeBlock ReactiveBlock ReactiveSwitchCase ReactiveTerminalStatement
+bare_statement = map-ReactiveStatement PlainStatement PlainTerminal PlainPrunedScope PlainScope PlainBlock PlainCase
+    PlainLabeled
+    ReactiveStatement ReactiveTerminal PrunedReactiveScopeBlock ReactiveScopeBlock ReactiveBlock ReactiveSwitchCase
+    ReactiveTerminalStatement
     (λ e. e.0) (λ e. e.0) (λ e. e.0) (λ e. e.0) (λ e. e.0) (λ e. e.0) (λ e. e.0)
 
 abbrev bare_terminal : PlainTerminalLayer → TerminalLayer
-bare_terminal = map-ReactiveTerminal PlainStatement PlainTerminal PlainPrunedScope PlainScope PlainBlock PlainCase PlainLabeled
-    ReactiveStatement ReactiveTerminal PrunedReactiveScopeBlock ReactiveScopeBlock ReactiveBlock ReactiveSwitchCase ReactiveTerminalStatement
+bare_terminal = map-ReactiveTerminal PlainStatement PlainTerminal PlainPrunedScope PlainScope PlainBlock PlainCase
+    PlainLabeled
+    ReactiveStatement ReactiveTerminal PrunedReactiveScopeBlock ReactiveScopeBlock ReactiveBlock ReactiveSwitchCase
+    ReactiveTerminalStatement
     (λ e. e.0) (λ e. e.0) (λ e. e.0) (λ e. e.0) (λ e. e.0) (λ e. e.0) (λ e. e.0)
 
 statement_plain : (y : PlainStatementLayer) →
@@ -137,53 +160,84 @@ statement_plain : (y : PlainStatementLayer) →
 statement_plain (layers.Instruction x) =
     let value = every_value_is_plain x.value in (
       RowStatement x.id x.lvalue value.0 x.span,
-      (λ i. statements.Instruction (record { id = x.id; lvalue = x.lvalue; value = value.1 i; span = x.span })) ∙ sym (statements.rolls-Instruction x),
+      (λ i. statements.Instruction (record { id = x.id; lvalue = x.lvalue; value = value.1 i; span = x.span }))
+          ∙ sym (statements.rolls-Instruction x),
     )
-statement_plain (layers.Terminal x) =
-    (TerminalStatement x.1.0 x.0.label, (λ i. statements.Terminal (record { terminal = x.1.1 i; label = x.0.label })) ∙ sym (statements.rolls-Terminal x.0))
-statement_plain (layers.Scope x) =
-    (ScopeStatement x.0.scope x.1.0, (λ i. statements.Scope (record { scope = x.0.scope; instructions = x.1.1 i })) ∙ sym (statements.rolls-Scope x.0))
-statement_plain (layers.PrunedScope x) =
-    (PrunedScopeStatement x.0.scope x.1.0, (λ i. statements.PrunedScope (record { scope = x.0.scope; instructions = x.1.1 i })) ∙ sym (statements.rolls-PrunedScope x.0))
+statement_plain (layers.Terminal x) = (
+  TerminalStatement x.1.0 x.0.label,
+  (λ i. statements.Terminal (record { terminal = x.1.1 i; label = x.0.label }))
+      ∙ sym (statements.rolls-Terminal x.0),
+)
+statement_plain (layers.Scope x) = (
+  ScopeStatement x.0.scope x.1.0,
+  (λ i. statements.Scope (record { scope = x.0.scope; instructions = x.1.1 i }))
+      ∙ sym (statements.rolls-Scope x.0),
+)
+statement_plain (layers.PrunedScope x) = (
+  PrunedScopeStatement x.0.scope x.1.0,
+  (λ i. statements.PrunedScope (record { scope = x.0.scope; instructions = x.1.1 i }))
+      ∙ sym (statements.rolls-PrunedScope x.0),
+)
 
 terminal_plain : (y : PlainTerminalLayer) →
     IsPlain terminal_of (roll-ReactiveTerminal (bare_terminal y))
 terminal_plain (layers.Break target kind id) = (Break target kind id, sym (terminals.rolls-Break target kind id))
-terminal_plain (layers.Continue target kind id) = (Continue target kind id, sym (terminals.rolls-Continue target kind id))
+terminal_plain (layers.Continue target kind id) =
+    (Continue target kind id, sym (terminals.rolls-Continue target kind id))
 terminal_plain (layers.Return value id) = (Return value id, sym (terminals.rolls-Return value id))
 terminal_plain (layers.Throw value id) = (Throw value id, sym (terminals.rolls-Throw value id))
 terminal_plain (layers.Switch test cases id) =
-    let inner = cases_plain cases in
-    (Switch test inner.0 id, (λ i. terminals.Switch test (inner.1 i) id) ∙ sym (terminals.rolls-Switch test (map (λ e. e.0) cases) id))
+    let inner = cases_plain cases in (
+      Switch test inner.0 id,
+      (λ i. terminals.Switch test (inner.1 i) id)
+          ∙ sym (terminals.rolls-Switch test (map (λ e. e.0) cases) id),
+    )
 terminal_plain (layers.DoWhile body test id) =
-    let value = every_value_is_plain test in
-    (DoWhile body.1.0 value.0 id, (λ i. terminals.DoWhile (body.1.1 i) (value.1 i) id) ∙ sym (terminals.rolls-DoWhile body.0 test id))
+    let value = every_value_is_plain test in (
+      DoWhile body.1.0 value.0 id,
+      (λ i. terminals.DoWhile (body.1.1 i) (value.1 i) id)
+          ∙ sym (terminals.rolls-DoWhile body.0 test id),
+    )
 terminal_plain (layers.While test body id) =
-    let value = every_value_is_plain test in
-    (While value.0 body.1.0 id, (λ i. terminals.While (value.1 i) (body.1.1 i) id) ∙ sym (terminals.rolls-While test body.0 id))
+    let value = every_value_is_plain test in (
+      While value.0 body.1.0 id,
+      (λ i. terminals.While (value.1 i) (body.1.1 i) id)
+          ∙ sym (terminals.rolls-While test body.0 id),
+    )
 terminal_plain (layers.For init test update body id) =
     let first = every_value_is_plain init in
     let value = every_value_is_plain test in
     let last = option_value_plain update in (
       For first.0 value.0 last.0 body.1.0 id,
-      (λ i. terminals.For (first.1 i) (value.1 i) (last.1 i) (body.1.1 i) id) ∙ sym (terminals.rolls-For init test update body.0 id),
+      (λ i. terminals.For (first.1 i) (value.1 i) (last.1 i) (body.1.1 i) id)
+          ∙ sym (terminals.rolls-For init test update body.0 id),
     )
 terminal_plain (layers.ForOf init test body span id) =
     let first = every_value_is_plain init in
-    let value = every_value_is_plain test in
-    (ForOf first.0 value.0 body.1.0 span id, (λ i. terminals.ForOf (first.1 i) (value.1 i) (body.1.1 i) span id) ∙ sym (terminals.rolls-ForOf init test body.0 span id))
+    let value = every_value_is_plain test in (
+      ForOf first.0 value.0 body.1.0 span id,
+      (λ i. terminals.ForOf (first.1 i) (value.1 i) (body.1.1 i) span id)
+          ∙ sym (terminals.rolls-ForOf init test body.0 span id),
+    )
 terminal_plain (layers.ForIn init body span id) =
-    let first = every_value_is_plain init in
-    (ForIn first.0 body.1.0 span id, (λ i. terminals.ForIn (first.1 i) (body.1.1 i) span id) ∙ sym (terminals.rolls-ForIn init body.0 span id))
+    let first = every_value_is_plain init in (
+      ForIn first.0 body.1.0 span id,
+      (λ i. terminals.ForIn (first.1 i) (body.1.1 i) span id)
+          ∙ sym (terminals.rolls-ForIn init body.0 span id),
+    )
 terminal_plain (layers.If test consequent alternate id) =
     let other = alternate_plain alternate in (
       If test consequent.1.0 other.0 id,
       (λ i. terminals.If test (consequent.1.1 i) (other.1 i) id)
           ∙ sym (terminals.rolls-If test consequent.0 (bare_if alternate) id),
     )
-terminal_plain (layers.Label body id) = (Label body.1.0 id, (λ i. terminals.Label (body.1.1 i) id) ∙ sym (terminals.rolls-Label body.0 id))
-terminal_plain (layers.Try body binding handler id) =
-    (Try body.1.0 binding handler.1.0 id, (λ i. terminals.Try (body.1.1 i) binding (handler.1.1 i) id) ∙ sym (terminals.rolls-Try body.0 binding handler.0 id))
+terminal_plain (layers.Label body id) =
+    (Label body.1.0 id, (λ i. terminals.Label (body.1.1 i) id) ∙ sym (terminals.rolls-Label body.0 id))
+terminal_plain (layers.Try body binding handler id) = (
+  Try body.1.0 binding handler.1.0 id,
+  (λ i. terminals.Try (body.1.1 i) binding (handler.1.1 i) id)
+      ∙ sym (terminals.rolls-Try body.0 binding handler.0 id),
+)
 
 case_plain : (test : Option Place) (x : Option PlainBlock) →
     IsPlain case_of (roll-ReactiveSwitchCase (record { test = test; block = bare_if x }))
@@ -194,12 +248,14 @@ case_plain test x =
 -- each block of the program is the tree of plain statements
 pub every_block_is_plain : (x : ReactiveBlock) → IsPlain block_of x
 every_block_is_plain =
-    ind-ReactiveBlock (IsPlain statement_of) (IsPlain terminal_of) (λ x. IsPlain block_of x.instructions) (λ x. IsPlain block_of x.instructions)
+    ind-ReactiveBlock (IsPlain statement_of) (IsPlain terminal_of) (λ x. IsPlain block_of x.instructions)
+    (λ x. IsPlain block_of x.instructions)
     (IsPlain block_of) (IsPlain case_of) (λ x. IsPlain terminal_of x.terminal)
     (λ x y is. subst (λ z. IsPlain statement_of (roll-ReactiveStatement z)) is (statement_plain y))
     (λ x y is. subst (λ z. IsPlain terminal_of (roll-ReactiveTerminal z)) is (terminal_plain y))
     (λ x y is. subst (λ z. IsPlain block_of z.instructions) is y.instructions.1)
     (λ x y is. subst (λ z. IsPlain block_of z.instructions) is y.instructions.1)
-    (λ x y is. let inner = statements_plain y.statements in subst (λ z. IsPlain block_of (roll-ReactiveBlock z)) is (inner.0, λ i. record { statements = inner.1 i }))
+    (λ x y is. let inner = statements_plain y.statements in subst (λ z. IsPlain block_of (roll-ReactiveBlock z)) is
+    (inner.0, λ i. record { statements = inner.1 i }))
     (λ x y is. subst (λ z. IsPlain case_of (roll-ReactiveSwitchCase z)) is (case_plain y.test y.block))
     (λ x y is. subst (λ z. IsPlain terminal_of z.terminal) is y.terminal.1)

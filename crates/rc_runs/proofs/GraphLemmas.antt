@@ -21,7 +21,8 @@ blocks_equivalence = record {
 }
 
 -- a block whose ids are set is that block
-with_ids-same : (found : Option Block) (block : Block) → option_and_then with_ids found ≡ Some block → found ≡ Some block
+with_ids-same : (found : Option Block) (block : Block) → option_and_then with_ids found ≡ Some block
+    → found ≡ Some block
 with_ids-same None block e = absurd (let bad : ⊥ = cc in bad)
 with_ids-same (Some other) block e = go (has_all_ids other) e
   where
@@ -30,23 +31,28 @@ with_ids-same (Some other) block e = go (has_all_ids other) e
     go false e = absurd (let bad : ⊥ = cc in bad)
 
 -- a usable block is the block under its key
-pub usable_block-at : (hir : HirFunction) (key : BlockId) (block : Block) → usable_block hir key ≡ Some block → block_at hir key ≡ Some block
+pub usable_block-at : (hir : HirFunction) (key : BlockId) (block : Block) → usable_block hir key ≡ Some block
+    → block_at hir key ≡ Some block
 unfolding usable_block block_at
 usable_block-at hir key block e =
-    go (basic_block hir key) (with_ids-same (option_and_then (with_rows hir) (option_and_then (under_own_number key) (basic_block hir key))) block e)
+    go (basic_block hir key) (with_ids-same (option_and_then (with_rows hir)
+    (option_and_then (under_own_number key) (basic_block hir key))) block e)
   where
-    own : (basic : BasicBlock) (same : Bool) → option_and_then (with_rows hir) (if same then Some basic else None) ≡ Some block →
+    own : (basic : BasicBlock) (same : Bool) → option_and_then (with_rows hir) (if same then Some basic else None)
+        ≡ Some block →
         with_rows hir basic ≡ Some block
     own basic true e = e
     own basic false e = absurd (let bad : ⊥ = cc in bad)
 
-    go : (found : Option BasicBlock) → option_and_then (with_rows hir) (option_and_then (under_own_number key) found) ≡ Some block →
+    go : (found : Option BasicBlock) → option_and_then (with_rows hir) (option_and_then (under_own_number key) found)
+        ≡ Some block →
         option_and_then (with_rows hir) found ≡ Some block
     go None e = absurd (let bad : ⊥ = cc in bad)
     go (Some basic) e = own basic (same_block basic.id key) e
 
 -- whether a block is dead can be read off its terminal
-pub is_dead-at : (hir : HirFunction) (key : BlockId) (block : Block) → block_at hir key ≡ Some block → is_dead hir key ≡ is_unreachable block.terminal
+pub is_dead-at : (hir : HirFunction) (key : BlockId) (block : Block) → block_at hir key ≡ Some block
+    → is_dead hir key ≡ is_unreachable block.terminal
 unfolding block_at
 is_dead-at hir key block e = go (basic_block hir key) e
   where
@@ -56,6 +62,7 @@ is_dead-at hir key block e = go (basic_block hir key) e
     same basic None e = absurd (let bad : ⊥ = cc in bad)
     same basic (Some rows) e = let equal : basic.terminal ≡ block.terminal = cc in ap is_unreachable equal
 
-    go : (found : Option BasicBlock) → option_and_then (with_rows hir) found ≡ Some block → ends_unreachable found ≡ is_unreachable block.terminal
+    go : (found : Option BasicBlock) → option_and_then (with_rows hir) found ≡ Some block
+        → ends_unreachable found ≡ is_unreachable block.terminal
     go None e = absurd (let bad : ⊥ = cc in bad)
     go (Some basic) e = same basic (rows_of hir.instructions basic.instructions) e

@@ -1,8 +1,11 @@
 -- Every run of the graph is a run of the spelled body.
 --
--- A run of the graph that begins at a part of the tree stays there to its end, or leaves the part by an outcome, to the block at
--- which the outcome aims, and goes on from there: that is `Leads`. It is proved by induction on the rows and moves of the run,
--- of which each terminal takes one. A terminal adds its moves to `statement_leads`, or a case to `terminal_leads` where it ends
+-- A run of the graph that begins at a part of the tree stays there to its end, or leaves the part by an outcome, to
+-- the block at
+-- which the outcome aims, and goes on from there: that is `Leads`. It is proved by induction on the rows and moves of
+-- the run,
+-- of which each terminal takes one. A terminal adds its moves to `statement_leads`, or a case to `terminal_leads`
+-- where it ends
 -- its list; what a terminal needs of smaller runs beside those of lists is a further field of `Below`.
 use Rattle.std.proofs.Common.{◌≡◌, ℕ, zero, suc, ◌<◌, ◌≤◌, Bool, true, false, List, [], ◌∷◌, ◌++◌, Option, Some, None, ◌⊎◌, inl, inr}
 use Rattle.std.proofs.Common.{refl, sym, ap, ◌∙◌, subst, append_assoc, append-nil, arith}
@@ -47,7 +50,8 @@ by_leaves (Ended end) = inr refl
 
 module _ (hir : HirFunction) (env : Environment) where
   -- the rows and moves of a run
-  size : {rows : List Instruction} {terminal : Terminal} {events : List Event} {end : End} → GraphRun hir env rows terminal events end → ℕ
+  size : {rows : List Instruction} {terminal : Terminal} {events : List Event} {end : End}
+      → GraphRun hir env rows terminal events end → ℕ
   size stopped = 0
   size (quiet h run) = suc (size run)
   size (did h run) = suc (size run)
@@ -58,28 +62,37 @@ module _ (hir : HirFunction) (env : Environment) where
   abbrev size_at : {key : BlockId} {events : List Event} {end : End} → GraphRunAt hir env key events end → ℕ
   size_at run = size run.run
 
-  -- where a run of the graph leads that begins at a part of the tree with the runs `R`: to its end, or out of the part to a block,
+  -- where a run of the graph leads that begins at a part of the tree with the runs `R`: to its end, or out of the part
+  -- to a block,
   -- and on from there. The handler is where a throw leads
-  data Leads (next handler : Option BlockId) (frames : List Frame) (bound : ℕ) (R : Runs) (events : List Event) (end : End) : Type 0 where
+  data Leads (next handler : Option BlockId) (frames : List Frame) (bound : ℕ) (R : Runs) (events : List Event)
+      (end : End) : Type 0 where
     ends : R events (Ended end) → Leads next handler frames bound R events end
-    leads : {front back : List Event} {outcome : Outcome} {key : BlockId} → R front outcome → Aims frames next outcome key →
-        (run : GraphRunAt hir env key back end) → size_at run < bound → events ≡ front ++ back → Leads next handler frames bound R events end
+    leads : {front back : List Event} {outcome : Outcome} {key : BlockId} → R front outcome
+        → Aims frames next outcome key →
+        (run : GraphRunAt hir env key back end) → size_at run < bound → events ≡ front ++ back
+        → Leads next handler frames bound R events end
 
   -- what is known of runs with fewer rows and moves
   record Below (bound : ℕ) : Type 0 where
     -- one from a block on runs in the list that is spelled from there, or leads out of it
-    list : {key : BlockId} {next handler : Option BlockId} {frames : List Frame} {statements : Statements} {used : List BlockId}
-        {events : List Event} {end : End} → SpellsList hir env key next frames handler statements used → Fits hir next frames →
+    list : {key : BlockId} {next handler : Option BlockId} {frames : List Frame} {statements : Statements}
+        {used : List BlockId}
+        {events : List Event} {end : End} → SpellsList hir env key next frames handler statements used
+        → Fits hir next frames →
         (run : GraphRunAt hir env key events end) → size_at run < bound →
         Leads next handler frames bound (RunsList env statements) events end
 
   -- a run from an equal block
-  run_to : {key other : BlockId} {events : List Event} {end : End} {bound : ℕ} → key ≡ other → (run : GraphRunAt hir env key events end) → size_at run < bound →
+  run_to : {key other : BlockId} {events : List Event} {end : End} {bound : ℕ} → key ≡ other
+      → (run : GraphRunAt hir env key events end) → size_at run < bound →
       (from : GraphRunAt hir env other events end) × (size_at from < bound)
-  run_to {events = events} {end} {bound} e run small = subst (λ key. (from : GraphRunAt hir env key events end) × (size_at from < bound)) e (run, small)
+  run_to {events = events} {end} {bound} e run small =
+      subst (λ key. (from : GraphRunAt hir env key events end) × (size_at from < bound)) e (run, small)
 
   module _ {next handler : Option BlockId} {frames : List Frame} {bound : ℕ} where
-    more_room : {R : Runs} {events : List Event} {end : End} → Leads next handler frames bound R events end → Leads next handler frames (suc bound) R events end
+    more_room : {R : Runs} {events : List Event} {end : End} → Leads next handler frames bound R events end
+        → Leads next handler frames (suc bound) R events end
     more_room (ends here) = ends here
     more_room (leads here aim run small e) = leads here aim run (omega arith) e
 
@@ -97,12 +110,16 @@ module _ (hir : HirFunction) (env : Environment) where
         leads (put front outcome here) aim run small (ap (λ v. before ++ v) e ∙ sym (append_assoc before front back))
 
     -- the part stands in a statement with that label
-    lead_out : {inner : List Frame} {R S : Runs} {events : List Event} {end : End} (name : Option ReactiveLabel) (before : List Event) →
+    lead_out : {inner : List Frame} {R S : Runs} {events : List Event} {end : End} (name : Option ReactiveLabel)
+        (before : List Event) →
         ((outcome : Outcome) (key : BlockId) → Aims inner next outcome key → Passed name outcome next frames key) →
-        ((events : List Event) (inside outside : Outcome) → R events inside → outside ≡ caught name inside → S (before ++ events) outside) →
+        ((events : List Event) (inside outside : Outcome) → R events inside → outside ≡ caught name inside
+        → S (before ++ events) outside) →
         Leads next handler inner bound R events end → Leads next handler frames bound S (before ++ events) end
-    lead_out {events = events} {end} name before pass put (ends here) = ends (put events (Ended end) (Ended end) here (sym (caught-ended name end)))
-    lead_out {S = S} {events} {end} name before pass put (leads {front = front} {back} {outcome} {key} here aim run small e) = go (pass outcome key aim)
+    lead_out {events = events} {end} name before pass put (ends here) =
+        ends (put events (Ended end) (Ended end) here (sym (caught-ended name end)))
+    lead_out {S = S} {events} {end} name before pass put (leads {front = front} {back} {outcome} {key} here aim run
+        small e) = go (pass outcome key aim)
       where
         all : before ++ events ≡ (before ++ front) ++ back
         all = ap (λ v. before ++ v) e ∙ sym (append_assoc before front back)
@@ -119,59 +136,79 @@ module _ (hir : HirFunction) (env : Environment) where
         Leads next handler frames bound (RunsList env (rows_before rows rest)) events end
     unfolding size
     rows_lead stopped small go = ends stops
-    rows_lead (quiet h run) small go = lead_behind [] (λ events outcome after. and_then (quiet_row h) (goes_on after) refl) (rows_lead run (omega arith) go)
+    rows_lead (quiet h run) small go = lead_behind [] (λ events outcome after. and_then (quiet_row h) (goes_on after)
+        refl) (rows_lead run (omega arith) go)
     rows_lead (did {row = row} h run) small go =
-        lead_behind (Did row.value ∷ []) (λ events outcome after. and_then (did_row h) (goes_on after) refl) (rows_lead run (omega arith) go)
+        lead_behind (Did row.value ∷ []) (λ events outcome after. and_then (did_row h) (goes_on after) refl)
+        (rows_lead run (omega arith) go)
     rows_lead (moved m found run e) small go = go _ (moved m found run e) small
     rows_lead returned small go = go _ returned small
     rows_lead thrown small go = go _ thrown small
 
     -- the statements of a jump
-    jump_leads : {key : BlockId} {statements : Statements} {events : List Event} {end : End} → Jumps frames next key statements →
-        (run : GraphRunAt hir env key events end) → size_at run < bound → Leads next handler frames bound (RunsList env statements) events end
+    jump_leads : {key : BlockId} {statements : Statements} {events : List Event} {end : End}
+        → Jumps frames next key statements →
+        (run : GraphRunAt hir env key events end) → size_at run < bound
+        → Leads next handler frames bound (RunsList env statements) events end
     jump_leads (falls_off n) run small = leads nothing n run small refl
     jump_leads (breaks_implicit n) run small = leads (and_then break_implicit (goes_on nothing) refl) n run small refl
-    jump_leads (breaks_labeled e t) run small = leads (and_then break_labeled (leaves_list refl) refl) (e, t) run small refl
-    jump_leads (breaks_unlabeled n) run small = leads (and_then break_unlabeled (leaves_list refl) refl) n run small refl
+    jump_leads (breaks_labeled e t) run small =
+        leads (and_then break_labeled (leaves_list refl) refl) (e, t) run small refl
+    jump_leads (breaks_unlabeled n) run small =
+        leads (and_then break_unlabeled (leaves_list refl) refl) n run small refl
 
-  module _ {bound : ℕ} (below : Below bound) {next handler : Option BlockId} {frames : List Frame} (fits : Fits hir next frames) where
+  module _ {bound : ℕ} (below : Below bound) {next handler : Option BlockId} {frames : List Frame}
+      (fits : Fits hir next frames) where
     -- a statement is done, and what is behind it runs
-    done_leads : {opened : Bool} {fallthrough key : BlockId} {statement : Statement} {rest : Statements} {used : List BlockId}
+    done_leads : {opened : Bool} {fallthrough key : BlockId} {statement : Statement} {rest : Statements}
+        {used : List BlockId}
         {front back : List Event} {end : End} → SpellsRest hir env opened fallthrough next frames handler rest used →
         RunsStatement env statement front Normal → next_inside opened fallthrough next ≡ Some key →
         (run : GraphRunAt hir env key back end) → size_at run < bound →
         Leads next handler frames bound (RunsList env (Cons statement rest)) (front ++ back) end
-    done_leads {front = front} no_rest here n run small = leads (and_then here (goes_on nothing) (sym (append-nil front))) n run small refl
+    done_leads {front = front} no_rest here n run small =
+        leads (and_then here (goes_on nothing) (sym (append-nil front))) n run small refl
     done_leads {fallthrough = fallthrough} {key} {front = front} (has_rest d) here n run small =
         let from = run_to (let same : key ≡ fallthrough = cc in same) run small in
         lead_behind front (λ events outcome after. and_then here (goes_on after) refl) (below.list d fits from.0 from.1)
 
     -- a statement, and what is behind it
-    then_leads : {opened : Bool} {fallthrough : BlockId} {statement : Statement} {rest : Statements} {used : List BlockId} {events : List Event} {end : End} →
+    then_leads : {opened : Bool} {fallthrough : BlockId} {statement : Statement} {rest : Statements}
+        {used : List BlockId} {events : List Event} {end : End} →
         SpellsRest hir env opened fallthrough next frames handler rest used →
         Leads (next_inside opened fallthrough next) handler frames bound (RunsStatement env statement) events end →
         Leads next handler frames bound (RunsList env (Cons statement rest)) events end
     then_leads {events = events} rest (ends here) = ends (and_then here (leaves_list refl) (sym (append-nil events)))
-    then_leads {opened} {fallthrough} {statement} {rest} {events = events} {end} r (leads {front = front} {outcome = outcome} {key} here aim run small e) =
+    then_leads {opened} {fallthrough} {statement} {rest} {events = events} {end} r
+        (leads {front = front} {outcome = outcome} {key} here aim run small e) =
         go (by_leaves outcome)
       where
         inside : Option BlockId
         inside = next_inside opened fallthrough next
 
-        go : (outcome ≡ Normal) ⊎ (leaves outcome ≡ true) → Leads next handler frames bound (RunsList env (Cons statement rest)) events end
-        go (inl n) = lead_events e (done_leads r (subst (RunsStatement env statement front) n here) (subst (λ o. Aims frames inside o key) n aim) run small)
-        go (inr l) = leads (and_then here (leaves_list l) (sym (append-nil front))) (Aims-leaves frames inside next outcome key l aim) run small e
+        go : (outcome ≡ Normal) ⊎ (leaves outcome ≡ true) → Leads next handler frames bound
+            (RunsList env (Cons statement rest)) events end
+        go (inl n) = lead_events e (done_leads r (subst (RunsStatement env statement front) n here)
+            (subst (λ o. Aims frames inside o key) n aim) run small)
+        go (inr l) = leads (and_then here (leaves_list l) (sym (append-nil front)))
+            (Aims-leaves frames inside next outcome key l aim) run small e
 
     -- a part of a statement, inside the frame of the statement's fallthrough
-    part_leads : {key : BlockId} {part rest : Statements} {used rest_used : List BlockId} {events : List Event} {end : End} {S : Runs}
+    part_leads : {key : BlockId} {part rest : Statements} {used rest_used : List BlockId} {events : List Event}
+        {end : End} {S : Runs}
         (opened : Bool) (inner : Frame) (name : Option ReactiveLabel) (before : List Event) →
-        ((outcome : Outcome) (key : BlockId) → Aims (frames_inside opened inner frames) (next_inside opened (fall_block inner) next) outcome key →
+        ((outcome : Outcome) (key : BlockId) → Aims (frames_inside opened inner frames)
+        (next_inside opened (fall_block inner) next) outcome key →
         Passed name outcome (next_inside opened (fall_block inner) next) frames key) →
-        ((events : List Event) (inside outside : Outcome) → RunsList env part events inside → outside ≡ caught name inside → S (before ++ events) outside) →
-        SpellsList hir env key (next_inside opened (fall_block inner) next) (frames_inside opened inner frames) handler part used →
-        SpellsRest hir env opened (fall_block inner) next frames handler rest rest_used → (run : GraphRunAt hir env key events end) → size_at run < bound →
+        ((events : List Event) (inside outside : Outcome) → RunsList env part events inside
+        → outside ≡ caught name inside → S (before ++ events) outside) →
+        SpellsList hir env key (next_inside opened (fall_block inner) next) (frames_inside opened inner frames) handler
+        part used →
+        SpellsRest hir env opened (fall_block inner) next frames handler rest rest_used
+        → (run : GraphRunAt hir env key events end) → size_at run < bound →
         Leads (next_inside opened (fall_block inner) next) handler frames bound S (before ++ events) end
-    part_leads opened inner name before pass put d rest run small = lead_out name before pass put (below.list d (fits_inside opened inner fits rest) run small)
+    part_leads opened inner name before pass put d rest run small =
+        lead_out name before pass put (below.list d (fits_inside opened inner fits rest) run small)
 
     -- a move from a terminal that has a fallthrough
     statement_leads : {terminal : Terminal} {step : List Event} {key : BlockId} {opened : Bool} {fallthrough : BlockId}
@@ -179,12 +216,15 @@ module _ (hir : HirFunction) (env : Environment) where
         SpellsStatement hir env terminal next frames handler opened fallthrough statement used →
         SpellsRest hir env opened fallthrough next frames handler rest rest_used →
         Move terminal step key → (run : GraphRunAt hir env key events end) → size_at run < bound →
-        Leads (next_inside opened fallthrough next) handler frames bound (RunsStatement env statement) (step ++ events) end
+        Leads (next_inside opened fallthrough next) handler frames bound (RunsStatement env statement) (step ++ events)
+        end
     statement_leads (if_only {fallthrough = f} {opened = o} {label = l} i j x y d) rest then_arm run small =
         part_leads o (frame.If f) l (Arm true ∷ []) (passed_labeled o (frame.If f) next frames l refl refl j)
         (λ events inside outside p q. took_arm p q) d rest run small
-    statement_leads (if_only {alternate = a} {fallthrough = f} {opened = o} {label = l} i j x y d) rest else_arm run small =
-        leads (took_other absent (sym (caught-normal l))) (falls_to-next o f next y ∙ ap Some (sym (same_block-eq a f x))) run small refl
+    statement_leads (if_only {alternate = a} {fallthrough = f} {opened = o} {label = l} i j x y d) rest else_arm run
+        small =
+        leads (took_other absent (sym (caught-normal l))) (falls_to-next o f next y
+        ∙ ap Some (sym (same_block-eq a f x))) run small refl
     statement_leads (if_else {fallthrough = f} {opened = o} {label = l} i j x d a w) rest then_arm run small =
         part_leads o (frame.If f) l (Arm true ∷ []) (passed_labeled o (frame.If f) next frames l refl refl j)
         (λ events inside outside p q. took_arm p q) d rest run small
@@ -192,17 +232,24 @@ module _ (hir : HirFunction) (env : Environment) where
         part_leads o (frame.If f) l (Arm false ∷ []) (passed_labeled o (frame.If f) next frames l refl refl j)
         (λ events inside outside p q. took_other (present p) q) a rest run small
     statement_leads (label {fallthrough = f} {opened = o} {label = l} i j d) rest into_label run small =
-        part_leads o (frame.If f) l [] (passed_labeled o (frame.If f) next frames l refl refl j) (λ events inside outside p q. in_label p q) d rest run small
-    statement_leads (scope {fallthrough = f} {scope = number} {opened = o} {part = part} i d) rest into_scope run small =
+        part_leads o (frame.If f) l [] (passed_labeled o (frame.If f) next frames l refl refl j)
+        (λ events inside outside p q. in_label p q) d rest run small
+    statement_leads (scope {fallthrough = f} {scope = number} {opened = o} {part = part} i d) rest into_scope run
+        small =
         part_leads o (frame.Scope f) None [] (passed_scope o f next frames)
-        (λ events inside outside p q. subst (RunsStatement env (ScopeStatement number part) events) (sym q) (in_scope p)) d rest run small
-    statement_leads (pruned_scope {fallthrough = f} {scope = number} {opened = o} {part = part} i d) rest into_pruned_scope run small =
+        (λ events inside outside p q. subst (RunsStatement env (ScopeStatement number part) events) (sym q)
+        (in_scope p)) d rest run small
+    statement_leads (pruned_scope {fallthrough = f} {scope = number} {opened = o} {part = part} i d) rest
+        into_pruned_scope run small =
         part_leads o (frame.Scope f) None [] (passed_scope o f next frames)
-        (λ events inside outside p q. subst (RunsStatement env (PrunedScopeStatement number part) events) (sym q) (in_pruned_scope p)) d rest run small
+        (λ events inside outside p q. subst (RunsStatement env (PrunedScopeStatement number part) events) (sym q)
+        (in_pruned_scope p)) d rest run small
 
     -- a terminal, and what it spells
-    terminal_leads : {terminal : Terminal} {statements : Statements} {used : List BlockId} {events : List Event} {end : End} →
-        SpellsTerminal hir env terminal next frames handler statements used → (run : GraphRun hir env [] terminal events end) → size run ≤ bound →
+    terminal_leads : {terminal : Terminal} {statements : Statements} {used : List BlockId} {events : List Event}
+        {end : End} →
+        SpellsTerminal hir env terminal next frames handler statements used
+        → (run : GraphRun hir env [] terminal events end) → size run ≤ bound →
         Leads next handler frames bound (RunsList env statements) events end
     unfolding size
     terminal_leads returns stopped small = ends stops
@@ -211,30 +258,39 @@ module _ (hir : HirFunction) (env : Environment) where
     terminal_leads unreachable stopped small = ends stops
     terminal_leads unreachable (moved m found run e) small = elim m [ ]
     terminal_leads (breaks j) stopped small = ends stops
-    terminal_leads {statements = statements} (breaks {target = target} {id = id} j) (moved {block = b} goes_to found run e) small =
-        lead_events e (jump_leads (break_jumps hir next frames target id statements fits j) (record { block = b; found = found; run = run }) (omega arith))
+    terminal_leads {statements = statements} (breaks {target = target} {id = id} j)
+        (moved {block = b} goes_to found run e) small =
+        lead_events e (jump_leads (break_jumps hir next frames target id statements fits j)
+        (record { block = b; found = found; run = run }) (omega arith))
     terminal_leads (and_rest d rest w) stopped small = ends stops
     terminal_leads (and_rest d rest w) returned small = elim d [ ]
     terminal_leads (and_rest d rest w) thrown small = elim d [ ]
     terminal_leads (and_rest d rest w) (moved {block = b} m found run e) small =
-        lead_events e (then_leads rest (statement_leads d rest m (record { block = b; found = found; run = run }) (omega arith)))
+        lead_events e (then_leads rest (statement_leads d rest m (record { block = b; found = found; run = run })
+        (omega arith)))
 
   -- a block's rows, and then its terminal, which takes a move
-  list_leads : {bound : ℕ} {key : BlockId} {next handler : Option BlockId} {frames : List Frame} {statements : Statements}
+  list_leads : {bound : ℕ} {key : BlockId} {next handler : Option BlockId} {frames : List Frame}
+      {statements : Statements}
       {used : List BlockId} {events : List Event} {end : End} →
       Below bound → SpellsList hir env key next frames handler statements used → Fits hir next frames →
-      (run : GraphRunAt hir env key events end) → size_at run < suc bound → Leads next handler frames (suc bound) (RunsList env statements) events end
-  list_leads {bound} {key} {next} {handler} {frames} {events = events} {end} below (block {rest = rest} {block = b} found live d w) fits run small =
+      (run : GraphRunAt hir env key events end) → size_at run < suc bound
+      → Leads next handler frames (suc bound) (RunsList env statements) events end
+  list_leads {bound} {key} {next} {handler} {frames} {events = events} {end} below
+      (block {rest = rest} {block = b} found live d w) fits run small =
       let same : b ≡ run.block = one_held run.found (usable_block-at hir key b found) in
-      subst (λ s. Leads next handler frames (suc bound) (RunsList env s) events end) (sym (w ∙ ap (λ v. rows_before v.rows rest) same))
-      (rows_lead run.run small (λ events run small. more_room (terminal_leads below fits (terminal_at same d) run (omega arith))))
+      subst (λ s. Leads next handler frames (suc bound) (RunsList env s) events end)
+      (sym (w ∙ ap (λ v. rows_before v.rows rest) same))
+      (rows_lead run.run small (λ events run small. more_room
+      (terminal_leads below fits (terminal_at same d) run (omega arith))))
 
   every_run : (bound : ℕ) → Below bound
   every_run zero = record { list = λ d fits run small. absurd (omega arith) }
   every_run (suc bound) = record { list = λ d fits run small. list_leads (every_run bound) d fits run small }
 
 -- nothing leads out of a body
-stays : {hir : HirFunction} {env : Environment} {handler : Option BlockId} {bound : ℕ} {R : Runs} {events : List Event} {end : End} →
+stays : {hir : HirFunction} {env : Environment} {handler : Option BlockId} {bound : ℕ} {R : Runs} {events : List Event}
+    {end : End} →
     Leads hir env None handler [] bound R events end → R events (Ended end)
 stays (ends here) = here
 stays (leads {outcome = outcome} {key} here aim run small e) = absurd (nowhere outcome key aim)

@@ -10,16 +10,22 @@ use Rattle.rc_runs.specs.PlainTree.{Base, Statements, Cons, RowStatement}
 use Rattle.rc_runs.specs.Grammar.{rows_before, SpellsTerminal}
 
 -- the statements of the rows that are left of a block, and of its terminal
-pub data SpellsRows (hir : HirFunction) (env : Environment) : List Instruction → Terminal → Option BlockId → List Frame → Option BlockId → Statements →
+pub data SpellsRows (hir : HirFunction) (env : Environment) : List Instruction → Terminal → Option BlockId → List Frame
+    → Option BlockId → Statements →
     List BlockId → Type 0 where
-  row_then : {row : Instruction} {rows : List Instruction} {terminal : Terminal} {next handler : Option BlockId} {frames : List Frame} {rest : Statements}
+  row_then : {row : Instruction} {rows : List Instruction} {terminal : Terminal} {next handler : Option BlockId}
+      {frames : List Frame} {rest : Statements}
       {used : List BlockId} → SpellsRows hir env rows terminal next frames handler rest used →
-      SpellsRows hir env (row ∷ rows) terminal next frames handler (Cons (RowStatement row.id (Some row.lvalue) (Base row.value) row.span) rest) used
-  rows_done : {terminal : Terminal} {next handler : Option BlockId} {frames : List Frame} {statements : Statements} {used : List BlockId} →
-      SpellsTerminal hir env terminal next frames handler statements used → SpellsRows hir env [] terminal next frames handler statements used
+      SpellsRows hir env (row ∷ rows) terminal next frames handler
+      (Cons (RowStatement row.id (Some row.lvalue) (Base row.value) row.span) rest) used
+  rows_done : {terminal : Terminal} {next handler : Option BlockId} {frames : List Frame} {statements : Statements}
+      {used : List BlockId} →
+      SpellsTerminal hir env terminal next frames handler statements used
+      → SpellsRows hir env [] terminal next frames handler statements used
 
 -- the rows of a block stand before what its terminal spells
-pub rows_spelled : {hir : HirFunction} {env : Environment} {terminal : Terminal} {next handler : Option BlockId} {frames : List Frame} {rest : Statements}
+pub rows_spelled : {hir : HirFunction} {env : Environment} {terminal : Terminal} {next handler : Option BlockId}
+    {frames : List Frame} {rest : Statements}
     {used : List BlockId} (rows : List Instruction) → SpellsTerminal hir env terminal next frames handler rest used →
     SpellsRows hir env rows terminal next frames handler (rows_before rows rest) used
 rows_spelled [] d = rows_done d

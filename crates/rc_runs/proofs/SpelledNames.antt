@@ -85,10 +85,13 @@ module _ (hir : HirFunction) (env : Environment) (named : FunctionInTables env h
   RowsHeld [] = Unit {0}
   RowsHeld (row ∷ rows) = Held (instruction_names row) × RowsHeld rows
 
-  row_held : (place : ℕ) (row : Instruction) → slice_get hir.instructions place ≡ Some row → Held (instruction_names row)
+  row_held : (place : ℕ) (row : Instruction) → slice_get hir.instructions place ≡ Some row
+      → Held (instruction_names row)
   row_held place row e = by (slice_get_cases hir.instructions place).1
     where
-      by : ((x : Instruction) × (place < length hir.instructions) × (slice_get hir.instructions place ≡ Some x) × (get_or hir.instructions place x ≡ x)) ⊎ ((length hir.instructions ≤ place) × (slice_get hir.instructions place ≡ None))
+      by : ((x : Instruction) × (place < length hir.instructions) × (slice_get hir.instructions place ≡ Some x)
+          × (get_or hir.instructions place x ≡ x)) ⊎ ((length hir.instructions ≤ place)
+          × (slice_get hir.instructions place ≡ None))
           → Held (instruction_names row)
       by (inl found) =
           let same : found.0 ≡ row = cc in
@@ -99,16 +102,20 @@ module _ (hir : HirFunction) (env : Environment) (named : FunctionInTables env h
           place found.0 found.1 found.3))
       by (inr past) = absurd (let no : ⊥ = cc in no)
 
-  found_rows : (numbers : List InstructionId) (rows : List Instruction) → rows_of hir.instructions numbers ≡ Some rows → RowsHeld rows
+  found_rows : (numbers : List InstructionId) (rows : List Instruction) → rows_of hir.instructions numbers ≡ Some rows
+      → RowsHeld rows
   found_rows [] rows e = subst RowsHeld (let same : [] ≡ rows = cc in same) tt
-  found_rows (number ∷ numbers) rows e = go (slice_get hir.instructions number.0) (rows_of hir.instructions numbers) refl refl e (found_rows numbers)
+  found_rows (number ∷ numbers) rows e =
+      go (slice_get hir.instructions number.0) (rows_of hir.instructions numbers) refl refl e (found_rows numbers)
     where
-      go : (found : Option Instruction) (others : Option (List Instruction)) → slice_get hir.instructions number.0 ≡ found → rows_of hir.instructions numbers ≡ others
+      go : (found : Option Instruction) (others : Option (List Instruction))
+          → slice_get hir.instructions number.0 ≡ found → rows_of hir.instructions numbers ≡ others
           → option_and_then (λ row. option_map (λ rows. row ∷ rows) others) found ≡ Some rows
           → ((more : List Instruction) → rows_of hir.instructions numbers ≡ Some more → RowsHeld more) → RowsHeld rows
       go None others e f w later = absurd (let no : ⊥ = cc in no)
       go (Some row) None e f w later = absurd (let no : ⊥ = cc in no)
-      go (Some row) (Some more) e f w later = subst RowsHeld (let same : row ∷ more ≡ rows = cc in same) (row_held number.0 row e, later more f)
+      go (Some row) (Some more) e f w later =
+          subst RowsHeld (let same : row ∷ more ≡ rows = cc in same) (row_held number.0 row e, later more f)
 
   -- the numbers of a block with its rows
   abbrev BlockHeld : Block → Type 0
@@ -118,8 +125,10 @@ module _ (hir : HirFunction) (env : Environment) (named : FunctionInTables env h
   unfolding block_at
   block_held key b e = go (basic_block hir key) refl e
     where
-      filled : (basic : BasicBlock) → basic_block hir key ≡ Some basic → (rows : Option (List Instruction)) → rows_of hir.instructions basic.instructions ≡ rows
-          → option_map (λ (r : List Instruction). record { rows = r; terminal = basic.terminal }) rows ≡ Some b → BlockHeld b
+      filled : (basic : BasicBlock) → basic_block hir key ≡ Some basic → (rows : Option (List Instruction))
+          → rows_of hir.instructions basic.instructions ≡ rows
+          → option_map (λ (r : List Instruction). record { rows = r; terminal = basic.terminal }) rows ≡ Some b
+          → BlockHeld b
       filled basic found None f w = absurd (let no : ⊥ = cc in no)
       filled basic found (Some rows) f w =
           let held = Contains-from_lookup same_block-eq key basic hir.body.blocks found in
@@ -135,7 +144,8 @@ module _ (hir : HirFunction) (env : Environment) (named : FunctionInTables env h
             All-right InGraph (flat_map row_name basic.instructions) (terminal_names basic.terminal) here,
           )
 
-      go : (found : Option BasicBlock) → basic_block hir key ≡ found → option_and_then (with_rows hir) found ≡ Some b → BlockHeld b
+      go : (found : Option BasicBlock) → basic_block hir key ≡ found → option_and_then (with_rows hir) found ≡ Some b
+          → BlockHeld b
       go None found e = absurd (let no : ⊥ = cc in no)
       go (Some basic) found e = filled basic found (rows_of hir.instructions basic.instructions) refl e
 
@@ -143,48 +153,63 @@ module _ (hir : HirFunction) (env : Environment) (named : FunctionInTables env h
   by_same : (names others : List Name) → names ≡ others → Held others → Held names
   by_same names others e held = subst Held (sym e) held
 
-  one_statement : (statement : Statement) (rest : Statements) → Held (names_in_statement (statement_of statement)) → Held (of_list (statements_of rest)) → Held (of_list (statements_of (Cons statement rest)))
-  one_statement statement rest held later = All-append InTable (names_in_statement (statement_of statement)) (of_list (statements_of rest)) held later
+  one_statement : (statement : Statement) (rest : Statements) → Held (names_in_statement (statement_of statement))
+      → Held (of_list (statements_of rest)) → Held (of_list (statements_of (Cons statement rest)))
+  one_statement statement rest held later =
+      All-append InTable (names_in_statement (statement_of statement)) (of_list (statements_of rest)) held later
 
-  rows_first : (rows : List Instruction) (rest : Statements) → RowsHeld rows → Held (of_list (statements_of rest)) → Held (of_list (statements_of (rows_before rows rest)))
+  rows_first : (rows : List Instruction) (rest : Statements) → RowsHeld rows → Held (of_list (statements_of rest))
+      → Held (of_list (statements_of (rows_before rows rest)))
   rows_first [] rest held later = later
   rows_first (row ∷ rows) rest held later =
-      let x : ReactiveInstruction = record { id = row.id; lvalue = Some row.lvalue; value = val.Instruction row.value; span = row.span } in
+      let x : ReactiveInstruction =
+      record { id = row.id; lvalue = Some row.lvalue; value = val.Instruction row.value; span = row.span } in
       let names : names_in_statement (stmt.Instruction x) ≡ instruction_names row =
-      statement-Instruction x ∙ row-names x ∙ ap (λ names. place_names row.lvalue ++ names) (value-Instruction row.value)
+      statement-Instruction x ∙ row-names x ∙ ap (λ names. place_names row.lvalue ++ names)
+      (value-Instruction row.value)
       in
       one_statement (RowStatement row.id (Some row.lvalue) (Base row.value) row.span) (rows_before rows rest)
-      (by_same (names_in_statement (stmt.Instruction x)) (instruction_names row) names held.0) (rows_first rows rest held.1 later)
+      (by_same (names_in_statement (stmt.Instruction x)) (instruction_names row) names held.0)
+      (rows_first rows rest held.1 later)
 
   -- a terminal's statement has the terminal's numbers
-  terminal_first : (terminal : TreeTerminal) (own : Option ReactiveLabel) (names : List Name) → names_in_terminal (terminal_of terminal) ≡ names → Held names
+  terminal_first : (terminal : TreeTerminal) (own : Option ReactiveLabel) (names : List Name)
+      → names_in_terminal (terminal_of terminal) ≡ names → Held names
       → Held (names_in_statement (statement_of (TerminalStatement terminal own)))
   terminal_first terminal own names e held =
       let x : ReactiveTerminalStatement = record { terminal = terminal_of terminal; label = own } in
       by_same (names_in_statement (stmt.Terminal x)) names (statement-Terminal x ∙ e) held
 
   -- a break names nothing of a table
-  break_held : (way : Way) (target : BlockId) (id : EvaluationOrder) (statements : Statements) → break_statements way target id ≡ Some statements → Held (of_list (statements_of statements))
+  break_held : (way : Way) (target : BlockId) (id : EvaluationOrder) (statements : Statements)
+      → break_statements way target id ≡ Some statements → Held (of_list (statements_of statements))
   break_held NoFrame target id statements e = absurd (let no : ⊥ = cc in no)
   break_held LeavesScope target id statements e = absurd (let no : ⊥ = cc in no)
   break_held LeavesCase target id statements e = absurd (let no : ⊥ = cc in no)
-  break_held FallsOff target id statements e = subst (λ s. Held (of_list (statements_of s))) (let same : Nil ≡ statements = cc in same) (All-none InTable)
+  break_held FallsOff target id statements e =
+      subst (λ s. Held (of_list (statements_of s))) (let same : Nil ≡ statements = cc in same) (All-none InTable)
   break_held (Breaks kind) target id statements e =
-      subst (λ s. Held (of_list (statements_of s))) (let same : unlabeled (Break target kind id) ≡ statements = cc in same)
-      (one_statement (TerminalStatement (Break target kind id) None) Nil (terminal_first (Break target kind id) None [] (terminal-Break target kind id) (All-none InTable)) (All-none InTable))
+      subst (λ s. Held (of_list (statements_of s))) (let same : unlabeled (Break target kind id) ≡ statements = cc in
+      same)
+      (one_statement (TerminalStatement (Break target kind id) None) Nil
+      (terminal_first (Break target kind id) None [] (terminal-Break target kind id) (All-none InTable))
+      (All-none InTable))
 
   -- a block has the numbers of its statements
   block_first : (part : Statements) → Held (of_list (statements_of part)) → Held (names_in (block_of part))
-  block_first part held = by_same (names_in (block_of part)) (of_list (statements_of part)) (block-names (block_of part)) held
+  block_first part held =
+      by_same (names_in (block_of part)) (of_list (statements_of part)) (block-names (block_of part)) held
 
   mutual
-    held_list : {key : BlockId} {next handler : Option BlockId} {frames : List Frame} {statements : Statements} {used : List BlockId} →
+    held_list : {key : BlockId} {next handler : Option BlockId} {frames : List Frame} {statements : Statements}
+        {used : List BlockId} →
         SpellsList hir env key next frames handler statements used → Held (of_list (statements_of statements))
     held_list (block {key = key} {rest = rest} {block = b} usable live d w) =
         let here = block_held key b (usable_block-at hir key b usable) in
         subst (λ s. Held (of_list (statements_of s))) (sym w) (rows_first b.rows rest here.0 (held_terminal here.1 d))
 
-    held_terminal : {terminal : Terminal} {next handler : Option BlockId} {frames : List Frame} {statements : Statements} {used : List BlockId} →
+    held_terminal : {terminal : Terminal} {next handler : Option BlockId} {frames : List Frame}
+        {statements : Statements} {used : List BlockId} →
         HeldByGraph (terminal_names terminal) → SpellsTerminal hir env terminal next frames handler statements used →
         Held (of_list (statements_of statements))
     held_terminal held (returns {value = value} {id = id}) =
@@ -192,24 +217,31 @@ module _ (hir : HirFunction) (env : Environment) (named : FunctionInTables env h
         (terminal_first (Return value id) None (place_names value) (terminal-Return value id) (place_held value held))
         (All-none InTable)
     held_terminal held unreachable = All-none InTable
-    held_terminal held (breaks {target = target} {id = id} {frames = frames} {statements = statements} e) = break_held (break_way frames target) target id statements e
-    held_terminal held (and_rest {statement = statement} {rest = rest} d r w) = one_statement statement rest (held_statement held d) (held_rest r)
+    held_terminal held (breaks {target = target} {id = id} {frames = frames} {statements = statements} e) =
+        break_held (break_way frames target) target id statements e
+    held_terminal held (and_rest {statement = statement} {rest = rest} d r w) =
+        one_statement statement rest (held_statement held d) (held_rest r)
 
-    held_statement : {terminal : Terminal} {next handler : Option BlockId} {frames : List Frame} {o : Bool} {f : BlockId} {statement : Statement} {used : List BlockId} →
+    held_statement : {terminal : Terminal} {next handler : Option BlockId} {frames : List Frame} {o : Bool}
+        {f : BlockId} {statement : Statement} {used : List BlockId} →
         HeldByGraph (terminal_names terminal) →
         SpellsStatement hir env terminal next frames handler o f statement used →
         Held (names_in_statement (statement_of statement))
     held_statement held (if_only {test = test} {id = id} {label = own} {part = part} i l s falls d) =
-        terminal_first (If test part Absent id) own (place_names test ++ (names_in (block_of part) ++ [])) (terminal-If test (block_of part) None id)
+        terminal_first (If test part Absent id) own (place_names test ++ (names_in (block_of part) ++ []))
+        (terminal-If test (block_of part) None id)
         (All-append InTable (place_names test) _ (place_held test held)
         (All-append InTable (names_in (block_of part)) [] (block_first part (held_list d)) (All-none InTable)))
     held_statement held (if_else {test = test} {id = id} {label = own} {part = part} {other = other} i l s d e w) =
-        terminal_first (If test part (Present other) id) own (place_names test ++ (names_in (block_of part) ++ names_in (block_of other)))
+        terminal_first (If test part (Present other) id) own
+        (place_names test ++ (names_in (block_of part) ++ names_in (block_of other)))
         (terminal-If test (block_of part) (Some (block_of other)) id)
         (All-append InTable (place_names test) _ (place_held test held)
-        (All-append InTable (names_in (block_of part)) (names_in (block_of other)) (block_first part (held_list d)) (block_first other (held_list e))))
+        (All-append InTable (names_in (block_of part)) (names_in (block_of other)) (block_first part (held_list d))
+        (block_first other (held_list e))))
     held_statement held (label {id = id} {label = own} {part = part} i l d) =
-        terminal_first (Label part id) own (names_in (block_of part)) (terminal-Label (block_of part) id) (block_first part (held_list d))
+        terminal_first (Label part id) own (names_in (block_of part)) (terminal-Label (block_of part) id)
+        (block_first part (held_list d))
     held_statement held (scope {scope = of} {part = part} i d) =
         let x : ReactiveScopeBlock = record { scope = of; instructions = block_of part } in
         by_same (names_in_statement (stmt.Scope x)) (scope_name of ++ names_in (block_of part)) (statement-Scope x)
@@ -217,11 +249,13 @@ module _ (hir : HirFunction) (env : Environment) (named : FunctionInTables env h
         (block_first part (held_list d)))
     held_statement held (pruned_scope {scope = of} {part = part} i d) =
         let x : PrunedReactiveScopeBlock = record { scope = of; instructions = block_of part } in
-        by_same (names_in_statement (stmt.PrunedScope x)) (scope_name of ++ names_in (block_of part)) (statement-PrunedScope x)
+        by_same (names_in_statement (stmt.PrunedScope x)) (scope_name of ++ names_in (block_of part))
+        (statement-PrunedScope x)
         (All-append InTable (scope_name of) (names_in (block_of part)) (scope_held of held)
         (block_first part (held_list d)))
 
-    held_rest : {o : Bool} {f : BlockId} {next handler : Option BlockId} {frames : List Frame} {statements : Statements} {used : List BlockId} →
+    held_rest : {o : Bool} {f : BlockId} {next handler : Option BlockId} {frames : List Frame} {statements : Statements}
+        {used : List BlockId} →
         SpellsRest hir env o f next frames handler statements used → Held (of_list (statements_of statements))
     held_rest closed = All-none InTable
     held_rest (opened d) = held_list d

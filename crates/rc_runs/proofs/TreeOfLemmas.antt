@@ -25,14 +25,16 @@ use Rattle.rc_runs.specs.TreeOf.{value_of, rows_of, statements_of, statement_of,
 abbrev value_layer : Value → ReactiveValue-F ReactiveValue ReactiveInstruction
 value_layer (Base value) = value_layers.Instruction value
 value_layer (Logical operator left right) = value_layers.LogicalExpression operator (value_of left) (value_of right)
-value_layer (Conditional test consequent alternate) = value_layers.ConditionalExpression (value_of test) (value_of consequent) (value_of alternate)
+value_layer (Conditional test consequent alternate) =
+    value_layers.ConditionalExpression (value_of test) (value_of consequent) (value_of alternate)
 value_layer (Sequence rows id value) = value_layers.SequenceExpression (rows_of rows) id (value_of value)
 value_layer (Optional value optional) = value_layers.OptionalExpression (value_of value) optional
 
 out-value_of : (value : Value) → out-ReactiveValue (value_of value) ≡ value_layer value
 out-value_of (Base value) = values.outs-Instruction value
 out-value_of (Logical operator left right) = values.outs-LogicalExpression operator (value_of left) (value_of right)
-out-value_of (Conditional test consequent alternate) = values.outs-ConditionalExpression (value_of test) (value_of consequent) (value_of alternate)
+out-value_of (Conditional test consequent alternate) =
+    values.outs-ConditionalExpression (value_of test) (value_of consequent) (value_of alternate)
 out-value_of (Sequence rows id value) = values.outs-SequenceExpression (rows_of rows) id (value_of value)
 out-value_of (Optional value optional) = values.outs-OptionalExpression (value_of value) optional
 
@@ -95,24 +97,30 @@ option_value-injective a b e = absurd (let bad : ⊥ = cc in bad)
 -- the first layers of a statement's tree and of a terminal's
 abbrev StatementLayer : Type 0
 StatementLayer =
-    ReactiveStatement-F ReactiveStatement ReactiveTerminal PrunedReactiveScopeBlock ReactiveScopeBlock ReactiveBlock ReactiveSwitchCase
+    ReactiveStatement-F ReactiveStatement ReactiveTerminal PrunedReactiveScopeBlock ReactiveScopeBlock ReactiveBlock
+    ReactiveSwitchCase
     ReactiveTerminalStatement
 
 abbrev TerminalLayer : Type 0
 TerminalLayer =
-    ReactiveTerminal-F ReactiveStatement ReactiveTerminal PrunedReactiveScopeBlock ReactiveScopeBlock ReactiveBlock ReactiveSwitchCase
+    ReactiveTerminal-F ReactiveStatement ReactiveTerminal PrunedReactiveScopeBlock ReactiveScopeBlock ReactiveBlock
+    ReactiveSwitchCase
     ReactiveTerminalStatement
 
 abbrev CaseLayer : Type 0
 CaseLayer =
-    ReactiveSwitchCase-F ReactiveStatement ReactiveTerminal PrunedReactiveScopeBlock ReactiveScopeBlock ReactiveBlock ReactiveSwitchCase
+    ReactiveSwitchCase-F ReactiveStatement ReactiveTerminal PrunedReactiveScopeBlock ReactiveScopeBlock ReactiveBlock
+    ReactiveSwitchCase
     ReactiveTerminalStatement
 
 abbrev statement_layer : Statement → StatementLayer
-statement_layer (RowStatement id target value span) = layers.Instruction (record { id = id; lvalue = target; value = value_of value; span = span })
-statement_layer (TerminalStatement terminal label) = layers.Terminal (record { terminal = terminal_of terminal; label = label })
+statement_layer (RowStatement id target value span) =
+    layers.Instruction (record { id = id; lvalue = target; value = value_of value; span = span })
+statement_layer (TerminalStatement terminal label) =
+    layers.Terminal (record { terminal = terminal_of terminal; label = label })
 statement_layer (ScopeStatement scope body) = layers.Scope (record { scope = scope; instructions = block_of body })
-statement_layer (PrunedScopeStatement scope body) = layers.PrunedScope (record { scope = scope; instructions = block_of body })
+statement_layer (PrunedScopeStatement scope body) =
+    layers.PrunedScope (record { scope = scope; instructions = block_of body })
 
 abbrev terminal_layer : TreeTerminal → TerminalLayer
 terminal_layer (Break target kind id) = layers.Break target kind id
@@ -122,7 +130,8 @@ terminal_layer (Throw value id) = layers.Throw value id
 terminal_layer (Switch test cases id) = layers.Switch test (cases_of cases) id
 terminal_layer (DoWhile body test id) = layers.DoWhile (block_of body) (value_of test) id
 terminal_layer (While test body id) = layers.While (value_of test) (block_of body) id
-terminal_layer (For init test update body id) = layers.For (value_of init) (value_of test) (option_map value_of update) (block_of body) id
+terminal_layer (For init test update body id) =
+    layers.For (value_of init) (value_of test) (option_map value_of update) (block_of body) id
 terminal_layer (ForOf init test body span id) = layers.ForOf (value_of init) (value_of test) (block_of body) span id
 terminal_layer (ForIn init body span id) = layers.ForIn (value_of init) (block_of body) span id
 terminal_layer (If test consequent alternate id) = layers.If test (block_of consequent) (alternate_of alternate) id
@@ -143,10 +152,13 @@ out-terminal_of (Throw value id) = terminals.outs-Throw value id
 out-terminal_of (Switch test cases id) = terminals.outs-Switch test (cases_of cases) id
 out-terminal_of (DoWhile body test id) = terminals.outs-DoWhile (block_of body) (value_of test) id
 out-terminal_of (While test body id) = terminals.outs-While (value_of test) (block_of body) id
-out-terminal_of (For init test update body id) = terminals.outs-For (value_of init) (value_of test) (option_map value_of update) (block_of body) id
-out-terminal_of (ForOf init test body span id) = terminals.outs-ForOf (value_of init) (value_of test) (block_of body) span id
+out-terminal_of (For init test update body id) =
+    terminals.outs-For (value_of init) (value_of test) (option_map value_of update) (block_of body) id
+out-terminal_of (ForOf init test body span id) =
+    terminals.outs-ForOf (value_of init) (value_of test) (block_of body) span id
 out-terminal_of (ForIn init body span id) = terminals.outs-ForIn (value_of init) (block_of body) span id
-out-terminal_of (If test consequent alternate id) = terminals.outs-If test (block_of consequent) (alternate_of alternate) id
+out-terminal_of (If test consequent alternate id) =
+    terminals.outs-If test (block_of consequent) (alternate_of alternate) id
 out-terminal_of (Label body id) = terminals.outs-Label (block_of body) id
 out-terminal_of (Try body binding handler id) = terminals.outs-Try (block_of body) binding (block_of handler) id
 
@@ -161,7 +173,8 @@ block_part : (a b : ReactiveBlock) → a ≡ b → a.statements ≡ b.statements
 block_part a b e = ap (λ (block : ReactiveBlock). block.statements) e
 
 case_parts : (test test' : Option Place) (body body' : Option ReactiveBlock) →
-    roll-ReactiveSwitchCase (record { test = test; block = body }) ≡ roll-ReactiveSwitchCase (record { test = test'; block = body' }) →
+    roll-ReactiveSwitchCase (record { test = test; block = body })
+    ≡ roll-ReactiveSwitchCase (record { test = test'; block = body' }) →
     (test ≡ test') × (body ≡ body')
 case_parts test test' body body' e =
     let same = sym (out-roll-ReactiveSwitchCase _) ∙ (ap out-ReactiveSwitchCase e ∙ out-roll-ReactiveSwitchCase _) in
@@ -189,7 +202,8 @@ terminal_statement_parts a b e =
     let same : a ≡ b = cc in
     (ap (λ (t : ReactiveTerminalStatement). t.terminal) same, ap (λ (t : ReactiveTerminalStatement). t.label) same)
 
-scope_parts : (a b : ReactiveScopeBlock) → scope_of a ≡ scope_of b → (a.scope ≡ b.scope) × (a.instructions.statements ≡ b.instructions.statements)
+scope_parts : (a b : ReactiveScopeBlock) → scope_of a ≡ scope_of b → (a.scope ≡ b.scope)
+    × (a.instructions.statements ≡ b.instructions.statements)
 scope_parts a b e =
     let same : a ≡ b = cc in
     (ap (λ (s : ReactiveScopeBlock). s.scope) same, ap (λ (s : ReactiveScopeBlock). s.instructions.statements) same)
@@ -197,14 +211,18 @@ scope_parts a b e =
 pruned_scope_parts : (a b : PrunedReactiveScopeBlock) → pruned_scope_of a ≡ pruned_scope_of b →
     (a.scope ≡ b.scope) × (a.instructions.statements ≡ b.instructions.statements)
 pruned_scope_parts a b e =
-    let same : a ≡ b = cc in
-    (ap (λ (s : PrunedReactiveScopeBlock). s.scope) same, ap (λ (s : PrunedReactiveScopeBlock). s.instructions.statements) same)
+    let same : a ≡ b = cc in (
+      ap (λ (s : PrunedReactiveScopeBlock). s.scope) same,
+      ap
+          (λ (s : PrunedReactiveScopeBlock). s.instructions.statements) same,
+    )
 
 mutual
   pub statements_of-injective : (a b : Statements) → statements_of a ≡ statements_of b → a ≡ b
   statements_of-injective Nil Nil e = refl
   statements_of-injective (Cons statement rest) (Cons statement' rest') e =
-      let first : statement ≡ statement' = statement_layer-injective statement statement' (same_statement_layer statement statement' (first_same _ _ _ _ e)) in
+      let first : statement ≡ statement' = statement_layer-injective statement statement'
+      (same_statement_layer statement statement' (first_same _ _ _ _ e)) in
       let more : rest ≡ rest' = statements_of-injective rest rest' (cc) in
       cc
   statements_of-injective a b e = absurd (let bad : ⊥ = cc in bad)
@@ -216,7 +234,8 @@ mutual
       cc
   statement_layer-injective (TerminalStatement terminal label) (TerminalStatement terminal' label') e =
       let parts = terminal_statement_parts _ _ e in
-      let same : terminal ≡ terminal' = terminal_layer-injective terminal terminal' (same_terminal_layer terminal terminal' parts.0) in
+      let same : terminal ≡ terminal' = terminal_layer-injective terminal terminal'
+      (same_terminal_layer terminal terminal' parts.0) in
       cc
   statement_layer-injective (ScopeStatement scope body) (ScopeStatement scope' body') e =
       let parts = scope_parts _ _ e in
@@ -237,44 +256,54 @@ mutual
       let same : cases ≡ cases' = cases_of-injective cases cases' (cc) in
       cc
   terminal_layer-injective (DoWhile body test id) (DoWhile body' test' id') e =
-      let inner : body ≡ body' = statements_of-injective body body' (block_part (block_of body) (block_of body') (cc)) in
+      let inner : body ≡ body' = statements_of-injective body body' (block_part (block_of body) (block_of body') (cc))
+      in
       let tested : test ≡ test' = value_of-injective test test' (cc) in
       cc
   terminal_layer-injective (While test body id) (While test' body' id') e =
-      let inner : body ≡ body' = statements_of-injective body body' (block_part (block_of body) (block_of body') (cc)) in
+      let inner : body ≡ body' = statements_of-injective body body' (block_part (block_of body) (block_of body') (cc))
+      in
       let tested : test ≡ test' = value_of-injective test test' (cc) in
       cc
   terminal_layer-injective (For init test update body id) (For init' test' update' body' id') e =
-      let inner : body ≡ body' = statements_of-injective body body' (block_part (block_of body) (block_of body') (cc)) in
+      let inner : body ≡ body' = statements_of-injective body body' (block_part (block_of body) (block_of body') (cc))
+      in
       let first : init ≡ init' = value_of-injective init init' (cc) in
       let tested : test ≡ test' = value_of-injective test test' (cc) in
       let updated : update ≡ update' = option_value-injective update update' (cc) in
       cc
   terminal_layer-injective (ForOf init test body span id) (ForOf init' test' body' span' id') e =
-      let inner : body ≡ body' = statements_of-injective body body' (block_part (block_of body) (block_of body') (cc)) in
+      let inner : body ≡ body' = statements_of-injective body body' (block_part (block_of body) (block_of body') (cc))
+      in
       let first : init ≡ init' = value_of-injective init init' (cc) in
       let tested : test ≡ test' = value_of-injective test test' (cc) in
       cc
   terminal_layer-injective (ForIn init body span id) (ForIn init' body' span' id') e =
-      let inner : body ≡ body' = statements_of-injective body body' (block_part (block_of body) (block_of body') (cc)) in
+      let inner : body ≡ body' = statements_of-injective body body' (block_part (block_of body) (block_of body') (cc))
+      in
       let first : init ≡ init' = value_of-injective init init' (cc) in
       cc
   terminal_layer-injective (If test consequent alternate id) (If test' consequent' alternate' id') e =
-      let taken : consequent ≡ consequent' = statements_of-injective consequent consequent' (block_part (block_of consequent) (block_of consequent') (cc)) in
+      let taken : consequent ≡ consequent' = statements_of-injective consequent consequent'
+      (block_part (block_of consequent) (block_of consequent') (cc)) in
       let other : alternate ≡ alternate' = alternate_of-injective alternate alternate' (cc) in
       cc
   terminal_layer-injective (Label body id) (Label body' id') e =
-      let inner : body ≡ body' = statements_of-injective body body' (block_part (block_of body) (block_of body') (cc)) in
+      let inner : body ≡ body' = statements_of-injective body body' (block_part (block_of body) (block_of body') (cc))
+      in
       cc
   terminal_layer-injective (Try body binding handler id) (Try body' binding' handler' id') e =
-      let inner : body ≡ body' = statements_of-injective body body' (block_part (block_of body) (block_of body') (cc)) in
-      let caught : handler ≡ handler' = statements_of-injective handler handler' (block_part (block_of handler) (block_of handler') (cc)) in
+      let inner : body ≡ body' = statements_of-injective body body' (block_part (block_of body) (block_of body') (cc))
+      in
+      let caught : handler ≡ handler' = statements_of-injective handler handler'
+      (block_part (block_of handler) (block_of handler') (cc)) in
       cc
   terminal_layer-injective a b e = absurd (let bad : ⊥ = cc in bad)
 
   alternate_of-injective : (a b : Alternate) → alternate_of a ≡ alternate_of b → a ≡ b
   alternate_of-injective Absent Absent e = refl
-  alternate_of-injective (Present body) (Present body') e = ap Present (statements_of-injective body body' (block_part (block_of body) (block_of body') (cc)))
+  alternate_of-injective (Present body) (Present body') e =
+      ap Present (statements_of-injective body body' (block_part (block_of body) (block_of body') (cc)))
   alternate_of-injective a b e = absurd (let bad : ⊥ = cc in bad)
 
   cases_of-injective : (a b : Cases) → cases_of a ≡ cases_of b → a ≡ b

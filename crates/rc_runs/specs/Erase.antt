@@ -1,4 +1,5 @@
--- A tree without its scopes: each scope block and each pruned scope block is replaced by its contents, at every depth, and
+-- A tree without its scopes: each scope block and each pruned scope block is replaced by its contents, at every depth,
+-- and
 -- the flag that tells whether a `FinishMemoize` is pruned is left out.
 use Rattle.std.specs.Prelude.{false, List, [], ◌∷◌, option_map, flat_map}
 use Rattle.rc_hir.specs.declared.instruction.InstructionValue.{InstructionValue}
@@ -91,26 +92,30 @@ of_terminal (layers.Try body binding handler id) = terminals.Try body binding ha
 unfoldable pub erased_block : ReactiveBlock → ReactiveBlock
 erased_block =
     fold-ReactiveBlock (List ReactiveStatement) ReactiveTerminal (List ReactiveStatement) (List ReactiveStatement)
-    ReactiveBlock ReactiveSwitchCase ReactiveTerminalStatement of_statement of_terminal of_pruned_scope of_scope of_block
+    ReactiveBlock ReactiveSwitchCase ReactiveTerminalStatement of_statement of_terminal of_pruned_scope of_scope
+    of_block
     of_case of_labeled
 
 -- the same of a statement, of a case and of a terminal
 unfoldable pub erased_statement : ReactiveStatement → List ReactiveStatement
 erased_statement =
     fold-ReactiveStatement (List ReactiveStatement) ReactiveTerminal (List ReactiveStatement) (List ReactiveStatement)
-    ReactiveBlock ReactiveSwitchCase ReactiveTerminalStatement of_statement of_terminal of_pruned_scope of_scope of_block
+    ReactiveBlock ReactiveSwitchCase ReactiveTerminalStatement of_statement of_terminal of_pruned_scope of_scope
+    of_block
     of_case of_labeled
 
 unfoldable pub erased_case : ReactiveSwitchCase → ReactiveSwitchCase
 erased_case =
     fold-ReactiveSwitchCase (List ReactiveStatement) ReactiveTerminal (List ReactiveStatement) (List ReactiveStatement)
-    ReactiveBlock ReactiveSwitchCase ReactiveTerminalStatement of_statement of_terminal of_pruned_scope of_scope of_block
+    ReactiveBlock ReactiveSwitchCase ReactiveTerminalStatement of_statement of_terminal of_pruned_scope of_scope
+    of_block
     of_case of_labeled
 
 unfoldable pub erased_terminal : ReactiveTerminal → ReactiveTerminal
 erased_terminal =
     fold-ReactiveTerminal (List ReactiveStatement) ReactiveTerminal (List ReactiveStatement) (List ReactiveStatement)
-    ReactiveBlock ReactiveSwitchCase ReactiveTerminalStatement of_statement of_terminal of_pruned_scope of_scope of_block
+    ReactiveBlock ReactiveSwitchCase ReactiveTerminalStatement of_statement of_terminal of_pruned_scope of_scope
+    of_block
     of_case of_labeled
 
 -- the same of statements one after the other

@@ -5,22 +5,26 @@ use Rattle.rc_hir.specs.declared.fault.Fault.TheVariants.{NoMemory}
 use Rattle.rc_tree.specs.Outcome.{Gives, Walk, bind, each, perhaps}
 
 -- what follows a step that answers
-pub gives_next : {A B S T : Type 0} (first : Result (A × S) Fault) (next : A × S → Result (B × T) Fault) (a : A) (s : S) (r : Result B Fault) (t : T)
+pub gives_next : {A B S T : Type 0} (first : Result (A × S) Fault) (next : A × S → Result (B × T) Fault) (a : A) (s : S)
+    (r : Result B Fault) (t : T)
     → first ≡ Ok (a, s) → Gives (next (a, s)) r t → Gives (bind first next) r t
 gives_next first next a s r t e h = subst (λ f. Gives (bind f next) r t) (sym e) h
 
 -- a step that fails ends the walk
-pub gives_fault : {A B S T : Type 0} (first : Result (A × S) Fault) (next : A × S → Result (B × T) Fault) (fault : Fault) (s : S) (t : T)
+pub gives_fault : {A B S T : Type 0} (first : Result (A × S) Fault) (next : A × S → Result (B × T) Fault)
+    (fault : Fault) (s : S) (t : T)
     → Gives first (Err fault) s → Gives (bind first next) (Err fault) t
 gives_fault first next fault s t (inl e) = inl e
 gives_fault first next fault s t (inr e) = inr (ap (λ f. bind f next) e)
 
 -- two ways on that agree on every answer
-pub same_rest : {A B : Type 0} (r : Result A Fault) (f g : A → Result B Fault) → ((a : A) → f a ≡ g a) → bind r f ≡ bind r g
+pub same_rest : {A B : Type 0} (r : Result A Fault) (f g : A → Result B Fault) → ((a : A) → f a ≡ g a)
+    → bind r f ≡ bind r g
 same_rest (Ok a) f g h = h a
 same_rest (Err fault) f g h = refl
 
 -- steps over the entries of a mapped list
-pub each-map : {S X Y : Type 0} (step : Y → Walk S) (f : X → Y) (xs : List X) (s : S) → each step (map f xs) s ≡ each (λ x. step (f x)) xs s
+pub each-map : {S X Y : Type 0} (step : Y → Walk S) (f : X → Y) (xs : List X) (s : S)
+    → each step (map f xs) s ≡ each (λ x. step (f x)) xs s
 each-map step f [] s = refl
 each-map step f (x ∷ xs) s = same_rest (step (f x) s) _ _ (λ r. each-map step f xs r.1)

@@ -43,105 +43,152 @@ module _ {S : Type 0} (v : ReadSteps S) (functions : List HirFunction) where
   read_scope-around x s = refl
 
   pub read_pruned_scope-around : (x : PrunedReactiveScopeBlock) (s : S)
-      → read_pruned_scope v functions x s ≡ around (v.enter_pruned_scope x) (inside_pruned_scope v functions x) (v.leave_pruned_scope x) s
+      → read_pruned_scope v functions x s ≡ around (v.enter_pruned_scope x) (inside_pruned_scope v functions x)
+      (v.leave_pruned_scope x) s
   unfolding read_pruned_scope
   read_pruned_scope-around x s = refl
 
   pub read_terminal-around : (x : ReactiveTerminalStatement) (s : S)
-      → read_terminal v functions x s ≡ around (v.enter_terminal x) (inside_terminal v functions x) (v.leave_terminal x) s
+      → read_terminal v functions x s ≡ around (v.enter_terminal x) (inside_terminal v functions x) (v.leave_terminal x)
+      s
   unfolding read_terminal
   read_terminal-around x s = refl
 
   -- a layer, each part in it with the walk of its inside
   abbrev LayerOfParts : Type 0
-  LayerOfParts = layer.ReactiveTerminal-F ReactiveStatement ReactiveTerminal PrunedReactiveScopeBlock ReactiveScopeBlock ReactiveBlock ReactiveSwitchCase ReactiveTerminalStatement
+  LayerOfParts = layer.ReactiveTerminal-F ReactiveStatement ReactiveTerminal PrunedReactiveScopeBlock ReactiveScopeBlock
+      ReactiveBlock ReactiveSwitchCase ReactiveTerminalStatement
 
   abbrev walked_parts : LayerOfParts
-      → layer.ReactiveTerminal-F (OfStatement v functions) (OfParts v functions) (OfPruned v functions) (OfScope v functions) (OfBlock v functions) (OfCase v functions) (OfTerminal v functions)
-  walked_parts = map-ReactiveTerminal ReactiveStatement ReactiveTerminal PrunedReactiveScopeBlock ReactiveScopeBlock ReactiveBlock ReactiveSwitchCase ReactiveTerminalStatement
-      (OfStatement v functions) (OfParts v functions) (OfPruned v functions) (OfScope v functions) (OfBlock v functions) (OfCase v functions) (OfTerminal v functions)
-      (λ y. (y, read_statement v functions y)) (λ y. (y, read_parts v functions y)) (λ y. (y, inside_pruned_scope v functions y)) (λ y. (y, inside_scope v functions y))
-      (λ y. (y, inside_block v functions y)) (λ y. (y, read_case v functions y)) (λ y. (y, inside_terminal v functions y))
+      → layer.ReactiveTerminal-F (OfStatement v functions) (OfParts v functions) (OfPruned v functions)
+      (OfScope v functions) (OfBlock v functions) (OfCase v functions) (OfTerminal v functions)
+  walked_parts = map-ReactiveTerminal ReactiveStatement ReactiveTerminal PrunedReactiveScopeBlock ReactiveScopeBlock
+      ReactiveBlock ReactiveSwitchCase ReactiveTerminalStatement
+      (OfStatement v functions) (OfParts v functions) (OfPruned v functions) (OfScope v functions) (OfBlock v functions)
+      (OfCase v functions) (OfTerminal v functions)
+      (λ y. (y, read_statement v functions y)) (λ y. (y, read_parts v functions y))
+      (λ y. (y, inside_pruned_scope v functions y)) (λ y. (y, inside_scope v functions y))
+      (λ y. (y, inside_block v functions y)) (λ y. (y, read_case v functions y))
+      (λ y. (y, inside_terminal v functions y))
 
   abbrev LayerOfStatement : Type 0
-  LayerOfStatement = layer.ReactiveStatement-F ReactiveStatement ReactiveTerminal PrunedReactiveScopeBlock ReactiveScopeBlock ReactiveBlock ReactiveSwitchCase ReactiveTerminalStatement
+  LayerOfStatement = layer.ReactiveStatement-F ReactiveStatement ReactiveTerminal PrunedReactiveScopeBlock
+      ReactiveScopeBlock ReactiveBlock ReactiveSwitchCase ReactiveTerminalStatement
 
   abbrev walked_statement : LayerOfStatement
-      → layer.ReactiveStatement-F (OfStatement v functions) (OfParts v functions) (OfPruned v functions) (OfScope v functions) (OfBlock v functions) (OfCase v functions) (OfTerminal v functions)
-  walked_statement = map-ReactiveStatement ReactiveStatement ReactiveTerminal PrunedReactiveScopeBlock ReactiveScopeBlock ReactiveBlock ReactiveSwitchCase ReactiveTerminalStatement
-      (OfStatement v functions) (OfParts v functions) (OfPruned v functions) (OfScope v functions) (OfBlock v functions) (OfCase v functions) (OfTerminal v functions)
-      (λ y. (y, read_statement v functions y)) (λ y. (y, read_parts v functions y)) (λ y. (y, inside_pruned_scope v functions y)) (λ y. (y, inside_scope v functions y))
-      (λ y. (y, inside_block v functions y)) (λ y. (y, read_case v functions y)) (λ y. (y, inside_terminal v functions y))
+      → layer.ReactiveStatement-F (OfStatement v functions) (OfParts v functions) (OfPruned v functions)
+      (OfScope v functions) (OfBlock v functions) (OfCase v functions) (OfTerminal v functions)
+  walked_statement = map-ReactiveStatement ReactiveStatement ReactiveTerminal PrunedReactiveScopeBlock
+      ReactiveScopeBlock ReactiveBlock ReactiveSwitchCase ReactiveTerminalStatement
+      (OfStatement v functions) (OfParts v functions) (OfPruned v functions) (OfScope v functions) (OfBlock v functions)
+      (OfCase v functions) (OfTerminal v functions)
+      (λ y. (y, read_statement v functions y)) (λ y. (y, read_parts v functions y))
+      (λ y. (y, inside_pruned_scope v functions y)) (λ y. (y, inside_scope v functions y))
+      (λ y. (y, inside_block v functions y)) (λ y. (y, read_case v functions y))
+      (λ y. (y, inside_terminal v functions y))
 
   -- the walk of a part is the step of its layer
-  opened_parts : (x : LayerOfParts) (s : S) → read_parts v functions (roll-ReactiveTerminal x) s ≡ parts_step v functions (walked_parts x) s
+  opened_parts : (x : LayerOfParts) (s : S) → read_parts v functions (roll-ReactiveTerminal x) s
+      ≡ parts_step v functions (walked_parts x) s
   unfolding read_statement read_parts inside_pruned_scope inside_scope inside_block read_case inside_terminal
-  opened_parts x s = ap (λ f. f s) (para-roll-ReactiveTerminal (Walk S) (Walk S) (Walk S) (Walk S) (Walk S) (WalkAt v functions) (Walk S) (statement_step v functions) (parts_step v functions) (pruned_step v functions)
+  opened_parts x s = ap (λ f. f s) (para-roll-ReactiveTerminal (Walk S) (Walk S) (Walk S) (Walk S) (Walk S)
+      (WalkAt v functions) (Walk S) (statement_step v functions) (parts_step v functions) (pruned_step v functions)
       (scope_step v functions) (block_step v functions) (case_step v functions) (terminal_step v functions) x)
 
-  opened_statement : (x : LayerOfStatement) (s : S) → read_statement v functions (roll-ReactiveStatement x) s ≡ statement_step v functions (walked_statement x) s
+  opened_statement : (x : LayerOfStatement) (s : S) → read_statement v functions (roll-ReactiveStatement x) s
+      ≡ statement_step v functions (walked_statement x) s
   unfolding read_statement read_parts inside_pruned_scope inside_scope inside_block read_case inside_terminal
-  opened_statement x s = ap (λ f. f s) (para-roll-ReactiveStatement (Walk S) (Walk S) (Walk S) (Walk S) (Walk S) (WalkAt v functions) (Walk S) (statement_step v functions) (parts_step v functions) (pruned_step v functions)
+  opened_statement x s = ap (λ f. f s) (para-roll-ReactiveStatement (Walk S) (Walk S) (Walk S) (Walk S) (Walk S)
+      (WalkAt v functions) (Walk S) (statement_step v functions) (parts_step v functions) (pruned_step v functions)
       (scope_step v functions) (block_step v functions) (case_step v functions) (terminal_step v functions) x)
 
-  pub inside_block-each : (x : ReactiveBlock) (s : S) → inside_block v functions x s ≡ each (read_statement v functions) x.statements s
+  pub inside_block-each : (x : ReactiveBlock) (s : S) → inside_block v functions x s
+      ≡ each (read_statement v functions) x.statements s
   unfolding read_statement read_parts inside_pruned_scope inside_scope inside_block read_case inside_terminal
   inside_block-each x s =
-      ap (λ f. f s) (para-roll-ReactiveBlock (Walk S) (Walk S) (Walk S) (Walk S) (Walk S) (WalkAt v functions) (Walk S) (statement_step v functions) (parts_step v functions) (pruned_step v functions)
-      (scope_step v functions) (block_step v functions) (case_step v functions) (terminal_step v functions) (record { statements = x.statements }))
+      ap (λ f. f s) (para-roll-ReactiveBlock (Walk S) (Walk S) (Walk S) (Walk S) (Walk S) (WalkAt v functions) (Walk S)
+      (statement_step v functions) (parts_step v functions) (pruned_step v functions)
+      (scope_step v functions) (block_step v functions) (case_step v functions) (terminal_step v functions)
+      (record { statements = x.statements }))
       ∙ each-map (λ e. e.1) (λ y. (y, read_statement v functions y)) x.statements s
 
-  pub inside_scope-block : (x : ReactiveScopeBlock) (s : S) → inside_scope v functions x s ≡ read_block v functions x.instructions s
+  pub inside_scope-block : (x : ReactiveScopeBlock) (s : S)
+      → inside_scope v functions x s ≡ read_block v functions x.instructions s
   unfolding read_statement read_parts inside_pruned_scope inside_scope inside_block read_case inside_terminal read_block
-  inside_scope-block x s = ap (λ f. f s) (para-roll-ReactiveScopeBlock (Walk S) (Walk S) (Walk S) (Walk S) (Walk S) (WalkAt v functions) (Walk S) (statement_step v functions) (parts_step v functions) (pruned_step v functions)
-      (scope_step v functions) (block_step v functions) (case_step v functions) (terminal_step v functions) (record { scope = x.scope; instructions = x.instructions }))
+  inside_scope-block x s = ap (λ f. f s) (para-roll-ReactiveScopeBlock (Walk S) (Walk S) (Walk S) (Walk S) (Walk S)
+      (WalkAt v functions) (Walk S) (statement_step v functions) (parts_step v functions) (pruned_step v functions)
+      (scope_step v functions) (block_step v functions) (case_step v functions) (terminal_step v functions)
+      (record { scope = x.scope; instructions = x.instructions }))
 
-  pub inside_pruned_scope-block : (x : PrunedReactiveScopeBlock) (s : S) → inside_pruned_scope v functions x s ≡ read_block v functions x.instructions s
+  pub inside_pruned_scope-block : (x : PrunedReactiveScopeBlock) (s : S)
+      → inside_pruned_scope v functions x s ≡ read_block v functions x.instructions s
   unfolding read_statement read_parts inside_pruned_scope inside_scope inside_block read_case inside_terminal read_block
-  inside_pruned_scope-block x s = ap (λ f. f s) (para-roll-PrunedReactiveScopeBlock (Walk S) (Walk S) (Walk S) (Walk S) (Walk S) (WalkAt v functions) (Walk S) (statement_step v functions) (parts_step v functions) (pruned_step v functions)
-      (scope_step v functions) (block_step v functions) (case_step v functions) (terminal_step v functions) (record { scope = x.scope; instructions = x.instructions }))
+  inside_pruned_scope-block x s = ap (λ f. f s) (para-roll-PrunedReactiveScopeBlock (Walk S) (Walk S) (Walk S) (Walk S)
+      (Walk S) (WalkAt v functions) (Walk S) (statement_step v functions) (parts_step v functions)
+      (pruned_step v functions)
+      (scope_step v functions) (block_step v functions) (case_step v functions) (terminal_step v functions)
+      (record { scope = x.scope; instructions = x.instructions }))
 
-  pub inside_terminal-parts : (x : ReactiveTerminalStatement) (s : S) → inside_terminal v functions x s ≡ read_parts v functions x.terminal s
+  pub inside_terminal-parts : (x : ReactiveTerminalStatement) (s : S)
+      → inside_terminal v functions x s ≡ read_parts v functions x.terminal s
   unfolding read_statement read_parts inside_pruned_scope inside_scope inside_block read_case inside_terminal
-  inside_terminal-parts x s = ap (λ f. f s) (para-roll-ReactiveTerminalStatement (Walk S) (Walk S) (Walk S) (Walk S) (Walk S) (WalkAt v functions) (Walk S) (statement_step v functions) (parts_step v functions) (pruned_step v functions)
-      (scope_step v functions) (block_step v functions) (case_step v functions) (terminal_step v functions) (record { terminal = x.terminal; label = x.label }))
+  inside_terminal-parts x s = ap (λ f. f s) (para-roll-ReactiveTerminalStatement (Walk S) (Walk S) (Walk S) (Walk S)
+      (Walk S) (WalkAt v functions) (Walk S) (statement_step v functions) (parts_step v functions)
+      (pruned_step v functions)
+      (scope_step v functions) (block_step v functions) (case_step v functions) (terminal_step v functions)
+      (record { terminal = x.terminal; label = x.label }))
 
   pub read_case-parts : (x : ReactiveSwitchCase) (id : EvaluationOrder) (s : S)
       → read_case v functions x id s
-      ≡ next_to (perhaps (v.visit_place id) (out-ReactiveSwitchCase x).test) (perhaps (read_block v functions) (out-ReactiveSwitchCase x).block) s
+      ≡ next_to (perhaps (v.visit_place id) (out-ReactiveSwitchCase x).test)
+      (perhaps (read_block v functions) (out-ReactiveSwitchCase x).block) s
   unfolding read_statement read_parts inside_pruned_scope inside_scope inside_block read_case inside_terminal read_block
   read_case-parts x id s =
       ap (λ y. read_case v functions y id s) (sym (roll-out-ReactiveSwitchCase x))
-      ∙ ap (λ f. f id s) (para-roll-ReactiveSwitchCase (Walk S) (Walk S) (Walk S) (Walk S) (Walk S) (WalkAt v functions) (Walk S) (statement_step v functions) (parts_step v functions) (pruned_step v functions)
-      (scope_step v functions) (block_step v functions) (case_step v functions) (terminal_step v functions) (out-ReactiveSwitchCase x))
-      ∙ same_rest (perhaps (v.visit_place id) (out-ReactiveSwitchCase x).test s) _ _ (λ r. perhaps-map (around_block v functions) (λ y. (y, inside_block v functions y)) (out-ReactiveSwitchCase x).block r.1)
+      ∙ ap (λ f. f id s) (para-roll-ReactiveSwitchCase (Walk S) (Walk S) (Walk S) (Walk S) (Walk S) (WalkAt v functions)
+      (Walk S) (statement_step v functions) (parts_step v functions) (pruned_step v functions)
+      (scope_step v functions) (block_step v functions) (case_step v functions) (terminal_step v functions)
+      (out-ReactiveSwitchCase x))
+      ∙ same_rest (perhaps (v.visit_place id) (out-ReactiveSwitchCase x).test s) _ _
+      (λ r. perhaps-map (around_block v functions) (λ y. (y, inside_block v functions y))
+      (out-ReactiveSwitchCase x).block r.1)
 
-  pub statement-Instruction : (x : ReactiveInstruction) (s : S) → read_statement v functions (stmt.Instruction x) s ≡ read_instruction v functions x s
-  statement-Instruction x s = ap (λ y. read_statement v functions y s) (sym (stmt.rolls-Instruction x)) ∙ opened_statement (layer.Instruction x) s
+  pub statement-Instruction : (x : ReactiveInstruction) (s : S)
+      → read_statement v functions (stmt.Instruction x) s ≡ read_instruction v functions x s
+  statement-Instruction x s = ap (λ y. read_statement v functions y s) (sym (stmt.rolls-Instruction x))
+      ∙ opened_statement (layer.Instruction x) s
 
-  pub statement-Terminal : (x : ReactiveTerminalStatement) (s : S) → read_statement v functions (stmt.Terminal x) s ≡ read_terminal v functions x s
+  pub statement-Terminal : (x : ReactiveTerminalStatement) (s : S)
+      → read_statement v functions (stmt.Terminal x) s ≡ read_terminal v functions x s
   unfolding read_terminal
-  statement-Terminal x s = ap (λ y. read_statement v functions y s) (sym (stmt.rolls-Terminal x)) ∙ opened_statement (layer.Terminal x) s
+  statement-Terminal x s =
+      ap (λ y. read_statement v functions y s) (sym (stmt.rolls-Terminal x)) ∙ opened_statement (layer.Terminal x) s
 
-  pub statement-Scope : (x : ReactiveScopeBlock) (s : S) → read_statement v functions (stmt.Scope x) s ≡ read_scope v functions x s
+  pub statement-Scope : (x : ReactiveScopeBlock) (s : S)
+      → read_statement v functions (stmt.Scope x) s ≡ read_scope v functions x s
   unfolding read_scope
-  statement-Scope x s = ap (λ y. read_statement v functions y s) (sym (stmt.rolls-Scope x)) ∙ opened_statement (layer.Scope x) s
+  statement-Scope x s =
+      ap (λ y. read_statement v functions y s) (sym (stmt.rolls-Scope x)) ∙ opened_statement (layer.Scope x) s
 
-  pub statement-PrunedScope : (x : PrunedReactiveScopeBlock) (s : S) → read_statement v functions (stmt.PrunedScope x) s ≡ read_pruned_scope v functions x s
+  pub statement-PrunedScope : (x : PrunedReactiveScopeBlock) (s : S)
+      → read_statement v functions (stmt.PrunedScope x) s ≡ read_pruned_scope v functions x s
   unfolding read_pruned_scope
-  statement-PrunedScope x s = ap (λ y. read_statement v functions y s) (sym (stmt.rolls-PrunedScope x)) ∙ opened_statement (layer.PrunedScope x) s
+  statement-PrunedScope x s = ap (λ y. read_statement v functions y s) (sym (stmt.rolls-PrunedScope x))
+      ∙ opened_statement (layer.PrunedScope x) s
 
   pub parts-Break : (target : BlockId) (kind : ReactiveTerminalTargetKind) (id : EvaluationOrder) (s : S)
       → read_parts v functions (term.Break target kind id) s
       ≡ v.visit_id id s
   parts-Break target kind id s =
-      ap (λ y. read_parts v functions y s) (sym (term.rolls-Break target kind id)) ∙ opened_parts (layer.Break target kind id) s
+      ap (λ y. read_parts v functions y s) (sym (term.rolls-Break target kind id))
+      ∙ opened_parts (layer.Break target kind id) s
 
   pub parts-Continue : (target : BlockId) (kind : ReactiveTerminalTargetKind) (id : EvaluationOrder) (s : S)
       → read_parts v functions (term.Continue target kind id) s
       ≡ v.visit_id id s
   parts-Continue target kind id s =
-      ap (λ y. read_parts v functions y s) (sym (term.rolls-Continue target kind id)) ∙ opened_parts (layer.Continue target kind id) s
+      ap (λ y. read_parts v functions y s) (sym (term.rolls-Continue target kind id))
+      ∙ opened_parts (layer.Continue target kind id) s
 
   pub parts-Return : (place : Place) (id : EvaluationOrder) (s : S)
       → read_parts v functions (term.Return place id) s
@@ -159,51 +206,67 @@ module _ {S : Type 0} (v : ReadSteps S) (functions : List HirFunction) where
       → read_parts v functions (term.Switch test cases id) s
       ≡ next_to (v.visit_id id) (next_to (v.visit_place id test) (each (λ c. read_case v functions c id) cases)) s
   parts-Switch test cases id s =
-      ap (λ y. read_parts v functions y s) (sym (term.rolls-Switch test cases id)) ∙ opened_parts (layer.Switch test cases id) s
-      ∙ same_rest (v.visit_id id s) _ _ (λ r. same_rest (v.visit_place id test r.1) _ _ (λ q. each-map (λ e. e.1 id) (λ y. (y, read_case v functions y)) cases q.1))
+      ap (λ y. read_parts v functions y s) (sym (term.rolls-Switch test cases id))
+      ∙ opened_parts (layer.Switch test cases id) s
+      ∙ same_rest (v.visit_id id s) _ _ (λ r. same_rest (v.visit_place id test r.1) _ _
+      (λ q. each-map (λ e. e.1 id) (λ y. (y, read_case v functions y)) cases q.1))
 
   pub parts-DoWhile : (body : ReactiveBlock) (test : ReactiveValue) (id : EvaluationOrder) (s : S)
       → read_parts v functions (term.DoWhile body test id) s
       ≡ next_to (v.visit_id id) (next_to (read_block v functions body) (read_value v functions test id)) s
   unfolding read_block
   parts-DoWhile body test id s =
-      ap (λ y. read_parts v functions y s) (sym (term.rolls-DoWhile body test id)) ∙ opened_parts (layer.DoWhile body test id) s
+      ap (λ y. read_parts v functions y s) (sym (term.rolls-DoWhile body test id))
+      ∙ opened_parts (layer.DoWhile body test id) s
 
   pub parts-While : (test : ReactiveValue) (body : ReactiveBlock) (id : EvaluationOrder) (s : S)
       → read_parts v functions (term.While test body id) s
       ≡ next_to (v.visit_id id) (next_to (read_value v functions test id) (read_block v functions body)) s
   unfolding read_block
   parts-While test body id s =
-      ap (λ y. read_parts v functions y s) (sym (term.rolls-While test body id)) ∙ opened_parts (layer.While test body id) s
+      ap (λ y. read_parts v functions y s) (sym (term.rolls-While test body id))
+      ∙ opened_parts (layer.While test body id) s
 
-  pub parts-For : (init : ReactiveValue) (test : ReactiveValue) (update : Option ReactiveValue) (body : ReactiveBlock) (id : EvaluationOrder) (s : S)
+  pub parts-For : (init : ReactiveValue) (test : ReactiveValue) (update : Option ReactiveValue) (body : ReactiveBlock)
+      (id : EvaluationOrder) (s : S)
       → read_parts v functions (term.For init test update body id) s
-      ≡ next_to (v.visit_id id) (next_to (read_value v functions init id) (next_to (read_value v functions test id) (next_to (read_block v functions body) (perhaps (λ x. read_value v functions x id) update)))) s
+      ≡ next_to (v.visit_id id) (next_to (read_value v functions init id)
+      (next_to (read_value v functions test id) (next_to (read_block v functions body)
+      (perhaps (λ x. read_value v functions x id) update)))) s
   unfolding read_block
   parts-For init test update body id s =
-      ap (λ y. read_parts v functions y s) (sym (term.rolls-For init test update body id)) ∙ opened_parts (layer.For init test update body id) s
+      ap (λ y. read_parts v functions y s) (sym (term.rolls-For init test update body id))
+      ∙ opened_parts (layer.For init test update body id) s
 
-  pub parts-ForOf : (init : ReactiveValue) (test : ReactiveValue) (body : ReactiveBlock) (span : Option Span) (id : EvaluationOrder) (s : S)
+  pub parts-ForOf : (init : ReactiveValue) (test : ReactiveValue) (body : ReactiveBlock) (span : Option Span)
+      (id : EvaluationOrder) (s : S)
       → read_parts v functions (term.ForOf init test body span id) s
-      ≡ next_to (v.visit_id id) (next_to (read_value v functions init id) (next_to (read_value v functions test id) (read_block v functions body))) s
+      ≡ next_to (v.visit_id id) (next_to (read_value v functions init id)
+      (next_to (read_value v functions test id) (read_block v functions body))) s
   unfolding read_block
   parts-ForOf init test body span id s =
-      ap (λ y. read_parts v functions y s) (sym (term.rolls-ForOf init test body span id)) ∙ opened_parts (layer.ForOf init test body span id) s
+      ap (λ y. read_parts v functions y s) (sym (term.rolls-ForOf init test body span id))
+      ∙ opened_parts (layer.ForOf init test body span id) s
 
   pub parts-ForIn : (init : ReactiveValue) (body : ReactiveBlock) (span : Option Span) (id : EvaluationOrder) (s : S)
       → read_parts v functions (term.ForIn init body span id) s
       ≡ next_to (v.visit_id id) (next_to (read_value v functions init id) (read_block v functions body)) s
   unfolding read_block
   parts-ForIn init body span id s =
-      ap (λ y. read_parts v functions y s) (sym (term.rolls-ForIn init body span id)) ∙ opened_parts (layer.ForIn init body span id) s
+      ap (λ y. read_parts v functions y s) (sym (term.rolls-ForIn init body span id))
+      ∙ opened_parts (layer.ForIn init body span id) s
 
-  pub parts-If : (test : Place) (consequent : ReactiveBlock) (alternate : Option ReactiveBlock) (id : EvaluationOrder) (s : S)
+  pub parts-If : (test : Place) (consequent : ReactiveBlock) (alternate : Option ReactiveBlock) (id : EvaluationOrder)
+      (s : S)
       → read_parts v functions (term.If test consequent alternate id) s
-      ≡ next_to (v.visit_id id) (next_to (v.visit_place id test) (next_to (read_block v functions consequent) (perhaps (read_block v functions) alternate))) s
+      ≡ next_to (v.visit_id id) (next_to (v.visit_place id test)
+      (next_to (read_block v functions consequent) (perhaps (read_block v functions) alternate))) s
   unfolding read_block
   parts-If test consequent alternate id s =
-      ap (λ y. read_parts v functions y s) (sym (term.rolls-If test consequent alternate id)) ∙ opened_parts (layer.If test consequent alternate id) s
-      ∙ same_rest (v.visit_id id s) _ _ (λ r. same_rest (v.visit_place id test r.1) _ _ (λ q. same_rest (read_block v functions consequent q.1) _ _
+      ap (λ y. read_parts v functions y s) (sym (term.rolls-If test consequent alternate id))
+      ∙ opened_parts (layer.If test consequent alternate id) s
+      ∙ same_rest (v.visit_id id s) _ _ (λ r. same_rest (v.visit_place id test r.1) _ _
+      (λ q. same_rest (read_block v functions consequent q.1) _ _
       (λ p. perhaps-map (around_block v functions) (λ y. (y, inside_block v functions y)) alternate p.1)))
 
   pub parts-Label : (body : ReactiveBlock) (id : EvaluationOrder) (s : S)
@@ -213,12 +276,44 @@ module _ {S : Type 0} (v : ReadSteps S) (functions : List HirFunction) where
   parts-Label body id s =
       ap (λ y. read_parts v functions y s) (sym (term.rolls-Label body id)) ∙ opened_parts (layer.Label body id) s
 
-  pub parts-Try : (body : ReactiveBlock) (binding : Option Place) (handler : ReactiveBlock) (id : EvaluationOrder) (s : S)
+  pub parts-Try : (body : ReactiveBlock) (binding : Option Place) (handler : ReactiveBlock) (id : EvaluationOrder)
+      (s : S)
       → read_parts v functions (term.Try body binding handler id) s
-      ≡ next_to (v.visit_id id) (next_to (read_block v functions body) (next_to (perhaps (v.visit_place id) binding) (read_block v functions handler))) s
+      ≡ next_to (v.visit_id id) (next_to (read_block v functions body)
+      (next_to (perhaps (v.visit_place id) binding) (read_block v functions handler))) s
   unfolding read_block
   parts-Try body binding handler id s =
-      ap (λ y. read_parts v functions y s) (sym (term.rolls-Try body binding handler id)) ∙ opened_parts (layer.Try body binding handler id) s
+      ap (λ y. read_parts v functions y s) (sym (term.rolls-Try body binding handler id))
+      ∙ opened_parts (layer.Try body binding handler id) s
 
 -- with these `search` follows the walk of a statement through its calls
-pub ruleset reading_statements = (gives_next, gives_fault, read_block-around, read_scope-around, read_pruned_scope-around, read_terminal-around, inside_block-each, inside_scope-block, inside_pruned_scope-block, inside_terminal-parts, read_case-parts, statement-Instruction, statement-Terminal, statement-Scope, statement-PrunedScope, parts-Break, parts-Continue, parts-Return, parts-Throw, parts-Switch, parts-DoWhile, parts-While, parts-For, parts-ForOf, parts-ForIn, parts-If, parts-Label, parts-Try)
+pub ruleset reading_statements = (
+  gives_next,
+  gives_fault,
+  read_block-around,
+  read_scope-around,
+  read_pruned_scope-around,
+  read_terminal-around,
+  inside_block-each,
+  inside_scope-block,
+  inside_pruned_scope-block,
+  inside_terminal-parts,
+  read_case-parts,
+  statement-Instruction,
+  statement-Terminal,
+  statement-Scope,
+  statement-PrunedScope,
+  parts-Break,
+  parts-Continue,
+  parts-Return,
+  parts-Throw,
+  parts-Switch,
+  parts-DoWhile,
+  parts-While,
+  parts-For,
+  parts-ForOf,
+  parts-ForIn,
+  parts-If,
+  parts-Label,
+  parts-Try,
+)

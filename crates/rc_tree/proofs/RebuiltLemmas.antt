@@ -30,138 +30,233 @@ module _ {S X Y : Type 0} (rebuilt : X → Rebuilds S Y) where
   if_some None s = Ok (s, None)
   if_some (Some x) s = bind (rebuilt x s) (λ a. Ok (a.0, Some a.1))
 
-  if_there-map : (x : Option X) (s : S) → if_there (former-ReactiveTerminal-If-2.map X (Rebuilds S Y) rebuilt x) s ≡ if_some x s
+  if_there-map : (x : Option X) (s : S) → if_there (former-ReactiveTerminal-If-2.map X (Rebuilds S Y) rebuilt x) s
+      ≡ if_some x s
   if_there-map None s = refl
   if_there-map (Some x) s = refl
 
 module _ {S : Type 0} (rules : Rules S) where
   -- a layer, each part in it with what it is rebuilt to
   abbrev pub LayerOfTerminal : Type 0
-  LayerOfTerminal = layer.ReactiveTerminal-F ReactiveStatement ReactiveTerminal PrunedReactiveScopeBlock ReactiveScopeBlock ReactiveBlock ReactiveSwitchCase ReactiveTerminalStatement
+  LayerOfTerminal = layer.ReactiveTerminal-F ReactiveStatement ReactiveTerminal PrunedReactiveScopeBlock
+      ReactiveScopeBlock ReactiveBlock ReactiveSwitchCase ReactiveTerminalStatement
 
   abbrev pub LayerOfStatement : Type 0
-  LayerOfStatement = layer.ReactiveStatement-F ReactiveStatement ReactiveTerminal PrunedReactiveScopeBlock ReactiveScopeBlock ReactiveBlock ReactiveSwitchCase ReactiveTerminalStatement
+  LayerOfStatement = layer.ReactiveStatement-F ReactiveStatement ReactiveTerminal PrunedReactiveScopeBlock
+      ReactiveScopeBlock ReactiveBlock ReactiveSwitchCase ReactiveTerminalStatement
 
-  abbrev pub terminal_rebuilt : LayerOfTerminal → layer.ReactiveTerminal-F (Rebuilds S (List ReactiveStatement)) (Rebuilds S ReactiveTerminal) (Rebuilds S PrunedReactiveScopeBlock) (Rebuilds S ReactiveScopeBlock) (Rebuilds S ReactiveBlock) (Rebuilds S ReactiveSwitchCase)
+  abbrev pub terminal_rebuilt : LayerOfTerminal → layer.ReactiveTerminal-F (Rebuilds S (List ReactiveStatement))
+      (Rebuilds S ReactiveTerminal) (Rebuilds S PrunedReactiveScopeBlock) (Rebuilds S ReactiveScopeBlock)
+      (Rebuilds S ReactiveBlock) (Rebuilds S ReactiveSwitchCase)
       (Rebuilds S ReactiveTerminalStatement)
-  terminal_rebuilt = map-ReactiveTerminal ReactiveStatement ReactiveTerminal PrunedReactiveScopeBlock ReactiveScopeBlock ReactiveBlock ReactiveSwitchCase ReactiveTerminalStatement
-      (Rebuilds S (List ReactiveStatement)) (Rebuilds S ReactiveTerminal) (Rebuilds S PrunedReactiveScopeBlock) (Rebuilds S ReactiveScopeBlock) (Rebuilds S ReactiveBlock) (Rebuilds S ReactiveSwitchCase)
+  terminal_rebuilt = map-ReactiveTerminal ReactiveStatement ReactiveTerminal PrunedReactiveScopeBlock ReactiveScopeBlock
+      ReactiveBlock ReactiveSwitchCase ReactiveTerminalStatement
+      (Rebuilds S (List ReactiveStatement)) (Rebuilds S ReactiveTerminal) (Rebuilds S PrunedReactiveScopeBlock)
+      (Rebuilds S ReactiveScopeBlock) (Rebuilds S ReactiveBlock) (Rebuilds S ReactiveSwitchCase)
       (Rebuilds S ReactiveTerminalStatement)
-      (rebuilt_statement rules) (rebuilt_terminal rules) (rebuilt_pruned_scope rules) (rebuilt_scope rules) (rebuilt_block rules) (rebuilt_case rules) (rebuilt_labeled rules)
+      (rebuilt_statement rules) (rebuilt_terminal rules) (rebuilt_pruned_scope rules) (rebuilt_scope rules)
+      (rebuilt_block rules) (rebuilt_case rules) (rebuilt_labeled rules)
 
-  abbrev pub statement_rebuilt : LayerOfStatement → layer.ReactiveStatement-F (Rebuilds S (List ReactiveStatement)) (Rebuilds S ReactiveTerminal) (Rebuilds S PrunedReactiveScopeBlock) (Rebuilds S ReactiveScopeBlock) (Rebuilds S ReactiveBlock) (Rebuilds S ReactiveSwitchCase)
+  abbrev pub statement_rebuilt : LayerOfStatement → layer.ReactiveStatement-F (Rebuilds S (List ReactiveStatement))
+      (Rebuilds S ReactiveTerminal) (Rebuilds S PrunedReactiveScopeBlock) (Rebuilds S ReactiveScopeBlock)
+      (Rebuilds S ReactiveBlock) (Rebuilds S ReactiveSwitchCase)
       (Rebuilds S ReactiveTerminalStatement)
-  statement_rebuilt = map-ReactiveStatement ReactiveStatement ReactiveTerminal PrunedReactiveScopeBlock ReactiveScopeBlock ReactiveBlock ReactiveSwitchCase ReactiveTerminalStatement
-      (Rebuilds S (List ReactiveStatement)) (Rebuilds S ReactiveTerminal) (Rebuilds S PrunedReactiveScopeBlock) (Rebuilds S ReactiveScopeBlock) (Rebuilds S ReactiveBlock) (Rebuilds S ReactiveSwitchCase)
+  statement_rebuilt = map-ReactiveStatement ReactiveStatement ReactiveTerminal PrunedReactiveScopeBlock
+      ReactiveScopeBlock ReactiveBlock ReactiveSwitchCase ReactiveTerminalStatement
+      (Rebuilds S (List ReactiveStatement)) (Rebuilds S ReactiveTerminal) (Rebuilds S PrunedReactiveScopeBlock)
+      (Rebuilds S ReactiveScopeBlock) (Rebuilds S ReactiveBlock) (Rebuilds S ReactiveSwitchCase)
       (Rebuilds S ReactiveTerminalStatement)
-      (rebuilt_statement rules) (rebuilt_terminal rules) (rebuilt_pruned_scope rules) (rebuilt_scope rules) (rebuilt_block rules) (rebuilt_case rules) (rebuilt_labeled rules)
+      (rebuilt_statement rules) (rebuilt_terminal rules) (rebuilt_pruned_scope rules) (rebuilt_scope rules)
+      (rebuilt_block rules) (rebuilt_case rules) (rebuilt_labeled rules)
 
-  pub opened_terminal : (x : LayerOfTerminal) (s : S) → rebuilt_terminal rules (roll-ReactiveTerminal x) s ≡ of_terminal rules (terminal_rebuilt x) s
-  unfolding rebuilt_statement rebuilt_terminal rebuilt_pruned_scope rebuilt_scope rebuilt_block rebuilt_case rebuilt_labeled
-  opened_terminal x s = ap (λ f. f s) (fold-roll-ReactiveTerminal (Rebuilds S (List ReactiveStatement)) (Rebuilds S ReactiveTerminal) (Rebuilds S PrunedReactiveScopeBlock) (Rebuilds S ReactiveScopeBlock) (Rebuilds S ReactiveBlock) (Rebuilds S ReactiveSwitchCase)
-      (Rebuilds S ReactiveTerminalStatement) (of_statement rules) (of_terminal rules) (of_pruned_scope rules) (of_scope rules) (of_block rules) (of_case rules) (of_labeled rules) x)
+  pub opened_terminal : (x : LayerOfTerminal) (s : S) → rebuilt_terminal rules (roll-ReactiveTerminal x) s
+      ≡ of_terminal rules (terminal_rebuilt x) s
+  unfolding rebuilt_statement rebuilt_terminal rebuilt_pruned_scope rebuilt_scope rebuilt_block rebuilt_case
+      rebuilt_labeled
+  opened_terminal x s = ap (λ f. f s) (fold-roll-ReactiveTerminal (Rebuilds S (List ReactiveStatement))
+      (Rebuilds S ReactiveTerminal) (Rebuilds S PrunedReactiveScopeBlock) (Rebuilds S ReactiveScopeBlock)
+      (Rebuilds S ReactiveBlock) (Rebuilds S ReactiveSwitchCase)
+      (Rebuilds S ReactiveTerminalStatement) (of_statement rules) (of_terminal rules) (of_pruned_scope rules)
+      (of_scope rules) (of_block rules) (of_case rules) (of_labeled rules) x)
 
-  pub opened_statement : (x : LayerOfStatement) (s : S) → rebuilt_statement rules (roll-ReactiveStatement x) s ≡ of_statement rules (statement_rebuilt x) s
-  unfolding rebuilt_statement rebuilt_terminal rebuilt_pruned_scope rebuilt_scope rebuilt_block rebuilt_case rebuilt_labeled
-  opened_statement x s = ap (λ f. f s) (fold-roll-ReactiveStatement (Rebuilds S (List ReactiveStatement)) (Rebuilds S ReactiveTerminal) (Rebuilds S PrunedReactiveScopeBlock) (Rebuilds S ReactiveScopeBlock) (Rebuilds S ReactiveBlock) (Rebuilds S ReactiveSwitchCase)
-      (Rebuilds S ReactiveTerminalStatement) (of_statement rules) (of_terminal rules) (of_pruned_scope rules) (of_scope rules) (of_block rules) (of_case rules) (of_labeled rules) x)
+  pub opened_statement : (x : LayerOfStatement) (s : S) → rebuilt_statement rules (roll-ReactiveStatement x) s
+      ≡ of_statement rules (statement_rebuilt x) s
+  unfolding rebuilt_statement rebuilt_terminal rebuilt_pruned_scope rebuilt_scope rebuilt_block rebuilt_case
+      rebuilt_labeled
+  opened_statement x s = ap (λ f. f s) (fold-roll-ReactiveStatement (Rebuilds S (List ReactiveStatement))
+      (Rebuilds S ReactiveTerminal) (Rebuilds S PrunedReactiveScopeBlock) (Rebuilds S ReactiveScopeBlock)
+      (Rebuilds S ReactiveBlock) (Rebuilds S ReactiveSwitchCase)
+      (Rebuilds S ReactiveTerminalStatement) (of_statement rules) (of_terminal rules) (of_pruned_scope rules)
+      (of_scope rules) (of_block rules) (of_case rules) (of_labeled rules) x)
 
-  pub rebuilt-block : (x : ReactiveBlock) (s : S) → rebuilt_block rules x s ≡ bind (joined (map (rebuilt_statement rules) x.statements) s) (λ a. Ok (a.0, record { statements = a.1 }))
-  unfolding rebuilt_statement rebuilt_terminal rebuilt_pruned_scope rebuilt_scope rebuilt_block rebuilt_case rebuilt_labeled
-  rebuilt-block x s = ap (λ f. f s) (fold-roll-ReactiveBlock (Rebuilds S (List ReactiveStatement)) (Rebuilds S ReactiveTerminal) (Rebuilds S PrunedReactiveScopeBlock) (Rebuilds S ReactiveScopeBlock) (Rebuilds S ReactiveBlock) (Rebuilds S ReactiveSwitchCase)
-      (Rebuilds S ReactiveTerminalStatement) (of_statement rules) (of_terminal rules) (of_pruned_scope rules) (of_scope rules) (of_block rules) (of_case rules) (of_labeled rules) (record { statements = x.statements }))
+  pub rebuilt-block : (x : ReactiveBlock) (s : S) → rebuilt_block rules x s
+      ≡ bind (joined (map (rebuilt_statement rules) x.statements) s) (λ a. Ok (a.0, record { statements = a.1 }))
+  unfolding rebuilt_statement rebuilt_terminal rebuilt_pruned_scope rebuilt_scope rebuilt_block rebuilt_case
+      rebuilt_labeled
+  rebuilt-block x s = ap (λ f. f s) (fold-roll-ReactiveBlock (Rebuilds S (List ReactiveStatement))
+      (Rebuilds S ReactiveTerminal) (Rebuilds S PrunedReactiveScopeBlock) (Rebuilds S ReactiveScopeBlock)
+      (Rebuilds S ReactiveBlock) (Rebuilds S ReactiveSwitchCase)
+      (Rebuilds S ReactiveTerminalStatement) (of_statement rules) (of_terminal rules) (of_pruned_scope rules)
+      (of_scope rules) (of_block rules) (of_case rules) (of_labeled rules) (record { statements = x.statements }))
 
-  pub rebuilt-labeled : (x : ReactiveTerminalStatement) (s : S) → rebuilt_labeled rules x s ≡ bind (rebuilt_terminal rules x.terminal s) (λ a. Ok (a.0, record { terminal = a.1; label = x.label }))
-  unfolding rebuilt_statement rebuilt_terminal rebuilt_pruned_scope rebuilt_scope rebuilt_block rebuilt_case rebuilt_labeled
-  rebuilt-labeled x s = ap (λ f. f s) (fold-roll-ReactiveTerminalStatement (Rebuilds S (List ReactiveStatement)) (Rebuilds S ReactiveTerminal) (Rebuilds S PrunedReactiveScopeBlock) (Rebuilds S ReactiveScopeBlock) (Rebuilds S ReactiveBlock) (Rebuilds S ReactiveSwitchCase)
-      (Rebuilds S ReactiveTerminalStatement) (of_statement rules) (of_terminal rules) (of_pruned_scope rules) (of_scope rules) (of_block rules) (of_case rules) (of_labeled rules) (record { terminal = x.terminal; label = x.label }))
+  pub rebuilt-labeled : (x : ReactiveTerminalStatement) (s : S)
+      → rebuilt_labeled rules x s ≡ bind (rebuilt_terminal rules x.terminal s)
+      (λ a. Ok (a.0, record { terminal = a.1; label = x.label }))
+  unfolding rebuilt_statement rebuilt_terminal rebuilt_pruned_scope rebuilt_scope rebuilt_block rebuilt_case
+      rebuilt_labeled
+  rebuilt-labeled x s = ap (λ f. f s) (fold-roll-ReactiveTerminalStatement (Rebuilds S (List ReactiveStatement))
+      (Rebuilds S ReactiveTerminal) (Rebuilds S PrunedReactiveScopeBlock) (Rebuilds S ReactiveScopeBlock)
+      (Rebuilds S ReactiveBlock) (Rebuilds S ReactiveSwitchCase)
+      (Rebuilds S ReactiveTerminalStatement) (of_statement rules) (of_terminal rules) (of_pruned_scope rules)
+      (of_scope rules) (of_block rules) (of_case rules) (of_labeled rules)
+      (record { terminal = x.terminal; label = x.label }))
 
-  pub rebuilt-scope : (x : ReactiveScopeBlock) (s : S) → rebuilt_scope rules x s ≡ bind (rebuilt_block rules x.instructions s) (λ a. Ok (a.0, record { scope = x.scope; instructions = a.1 }))
-  unfolding rebuilt_statement rebuilt_terminal rebuilt_pruned_scope rebuilt_scope rebuilt_block rebuilt_case rebuilt_labeled
-  rebuilt-scope x s = ap (λ f. f s) (fold-roll-ReactiveScopeBlock (Rebuilds S (List ReactiveStatement)) (Rebuilds S ReactiveTerminal) (Rebuilds S PrunedReactiveScopeBlock) (Rebuilds S ReactiveScopeBlock) (Rebuilds S ReactiveBlock) (Rebuilds S ReactiveSwitchCase)
-      (Rebuilds S ReactiveTerminalStatement) (of_statement rules) (of_terminal rules) (of_pruned_scope rules) (of_scope rules) (of_block rules) (of_case rules) (of_labeled rules) (record { scope = x.scope; instructions = x.instructions }))
+  pub rebuilt-scope : (x : ReactiveScopeBlock) (s : S) → rebuilt_scope rules x s
+      ≡ bind (rebuilt_block rules x.instructions s) (λ a. Ok (a.0, record { scope = x.scope; instructions = a.1 }))
+  unfolding rebuilt_statement rebuilt_terminal rebuilt_pruned_scope rebuilt_scope rebuilt_block rebuilt_case
+      rebuilt_labeled
+  rebuilt-scope x s = ap (λ f. f s) (fold-roll-ReactiveScopeBlock (Rebuilds S (List ReactiveStatement))
+      (Rebuilds S ReactiveTerminal) (Rebuilds S PrunedReactiveScopeBlock) (Rebuilds S ReactiveScopeBlock)
+      (Rebuilds S ReactiveBlock) (Rebuilds S ReactiveSwitchCase)
+      (Rebuilds S ReactiveTerminalStatement) (of_statement rules) (of_terminal rules) (of_pruned_scope rules)
+      (of_scope rules) (of_block rules) (of_case rules) (of_labeled rules)
+      (record { scope = x.scope; instructions = x.instructions }))
 
-  pub rebuilt-pruned_scope : (x : PrunedReactiveScopeBlock) (s : S) → rebuilt_pruned_scope rules x s ≡ bind (rebuilt_block rules x.instructions s) (λ a. Ok (a.0, record { scope = x.scope; instructions = a.1 }))
-  unfolding rebuilt_statement rebuilt_terminal rebuilt_pruned_scope rebuilt_scope rebuilt_block rebuilt_case rebuilt_labeled
-  rebuilt-pruned_scope x s = ap (λ f. f s) (fold-roll-PrunedReactiveScopeBlock (Rebuilds S (List ReactiveStatement)) (Rebuilds S ReactiveTerminal) (Rebuilds S PrunedReactiveScopeBlock) (Rebuilds S ReactiveScopeBlock) (Rebuilds S ReactiveBlock) (Rebuilds S ReactiveSwitchCase)
-      (Rebuilds S ReactiveTerminalStatement) (of_statement rules) (of_terminal rules) (of_pruned_scope rules) (of_scope rules) (of_block rules) (of_case rules) (of_labeled rules) (record { scope = x.scope; instructions = x.instructions }))
+  pub rebuilt-pruned_scope : (x : PrunedReactiveScopeBlock) (s : S)
+      → rebuilt_pruned_scope rules x s ≡ bind (rebuilt_block rules x.instructions s)
+      (λ a. Ok (a.0, record { scope = x.scope; instructions = a.1 }))
+  unfolding rebuilt_statement rebuilt_terminal rebuilt_pruned_scope rebuilt_scope rebuilt_block rebuilt_case
+      rebuilt_labeled
+  rebuilt-pruned_scope x s = ap (λ f. f s) (fold-roll-PrunedReactiveScopeBlock (Rebuilds S (List ReactiveStatement))
+      (Rebuilds S ReactiveTerminal) (Rebuilds S PrunedReactiveScopeBlock) (Rebuilds S ReactiveScopeBlock)
+      (Rebuilds S ReactiveBlock) (Rebuilds S ReactiveSwitchCase)
+      (Rebuilds S ReactiveTerminalStatement) (of_statement rules) (of_terminal rules) (of_pruned_scope rules)
+      (of_scope rules) (of_block rules) (of_case rules) (of_labeled rules)
+      (record { scope = x.scope; instructions = x.instructions }))
 
   abbrev pub LayerOfCase : Type 0
-  LayerOfCase = layer.ReactiveSwitchCase-F ReactiveStatement ReactiveTerminal PrunedReactiveScopeBlock ReactiveScopeBlock ReactiveBlock ReactiveSwitchCase ReactiveTerminalStatement
+  LayerOfCase = layer.ReactiveSwitchCase-F ReactiveStatement ReactiveTerminal PrunedReactiveScopeBlock
+      ReactiveScopeBlock ReactiveBlock ReactiveSwitchCase ReactiveTerminalStatement
 
   pub opened_case : (x : LayerOfCase) (s : S) → rebuilt_case rules (roll-ReactiveSwitchCase x) s
-      ≡ bind (if_some (rebuilt_block rules) x.block s) (λ a. Ok (a.0, roll-ReactiveSwitchCase (record { test = x.test; block = a.1 })))
-  unfolding rebuilt_statement rebuilt_terminal rebuilt_pruned_scope rebuilt_scope rebuilt_block rebuilt_case rebuilt_labeled
+      ≡ bind (if_some (rebuilt_block rules) x.block s) (λ a. Ok
+      (a.0, roll-ReactiveSwitchCase (record { test = x.test; block = a.1 })))
+  unfolding rebuilt_statement rebuilt_terminal rebuilt_pruned_scope rebuilt_scope rebuilt_block rebuilt_case
+      rebuilt_labeled
   opened_case x s =
-      ap (λ f. f s) (fold-roll-ReactiveSwitchCase (Rebuilds S (List ReactiveStatement)) (Rebuilds S ReactiveTerminal) (Rebuilds S PrunedReactiveScopeBlock) (Rebuilds S ReactiveScopeBlock) (Rebuilds S ReactiveBlock) (Rebuilds S ReactiveSwitchCase)
-      (Rebuilds S ReactiveTerminalStatement) (of_statement rules) (of_terminal rules) (of_pruned_scope rules) (of_scope rules) (of_block rules) (of_case rules) (of_labeled rules) x)
-      ∙ ap (λ e. bind e (λ a. Ok (a.0, roll-ReactiveSwitchCase (record { test = x.test; block = a.1 })))) (if_there-map (rebuilt_block rules) x.block s)
+      ap (λ f. f s) (fold-roll-ReactiveSwitchCase (Rebuilds S (List ReactiveStatement)) (Rebuilds S ReactiveTerminal)
+      (Rebuilds S PrunedReactiveScopeBlock) (Rebuilds S ReactiveScopeBlock) (Rebuilds S ReactiveBlock)
+      (Rebuilds S ReactiveSwitchCase)
+      (Rebuilds S ReactiveTerminalStatement) (of_statement rules) (of_terminal rules) (of_pruned_scope rules)
+      (of_scope rules) (of_block rules) (of_case rules) (of_labeled rules) x)
+      ∙ ap (λ e. bind e (λ a. Ok (a.0, roll-ReactiveSwitchCase (record { test = x.test; block = a.1 }))))
+      (if_there-map (rebuilt_block rules) x.block s)
 
   pub rebuilt-case : (x : ReactiveSwitchCase) (s : S) → rebuilt_case rules x s
-      ≡ bind (if_some (rebuilt_block rules) (out-ReactiveSwitchCase x).block s) (λ a. Ok (a.0, roll-ReactiveSwitchCase (record { test = (out-ReactiveSwitchCase x).test; block = a.1 })))
-  rebuilt-case x s = ap (λ y. rebuilt_case rules y s) (sym (roll-out-ReactiveSwitchCase x)) ∙ opened_case (out-ReactiveSwitchCase x) s
+      ≡ bind (if_some (rebuilt_block rules) (out-ReactiveSwitchCase x).block s)
+      (λ a. Ok (a.0, roll-ReactiveSwitchCase (record { test = (out-ReactiveSwitchCase x).test; block = a.1 })))
+  rebuilt-case x s = ap (λ y. rebuilt_case rules y s) (sym (roll-out-ReactiveSwitchCase x))
+      ∙ opened_case (out-ReactiveSwitchCase x) s
 
-  pub rebuilt-Instruction : (x : ReactiveInstruction) (s : S) → rebuilt_statement rules (stmt.Instruction x) s ≡ rules.row x s
-  rebuilt-Instruction x s = ap (λ y. rebuilt_statement rules y s) (sym (stmt.rolls-Instruction x)) ∙ opened_statement (layer.Instruction x) s
+  pub rebuilt-Instruction : (x : ReactiveInstruction) (s : S)
+      → rebuilt_statement rules (stmt.Instruction x) s ≡ rules.row x s
+  rebuilt-Instruction x s =
+      ap (λ y. rebuilt_statement rules y s) (sym (stmt.rolls-Instruction x)) ∙ opened_statement (layer.Instruction x) s
 
-  pub rebuilt-Terminal : (x : ReactiveTerminalStatement) (s : S) → rebuilt_statement rules (stmt.Terminal x) s ≡ bind (rebuilt_labeled rules x s) (λ a. rules.terminal a.1 a.0)
-  rebuilt-Terminal x s = ap (λ y. rebuilt_statement rules y s) (sym (stmt.rolls-Terminal x)) ∙ opened_statement (layer.Terminal x) s
+  pub rebuilt-Terminal : (x : ReactiveTerminalStatement) (s : S)
+      → rebuilt_statement rules (stmt.Terminal x) s ≡ bind (rebuilt_labeled rules x s) (λ a. rules.terminal a.1 a.0)
+  rebuilt-Terminal x s =
+      ap (λ y. rebuilt_statement rules y s) (sym (stmt.rolls-Terminal x)) ∙ opened_statement (layer.Terminal x) s
 
-  pub rebuilt-Scope : (x : ReactiveScopeBlock) (s : S) → rebuilt_statement rules (stmt.Scope x) s ≡ bind (rebuilt_scope rules x (rules.into_scope s)) (λ a. rules.scope s a.1 a.0)
-  rebuilt-Scope x s = ap (λ y. rebuilt_statement rules y s) (sym (stmt.rolls-Scope x)) ∙ opened_statement (layer.Scope x) s
+  pub rebuilt-Scope : (x : ReactiveScopeBlock) (s : S) → rebuilt_statement rules (stmt.Scope x) s
+      ≡ bind (rebuilt_scope rules x (rules.into_scope s)) (λ a. rules.scope s a.1 a.0)
+  rebuilt-Scope x s = ap (λ y. rebuilt_statement rules y s) (sym (stmt.rolls-Scope x))
+      ∙ opened_statement (layer.Scope x) s
 
-  pub rebuilt-PrunedScope : (x : PrunedReactiveScopeBlock) (s : S) → rebuilt_statement rules (stmt.PrunedScope x) s ≡ bind (rebuilt_pruned_scope rules x s) (λ a. rules.pruned_scope a.1 a.0)
-  rebuilt-PrunedScope x s = ap (λ y. rebuilt_statement rules y s) (sym (stmt.rolls-PrunedScope x)) ∙ opened_statement (layer.PrunedScope x) s
+  pub rebuilt-PrunedScope : (x : PrunedReactiveScopeBlock) (s : S)
+      → rebuilt_statement rules (stmt.PrunedScope x) s ≡ bind (rebuilt_pruned_scope rules x s)
+      (λ a. rules.pruned_scope a.1 a.0)
+  rebuilt-PrunedScope x s =
+      ap (λ y. rebuilt_statement rules y s) (sym (stmt.rolls-PrunedScope x)) ∙ opened_statement (layer.PrunedScope x) s
 
   pub rebuilt-Break : (target : BlockId) (kind : ReactiveTerminalTargetKind) (id : EvaluationOrder) (s : S)
       → rebuilt_terminal rules (term.Break target kind id) s ≡ Ok (s, term.Break target kind id)
-  rebuilt-Break target kind id s = ap (λ y. rebuilt_terminal rules y s) (sym (term.rolls-Break target kind id)) ∙ opened_terminal (layer.Break target kind id) s
+  rebuilt-Break target kind id s = ap (λ y. rebuilt_terminal rules y s) (sym (term.rolls-Break target kind id))
+      ∙ opened_terminal (layer.Break target kind id) s
 
   pub rebuilt-Continue : (target : BlockId) (kind : ReactiveTerminalTargetKind) (id : EvaluationOrder) (s : S)
       → rebuilt_terminal rules (term.Continue target kind id) s ≡ Ok (s, term.Continue target kind id)
-  rebuilt-Continue target kind id s = ap (λ y. rebuilt_terminal rules y s) (sym (term.rolls-Continue target kind id)) ∙ opened_terminal (layer.Continue target kind id) s
+  rebuilt-Continue target kind id s = ap (λ y. rebuilt_terminal rules y s) (sym (term.rolls-Continue target kind id))
+      ∙ opened_terminal (layer.Continue target kind id) s
 
   pub rebuilt-Return : (place : Place) (id : EvaluationOrder) (s : S)
       → rebuilt_terminal rules (term.Return place id) s ≡ Ok (s, term.Return place id)
-  rebuilt-Return place id s = ap (λ y. rebuilt_terminal rules y s) (sym (term.rolls-Return place id)) ∙ opened_terminal (layer.Return place id) s
+  rebuilt-Return place id s = ap (λ y. rebuilt_terminal rules y s) (sym (term.rolls-Return place id))
+      ∙ opened_terminal (layer.Return place id) s
 
   pub rebuilt-Throw : (place : Place) (id : EvaluationOrder) (s : S)
       → rebuilt_terminal rules (term.Throw place id) s ≡ Ok (s, term.Throw place id)
-  rebuilt-Throw place id s = ap (λ y. rebuilt_terminal rules y s) (sym (term.rolls-Throw place id)) ∙ opened_terminal (layer.Throw place id) s
+  rebuilt-Throw place id s =
+      ap (λ y. rebuilt_terminal rules y s) (sym (term.rolls-Throw place id)) ∙ opened_terminal (layer.Throw place id) s
 
   pub rebuilt-Switch : (test : Place) (cases : List ReactiveSwitchCase) (id : EvaluationOrder) (s : S)
-      → rebuilt_terminal rules (term.Switch test cases id) s ≡ bind (in_order (map (rebuilt_case rules) cases) s) (λ a. Ok (a.0, term.Switch test a.1 id))
-  rebuilt-Switch test cases id s = ap (λ y. rebuilt_terminal rules y s) (sym (term.rolls-Switch test cases id)) ∙ opened_terminal (layer.Switch test cases id) s
+      → rebuilt_terminal rules (term.Switch test cases id) s
+      ≡ bind (in_order (map (rebuilt_case rules) cases) s) (λ a. Ok (a.0, term.Switch test a.1 id))
+  rebuilt-Switch test cases id s = ap (λ y. rebuilt_terminal rules y s) (sym (term.rolls-Switch test cases id))
+      ∙ opened_terminal (layer.Switch test cases id) s
 
   pub rebuilt-DoWhile : (body : ReactiveBlock) (test : ReactiveValue) (id : EvaluationOrder) (s : S)
-      → rebuilt_terminal rules (term.DoWhile body test id) s ≡ bind (rebuilt_block rules body s) (λ a. Ok (a.0, term.DoWhile a.1 test id))
-  rebuilt-DoWhile body test id s = ap (λ y. rebuilt_terminal rules y s) (sym (term.rolls-DoWhile body test id)) ∙ opened_terminal (layer.DoWhile body test id) s
+      → rebuilt_terminal rules (term.DoWhile body test id) s
+      ≡ bind (rebuilt_block rules body s) (λ a. Ok (a.0, term.DoWhile a.1 test id))
+  rebuilt-DoWhile body test id s = ap (λ y. rebuilt_terminal rules y s) (sym (term.rolls-DoWhile body test id))
+      ∙ opened_terminal (layer.DoWhile body test id) s
 
   pub rebuilt-While : (test : ReactiveValue) (body : ReactiveBlock) (id : EvaluationOrder) (s : S)
-      → rebuilt_terminal rules (term.While test body id) s ≡ bind (rebuilt_block rules body s) (λ a. Ok (a.0, term.While test a.1 id))
-  rebuilt-While test body id s = ap (λ y. rebuilt_terminal rules y s) (sym (term.rolls-While test body id)) ∙ opened_terminal (layer.While test body id) s
+      → rebuilt_terminal rules (term.While test body id) s
+      ≡ bind (rebuilt_block rules body s) (λ a. Ok (a.0, term.While test a.1 id))
+  rebuilt-While test body id s = ap (λ y. rebuilt_terminal rules y s) (sym (term.rolls-While test body id))
+      ∙ opened_terminal (layer.While test body id) s
 
-  pub rebuilt-For : (init : ReactiveValue) (test : ReactiveValue) (update : Option ReactiveValue) (body : ReactiveBlock) (id : EvaluationOrder) (s : S)
-      → rebuilt_terminal rules (term.For init test update body id) s ≡ bind (rebuilt_block rules body s) (λ a. Ok (a.0, term.For init test update a.1 id))
-  rebuilt-For init test update body id s = ap (λ y. rebuilt_terminal rules y s) (sym (term.rolls-For init test update body id)) ∙ opened_terminal (layer.For init test update body id) s
+  pub rebuilt-For : (init : ReactiveValue) (test : ReactiveValue) (update : Option ReactiveValue) (body : ReactiveBlock)
+      (id : EvaluationOrder) (s : S)
+      → rebuilt_terminal rules (term.For init test update body id) s
+      ≡ bind (rebuilt_block rules body s) (λ a. Ok (a.0, term.For init test update a.1 id))
+  rebuilt-For init test update body id s = ap (λ y. rebuilt_terminal rules y s)
+      (sym (term.rolls-For init test update body id)) ∙ opened_terminal (layer.For init test update body id) s
 
-  pub rebuilt-ForOf : (init : ReactiveValue) (test : ReactiveValue) (body : ReactiveBlock) (span : Option Span) (id : EvaluationOrder) (s : S)
-      → rebuilt_terminal rules (term.ForOf init test body span id) s ≡ bind (rebuilt_block rules body s) (λ a. Ok (a.0, term.ForOf init test a.1 span id))
-  rebuilt-ForOf init test body span id s = ap (λ y. rebuilt_terminal rules y s) (sym (term.rolls-ForOf init test body span id)) ∙ opened_terminal (layer.ForOf init test body span id) s
+  pub rebuilt-ForOf : (init : ReactiveValue) (test : ReactiveValue) (body : ReactiveBlock) (span : Option Span)
+      (id : EvaluationOrder) (s : S)
+      → rebuilt_terminal rules (term.ForOf init test body span id) s
+      ≡ bind (rebuilt_block rules body s) (λ a. Ok (a.0, term.ForOf init test a.1 span id))
+  rebuilt-ForOf init test body span id s = ap (λ y. rebuilt_terminal rules y s)
+      (sym (term.rolls-ForOf init test body span id)) ∙ opened_terminal (layer.ForOf init test body span id) s
 
   pub rebuilt-ForIn : (init : ReactiveValue) (body : ReactiveBlock) (span : Option Span) (id : EvaluationOrder) (s : S)
-      → rebuilt_terminal rules (term.ForIn init body span id) s ≡ bind (rebuilt_block rules body s) (λ a. Ok (a.0, term.ForIn init a.1 span id))
-  rebuilt-ForIn init body span id s = ap (λ y. rebuilt_terminal rules y s) (sym (term.rolls-ForIn init body span id)) ∙ opened_terminal (layer.ForIn init body span id) s
+      → rebuilt_terminal rules (term.ForIn init body span id) s
+      ≡ bind (rebuilt_block rules body s) (λ a. Ok (a.0, term.ForIn init a.1 span id))
+  rebuilt-ForIn init body span id s = ap (λ y. rebuilt_terminal rules y s) (sym (term.rolls-ForIn init body span id))
+      ∙ opened_terminal (layer.ForIn init body span id) s
 
-  pub rebuilt-If : (test : Place) (consequent : ReactiveBlock) (alternate : Option ReactiveBlock) (id : EvaluationOrder) (s : S)
-      → rebuilt_terminal rules (term.If test consequent alternate id) s ≡ bind (rebuilt_block rules consequent s) (λ a. bind (if_some (rebuilt_block rules) alternate a.0) (λ b. Ok (b.0, term.If test a.1 b.1 id)))
-  rebuilt-If test consequent alternate id s = ap (λ y. rebuilt_terminal rules y s) (sym (term.rolls-If test consequent alternate id)) ∙ opened_terminal (layer.If test consequent alternate id) s
-      ∙ same_rest (rebuilt_block rules consequent s) _ _ (λ a. ap (λ e. bind e (λ b. Ok (b.0, term.If test a.1 b.1 id))) (if_there-map (rebuilt_block rules) alternate a.0))
+  pub rebuilt-If : (test : Place) (consequent : ReactiveBlock) (alternate : Option ReactiveBlock) (id : EvaluationOrder)
+      (s : S)
+      → rebuilt_terminal rules (term.If test consequent alternate id) s
+      ≡ bind (rebuilt_block rules consequent s) (λ a. bind (if_some (rebuilt_block rules) alternate a.0)
+      (λ b. Ok (b.0, term.If test a.1 b.1 id)))
+  rebuilt-If test consequent alternate id s = ap (λ y. rebuilt_terminal rules y s)
+      (sym (term.rolls-If test consequent alternate id)) ∙ opened_terminal (layer.If test consequent alternate id) s
+      ∙ same_rest (rebuilt_block rules consequent s) _ _ (λ a. ap (λ e. bind e (λ b. Ok (b.0, term.If test a.1 b.1 id)))
+      (if_there-map (rebuilt_block rules) alternate a.0))
 
   pub rebuilt-Label : (body : ReactiveBlock) (id : EvaluationOrder) (s : S)
-      → rebuilt_terminal rules (term.Label body id) s ≡ bind (rebuilt_block rules body s) (λ a. Ok (a.0, term.Label a.1 id))
-  rebuilt-Label body id s = ap (λ y. rebuilt_terminal rules y s) (sym (term.rolls-Label body id)) ∙ opened_terminal (layer.Label body id) s
+      → rebuilt_terminal rules (term.Label body id) s ≡ bind (rebuilt_block rules body s)
+      (λ a. Ok (a.0, term.Label a.1 id))
+  rebuilt-Label body id s =
+      ap (λ y. rebuilt_terminal rules y s) (sym (term.rolls-Label body id)) ∙ opened_terminal (layer.Label body id) s
 
-  pub rebuilt-Try : (body : ReactiveBlock) (binding : Option Place) (handler : ReactiveBlock) (id : EvaluationOrder) (s : S)
-      → rebuilt_terminal rules (term.Try body binding handler id) s ≡ bind (rebuilt_block rules body s) (λ a. bind (rebuilt_block rules handler a.0) (λ b. Ok (b.0, term.Try a.1 binding b.1 id)))
-  rebuilt-Try body binding handler id s = ap (λ y. rebuilt_terminal rules y s) (sym (term.rolls-Try body binding handler id)) ∙ opened_terminal (layer.Try body binding handler id) s
+  pub rebuilt-Try : (body : ReactiveBlock) (binding : Option Place) (handler : ReactiveBlock) (id : EvaluationOrder)
+      (s : S)
+      → rebuilt_terminal rules (term.Try body binding handler id) s
+      ≡ bind (rebuilt_block rules body s) (λ a. bind (rebuilt_block rules handler a.0)
+      (λ b. Ok (b.0, term.Try a.1 binding b.1 id)))
+  rebuilt-Try body binding handler id s = ap (λ y. rebuilt_terminal rules y s)
+      (sym (term.rolls-Try body binding handler id)) ∙ opened_terminal (layer.Try body binding handler id) s

@@ -17,13 +17,15 @@ use Rattle.rc_tree.specs.declared.value.ReactiveValue.TheVariants as val
 use Rattle.rc_tree.specs.declared.visitor.Enter.{Enter}
 use Rattle.rc_tree.specs.declared.visitor.Enter.TheVariants.{Inside, Skip}
 
-pub known_bind : {A B : Type 0} (first : Run A) (next : A → Run B) → Known first → ((a : A) → first ≡ Done a → Known (next a)) → Known (bind first next)
+pub known_bind : {A B : Type 0} (first : Run A) (next : A → Run B) → Known first
+    → ((a : A) → first ≡ Done a → Known (next a)) → Known (bind first next)
 unfolding Known
 known_bind Spent next k h = k
 known_bind (Failed fault) next k h = tt
 known_bind (Done a) next k h = h a refl
 
-pub known_after : {A B : Type 0} (first : Result A Fault) (next : A → Run B) → ((a : A) → first ≡ Ok a → Known (next a)) → Known (after first next)
+pub known_after : {A B : Type 0} (first : Result A Fault) (next : A → Run B) → ((a : A) → first ≡ Ok a → Known (next a))
+    → Known (after first next)
 unfolding Known
 known_after (Ok a) next h = h a refl
 known_after (Err fault) next h = tt
@@ -39,80 +41,105 @@ done a = tt
 
 module _ {W X : Type 0} where
   -- a list in turn, whose entries are all within the bound
-  pub known_turn : (size : X → ℕ) (k : ℕ) (into : Into W X) → ((w : W) (so : List X) (x : X) → size x ≤ k → Known (into w so x))
+  pub known_turn : (size : X → ℕ) (k : ℕ) (into : Into W X)
+      → ((w : W) (so : List X) (x : X) → size x ≤ k → Known (into w so x))
       → (w : W) (so xs : List X) → most size xs ≤ k → Known (in_turn into w so xs)
   known_turn size k into h w so [] e = done _
   known_turn size k into h w so (x ∷ xs) e =
-      known_bind (into w so x) (λ r. in_turn into r.1.0 r.1.1 xs) (h w so x (omega (arith, e))) (λ r q. known_turn size k into h r.1.0 r.1.1 xs (omega (arith, e)))
+      known_bind (into w so x) (λ r. in_turn into r.1.0 r.1.1 xs) (h w so x (omega (arith, e)))
+      (λ r q. known_turn size k into h r.1.0 r.1.1 xs (omega (arith, e)))
 
   pub known_each : (size : X → ℕ) (k : ℕ) (part : Part W X) → ((w : W) (x : X) → size x ≤ k → Known (part w x))
       → (xs : List X) → most size xs ≤ k → (w : W) → Known (each_part part w xs)
   known_each size k part h xs e w = known_turn size k (kept_into part)
-      (λ w0 so y q. known_bind (part w0 y) (λ r. Done (tt, (r.1.0, so ++ r.1.1 ∷ []))) (h w0 y q) (λ r p. done _)) w [] xs e
+      (λ w0 so y q. known_bind (part w0 y) (λ r. Done (tt, (r.1.0, so ++ r.1.1 ∷ []))) (h w0 y q) (λ r p. done _)) w []
+      xs e
 
   pub known_around : (enter : Hook W X Enter) (inside : Part W X) (leave : Hook W X (Unit {0})) (w : W) (x : X)
-      → ((w1 : W) (x1 : X) (a : Enter) → enter w x ≡ Ok (a, (w1, x1)) → Known (inside w1 x1)) → Known (around enter inside leave w x)
+      → ((w1 : W) (x1 : X) (a : Enter) → enter w x ≡ Ok (a, (w1, x1)) → Known (inside w1 x1))
+      → Known (around enter inside leave w x)
   known_around enter inside leave w x h =
       known_after (enter w x) (λ r. by_answer inside leave r.0 r.1) (λ r e. by r.0 r.1.0 r.1.1 e)
     where
       by : (a : Enter) (w1 : W) (x1 : X) → enter w x ≡ Ok (a, (w1, x1)) → Known (by_answer inside leave a (w1, x1))
-      by Inside w1 x1 e = known_bind (inside w1 x1) (λ r. last (leave r.1.0 r.1.1)) (h w1 x1 Inside e) (λ r q. known_last (leave r.1.0 r.1.1))
+      by Inside w1 x1 e = known_bind (inside w1 x1) (λ r. last (leave r.1.0 r.1.1)) (h w1 x1 Inside e)
+          (λ r q. known_last (leave r.1.0 r.1.1))
       by Skip w1 x1 e = done _
 
 -- a visit first, a hook or a walk without a bound first, a part first
-pub visit : {W B : Type 0} (first : Result (Unit {0} × W) Fault) (next : Unit {0} × W → Run B) → ((w1 : W) → Known (next (tt, w1))) → Known (after first next)
+pub visit : {W B : Type 0} (first : Result (Unit {0} × W) Fault) (next : Unit {0} × W → Run B)
+    → ((w1 : W) → Known (next (tt, w1))) → Known (after first next)
 visit first next h = known_after first next (λ a e. h a.1)
 
-pub hook : {W X B : Type 0} (first : Result (Unit {0} × (W × X)) Fault) (next : Unit {0} × (W × X) → Run B) → ((w1 : W) (x1 : X) → Known (next (tt, (w1, x1)))) → Known (after first next)
+pub hook : {W X B : Type 0} (first : Result (Unit {0} × (W × X)) Fault) (next : Unit {0} × (W × X) → Run B)
+    → ((w1 : W) (x1 : X) → Known (next (tt, (w1, x1)))) → Known (after first next)
 hook first next h = known_after first next (λ a e. h a.1.0 a.1.1)
 
-pub part : {W X B : Type 0} (first : Run (Unit {0} × (W × X))) (next : Unit {0} × (W × X) → Run B) → Known first → ((w1 : W) (x1 : X) → Known (next (tt, (w1, x1)))) → Known (bind first next)
+pub part : {W X B : Type 0} (first : Run (Unit {0} × (W × X))) (next : Unit {0} × (W × X) → Run B) → Known first
+    → ((w1 : W) (x1 : X) → Known (next (tt, (w1, x1)))) → Known (bind first next)
 part first next k h = known_bind first next k (λ a e. h a.1.0 a.1.1)
 
 module _ {T S : Type 0} (v : RewriteSteps (T × S)) (functions : T → List HirFunction) where
-  module _ (n : ℕ) (inner : EvaluationOrder → Part (T × S) ReactiveValue) (known : (id : EvaluationOrder) (w : T × S) (x : ReactiveValue) → size-ReactiveValue x < n → Known (inner id w x)) where
-    pub known_instruction_inside : (w : T × S) (x : ReactiveInstruction) → size-ReactiveInstruction x ≤ n → Known (instruction_inside v functions inner w x)
-    known_instruction_inside w x h =
-        let k : (w2 : T × S) → Known (inner x.id w2 x.value) = λ w2. known x.id w2 x.value (omega (arith, h, size_is-ReactiveInstruction x)) in
-        search (visit, part, done, k)
+  module _ (n : ℕ) (inner : EvaluationOrder → Part (T × S) ReactiveValue)
+      (known : (id : EvaluationOrder) (w : T × S) (x : ReactiveValue) → size-ReactiveValue x < n → Known (inner id w x))
+    where
+      pub known_instruction_inside : (w : T × S) (x : ReactiveInstruction) → size-ReactiveInstruction x ≤ n
+          → Known (instruction_inside v functions inner w x)
+      known_instruction_inside w x h =
+          let k : (w2 : T × S) → Known (inner x.id w2 x.value) = λ w2. known x.id w2 x.value
+          (omega (arith, h, size_is-ReactiveInstruction x)) in
+          search (visit, part, done, k)
 
-    pub known_instruction : EntersNoDeeper v → (w : T × S) (x : ReactiveInstruction) → size-ReactiveInstruction x ≤ n → Known (instruction_at v functions inner w x)
-    unfolding instruction_at
-    known_instruction enters w x h = known_around v.enter_instruction (instruction_inside v functions inner) v.leave_instruction w x
-        (λ w1 x1 a e. known_instruction_inside w1 x1 (omega (arith, h, enters.instruction w w1 x x1 a e)))
+      pub known_instruction : EntersNoDeeper v → (w : T × S) (x : ReactiveInstruction) → size-ReactiveInstruction x ≤ n
+          → Known (instruction_at v functions inner w x)
+      unfolding instruction_at
+      known_instruction enters w x h =
+          known_around v.enter_instruction (instruction_inside v functions inner) v.leave_instruction w x
+          (λ w1 x1 a e. known_instruction_inside w1 x1 (omega (arith, h, enters.instruction w w1 x x1 a e)))
 
-    known_rows : EntersNoDeeper v → (rows : List ReactiveInstruction) → most size-ReactiveInstruction rows ≤ n → (w : T × S) → Known (rows_at v functions inner w rows)
-    unfolding rows_at
-    known_rows enters rows h w = known_each size-ReactiveInstruction n (instruction_at v functions inner) (known_instruction enters) rows h w
+      known_rows : EntersNoDeeper v → (rows : List ReactiveInstruction) → most size-ReactiveInstruction rows ≤ n
+          → (w : T × S) → Known (rows_at v functions inner w rows)
+      unfolding rows_at
+      known_rows enters rows h w =
+          known_each size-ReactiveInstruction n (instruction_at v functions inner) (known_instruction enters) rows h w
 
-    abbrev weigh_value : ReactiveValue-F ReactiveValue ReactiveInstruction → ℕ
-    weigh_value l = values.weighs-ReactiveValue.weight (Values values.the_members values.the_sigs values.the_carrier) values.the_depth l
+      abbrev weigh_value : ReactiveValue-F ReactiveValue ReactiveInstruction → ℕ
+      weigh_value l = values.weighs-ReactiveValue.weight (Values values.the_members values.the_sigs values.the_carrier)
+          values.the_depth l
 
-    known_layer : EntersNoDeeper v → (w : T × S) (id : EvaluationOrder) (l : ReactiveValue-F ReactiveValue ReactiveInstruction) → weigh_value l < n → Known (value_layer v functions inner w id l)
-    known_layer enters w id (value.Instruction x) h = visit (inside_base v functions id x w) (λ a. Done (tt, (a.1, val.Instruction x))) (λ w1. done _)
-    known_layer enters w id (value.LogicalExpression op x y) h =
-        let kx : (w : T × S) → Known (inner id w x) = λ w. known id w x (omega (arith, h)) in
-        let ky : (w : T × S) → Known (inner id w y) = λ w. known id w y (omega (arith, h)) in
-        search (part, done, kx, ky)
-    known_layer enters w id (value.ConditionalExpression x y z) h =
-        let kx : (w : T × S) → Known (inner id w x) = λ w. known id w x (omega (arith, h)) in
-        let ky : (w : T × S) → Known (inner id w y) = λ w. known id w y (omega (arith, h)) in
-        let kz : (w : T × S) → Known (inner id w z) = λ w. known id w z (omega (arith, h)) in
-        search (part, done, kx, ky, kz)
-    known_layer enters w id (value.SequenceExpression rows own x) h =
-        let kx : (w : T × S) → Known (inner own w x) = λ w. known own w x (omega (arith, h)) in
-        let kr : (w : T × S) → Known (rows_at v functions inner w rows) = known_rows enters rows (omega (arith, h)) in
-        search (part, done, kx, kr)
-    known_layer enters w id (value.OptionalExpression x optional) h =
-        let kx : (w : T × S) → Known (inner id w x) = λ w. known id w x (omega (arith, h)) in
-        search (part, done, kx)
+      known_layer : EntersNoDeeper v → (w : T × S) (id : EvaluationOrder)
+          (l : ReactiveValue-F ReactiveValue ReactiveInstruction) → weigh_value l < n
+          → Known (value_layer v functions inner w id l)
+      known_layer enters w id (value.Instruction x) h =
+          visit (inside_base v functions id x w) (λ a. Done (tt, (a.1, val.Instruction x))) (λ w1. done _)
+      known_layer enters w id (value.LogicalExpression op x y) h =
+          let kx : (w : T × S) → Known (inner id w x) = λ w. known id w x (omega (arith, h)) in
+          let ky : (w : T × S) → Known (inner id w y) = λ w. known id w y (omega (arith, h)) in
+          search (part, done, kx, ky)
+      known_layer enters w id (value.ConditionalExpression x y z) h =
+          let kx : (w : T × S) → Known (inner id w x) = λ w. known id w x (omega (arith, h)) in
+          let ky : (w : T × S) → Known (inner id w y) = λ w. known id w y (omega (arith, h)) in
+          let kz : (w : T × S) → Known (inner id w z) = λ w. known id w z (omega (arith, h)) in
+          search (part, done, kx, ky, kz)
+      known_layer enters w id (value.SequenceExpression rows own x) h =
+          let kx : (w : T × S) → Known (inner own w x) = λ w. known own w x (omega (arith, h)) in
+          let kr : (w : T × S) → Known (rows_at v functions inner w rows) = known_rows enters rows (omega (arith, h)) in
+          search (part, done, kx, kr)
+      known_layer enters w id (value.OptionalExpression x optional) h =
+          let kx : (w : T × S) → Known (inner id w x) = λ w. known id w x (omega (arith, h)) in
+          search (part, done, kx)
 
-    pub known_value_inside : EntersNoDeeper v → (id : EvaluationOrder) (w : T × S) (x : ReactiveValue) → size-ReactiveValue x ≤ n → Known (value_inside v functions inner id w x)
-    known_value_inside enters id w x h = known_layer enters w id (out-ReactiveValue x) (omega (arith, h, size_is-ReactiveValue x))
+      pub known_value_inside : EntersNoDeeper v → (id : EvaluationOrder) (w : T × S) (x : ReactiveValue)
+          → size-ReactiveValue x ≤ n → Known (value_inside v functions inner id w x)
+      known_value_inside enters id w x h =
+          known_layer enters w id (out-ReactiveValue x) (omega (arith, h, size_is-ReactiveValue x))
 
   -- a depth above the size of a value is enough
-  pub known_value_to : EntersNoDeeper v → (n : ℕ) (id : EvaluationOrder) (w : T × S) (x : ReactiveValue) → size-ReactiveValue x < n → Known (value_to v functions n id w x)
+  pub known_value_to : EntersNoDeeper v → (n : ℕ) (id : EvaluationOrder) (w : T × S) (x : ReactiveValue)
+      → size-ReactiveValue x < n → Known (value_to v functions n id w x)
   unfolding value_to
   known_value_to enters zero id w x h = absurd (omega (arith, h))
-  known_value_to enters (suc n) id w x h = known_around (v.enter_value id) (value_inside v functions (value_to v functions n) id) (v.leave_value id) w x
-      (λ w1 x1 a e. known_value_inside n (value_to v functions n) (known_value_to enters n) enters id w1 x1 (omega (arith, h, enters.value id w w1 x x1 a e)))
+  known_value_to enters (suc n) id w x h =
+      known_around (v.enter_value id) (value_inside v functions (value_to v functions n) id) (v.leave_value id) w x
+      (λ w1 x1 a e. known_value_inside n (value_to v functions n) (known_value_to enters n) enters id w1 x1
+      (omega (arith, h, enters.value id w w1 x x1 a e)))

@@ -22,13 +22,15 @@ not_err : {A E : Type 0} (a : A) (e : E) → Ok a ≡ Err e → ⊥
 not_err a e h = cc
 
 -- what follows a computation that answers
-pub meets_next : {A B S T : Type 0} (first : Run (A × S)) (next : A × S → Run (B × T)) (a : A) (s : S) (r : Result B Fault) (t : T)
+pub meets_next : {A B S T : Type 0} (first : Run (A × S)) (next : A × S → Run (B × T)) (a : A) (s : S)
+    (r : Result B Fault) (t : T)
     → Meets first (Ok a) s → Meets (next (a, s)) r t → Meets (bind first next) r t
 meets_next Spent next a s r t f h = tt
 meets_next (Failed fault) next a s r t (inl e) h = absurd (not_err a NoMemory e)
 meets_next (Failed fault) next a s r t (inr e) h = absurd (not_err a fault e)
 meets_next (Done d) next a s r t (inl e) h = absurd (not_err a NoMemory e)
-meets_next (Done d) next a s r t (inr e) h = let same : (a, s) ≡ d = λ i. (by_ok a d.0 e.0 i, e.1 i) in subst (λ p. Meets (next p) r t) same h
+meets_next (Done d) next a s r t (inr e) h =
+    let same : (a, s) ≡ d = λ i. (by_ok a d.0 e.0 i, e.1 i) in subst (λ p. Meets (next p) r t) same h
 
 -- want of memory is always met
 meets_no_memory : {B T : Type 0} (x : Run (B × T)) (t : T) → Meets x (Err NoMemory) t
@@ -49,15 +51,18 @@ meets_fault (Done d) next fault s t (inl e) = none_left (next d) fault t (by_err
 meets_fault (Done d) next fault s t (inr e) = absurd (not_err d.0 fault (sym e.0))
 
 -- a part's walk, with what is made of the part after it
-pub meets_made : {W X Y : Type 0} (first : Run (Unit {0} × (W × X))) (make : X → Y) (r : Result (Unit {0}) Fault) (w : W) (x : X)
-    → Meets {S = W × X} first r (w, x) → Meets {S = W × Y} (bind first (λ a. Done (tt, (a.1.0, make a.1.1)))) r (w, make x)
+pub meets_made : {W X Y : Type 0} (first : Run (Unit {0} × (W × X))) (make : X → Y) (r : Result (Unit {0}) Fault)
+    (w : W) (x : X)
+    → Meets {S = W × X} first r (w, x) → Meets {S = W × Y} (bind first (λ a. Done (tt, (a.1.0, make a.1.1)))) r
+    (w, make x)
 meets_made Spent make r w x h = tt
 meets_made (Failed fault) make r w x h = h
 meets_made (Done d) make r w x (inl e) = inl e
 meets_made (Done d) make r w x (inr e) = inr (e.0, ap (λ p. (p.0, make p.1)) e.1)
 
 -- a step first
-pub meets_after : {A B T : Type 0} (first : Result A Fault) (next : A → Run (B × T)) (a : A) (r : Result B Fault) (t : T)
+pub meets_after : {A B T : Type 0} (first : Result A Fault) (next : A → Run (B × T)) (a : A) (r : Result B Fault)
+    (t : T)
     → first ≡ Ok a → Meets (next a) r t → Meets (after first next) r t
 meets_after first next a r t e h = subst (λ x. Meets (after x next) r t) (sym e) h
 
@@ -68,25 +73,33 @@ meets_after_fault first next fault t (inl e) = none_left (after first next) faul
 meets_after_fault first next fault t (inr e) = subst (λ x. Meets (after x next) (Err fault) t) (sym e) (inr refl)
 
 -- a step last
-pub meets_last : {A S : Type 0} (first : Result (A × S) Fault) (r : Result A Fault) (t : S) → Gives first r t → Meets (last first) r t
+pub meets_last : {A S : Type 0} (first : Result (A × S) Fault) (r : Result A Fault) (t : S) → Gives first r t
+    → Meets (last first) r t
 meets_last first (Ok a) t e = subst (λ x. Meets (last x) (Ok a) t) (sym e) (inr (refl, refl))
 meets_last first (Err fault) t (inl e) = none_left (last first) fault t e
 meets_last first (Err fault) t (inr e) = subst (λ x. Meets (last x) (Err fault) t) (sym e) (inr refl)
 
 -- the enter step, the inside and the leave step
-pub meets_inside : {W X : Type 0} (enter : Result (Enter × (W × X)) Fault) (inside : Part W X) (leave : Hook W X (Unit {0})) (s s1 : W × X) (r : Result (Unit {0}) Fault) (t : W × X)
-    → enter ≡ Ok (Inside, s) → Meets (inside s.0 s.1) (Ok tt) s1 → Gives (leave s1.0 s1.1) r t → Meets (after enter (λ q. by_answer inside leave q.0 q.1)) r t
+pub meets_inside : {W X : Type 0} (enter : Result (Enter × (W × X)) Fault) (inside : Part W X)
+    (leave : Hook W X (Unit {0})) (s s1 : W × X) (r : Result (Unit {0}) Fault) (t : W × X)
+    → enter ≡ Ok (Inside, s) → Meets (inside s.0 s.1) (Ok tt) s1 → Gives (leave s1.0 s1.1) r t
+    → Meets (after enter (λ q. by_answer inside leave q.0 q.1)) r t
 meets_inside enter inside leave s s1 r t e h k =
-    meets_after enter (λ q. by_answer inside leave q.0 q.1) (Inside, s) r t e (meets_next (inside s.0 s.1) (λ q. last (leave q.1.0 q.1.1)) tt s1 r t h (meets_last (leave s1.0 s1.1) r t k))
+    meets_after enter (λ q. by_answer inside leave q.0 q.1) (Inside, s) r t e
+    (meets_next (inside s.0 s.1) (λ q. last (leave q.1.0 q.1.1)) tt s1 r t h (meets_last (leave s1.0 s1.1) r t k))
 
 -- the enter step and the inside, which fails
-pub meets_inside_fault : {W X : Type 0} (enter : Result (Enter × (W × X)) Fault) (inside : Part W X) (leave : Hook W X (Unit {0})) (s s1 : W × X) (fault : Fault) (t : W × X)
-    → enter ≡ Ok (Inside, s) → Meets (inside s.0 s.1) (Err fault) s1 → Meets (after enter (λ q. by_answer inside leave q.0 q.1)) (Err fault) t
+pub meets_inside_fault : {W X : Type 0} (enter : Result (Enter × (W × X)) Fault) (inside : Part W X)
+    (leave : Hook W X (Unit {0})) (s s1 : W × X) (fault : Fault) (t : W × X)
+    → enter ≡ Ok (Inside, s) → Meets (inside s.0 s.1) (Err fault) s1
+    → Meets (after enter (λ q. by_answer inside leave q.0 q.1)) (Err fault) t
 meets_inside_fault enter inside leave s s1 fault t e h =
-    meets_after enter (λ q. by_answer inside leave q.0 q.1) (Inside, s) (Err fault) t e (meets_fault (inside s.0 s.1) (λ q. last (leave q.1.0 q.1.1)) fault s1 t h)
+    meets_after enter (λ q. by_answer inside leave q.0 q.1) (Inside, s) (Err fault) t e
+    (meets_fault (inside s.0 s.1) (λ q. last (leave q.1.0 q.1.1)) fault s1 t h)
 
 -- a computation whose bound was enough, as a step
-pub gives_settled : {A S : Type 0} (run : Run (A × S)) (r : Result A Fault) (t : S) → Known run → Meets run r t → Gives (settled run) r t
+pub gives_settled : {A S : Type 0} (run : Run (A × S)) (r : Result A Fault) (t : S) → Known run → Meets run r t
+    → Gives (settled run) r t
 unfolding Known settled
 gives_settled Spent r t k h = absurd k
 gives_settled (Failed bad) (Ok a) t k (inl e) = absurd (not_err a NoMemory e)
@@ -108,7 +121,8 @@ module _ {W X : Type 0} (into : Into W X) (whole : Run (Unit {0} × (W × List X
   so_step w done x xs w1 done1 (inl e) h = inl e
   so_step w done x xs w1 done1 (inr e) h = by (into w done x) e h
     where
-      by : (first : Run (Unit {0} × (W × List X))) → whole ≡ bind first (λ r. in_turn into r.1.0 r.1.1 xs) → Meets first (Ok tt) (w1, done1) → So (in_turn into w1 done1 xs)
+      by : (first : Run (Unit {0} × (W × List X))) → whole ≡ bind first (λ r. in_turn into r.1.0 r.1.1 xs)
+          → Meets first (Ok tt) (w1, done1) → So (in_turn into w1 done1 xs)
       by Spent e h = inl e
       by (Failed fault) e (inl k) = absurd (not_err tt NoMemory k)
       by (Failed fault) e (inr k) = absurd (not_err tt fault k)
@@ -118,23 +132,29 @@ module _ {W X : Type 0} (into : Into W X) (whole : Run (Unit {0} × (W × List X
   so_stop : (w : W) (done : List X) (x : X) (xs : List X) (fault : Fault) (s t : W × List X)
       → So (in_turn into w done (x ∷ xs)) → Meets (into w done x) (Err fault) s → Meets whole (Err fault) t
   so_stop w done x xs fault s t (inl e) h = subst (λ f. Meets f (Err fault) t) (sym e) tt
-  so_stop w done x xs fault s t (inr e) h = subst (λ f. Meets f (Err fault) t) (sym e) (meets_fault (into w done x) (λ r. in_turn into r.1.0 r.1.1 xs) fault s t h)
+  so_stop w done x xs fault s t (inr e) h = subst (λ f. Meets f (Err fault) t) (sym e)
+      (meets_fault (into w done x) (λ r. in_turn into r.1.0 r.1.1 xs) fault s t h)
 
   turned : (left rest : List X) (x : X) → left ≡ rest ++ x ∷ [] → reverse left ≡ x ∷ reverse rest
   turned left rest x e = ap reverse e ∙ reverse-append rest (x ∷ [])
 
   -- an entry was walked
   pub so_next : (w : W) (done left rest : List X) (x : X) (w1 : W) (done1 : List X)
-      → So (in_turn into w done (reverse left)) → left ≡ rest ++ x ∷ [] → Meets (into w done x) (Ok tt) (w1, done1) → So (in_turn into w1 done1 (reverse rest))
-  so_next w done left rest x w1 done1 so e h = so_step w done x (reverse rest) w1 done1 (subst (λ l. So (in_turn into w done l)) (turned left rest x e) so) h
+      → So (in_turn into w done (reverse left)) → left ≡ rest ++ x ∷ [] → Meets (into w done x) (Ok tt) (w1, done1)
+      → So (in_turn into w1 done1 (reverse rest))
+  so_next w done left rest x w1 done1 so e h =
+      so_step w done x (reverse rest) w1 done1 (subst (λ l. So (in_turn into w done l)) (turned left rest x e) so) h
 
   -- an entry's walk failed
   pub so_fault : (w : W) (done left rest : List X) (x : X) (fault : Fault) (s t : W × List X)
-      → So (in_turn into w done (reverse left)) → left ≡ rest ++ x ∷ [] → Meets (into w done x) (Err fault) s → Meets whole (Err fault) t
-  so_fault w done left rest x fault s t so e h = so_stop w done x (reverse rest) fault s t (subst (λ l. So (in_turn into w done l)) (turned left rest x e) so) h
+      → So (in_turn into w done (reverse left)) → left ≡ rest ++ x ∷ [] → Meets (into w done x) (Err fault) s
+      → Meets whole (Err fault) t
+  so_fault w done left rest x fault s t so e h =
+      so_stop w done x (reverse rest) fault s t (subst (λ l. So (in_turn into w done l)) (turned left rest x e) so) h
 
   -- no entry is left
-  pub so_end : (w : W) (done left : List X) → So (in_turn into w done (reverse left)) → left ≡ [] → Meets whole (Ok tt) (w, done)
+  pub so_end : (w : W) (done left : List X) → So (in_turn into w done (reverse left)) → left ≡ []
+      → Meets whole (Ok tt) (w, done)
   so_end w done left so e = by (subst (λ l. So (in_turn into w done (reverse l))) e so)
     where
       by : So (Done (tt, (w, done))) → Meets whole (Ok tt) (w, done)
@@ -143,11 +163,14 @@ module _ {W X : Type 0} (into : Into W X) (whole : Run (Unit {0} × (W × List X
 
 pub most-reverse : {X : Type 0} (μ : X → ℕ) (xs : List X) → most μ (reverse xs) ≡ most μ xs
 most-reverse μ [] = refl
-most-reverse μ (x ∷ xs) = let k : most μ (reverse (x ∷ xs)) ≡ max (most μ (reverse xs)) (max (μ x) 0) = ap (most μ) (reverse-append (x ∷ []) xs) ∙ most-append μ (reverse xs) (x ∷ []) in omega (arith, k, most-reverse μ xs)
+most-reverse μ (x ∷ xs) =
+    let k : most μ (reverse (x ∷ xs)) ≡ max (most μ (reverse xs)) (max (μ x) 0) = ap (most μ)
+    (reverse-append (x ∷ []) xs) ∙ most-append μ (reverse xs) (x ∷ []) in omega (arith, k, most-reverse μ xs)
 
 pub turned_twice : {X : Type 0} (xs : List X) → reverse (reverse xs) ≡ xs
 turned_twice [] = refl
-turned_twice (x ∷ xs) = ap reverse (reverse-append (x ∷ []) xs) ∙ reverse-append (reverse xs) (x ∷ []) ∙ ap (λ l. x ∷ l) (turned_twice xs)
+turned_twice (x ∷ xs) =
+    ap reverse (reverse-append (x ∷ []) xs) ∙ reverse-append (reverse xs) (x ∷ []) ∙ ap (λ l. x ∷ l) (turned_twice xs)
 
 -- the loop over a list whose last entry is walked first, and taken off then
 module _ {W X : Type 0} (into : Into W X) (whole : Run (Unit {0} × (W × List X))) (w : W) (done left : List X)
@@ -208,6 +231,7 @@ module _ {W X : Type 0} (part : Part W X) (whole : Run (Unit {0} × (W × List X
 pub ruleset visiting = (gives_next, gives_fault)
 
 -- with these `search` follows a rewriting walk through its calls, and its loops over lists
-pub ruleset rewriting = (meets_next, meets_fault, meets_after, meets_after_fault, meets_last, meets_inside, meets_inside_fault)
+pub ruleset rewriting =
+    (meets_next, meets_fault, meets_after, meets_after_fault, meets_last, meets_inside, meets_inside_fault)
 
 pub ruleset rewriting_lists = (so_fault, so_end)

@@ -21,32 +21,43 @@ use Rattle.rc_tree.specs.declared.terminal.ReactiveTerminal.{ReactiveTerminal, o
 use Rattle.rc_tree.specs.declared.terminal.ReactiveTerminalStatement.{ReactiveTerminalStatement, size-ReactiveTerminalStatement, size_is-ReactiveTerminalStatement}
 
 module _ {T S : Type 0} (v : RewriteSteps (T × S)) (functions : T → List HirFunction) where
-  module _ (n : ℕ) (inner : Part (T × S) ReactiveBlock) (known : (w : T × S) (b : ReactiveBlock) → size-ReactiveBlock b < n → Known (inner w b)) where
+  module _ (n : ℕ) (inner : Part (T × S) ReactiveBlock) (known : (w : T × S) (b : ReactiveBlock)
+      → size-ReactiveBlock b < n → Known (inner w b)) where
     abbrev Statement-F : Type 0
-    Statement-F = ReactiveStatement-F ReactiveStatement ReactiveTerminal PrunedReactiveScopeBlock ReactiveScopeBlock ReactiveBlock ReactiveSwitchCase ReactiveTerminalStatement
+    Statement-F = ReactiveStatement-F ReactiveStatement ReactiveTerminal PrunedReactiveScopeBlock ReactiveScopeBlock
+        ReactiveBlock ReactiveSwitchCase ReactiveTerminalStatement
 
     abbrev Terminal-F : Type 0
-    Terminal-F = ReactiveTerminal-F ReactiveStatement ReactiveTerminal PrunedReactiveScopeBlock ReactiveScopeBlock ReactiveBlock ReactiveSwitchCase ReactiveTerminalStatement
+    Terminal-F = ReactiveTerminal-F ReactiveStatement ReactiveTerminal PrunedReactiveScopeBlock ReactiveScopeBlock
+        ReactiveBlock ReactiveSwitchCase ReactiveTerminalStatement
 
     abbrev weigh_terminal : Terminal-F → ℕ
-    weigh_terminal l = tree.weighs-ReactiveTerminal.weight (Values tree.the_members tree.the_sigs tree.the_carrier) tree.the_depth l
+    weigh_terminal l = tree.weighs-ReactiveTerminal.weight (Values tree.the_members tree.the_sigs tree.the_carrier)
+        tree.the_depth l
 
     abbrev weigh_statement : Statement-F → ℕ
-    weigh_statement l = tree.weighs-ReactiveStatement.weight (Values tree.the_members tree.the_sigs tree.the_carrier) tree.the_depth l
+    weigh_statement l = tree.weighs-ReactiveStatement.weight (Values tree.the_members tree.the_sigs tree.the_carrier)
+        tree.the_depth l
 
-    known_block_if : (o : Option ReactiveBlock) → shapes.weighed-ReactiveTerminal-If-2.weight ReactiveBlock size-ReactiveBlock o < n → (w : T × S) → Known (perhaps_part inner w o)
+    known_block_if : (o : Option ReactiveBlock) → shapes.weighed-ReactiveTerminal-If-2.weight ReactiveBlock
+        size-ReactiveBlock o < n → (w : T × S) → Known (perhaps_part inner w o)
     known_block_if None k w = done (tt, (w, None))
-    known_block_if (Some y) k w = part (inner w y) (λ r. Done (tt, (r.1.0, Some r.1.1))) (known w y (omega (arith, k))) (λ w1 x1. done (tt, (w1, Some x1)))
+    known_block_if (Some y) k w = part (inner w y) (λ r. Done (tt, (r.1.0, Some r.1.1))) (known w y (omega (arith, k)))
+        (λ w1 x1. done (tt, (w1, Some x1)))
 
-    known_case : (id : EvaluationOrder) (w : T × S) (x : ReactiveSwitchCase) → size-ReactiveSwitchCase x ≤ n → Known (case_at v functions inner id w x)
+    known_case : (id : EvaluationOrder) (w : T × S) (x : ReactiveSwitchCase) → size-ReactiveSwitchCase x ≤ n
+        → Known (case_at v functions inner id w x)
     unfolding case_at
     known_case id w x h =
-        let k : (w : T × S) → Known (perhaps_part inner w (out-ReactiveSwitchCase x).block) = known_block_if (out-ReactiveSwitchCase x).block (omega (arith, h, size_is-ReactiveSwitchCase x)) in
+        let k : (w : T × S) → Known (perhaps_part inner w (out-ReactiveSwitchCase x).block) = known_block_if
+        (out-ReactiveSwitchCase x).block (omega (arith, h, size_is-ReactiveSwitchCase x)) in
         search (visit, part, done, k)
 
-    known_cases : (id : EvaluationOrder) (cases : List ReactiveSwitchCase) → most size-ReactiveSwitchCase cases ≤ n → (w : T × S) → Known (cases_at v functions inner id w cases)
+    known_cases : (id : EvaluationOrder) (cases : List ReactiveSwitchCase) → most size-ReactiveSwitchCase cases ≤ n
+        → (w : T × S) → Known (cases_at v functions inner id w cases)
     unfolding cases_at
-    known_cases id cases h w = known_each size-ReactiveSwitchCase n (case_at v functions inner id) (known_case id) cases h w
+    known_cases id cases h w =
+        known_each size-ReactiveSwitchCase n (case_at v functions inner id) (known_case id) cases h w
 
     known_parts : (w : T × S) (l : Terminal-F) → weigh_terminal l < n → Known (parts_layer v functions inner w l)
     known_parts w (layer.Break target kind id) h = search (visit, hook, part, done)
@@ -54,7 +65,8 @@ module _ {T S : Type 0} (v : RewriteSteps (T × S)) (functions : T → List HirF
     known_parts w (layer.Return place id) h = search (visit, hook, part, done)
     known_parts w (layer.Throw place id) h = search (visit, hook, part, done)
     known_parts w (layer.Switch test cases id) h =
-        let kcases : (w : T × S) → Known (cases_at v functions inner id w cases) = known_cases id cases (omega (arith, h)) in
+        let kcases : (w : T × S) → Known (cases_at v functions inner id w cases) = known_cases id cases
+        (omega (arith, h)) in
         search (visit, hook, part, done, kcases)
     known_parts w (layer.DoWhile body test id) h =
         let kbody : (w : T × S) → Known (inner w body) = λ w. known w body (omega (arith, h)) in
@@ -73,7 +85,8 @@ module _ {T S : Type 0} (v : RewriteSteps (T × S)) (functions : T → List HirF
         search (visit, hook, part, done, kbody)
     known_parts w (layer.If test consequent alternate id) h =
         let kthen : (w : T × S) → Known (inner w consequent) = λ w. known w consequent (omega (arith, h)) in
-        let kelse : (w : T × S) → Known (perhaps_part inner w alternate) = known_block_if alternate (omega (arith, h)) in
+        let kelse : (w : T × S) → Known (perhaps_part inner w alternate) = known_block_if alternate (omega (arith, h))
+        in
         search (visit, hook, part, done, kthen, kelse)
     known_parts w (layer.Label body id) h =
         let kbody : (w : T × S) → Known (inner w body) = λ w. known w body (omega (arith, h)) in
@@ -83,67 +96,91 @@ module _ {T S : Type 0} (v : RewriteSteps (T × S)) (functions : T → List HirF
         let khandler : (w : T × S) → Known (inner w handler) = λ w. known w handler (omega (arith, h)) in
         search (visit, hook, part, done, kbody, khandler)
 
-    pub known_terminal_inside : (w : T × S) (x : ReactiveTerminalStatement) → size-ReactiveTerminalStatement x ≤ n → Known (terminal_inside v functions inner w x)
+    pub known_terminal_inside : (w : T × S) (x : ReactiveTerminalStatement) → size-ReactiveTerminalStatement x ≤ n
+        → Known (terminal_inside v functions inner w x)
     known_terminal_inside w x h =
-        part (parts_at v functions inner w x.terminal) (λ r. Done (tt, (r.1.0, record { terminal = r.1.1; label = x.label })))
-        (known_parts w (out-ReactiveTerminal x.terminal) (omega (arith, h, size_is-ReactiveTerminalStatement x, size_is-ReactiveTerminal x.terminal)))
+        part (parts_at v functions inner w x.terminal) (λ r. Done
+        (tt, (r.1.0, record { terminal = r.1.1; label = x.label })))
+        (known_parts w (out-ReactiveTerminal x.terminal) (omega
+        (arith, h, size_is-ReactiveTerminalStatement x, size_is-ReactiveTerminal x.terminal)))
         (λ w2 t. done (tt, (w2, record { terminal = t; label = x.label })))
 
-    pub known_scope_inside : (w : T × S) (x : ReactiveScopeBlock) → size-ReactiveScopeBlock x ≤ n → Known (scope_inside v functions inner w x)
+    pub known_scope_inside : (w : T × S) (x : ReactiveScopeBlock) → size-ReactiveScopeBlock x ≤ n
+        → Known (scope_inside v functions inner w x)
     known_scope_inside w x h =
         part (inner w x.instructions) (λ r. Done (tt, (r.1.0, record { scope = x.scope; instructions = r.1.1 })))
         (known w x.instructions (omega (arith, h, size_is-ReactiveScopeBlock x)))
         (λ w2 t. done (tt, (w2, record { scope = x.scope; instructions = t })))
 
-    pub known_pruned_scope_inside : (w : T × S) (x : PrunedReactiveScopeBlock) → size-PrunedReactiveScopeBlock x ≤ n → Known (pruned_scope_inside v functions inner w x)
+    pub known_pruned_scope_inside : (w : T × S) (x : PrunedReactiveScopeBlock) → size-PrunedReactiveScopeBlock x ≤ n
+        → Known (pruned_scope_inside v functions inner w x)
     known_pruned_scope_inside w x h =
         part (inner w x.instructions) (λ r. Done (tt, (r.1.0, record { scope = x.scope; instructions = r.1.1 })))
         (known w x.instructions (omega (arith, h, size_is-PrunedReactiveScopeBlock x)))
         (λ w2 t. done (tt, (w2, record { scope = x.scope; instructions = t })))
 
     module _ (enters : EntersNoDeeper v) where
-      known_terminal : (w : T × S) (x : ReactiveTerminalStatement) → size-ReactiveTerminalStatement x ≤ n → Known (terminal_at v functions inner w x)
+      known_terminal : (w : T × S) (x : ReactiveTerminalStatement) → size-ReactiveTerminalStatement x ≤ n
+          → Known (terminal_at v functions inner w x)
       unfolding terminal_at
       known_terminal w x h = known_around v.enter_terminal (terminal_inside v functions inner) v.leave_terminal w x
           (λ w1 x1 a e. known_terminal_inside w1 x1 (omega (arith, h, enters.terminal w w1 x x1 a e)))
 
-      known_scope : (w : T × S) (x : ReactiveScopeBlock) → size-ReactiveScopeBlock x ≤ n → Known (scope_at v functions inner w x)
+      known_scope : (w : T × S) (x : ReactiveScopeBlock) → size-ReactiveScopeBlock x ≤ n
+          → Known (scope_at v functions inner w x)
       unfolding scope_at
       known_scope w x h = known_around v.enter_scope (scope_inside v functions inner) v.leave_scope w x
           (λ w1 x1 a e. known_scope_inside w1 x1 (omega (arith, h, enters.scope w w1 x x1 a e)))
 
-      known_pruned_scope : (w : T × S) (x : PrunedReactiveScopeBlock) → size-PrunedReactiveScopeBlock x ≤ n → Known (pruned_scope_at v functions inner w x)
+      known_pruned_scope : (w : T × S) (x : PrunedReactiveScopeBlock) → size-PrunedReactiveScopeBlock x ≤ n
+          → Known (pruned_scope_at v functions inner w x)
       unfolding pruned_scope_at
-      known_pruned_scope w x h = known_around v.enter_pruned_scope (pruned_scope_inside v functions inner) v.leave_pruned_scope w x
+      known_pruned_scope w x h =
+          known_around v.enter_pruned_scope (pruned_scope_inside v functions inner) v.leave_pruned_scope w x
           (λ w1 x1 a e. known_pruned_scope_inside w1 x1 (omega (arith, h, enters.pruned_scope w w1 x x1 a e)))
 
-      known_layer : (w : T × S) (l : Statement-F) → weigh_statement l ≤ n → Known (statement_layer v functions inner w l)
+      known_layer : (w : T × S) (l : Statement-F) → weigh_statement l ≤ n
+          → Known (statement_layer v functions inner w l)
       known_layer w (layer.Instruction x) h = search (known_bind, known_after, done)
-      known_layer w (layer.Terminal x) h = let k : Known (terminal_at v functions inner w x) = known_terminal w x (omega (arith, h)) in search (known_bind, known_after, done, k)
-      known_layer w (layer.Scope x) h = let k : Known (scope_at v functions inner w x) = known_scope w x (omega (arith, h)) in search (known_bind, known_after, done, k)
-      known_layer w (layer.PrunedScope x) h = let k : Known (pruned_scope_at v functions inner w x) = known_pruned_scope w x (omega (arith, h)) in search (known_bind, known_after, done, k)
+      known_layer w (layer.Terminal x) h =
+          let k : Known (terminal_at v functions inner w x) = known_terminal w x (omega (arith, h)) in search
+          (known_bind, known_after, done, k)
+      known_layer w (layer.Scope x) h =
+          let k : Known (scope_at v functions inner w x) = known_scope w x (omega (arith, h)) in search
+          (known_bind, known_after, done, k)
+      known_layer w (layer.PrunedScope x) h =
+          let k : Known (pruned_scope_at v functions inner w x) = known_pruned_scope w x (omega (arith, h)) in search
+          (known_bind, known_after, done, k)
 
-      pub known_statement : (w : T × S) (x : ReactiveStatement) → size-ReactiveStatement x ≤ n + 1 → Known (statement_at v functions inner w x)
+      pub known_statement : (w : T × S) (x : ReactiveStatement) → size-ReactiveStatement x ≤ n + 1
+          → Known (statement_at v functions inner w x)
       known_statement w x h = known_layer w (out-ReactiveStatement x) (omega (arith, h, size_is-ReactiveStatement x))
 
-      known_into : (w : T × S) (so : List ReactiveStatement) (x : ReactiveStatement) → size-ReactiveStatement x ≤ n → Known (into_at v functions inner w so x)
+      known_into : (w : T × S) (so : List ReactiveStatement) (x : ReactiveStatement) → size-ReactiveStatement x ≤ n
+          → Known (into_at v functions inner w so x)
       unfolding into_at
-      known_into w so x h = known_bind (statement_at v functions inner w x) (λ a. Done (tt, (a.1.0, so ++ in_place a.0 a.1.1)))
+      known_into w so x h =
+          known_bind (statement_at v functions inner w x) (λ a. Done (tt, (a.1.0, so ++ in_place a.0 a.1.1)))
           (known_statement w x (omega (arith, h))) (λ a e. done (tt, (a.1.0, so ++ in_place a.0 a.1.1)))
 
-      known_statements : (xs : List ReactiveStatement) → most size-ReactiveStatement xs ≤ n → (w : T × S) → Known (statements_at v functions inner w xs)
+      known_statements : (xs : List ReactiveStatement) → most size-ReactiveStatement xs ≤ n → (w : T × S)
+          → Known (statements_at v functions inner w xs)
       unfolding statements_at
       known_statements xs h w = known_turn size-ReactiveStatement n (into_at v functions inner) known_into w [] xs h
 
-      pub known_block_inside : (w : T × S) (x : ReactiveBlock) → size-ReactiveBlock x ≤ n + 1 → Known (block_inside v functions inner w x)
+      pub known_block_inside : (w : T × S) (x : ReactiveBlock) → size-ReactiveBlock x ≤ n + 1
+          → Known (block_inside v functions inner w x)
       known_block_inside w x h =
           part (statements_at v functions inner w x.statements) (λ r. Done (tt, (r.1.0, record { statements = r.1.1 })))
           (known_statements x.statements (omega (arith, h, size_is-ReactiveBlock x)) w)
           (λ w2 xs. done (tt, (w2, record { statements = xs })))
 
   -- a depth above the size of a block is enough
-  pub known_block_to : EntersNoDeeper v → (n : ℕ) (w : T × S) (x : ReactiveBlock) → size-ReactiveBlock x < n → Known (block_to v functions n w x)
+  pub known_block_to : EntersNoDeeper v → (n : ℕ) (w : T × S) (x : ReactiveBlock) → size-ReactiveBlock x < n
+      → Known (block_to v functions n w x)
   unfolding block_to
   known_block_to enters zero w x h = absurd (omega (arith, h))
-  known_block_to enters (suc n) w x h = known_around v.enter_block (block_inside v functions (block_to v functions n)) v.leave_block w x
-      (λ w1 x1 a e. known_block_inside n (block_to v functions n) (known_block_to enters n) enters w1 x1 (omega (arith, h, enters.block w w1 x x1 a e)))
+  known_block_to enters (suc n) w x h =
+      known_around v.enter_block (block_inside v functions (block_to v functions n)) v.leave_block w x
+      (λ w1 x1 a e. known_block_inside n (block_to v functions n) (known_block_to enters n) enters w1 x1
+      (omega (arith, h, enters.block w w1 x x1 a e)))

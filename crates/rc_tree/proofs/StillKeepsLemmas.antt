@@ -12,13 +12,17 @@ use Rattle.rc_tree.specs.declared.transform.Transformed.{Transformed}
 module _ {W X A : Type 0} where
   pub holds_if : {Y : Type 0} (measure : X → Y) (step : Hook W X A) →
       ((w : W) (x : X) → IfOk (step w x) (λ done. measure done.1.1 ≡ measure x)) → Holds measure step
-  holds_if measure step h w w1 x x1 answer e = subst (λ result. IfOk result (λ done. measure done.1.1 ≡ measure x)) e (h w x)
+  holds_if measure step h w w1 x x1 answer e =
+      subst (λ result. IfOk result (λ done. measure done.1.1 ≡ measure x)) e (h w x)
 
 module _ {W X L : Type 0} where
-  pub leaves_if : (measure : List ReactiveStatement → L) (made : X → ReactiveStatement) (step : Hook W X (Transformed ReactiveStatement)) →
-      ((w : W) (x : X) → IfOk (step w x) (λ done. measure (in_place done.0 (made done.1.1)) ≡ measure (made x ∷ []))) → Leaves measure made step
+  pub leaves_if : (measure : List ReactiveStatement → L) (made : X → ReactiveStatement)
+      (step : Hook W X (Transformed ReactiveStatement)) →
+      ((w : W) (x : X) → IfOk (step w x) (λ done. measure (in_place done.0 (made done.1.1)) ≡ measure (made x ∷ [])))
+      → Leaves measure made step
   leaves_if measure made step h w w1 x x1 answer e =
-      subst (λ result. IfOk result (λ done. measure (in_place done.0 (made done.1.1)) ≡ measure (made x ∷ []))) e (h w x)
+      subst (λ result. IfOk result (λ done. measure (in_place done.0 (made done.1.1)) ≡ measure (made x ∷ []))) e
+      (h w x)
 
 -- the steps that change nothing keep every measure
 pub still_keeps : {V I L C P W : Type 0} (m : Measure V I L C P) → KeepsMeasure {W = W} m still

@@ -1,4 +1,5 @@
 pub mod Kind
+pub mod Opened
 pub mod Outcome
 pub mod Steps
 pub mod Read

@@ -17,7 +17,8 @@ use Rattle.rc_tree.specs.declared.value.ReactiveValue.{ReactiveValue}
 -- a block of the function names the row
 pub data NamesRow (function : HirFunction) (row : Instruction) : Type 0 where
   in_block : (i k : ℕ) (entry : BlockId × BasicBlock) (id : InstructionId)
-      → slice_get function.body.blocks i ≡ Some entry → slice_get entry.1.instructions k ≡ Some id → slice_get function.instructions id.0 ≡ Some row
+      → slice_get function.body.blocks i ≡ Some entry → slice_get entry.1.instructions k ≡ Some id
+      → slice_get function.instructions id.0 ≡ Some row
       → NamesRow function row
 
 -- a function of the table holds another: one of its blocks names a row that holds it
@@ -29,7 +30,8 @@ pub data Holds (functions : List HirFunction) (outer inner : FunctionId) : Type 
 -- a function is that one, or stands inside it at some depth
 pub data Reaches (functions : List HirFunction) : FunctionId → FunctionId → Type 0 where
   itself : {func : FunctionId} → Reaches functions func func
-  through : {outer middle inner : FunctionId} → Holds functions outer middle → Reaches functions middle inner → Reaches functions outer inner
+  through : {outer middle inner : FunctionId} → Holds functions outer middle → Reaches functions middle inner
+      → Reaches functions outer inner
 
 -- a function stands inside itself
 abbrev pub InsideItself : List HirFunction → FunctionId → Type 0
@@ -51,5 +53,7 @@ pub data HookGives {S : Type 0} (v : ReadSteps S) (fault : Fault) : Type 0 where
   by_param : (place : Place) (s : S) → v.visit_param place s ≡ Err fault → HookGives v fault
   by_enter_instruction : (x : ReactiveInstruction) (s : S) → v.enter_instruction x s ≡ Err fault → HookGives v fault
   by_leave_instruction : (x : ReactiveInstruction) (s : S) → v.leave_instruction x s ≡ Err fault → HookGives v fault
-  by_enter_value : (id : EvaluationOrder) (x : ReactiveValue) (s : S) → v.enter_value id x s ≡ Err fault → HookGives v fault
-  by_leave_value : (id : EvaluationOrder) (x : ReactiveValue) (s : S) → v.leave_value id x s ≡ Err fault → HookGives v fault
+  by_enter_value : (id : EvaluationOrder) (x : ReactiveValue) (s : S) → v.enter_value id x s ≡ Err fault
+      → HookGives v fault
+  by_leave_value : (id : EvaluationOrder) (x : ReactiveValue) (s : S) → v.leave_value id x s ≡ Err fault
+      → HookGives v fault

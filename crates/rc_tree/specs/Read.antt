@@ -1,6 +1,7 @@
 -- What the read walk of a part gives: the steps of its hooks, in the order of the parts' table.
 --
--- A part's enter step comes first. At `Inside` the steps of the inside follow and then the leave step, at `Skip` neither.
+-- A part's enter step comes first. At `Inside` the steps of the inside follow and then the leave step, at `Skip`
+-- neither.
 -- Each inside is one equation here; operands are looked up in the table of functions, which no step changes.
 use Rattle.std.specs.Prelude.{List, Ok}
 use Rattle.rc_hir.specs.Operands.{operands}
@@ -66,7 +67,8 @@ module _ {S : Type 0} (v : ReadSteps S) (functions : List HirFunction) where
   -- the inside of a row: its id, its target, the value's targets, its value
   abbrev pub instruction_step : ReactiveInstruction-F (ReactiveValue × WalkAt) (ReactiveInstruction × Walk S) → Walk S
   instruction_step x =
-      next_to (v.visit_id x.id) (next_to (perhaps (v.visit_lvalue x.id) x.lvalue) (next_to (each (v.visit_lvalue x.id) (targets_of x.value.0)) (around_value x.value x.id)))
+      next_to (v.visit_id x.id) (next_to (perhaps (v.visit_lvalue x.id) x.lvalue)
+      (next_to (each (v.visit_lvalue x.id) (targets_of x.value.0)) (around_value x.value x.id)))
 
   -- the walk of a value's inside
   unfoldable pub inside_value : ReactiveValue → WalkAt
@@ -120,7 +122,8 @@ module _ {S : Type 0} (v : ReadSteps S) (functions : List HirFunction) where
   OfTerminal = ReactiveTerminalStatement × Walk S
 
   -- a statement is the walk of what it holds
-  abbrev pub statement_step : ReactiveStatement-F OfStatement OfParts OfPruned OfScope OfBlock OfCase OfTerminal → Walk S
+  abbrev pub statement_step : ReactiveStatement-F OfStatement OfParts OfPruned OfScope OfBlock OfCase OfTerminal
+      → Walk S
   statement_step (layer.Instruction x) = read_instruction x
   statement_step (layer.Terminal x) = around_terminal x
   statement_step (layer.Scope x) = around_scope x
@@ -132,21 +135,28 @@ module _ {S : Type 0} (v : ReadSteps S) (functions : List HirFunction) where
   parts_step (layer.Continue target kind id) = v.visit_id id
   parts_step (layer.Return place id) = next_to (v.visit_id id) (v.visit_place id place)
   parts_step (layer.Throw place id) = next_to (v.visit_id id) (v.visit_place id place)
-  parts_step (layer.Switch test cases id) = next_to (v.visit_id id) (next_to (v.visit_place id test) (each (λ c. c.1 id) cases))
+  parts_step (layer.Switch test cases id) =
+      next_to (v.visit_id id) (next_to (v.visit_place id test) (each (λ c. c.1 id) cases))
   parts_step (layer.DoWhile body test id) = next_to (v.visit_id id) (next_to (around_block body) (read_value test id))
   parts_step (layer.While test body id) = next_to (v.visit_id id) (next_to (read_value test id) (around_block body))
   parts_step (layer.For init test update body id) =
-      next_to (v.visit_id id) (next_to (read_value init id) (next_to (read_value test id) (next_to (around_block body) (perhaps (λ x. read_value x id) update))))
-  parts_step (layer.ForOf init test body span id) = next_to (v.visit_id id) (next_to (read_value init id) (next_to (read_value test id) (around_block body)))
-  parts_step (layer.ForIn init body span id) = next_to (v.visit_id id) (next_to (read_value init id) (around_block body))
+      next_to (v.visit_id id) (next_to (read_value init id)
+      (next_to (read_value test id) (next_to (around_block body) (perhaps (λ x. read_value x id) update))))
+  parts_step (layer.ForOf init test body span id) =
+      next_to (v.visit_id id) (next_to (read_value init id) (next_to (read_value test id) (around_block body)))
+  parts_step (layer.ForIn init body span id) =
+      next_to (v.visit_id id) (next_to (read_value init id) (around_block body))
   parts_step (layer.If test consequent alternate id) =
-      next_to (v.visit_id id) (next_to (v.visit_place id test) (next_to (around_block consequent) (perhaps around_block alternate)))
+      next_to (v.visit_id id) (next_to (v.visit_place id test)
+      (next_to (around_block consequent) (perhaps around_block alternate)))
   parts_step (layer.Label body id) = next_to (v.visit_id id) (around_block body)
   parts_step (layer.Try body binding handler id) =
-      next_to (v.visit_id id) (next_to (around_block body) (next_to (perhaps (v.visit_place id) binding) (around_block handler)))
+      next_to (v.visit_id id) (next_to (around_block body)
+      (next_to (perhaps (v.visit_place id) binding) (around_block handler)))
 
   -- the inside of a pruned scope, and of a scope, is its block
-  abbrev pub pruned_step : PrunedReactiveScopeBlock-F OfStatement OfParts OfPruned OfScope OfBlock OfCase OfTerminal → Walk S
+  abbrev pub pruned_step : PrunedReactiveScopeBlock-F OfStatement OfParts OfPruned OfScope OfBlock OfCase OfTerminal
+      → Walk S
   pruned_step x = around_block x.instructions
 
   abbrev pub scope_step : ReactiveScopeBlock-F OfStatement OfParts OfPruned OfScope OfBlock OfCase OfTerminal → Walk S
@@ -161,36 +171,44 @@ module _ {S : Type 0} (v : ReadSteps S) (functions : List HirFunction) where
   case_step x id = next_to (perhaps (v.visit_place id) x.test) (perhaps around_block x.block)
 
   -- the inside of a terminal is its parts
-  abbrev pub terminal_step : ReactiveTerminalStatement-F OfStatement OfParts OfPruned OfScope OfBlock OfCase OfTerminal → Walk S
+  abbrev pub terminal_step : ReactiveTerminalStatement-F OfStatement OfParts OfPruned OfScope OfBlock OfCase OfTerminal
+      → Walk S
   terminal_step x = x.terminal.1
 
   -- the walk of a statement
   unfoldable pub read_statement : ReactiveStatement → Walk S
-  read_statement = para-ReactiveStatement (Walk S) (Walk S) (Walk S) (Walk S) (Walk S) WalkAt (Walk S) statement_step parts_step pruned_step scope_step block_step case_step terminal_step
+  read_statement = para-ReactiveStatement (Walk S) (Walk S) (Walk S) (Walk S) (Walk S) WalkAt (Walk S) statement_step
+      parts_step pruned_step scope_step block_step case_step terminal_step
 
   -- the walk of a terminal's parts
   unfoldable pub read_parts : ReactiveTerminal → Walk S
-  read_parts = para-ReactiveTerminal (Walk S) (Walk S) (Walk S) (Walk S) (Walk S) WalkAt (Walk S) statement_step parts_step pruned_step scope_step block_step case_step terminal_step
+  read_parts = para-ReactiveTerminal (Walk S) (Walk S) (Walk S) (Walk S) (Walk S) WalkAt (Walk S) statement_step
+      parts_step pruned_step scope_step block_step case_step terminal_step
 
   -- the walk of a pruned scope's inside
   unfoldable pub inside_pruned_scope : PrunedReactiveScopeBlock → Walk S
-  inside_pruned_scope = para-PrunedReactiveScopeBlock (Walk S) (Walk S) (Walk S) (Walk S) (Walk S) WalkAt (Walk S) statement_step parts_step pruned_step scope_step block_step case_step terminal_step
+  inside_pruned_scope = para-PrunedReactiveScopeBlock (Walk S) (Walk S) (Walk S) (Walk S) (Walk S) WalkAt (Walk S)
+      statement_step parts_step pruned_step scope_step block_step case_step terminal_step
 
   -- the walk of a scope's inside
   unfoldable pub inside_scope : ReactiveScopeBlock → Walk S
-  inside_scope = para-ReactiveScopeBlock (Walk S) (Walk S) (Walk S) (Walk S) (Walk S) WalkAt (Walk S) statement_step parts_step pruned_step scope_step block_step case_step terminal_step
+  inside_scope = para-ReactiveScopeBlock (Walk S) (Walk S) (Walk S) (Walk S) (Walk S) WalkAt (Walk S) statement_step
+      parts_step pruned_step scope_step block_step case_step terminal_step
 
   -- the walk of a block's inside
   unfoldable pub inside_block : ReactiveBlock → Walk S
-  inside_block = para-ReactiveBlock (Walk S) (Walk S) (Walk S) (Walk S) (Walk S) WalkAt (Walk S) statement_step parts_step pruned_step scope_step block_step case_step terminal_step
+  inside_block = para-ReactiveBlock (Walk S) (Walk S) (Walk S) (Walk S) (Walk S) WalkAt (Walk S) statement_step
+      parts_step pruned_step scope_step block_step case_step terminal_step
 
   -- the walk of a case, at the id of its switch
   unfoldable pub read_case : ReactiveSwitchCase → WalkAt
-  read_case = para-ReactiveSwitchCase (Walk S) (Walk S) (Walk S) (Walk S) (Walk S) WalkAt (Walk S) statement_step parts_step pruned_step scope_step block_step case_step terminal_step
+  read_case = para-ReactiveSwitchCase (Walk S) (Walk S) (Walk S) (Walk S) (Walk S) WalkAt (Walk S) statement_step
+      parts_step pruned_step scope_step block_step case_step terminal_step
 
   -- the walk of a terminal's inside
   unfoldable pub inside_terminal : ReactiveTerminalStatement → Walk S
-  inside_terminal = para-ReactiveTerminalStatement (Walk S) (Walk S) (Walk S) (Walk S) (Walk S) WalkAt (Walk S) statement_step parts_step pruned_step scope_step block_step case_step terminal_step
+  inside_terminal = para-ReactiveTerminalStatement (Walk S) (Walk S) (Walk S) (Walk S) (Walk S) WalkAt (Walk S)
+      statement_step parts_step pruned_step scope_step block_step case_step terminal_step
 
   -- the walk of a block, of a scope, of a pruned scope, of a terminal
   unfoldable pub read_block : ReactiveBlock → Walk S

@@ -1,7 +1,9 @@
 -- What the walk of a graph's function gives: its parameters, then its blocks in graph order.
 --
--- Each row is walked as a row of the tree, and then the function that it holds; a block ends with its terminal's operands.
--- `entered` tells of each function of the table whether the walk stands inside it: one that is met there again is a cycle,
+-- Each row is walked as a row of the tree, and then the function that it holds; a block ends with its terminal's
+-- operands.
+-- `entered` tells of each function of the table whether the walk stands inside it: one that is met there again is a
+-- cycle,
 -- and one outside the table is a bad name.
 use Rattle.std.specs.Prelude.{ℕ, zero, suc, Bool, true, false, List, [], ◌∷◌, Option, None, Some, Ok, Err, map, slice_get, slice_set}
 use Rattle.rc_names.specs.declared.numbers.BlockId.{BlockId}
@@ -64,11 +66,13 @@ module _ {S : Type 0} (v : ReadSteps S) (functions : List HirFunction) where
     -- the rows of a block, then its terminal's operands, at the terminal's id
     abbrev pub basic_block : List Instruction → BlockId × BasicBlock → Walk S
     basic_block rows entry =
-        next_to (each (block_row rows) entry.1.instructions) (each (v.visit_place (evaluation_order entry.1.terminal)) (terminal_operands entry.1.terminal))
+        next_to (each (block_row rows) entry.1.instructions)
+        (each (v.visit_place (evaluation_order entry.1.terminal)) (terminal_operands entry.1.terminal))
 
     -- the parameters of a function, then its blocks
     abbrev pub inside_function : HirFunction → Walk S
-    inside_function x = next_to (each (λ p. v.visit_param (param_place p)) x.params) (each (basic_block x.instructions) x.body.blocks)
+    inside_function x = next_to (each (λ p. v.visit_param (param_place p)) x.params)
+        (each (basic_block x.instructions) x.body.blocks)
 
     -- the function of a number; one that the table doesn't have is a bad name
     abbrev pub numbered_function : FunctionId → Option HirFunction → Walk S
@@ -79,7 +83,8 @@ module _ {S : Type 0} (v : ReadSteps S) (functions : List HirFunction) where
   abbrev pub by_mark : (List Bool → FunctionId → Walk S) → List Bool → FunctionId → Option Bool → Walk S
   by_mark inner entered func None s = Err (BadName Functions func.0)
   by_mark inner entered func (Some true) s = Err (FunctionCycle func)
-  by_mark inner entered func (Some false) s = numbered_function (inner (slice_set entered func.0 true)) func (slice_get functions func.0) s
+  by_mark inner entered func (Some false) s =
+      numbered_function (inner (slice_set entered func.0 true)) func (slice_get functions func.0) s
 
   -- the walk of a function; more than the functions that aren't entered can't stand inside each other
   unfoldable pub function_to : ℕ → List Bool → FunctionId → Walk S

@@ -56,7 +56,9 @@ module _ {S X : Type 0} where
 
 module _ {S : Type 0} (rules : Rules S) where
   -- a terminal, from its blocks
-  abbrev pub of_terminal : ReactiveTerminal-F (Rebuilds S (List ReactiveStatement)) (Rebuilds S ReactiveTerminal) (Rebuilds S PrunedReactiveScopeBlock) (Rebuilds S ReactiveScopeBlock) (Rebuilds S ReactiveBlock) (Rebuilds S ReactiveSwitchCase) (Rebuilds S ReactiveTerminalStatement) → Rebuilds S ReactiveTerminal
+  abbrev pub of_terminal : ReactiveTerminal-F (Rebuilds S (List ReactiveStatement)) (Rebuilds S ReactiveTerminal)
+      (Rebuilds S PrunedReactiveScopeBlock) (Rebuilds S ReactiveScopeBlock) (Rebuilds S ReactiveBlock)
+      (Rebuilds S ReactiveSwitchCase) (Rebuilds S ReactiveTerminalStatement) → Rebuilds S ReactiveTerminal
   of_terminal (layer.Break target kind id) s = Ok (s, term.Break target kind id)
   of_terminal (layer.Continue target kind id) s = Ok (s, term.Continue target kind id)
   of_terminal (layer.Return value id) s = Ok (s, term.Return value id)
@@ -67,51 +69,89 @@ module _ {S : Type 0} (rules : Rules S) where
   of_terminal (layer.For init test update body id) s = bind (body s) (λ a. Ok (a.0, term.For init test update a.1 id))
   of_terminal (layer.ForOf init test body span id) s = bind (body s) (λ a. Ok (a.0, term.ForOf init test a.1 span id))
   of_terminal (layer.ForIn init body span id) s = bind (body s) (λ a. Ok (a.0, term.ForIn init a.1 span id))
-  of_terminal (layer.If test consequent alternate id) s = bind (consequent s) (λ a. bind (if_there alternate a.0) (λ b. Ok (b.0, term.If test a.1 b.1 id)))
+  of_terminal (layer.If test consequent alternate id) s =
+      bind (consequent s) (λ a. bind (if_there alternate a.0) (λ b. Ok (b.0, term.If test a.1 b.1 id)))
   of_terminal (layer.Label body id) s = bind (body s) (λ a. Ok (a.0, term.Label a.1 id))
-  of_terminal (layer.Try body binding handler id) s = bind (body s) (λ a. bind (handler a.0) (λ b. Ok (b.0, term.Try a.1 binding b.1 id)))
+  of_terminal (layer.Try body binding handler id) s =
+      bind (body s) (λ a. bind (handler a.0) (λ b. Ok (b.0, term.Try a.1 binding b.1 id)))
 
   -- a statement, by the rule for it
-  abbrev pub of_statement : ReactiveStatement-F (Rebuilds S (List ReactiveStatement)) (Rebuilds S ReactiveTerminal) (Rebuilds S PrunedReactiveScopeBlock) (Rebuilds S ReactiveScopeBlock) (Rebuilds S ReactiveBlock) (Rebuilds S ReactiveSwitchCase) (Rebuilds S ReactiveTerminalStatement) → Rebuilds S (List ReactiveStatement)
+  abbrev pub of_statement : ReactiveStatement-F (Rebuilds S (List ReactiveStatement)) (Rebuilds S ReactiveTerminal)
+      (Rebuilds S PrunedReactiveScopeBlock) (Rebuilds S ReactiveScopeBlock) (Rebuilds S ReactiveBlock)
+      (Rebuilds S ReactiveSwitchCase) (Rebuilds S ReactiveTerminalStatement) → Rebuilds S (List ReactiveStatement)
   of_statement (layer.Instruction x) s = rules.row x s
   of_statement (layer.Terminal x) s = bind (x s) (λ a. rules.terminal a.1 a.0)
   of_statement (layer.Scope x) s = bind (x (rules.into_scope s)) (λ a. rules.scope s a.1 a.0)
   of_statement (layer.PrunedScope x) s = bind (x s) (λ a. rules.pruned_scope a.1 a.0)
 
-  abbrev pub of_labeled : ReactiveTerminalStatement-F (Rebuilds S (List ReactiveStatement)) (Rebuilds S ReactiveTerminal) (Rebuilds S PrunedReactiveScopeBlock) (Rebuilds S ReactiveScopeBlock) (Rebuilds S ReactiveBlock) (Rebuilds S ReactiveSwitchCase) (Rebuilds S ReactiveTerminalStatement) → Rebuilds S ReactiveTerminalStatement
+  abbrev pub of_labeled : ReactiveTerminalStatement-F (Rebuilds S (List ReactiveStatement))
+      (Rebuilds S ReactiveTerminal) (Rebuilds S PrunedReactiveScopeBlock) (Rebuilds S ReactiveScopeBlock)
+      (Rebuilds S ReactiveBlock) (Rebuilds S ReactiveSwitchCase) (Rebuilds S ReactiveTerminalStatement)
+      → Rebuilds S ReactiveTerminalStatement
   of_labeled x s = bind (x.terminal s) (λ a. Ok (a.0, record { terminal = a.1; label = x.label }))
 
-  abbrev pub of_scope : ReactiveScopeBlock-F (Rebuilds S (List ReactiveStatement)) (Rebuilds S ReactiveTerminal) (Rebuilds S PrunedReactiveScopeBlock) (Rebuilds S ReactiveScopeBlock) (Rebuilds S ReactiveBlock) (Rebuilds S ReactiveSwitchCase) (Rebuilds S ReactiveTerminalStatement) → Rebuilds S ReactiveScopeBlock
+  abbrev pub of_scope : ReactiveScopeBlock-F (Rebuilds S (List ReactiveStatement)) (Rebuilds S ReactiveTerminal)
+      (Rebuilds S PrunedReactiveScopeBlock) (Rebuilds S ReactiveScopeBlock) (Rebuilds S ReactiveBlock)
+      (Rebuilds S ReactiveSwitchCase) (Rebuilds S ReactiveTerminalStatement) → Rebuilds S ReactiveScopeBlock
   of_scope x s = bind (x.instructions s) (λ a. Ok (a.0, record { scope = x.scope; instructions = a.1 }))
 
-  abbrev pub of_pruned_scope : PrunedReactiveScopeBlock-F (Rebuilds S (List ReactiveStatement)) (Rebuilds S ReactiveTerminal) (Rebuilds S PrunedReactiveScopeBlock) (Rebuilds S ReactiveScopeBlock) (Rebuilds S ReactiveBlock) (Rebuilds S ReactiveSwitchCase) (Rebuilds S ReactiveTerminalStatement) → Rebuilds S PrunedReactiveScopeBlock
+  abbrev pub of_pruned_scope : PrunedReactiveScopeBlock-F (Rebuilds S (List ReactiveStatement))
+      (Rebuilds S ReactiveTerminal) (Rebuilds S PrunedReactiveScopeBlock) (Rebuilds S ReactiveScopeBlock)
+      (Rebuilds S ReactiveBlock) (Rebuilds S ReactiveSwitchCase) (Rebuilds S ReactiveTerminalStatement)
+      → Rebuilds S PrunedReactiveScopeBlock
   of_pruned_scope x s = bind (x.instructions s) (λ a. Ok (a.0, record { scope = x.scope; instructions = a.1 }))
 
-  abbrev pub of_block : ReactiveBlock-F (Rebuilds S (List ReactiveStatement)) (Rebuilds S ReactiveTerminal) (Rebuilds S PrunedReactiveScopeBlock) (Rebuilds S ReactiveScopeBlock) (Rebuilds S ReactiveBlock) (Rebuilds S ReactiveSwitchCase) (Rebuilds S ReactiveTerminalStatement) → Rebuilds S ReactiveBlock
+  abbrev pub of_block : ReactiveBlock-F (Rebuilds S (List ReactiveStatement)) (Rebuilds S ReactiveTerminal)
+      (Rebuilds S PrunedReactiveScopeBlock) (Rebuilds S ReactiveScopeBlock) (Rebuilds S ReactiveBlock)
+      (Rebuilds S ReactiveSwitchCase) (Rebuilds S ReactiveTerminalStatement) → Rebuilds S ReactiveBlock
   of_block x s = bind (joined x.statements s) (λ a. Ok (a.0, record { statements = a.1 }))
 
-  abbrev pub of_case : ReactiveSwitchCase-F (Rebuilds S (List ReactiveStatement)) (Rebuilds S ReactiveTerminal) (Rebuilds S PrunedReactiveScopeBlock) (Rebuilds S ReactiveScopeBlock) (Rebuilds S ReactiveBlock) (Rebuilds S ReactiveSwitchCase) (Rebuilds S ReactiveTerminalStatement) → Rebuilds S ReactiveSwitchCase
-  of_case x s = bind (if_there x.block s) (λ a. Ok (a.0, roll-ReactiveSwitchCase (record { test = x.test; block = a.1 })))
+  abbrev pub of_case : ReactiveSwitchCase-F (Rebuilds S (List ReactiveStatement)) (Rebuilds S ReactiveTerminal)
+      (Rebuilds S PrunedReactiveScopeBlock) (Rebuilds S ReactiveScopeBlock) (Rebuilds S ReactiveBlock)
+      (Rebuilds S ReactiveSwitchCase) (Rebuilds S ReactiveTerminalStatement) → Rebuilds S ReactiveSwitchCase
+  of_case x s = bind (if_there x.block s)
+      (λ a. Ok (a.0, roll-ReactiveSwitchCase (record { test = x.test; block = a.1 })))
 
   -- the block rebuilt, and what stands in the place of one statement
   unfoldable pub rebuilt_block : ReactiveBlock → Rebuilds S ReactiveBlock
-  rebuilt_block = fold-ReactiveBlock (Rebuilds S (List ReactiveStatement)) (Rebuilds S ReactiveTerminal) (Rebuilds S PrunedReactiveScopeBlock) (Rebuilds S ReactiveScopeBlock) (Rebuilds S ReactiveBlock) (Rebuilds S ReactiveSwitchCase) (Rebuilds S ReactiveTerminalStatement) of_statement of_terminal of_pruned_scope of_scope of_block of_case of_labeled
+  rebuilt_block = fold-ReactiveBlock (Rebuilds S (List ReactiveStatement)) (Rebuilds S ReactiveTerminal)
+      (Rebuilds S PrunedReactiveScopeBlock) (Rebuilds S ReactiveScopeBlock) (Rebuilds S ReactiveBlock)
+      (Rebuilds S ReactiveSwitchCase) (Rebuilds S ReactiveTerminalStatement) of_statement of_terminal of_pruned_scope
+      of_scope of_block of_case of_labeled
 
   unfoldable pub rebuilt_statement : ReactiveStatement → Rebuilds S (List ReactiveStatement)
-  rebuilt_statement = fold-ReactiveStatement (Rebuilds S (List ReactiveStatement)) (Rebuilds S ReactiveTerminal) (Rebuilds S PrunedReactiveScopeBlock) (Rebuilds S ReactiveScopeBlock) (Rebuilds S ReactiveBlock) (Rebuilds S ReactiveSwitchCase) (Rebuilds S ReactiveTerminalStatement) of_statement of_terminal of_pruned_scope of_scope of_block of_case of_labeled
+  rebuilt_statement = fold-ReactiveStatement (Rebuilds S (List ReactiveStatement)) (Rebuilds S ReactiveTerminal)
+      (Rebuilds S PrunedReactiveScopeBlock) (Rebuilds S ReactiveScopeBlock) (Rebuilds S ReactiveBlock)
+      (Rebuilds S ReactiveSwitchCase) (Rebuilds S ReactiveTerminalStatement) of_statement of_terminal of_pruned_scope
+      of_scope of_block of_case of_labeled
 
   -- the other parts with their insides rebuilt
   unfoldable pub rebuilt_terminal : ReactiveTerminal → Rebuilds S ReactiveTerminal
-  rebuilt_terminal = fold-ReactiveTerminal (Rebuilds S (List ReactiveStatement)) (Rebuilds S ReactiveTerminal) (Rebuilds S PrunedReactiveScopeBlock) (Rebuilds S ReactiveScopeBlock) (Rebuilds S ReactiveBlock) (Rebuilds S ReactiveSwitchCase) (Rebuilds S ReactiveTerminalStatement) of_statement of_terminal of_pruned_scope of_scope of_block of_case of_labeled
+  rebuilt_terminal = fold-ReactiveTerminal (Rebuilds S (List ReactiveStatement)) (Rebuilds S ReactiveTerminal)
+      (Rebuilds S PrunedReactiveScopeBlock) (Rebuilds S ReactiveScopeBlock) (Rebuilds S ReactiveBlock)
+      (Rebuilds S ReactiveSwitchCase) (Rebuilds S ReactiveTerminalStatement) of_statement of_terminal of_pruned_scope
+      of_scope of_block of_case of_labeled
 
   unfoldable pub rebuilt_labeled : ReactiveTerminalStatement → Rebuilds S ReactiveTerminalStatement
-  rebuilt_labeled = fold-ReactiveTerminalStatement (Rebuilds S (List ReactiveStatement)) (Rebuilds S ReactiveTerminal) (Rebuilds S PrunedReactiveScopeBlock) (Rebuilds S ReactiveScopeBlock) (Rebuilds S ReactiveBlock) (Rebuilds S ReactiveSwitchCase) (Rebuilds S ReactiveTerminalStatement) of_statement of_terminal of_pruned_scope of_scope of_block of_case of_labeled
+  rebuilt_labeled = fold-ReactiveTerminalStatement (Rebuilds S (List ReactiveStatement)) (Rebuilds S ReactiveTerminal)
+      (Rebuilds S PrunedReactiveScopeBlock) (Rebuilds S ReactiveScopeBlock) (Rebuilds S ReactiveBlock)
+      (Rebuilds S ReactiveSwitchCase) (Rebuilds S ReactiveTerminalStatement) of_statement of_terminal of_pruned_scope
+      of_scope of_block of_case of_labeled
 
   unfoldable pub rebuilt_scope : ReactiveScopeBlock → Rebuilds S ReactiveScopeBlock
-  rebuilt_scope = fold-ReactiveScopeBlock (Rebuilds S (List ReactiveStatement)) (Rebuilds S ReactiveTerminal) (Rebuilds S PrunedReactiveScopeBlock) (Rebuilds S ReactiveScopeBlock) (Rebuilds S ReactiveBlock) (Rebuilds S ReactiveSwitchCase) (Rebuilds S ReactiveTerminalStatement) of_statement of_terminal of_pruned_scope of_scope of_block of_case of_labeled
+  rebuilt_scope = fold-ReactiveScopeBlock (Rebuilds S (List ReactiveStatement)) (Rebuilds S ReactiveTerminal)
+      (Rebuilds S PrunedReactiveScopeBlock) (Rebuilds S ReactiveScopeBlock) (Rebuilds S ReactiveBlock)
+      (Rebuilds S ReactiveSwitchCase) (Rebuilds S ReactiveTerminalStatement) of_statement of_terminal of_pruned_scope
+      of_scope of_block of_case of_labeled
 
   unfoldable pub rebuilt_pruned_scope : PrunedReactiveScopeBlock → Rebuilds S PrunedReactiveScopeBlock
-  rebuilt_pruned_scope = fold-PrunedReactiveScopeBlock (Rebuilds S (List ReactiveStatement)) (Rebuilds S ReactiveTerminal) (Rebuilds S PrunedReactiveScopeBlock) (Rebuilds S ReactiveScopeBlock) (Rebuilds S ReactiveBlock) (Rebuilds S ReactiveSwitchCase) (Rebuilds S ReactiveTerminalStatement) of_statement of_terminal of_pruned_scope of_scope of_block of_case of_labeled
+  rebuilt_pruned_scope = fold-PrunedReactiveScopeBlock (Rebuilds S (List ReactiveStatement))
+      (Rebuilds S ReactiveTerminal) (Rebuilds S PrunedReactiveScopeBlock) (Rebuilds S ReactiveScopeBlock)
+      (Rebuilds S ReactiveBlock) (Rebuilds S ReactiveSwitchCase) (Rebuilds S ReactiveTerminalStatement) of_statement
+      of_terminal of_pruned_scope of_scope of_block of_case of_labeled
 
   unfoldable pub rebuilt_case : ReactiveSwitchCase → Rebuilds S ReactiveSwitchCase
-  rebuilt_case = fold-ReactiveSwitchCase (Rebuilds S (List ReactiveStatement)) (Rebuilds S ReactiveTerminal) (Rebuilds S PrunedReactiveScopeBlock) (Rebuilds S ReactiveScopeBlock) (Rebuilds S ReactiveBlock) (Rebuilds S ReactiveSwitchCase) (Rebuilds S ReactiveTerminalStatement) of_statement of_terminal of_pruned_scope of_scope of_block of_case of_labeled
+  rebuilt_case = fold-ReactiveSwitchCase (Rebuilds S (List ReactiveStatement)) (Rebuilds S ReactiveTerminal)
+      (Rebuilds S PrunedReactiveScopeBlock) (Rebuilds S ReactiveScopeBlock) (Rebuilds S ReactiveBlock)
+      (Rebuilds S ReactiveSwitchCase) (Rebuilds S ReactiveTerminalStatement) of_statement of_terminal of_pruned_scope
+      of_scope of_block of_case of_labeled

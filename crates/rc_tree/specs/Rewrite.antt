@@ -1,8 +1,12 @@
--- What the rewriting walk of a part gives: the steps of its hooks, in the order of the parts' table, with the part after them.
+-- What the rewriting walk of a part gives: the steps of its hooks, in the order of the parts' table, with the part
+-- after them.
 --
--- A part's enter step comes first. At `Inside` the steps of the inside follow and then the leave step, at `Skip` neither; a
--- statement's `transform_` step comes after that in both cases. An enter step may change its part, so the walk is defined to
--- a depth; no enter step makes its part deeper, so that a depth above the part's own is enough. Operands are looked up in
+-- A part's enter step comes first. At `Inside` the steps of the inside follow and then the leave step, at `Skip`
+-- neither; a
+-- statement's `transform_` step comes after that in both cases. An enter step may change its part, so the walk is
+-- defined to
+-- a depth; no enter step makes its part deeper, so that a depth above the part's own is enough. Operands are looked up
+-- in
 -- the transform's table of functions, which no step changes.
 use Rattle.std.specs.Prelude.{ℕ, zero, suc, List, [], ◌∷◌, ◌++◌}
 use Rattle.rc_hir.specs.Operands.{operands}
@@ -62,8 +66,10 @@ module _ {T S : Type 0} (v : RewriteSteps (T × S)) (functions : T → List HirF
     -- the inside of a row: its id, its target, the value's targets, its value
     abbrev pub instruction_inside : Part (T × S) ReactiveInstruction
     instruction_inside w x =
-        after (v.visit_id x.id w) (λ a. after (perhaps (v.visit_lvalue x.id) x.lvalue a.1) (λ b. after (each (v.visit_lvalue x.id) (targets_of x.value) b.1) (λ c.
-        bind (inner x.id c.1 x.value) (λ d. Done (tt, (d.1.0, record { id = x.id; lvalue = x.lvalue; value = d.1.1; span = x.span }))))))
+        after (v.visit_id x.id w) (λ a. after (perhaps (v.visit_lvalue x.id) x.lvalue a.1)
+        (λ b. after (each (v.visit_lvalue x.id) (targets_of x.value) b.1) (λ c.
+        bind (inner x.id c.1 x.value)
+        (λ d. Done (tt, (d.1.0, record { id = x.id; lvalue = x.lvalue; value = d.1.1; span = x.span }))))))
 
     unfoldable pub instruction_at : Part (T × S) ReactiveInstruction
     instruction_at w x = around v.enter_instruction instruction_inside v.leave_instruction w x
@@ -73,15 +79,20 @@ module _ {T S : Type 0} (v : RewriteSteps (T × S)) (functions : T → List HirF
     rows_at w rows = each_part instruction_at w rows
 
     -- the inside of each form of value; a sequence's value stands at the sequence's own id
-    abbrev pub value_layer : (T × S) → EvaluationOrder → ReactiveValue-F ReactiveValue ReactiveInstruction → Run (Unit {0} × ((T × S) × ReactiveValue))
+    abbrev pub value_layer : (T × S) → EvaluationOrder → ReactiveValue-F ReactiveValue ReactiveInstruction
+        → Run (Unit {0} × ((T × S) × ReactiveValue))
     value_layer w id (value.Instruction x) = after (inside_base id x w) (λ a. Done (tt, (a.1, val.Instruction x)))
     value_layer w id (value.LogicalExpression operator x y) =
-        bind (inner id w x) (λ a. bind (inner id a.1.0 y) (λ b. Done (tt, (b.1.0, val.LogicalExpression operator a.1.1 b.1.1))))
+        bind (inner id w x) (λ a. bind (inner id a.1.0 y) (λ b. Done
+        (tt, (b.1.0, val.LogicalExpression operator a.1.1 b.1.1))))
     value_layer w id (value.ConditionalExpression x y z) =
-        bind (inner id w x) (λ a. bind (inner id a.1.0 y) (λ b. bind (inner id b.1.0 z) (λ c. Done (tt, (c.1.0, val.ConditionalExpression a.1.1 b.1.1 c.1.1)))))
+        bind (inner id w x) (λ a. bind (inner id a.1.0 y) (λ b. bind (inner id b.1.0 z)
+        (λ c. Done (tt, (c.1.0, val.ConditionalExpression a.1.1 b.1.1 c.1.1)))))
     value_layer w id (value.SequenceExpression rows own x) =
-        bind (rows_at w rows) (λ a. bind (inner own a.1.0 x) (λ b. Done (tt, (b.1.0, val.SequenceExpression a.1.1 own b.1.1))))
-    value_layer w id (value.OptionalExpression x optional) = bind (inner id w x) (λ a. Done (tt, (a.1.0, val.OptionalExpression a.1.1 optional)))
+        bind (rows_at w rows) (λ a. bind (inner own a.1.0 x)
+        (λ b. Done (tt, (b.1.0, val.SequenceExpression a.1.1 own b.1.1))))
+    value_layer w id (value.OptionalExpression x optional) =
+        bind (inner id w x) (λ a. Done (tt, (a.1.0, val.OptionalExpression a.1.1 optional)))
 
     abbrev pub value_inside : EvaluationOrder → Part (T × S) ReactiveValue
     value_inside id w x = value_layer w id (out-ReactiveValue x)
@@ -109,7 +120,8 @@ module _ {T S : Type 0} (v : RewriteSteps (T × S)) (functions : T → List HirF
     -- a case is its test and its block
     unfoldable pub case_at : EvaluationOrder → Part (T × S) ReactiveSwitchCase
     case_at id w x =
-        after (perhaps (v.visit_place id) (out-ReactiveSwitchCase x).test w) (λ a. bind (perhaps_part inner a.1 (out-ReactiveSwitchCase x).block) (λ b.
+        after (perhaps (v.visit_place id) (out-ReactiveSwitchCase x).test w)
+        (λ a. bind (perhaps_part inner a.1 (out-ReactiveSwitchCase x).block) (λ b.
         Done (tt, (b.1.0, roll-ReactiveSwitchCase (record { test = (out-ReactiveSwitchCase x).test; block = b.1.1 })))))
 
     -- the cases of a switch, each in its place
@@ -118,32 +130,46 @@ module _ {T S : Type 0} (v : RewriteSteps (T × S)) (functions : T → List HirF
 
     -- the parts of each terminal, behind its id; the update of a `For` comes before the loop block
     abbrev pub parts_layer : (T × S)
-        → ReactiveTerminal-F ReactiveStatement ReactiveTerminal PrunedReactiveScopeBlock ReactiveScopeBlock ReactiveBlock ReactiveSwitchCase ReactiveTerminalStatement
+        → ReactiveTerminal-F ReactiveStatement ReactiveTerminal PrunedReactiveScopeBlock ReactiveScopeBlock
+        ReactiveBlock ReactiveSwitchCase ReactiveTerminalStatement
         → Run (Unit {0} × ((T × S) × ReactiveTerminal))
-    parts_layer w (layer.Break target kind id) = after (v.visit_id id w) (λ a. Done (tt, (a.1, term.Break target kind id)))
-    parts_layer w (layer.Continue target kind id) = after (v.visit_id id w) (λ a. Done (tt, (a.1, term.Continue target kind id)))
-    parts_layer w (layer.Return place id) = after (v.visit_id id w) (λ a. after (v.visit_place id place a.1) (λ b. Done (tt, (b.1, term.Return place id))))
-    parts_layer w (layer.Throw place id) = after (v.visit_id id w) (λ a. after (v.visit_place id place a.1) (λ b. Done (tt, (b.1, term.Throw place id))))
+    parts_layer w (layer.Break target kind id) =
+        after (v.visit_id id w) (λ a. Done (tt, (a.1, term.Break target kind id)))
+    parts_layer w (layer.Continue target kind id) =
+        after (v.visit_id id w) (λ a. Done (tt, (a.1, term.Continue target kind id)))
+    parts_layer w (layer.Return place id) =
+        after (v.visit_id id w) (λ a. after (v.visit_place id place a.1) (λ b. Done (tt, (b.1, term.Return place id))))
+    parts_layer w (layer.Throw place id) =
+        after (v.visit_id id w) (λ a. after (v.visit_place id place a.1) (λ b. Done (tt, (b.1, term.Throw place id))))
     parts_layer w (layer.Switch test cases id) =
-        after (v.visit_id id w) (λ a. after (v.visit_place id test a.1) (λ b. bind (cases_at id b.1 cases) (λ c. Done (tt, (c.1.0, term.Switch test c.1.1 id)))))
+        after (v.visit_id id w) (λ a. after (v.visit_place id test a.1)
+        (λ b. bind (cases_at id b.1 cases) (λ c. Done (tt, (c.1.0, term.Switch test c.1.1 id)))))
     parts_layer w (layer.DoWhile body test id) =
-        after (v.visit_id id w) (λ a. bind (inner a.1 body) (λ b. after (rewrite_value id b.1.0 test) (λ c. Done (tt, (c.1.0, term.DoWhile b.1.1 c.1.1 id)))))
+        after (v.visit_id id w) (λ a. bind (inner a.1 body)
+        (λ b. after (rewrite_value id b.1.0 test) (λ c. Done (tt, (c.1.0, term.DoWhile b.1.1 c.1.1 id)))))
     parts_layer w (layer.While test body id) =
-        after (v.visit_id id w) (λ a. after (rewrite_value id a.1 test) (λ b. bind (inner b.1.0 body) (λ c. Done (tt, (c.1.0, term.While b.1.1 c.1.1 id)))))
+        after (v.visit_id id w) (λ a. after (rewrite_value id a.1 test)
+        (λ b. bind (inner b.1.0 body) (λ c. Done (tt, (c.1.0, term.While b.1.1 c.1.1 id)))))
     parts_layer w (layer.For init test update body id) =
-        after (v.visit_id id w) (λ a. after (rewrite_value id a.1 init) (λ b. after (rewrite_value id b.1.0 test) (λ c. after (perhaps_hook (rewrite_value id) c.1.0 update) (λ d.
+        after (v.visit_id id w) (λ a. after (rewrite_value id a.1 init)
+        (λ b. after (rewrite_value id b.1.0 test) (λ c. after (perhaps_hook (rewrite_value id) c.1.0 update) (λ d.
         bind (inner d.1.0 body) (λ e. Done (tt, (e.1.0, term.For b.1.1 c.1.1 d.1.1 e.1.1 id)))))))
     parts_layer w (layer.ForOf init test body span id) =
-        after (v.visit_id id w) (λ a. after (rewrite_value id a.1 init) (λ b. after (rewrite_value id b.1.0 test) (λ c. bind (inner c.1.0 body) (λ d.
+        after (v.visit_id id w) (λ a. after (rewrite_value id a.1 init)
+        (λ b. after (rewrite_value id b.1.0 test) (λ c. bind (inner c.1.0 body) (λ d.
         Done (tt, (d.1.0, term.ForOf b.1.1 c.1.1 d.1.1 span id))))))
     parts_layer w (layer.ForIn init body span id) =
-        after (v.visit_id id w) (λ a. after (rewrite_value id a.1 init) (λ b. bind (inner b.1.0 body) (λ c. Done (tt, (c.1.0, term.ForIn b.1.1 c.1.1 span id)))))
+        after (v.visit_id id w) (λ a. after (rewrite_value id a.1 init)
+        (λ b. bind (inner b.1.0 body) (λ c. Done (tt, (c.1.0, term.ForIn b.1.1 c.1.1 span id)))))
     parts_layer w (layer.If test consequent alternate id) =
-        after (v.visit_id id w) (λ a. after (v.visit_place id test a.1) (λ b. bind (inner b.1 consequent) (λ c. bind (perhaps_part inner c.1.0 alternate) (λ d.
+        after (v.visit_id id w) (λ a. after (v.visit_place id test a.1)
+        (λ b. bind (inner b.1 consequent) (λ c. bind (perhaps_part inner c.1.0 alternate) (λ d.
         Done (tt, (d.1.0, term.If test c.1.1 d.1.1 id))))))
-    parts_layer w (layer.Label body id) = after (v.visit_id id w) (λ a. bind (inner a.1 body) (λ b. Done (tt, (b.1.0, term.Label b.1.1 id))))
+    parts_layer w (layer.Label body id) =
+        after (v.visit_id id w) (λ a. bind (inner a.1 body) (λ b. Done (tt, (b.1.0, term.Label b.1.1 id))))
     parts_layer w (layer.Try body binding handler id) =
-        after (v.visit_id id w) (λ a. bind (inner a.1 body) (λ b. after (perhaps (v.visit_place id) binding b.1.0) (λ c. bind (inner c.1 handler) (λ d.
+        after (v.visit_id id w) (λ a. bind (inner a.1 body)
+        (λ b. after (perhaps (v.visit_place id) binding b.1.0) (λ c. bind (inner c.1 handler) (λ d.
         Done (tt, (d.1.0, term.Try b.1.1 binding d.1.1 id))))))
 
     abbrev pub parts_at : Part (T × S) ReactiveTerminal
@@ -151,13 +177,16 @@ module _ {T S : Type 0} (v : RewriteSteps (T × S)) (functions : T → List HirF
 
     -- the inside of a terminal is its parts, the inside of a scope or pruned scope its block
     abbrev pub terminal_inside : Part (T × S) ReactiveTerminalStatement
-    terminal_inside w x = bind (parts_at w x.terminal) (λ a. Done (tt, (a.1.0, record { terminal = a.1.1; label = x.label })))
+    terminal_inside w x =
+        bind (parts_at w x.terminal) (λ a. Done (tt, (a.1.0, record { terminal = a.1.1; label = x.label })))
 
     abbrev pub scope_inside : Part (T × S) ReactiveScopeBlock
-    scope_inside w x = bind (inner w x.instructions) (λ a. Done (tt, (a.1.0, record { scope = x.scope; instructions = a.1.1 })))
+    scope_inside w x = bind (inner w x.instructions) (λ a. Done
+        (tt, (a.1.0, record { scope = x.scope; instructions = a.1.1 })))
 
     abbrev pub pruned_scope_inside : Part (T × S) PrunedReactiveScopeBlock
-    pruned_scope_inside w x = bind (inner w x.instructions) (λ a. Done (tt, (a.1.0, record { scope = x.scope; instructions = a.1.1 })))
+    pruned_scope_inside w x =
+        bind (inner w x.instructions) (λ a. Done (tt, (a.1.0, record { scope = x.scope; instructions = a.1.1 })))
 
     unfoldable pub terminal_at : Part (T × S) ReactiveTerminalStatement
     terminal_at w x = around v.enter_terminal terminal_inside v.leave_terminal w x
@@ -170,16 +199,22 @@ module _ {T S : Type 0} (v : RewriteSteps (T × S)) (functions : T → List HirF
 
     -- a statement: the walk of what it holds, and then its `transform_` step
     abbrev pub statement_layer : (T × S)
-        → ReactiveStatement-F ReactiveStatement ReactiveTerminal PrunedReactiveScopeBlock ReactiveScopeBlock ReactiveBlock ReactiveSwitchCase ReactiveTerminalStatement
+        → ReactiveStatement-F ReactiveStatement ReactiveTerminal PrunedReactiveScopeBlock ReactiveScopeBlock
+        ReactiveBlock ReactiveSwitchCase ReactiveTerminalStatement
         → Run (Transformed ReactiveStatement × ((T × S) × ReactiveStatement))
     statement_layer w (layer.Instruction x) =
-        after (rewrite_instruction w x) (λ a. after (v.transform_instruction a.1.0 a.1.1) (λ b. Done (b.0, (b.1.0, stmt.Instruction b.1.1))))
-    statement_layer w (layer.Terminal x) = bind (terminal_at w x) (λ a. after (v.transform_terminal a.1.0 a.1.1) (λ b. Done (b.0, (b.1.0, stmt.Terminal b.1.1))))
-    statement_layer w (layer.Scope x) = bind (scope_at w x) (λ a. after (v.transform_scope a.1.0 a.1.1) (λ b. Done (b.0, (b.1.0, stmt.Scope b.1.1))))
+        after (rewrite_instruction w x) (λ a. after (v.transform_instruction a.1.0 a.1.1)
+        (λ b. Done (b.0, (b.1.0, stmt.Instruction b.1.1))))
+    statement_layer w (layer.Terminal x) = bind (terminal_at w x)
+        (λ a. after (v.transform_terminal a.1.0 a.1.1) (λ b. Done (b.0, (b.1.0, stmt.Terminal b.1.1))))
+    statement_layer w (layer.Scope x) =
+        bind (scope_at w x) (λ a. after (v.transform_scope a.1.0 a.1.1) (λ b. Done (b.0, (b.1.0, stmt.Scope b.1.1))))
     statement_layer w (layer.PrunedScope x) =
-        bind (pruned_scope_at w x) (λ a. after (v.transform_pruned_scope a.1.0 a.1.1) (λ b. Done (b.0, (b.1.0, stmt.PrunedScope b.1.1))))
+        bind (pruned_scope_at w x) (λ a. after (v.transform_pruned_scope a.1.0 a.1.1)
+        (λ b. Done (b.0, (b.1.0, stmt.PrunedScope b.1.1))))
 
-    abbrev pub statement_at : (T × S) → ReactiveStatement → Run (Transformed ReactiveStatement × ((T × S) × ReactiveStatement))
+    abbrev pub statement_at : (T × S) → ReactiveStatement
+        → Run (Transformed ReactiveStatement × ((T × S) × ReactiveStatement))
     statement_at w x = statement_layer w (out-ReactiveStatement x)
 
     -- a statement, kept, removed or replaced at the end of those that are done

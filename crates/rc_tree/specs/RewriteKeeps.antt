@@ -1,6 +1,7 @@
 -- A measure of parts that goes by their own parts, and what is asked of the steps of a transform that keeps it.
 --
--- What stays of a tree where each scope is replaced by its contents is such a measure: what a list of statements gives is then
+-- What stays of a tree where each scope is replaced by its contents is such a measure: what a list of statements gives
+-- is then
 -- again a list, and a scope gives what its statements give.
 use Rattle.std.specs.Prelude.{◌≡◌, Bool, List, [], ◌∷◌, ◌++◌, Option, None, Some, map, Ok}
 use Rattle.rc_hir.specs.declared.instruction.LogicalOperator.{LogicalOperator}
@@ -49,18 +50,24 @@ module _ {V I L C P : Type 0} (m : Measure V I L C P) where
 
 -- parts of one measure make a whole of one measure, in each form in which a walk puts a part together again
 pub record Compositional {V I L C P : Type 0} (m : Measure V I L C P) : Type 0 where
-  pub logical : (operator : LogicalOperator) (x x1 y y1 : ReactiveValue) → m.value x1 ≡ m.value x → m.value y1 ≡ m.value y
+  pub logical : (operator : LogicalOperator) (x x1 y y1 : ReactiveValue) → m.value x1 ≡ m.value x
+      → m.value y1 ≡ m.value y
       → m.value (val.LogicalExpression operator x1 y1) ≡ m.value (val.LogicalExpression operator x y)
-  pub conditional : (x x1 y y1 z z1 : ReactiveValue) → m.value x1 ≡ m.value x → m.value y1 ≡ m.value y → m.value z1 ≡ m.value z
+  pub conditional : (x x1 y y1 z z1 : ReactiveValue) → m.value x1 ≡ m.value x → m.value y1 ≡ m.value y
+      → m.value z1 ≡ m.value z
       → m.value (val.ConditionalExpression x1 y1 z1) ≡ m.value (val.ConditionalExpression x y z)
-  pub sequence : (rows rows1 : List ReactiveInstruction) (own : EvaluationOrder) (x x1 : ReactiveValue) → map m.row rows1 ≡ map m.row rows → m.value x1 ≡ m.value x
+  pub sequence : (rows rows1 : List ReactiveInstruction) (own : EvaluationOrder) (x x1 : ReactiveValue)
+      → map m.row rows1 ≡ map m.row rows → m.value x1 ≡ m.value x
       → m.value (val.SequenceExpression rows1 own x1) ≡ m.value (val.SequenceExpression rows own x)
-  pub optional : (x x1 : ReactiveValue) (mark : Bool) → m.value x1 ≡ m.value x → m.value (val.OptionalExpression x1 mark) ≡ m.value (val.OptionalExpression x mark)
+  pub optional : (x x1 : ReactiveValue) (mark : Bool) → m.value x1 ≡ m.value x
+      → m.value (val.OptionalExpression x1 mark) ≡ m.value (val.OptionalExpression x mark)
   pub row : (x : ReactiveInstruction) (y : ReactiveValue) → m.value y ≡ m.value x.value
       → m.row (record { id = x.id; lvalue = x.lvalue; value = y; span = x.span }) ≡ m.row x
-  pub append : (xs xs1 ys ys1 : List ReactiveStatement) → m.statements xs1 ≡ m.statements xs → m.statements ys1 ≡ m.statements ys
+  pub append : (xs xs1 ys ys1 : List ReactiveStatement) → m.statements xs1 ≡ m.statements xs
+      → m.statements ys1 ≡ m.statements ys
       → m.statements (xs1 ++ ys1) ≡ m.statements (xs ++ ys)
-  pub instruction : (x x1 : ReactiveInstruction) → m.row x1 ≡ m.row x → one m (stmt.Instruction x1) ≡ one m (stmt.Instruction x)
+  pub instruction : (x x1 : ReactiveInstruction) → m.row x1 ≡ m.row x
+      → one m (stmt.Instruction x1) ≡ one m (stmt.Instruction x)
   pub labeled : (x : ReactiveTerminalStatement) (t : ReactiveTerminal) → m.terminal t ≡ m.terminal x.terminal
       → one m (stmt.Terminal (record { terminal = t; label = x.label })) ≡ one m (stmt.Terminal x)
   pub scope : (x : ReactiveScopeBlock) (b : ReactiveBlock) → block m b ≡ block m x.instructions
@@ -68,38 +75,50 @@ pub record Compositional {V I L C P : Type 0} (m : Measure V I L C P) : Type 0 w
   pub pruned_scope : (x : PrunedReactiveScopeBlock) (b : ReactiveBlock) → block m b ≡ block m x.instructions
       → one m (stmt.PrunedScope (record { scope = x.scope; instructions = b })) ≡ one m (stmt.PrunedScope x)
   pub case : (test : Option Place) (b b1 : Option ReactiveBlock) → AlikeIf (block m) b1 b
-      → m.case (roll-ReactiveSwitchCase (record { test = test; block = b1 })) ≡ m.case (roll-ReactiveSwitchCase (record { test = test; block = b }))
-  pub switch : (test : Place) (cases cases1 : List ReactiveSwitchCase) (id : EvaluationOrder) → map m.case cases1 ≡ map m.case cases
+      → m.case (roll-ReactiveSwitchCase (record { test = test; block = b1 }))
+      ≡ m.case (roll-ReactiveSwitchCase (record { test = test; block = b }))
+  pub switch : (test : Place) (cases cases1 : List ReactiveSwitchCase) (id : EvaluationOrder)
+      → map m.case cases1 ≡ map m.case cases
       → m.terminal (term.Switch test cases1 id) ≡ m.terminal (term.Switch test cases id)
-  pub do_while : (body body1 : ReactiveBlock) (test test1 : ReactiveValue) (id : EvaluationOrder) → block m body1 ≡ block m body → m.value test1 ≡ m.value test
+  pub do_while : (body body1 : ReactiveBlock) (test test1 : ReactiveValue) (id : EvaluationOrder)
+      → block m body1 ≡ block m body → m.value test1 ≡ m.value test
       → m.terminal (term.DoWhile body1 test1 id) ≡ m.terminal (term.DoWhile body test id)
-  pub while : (test test1 : ReactiveValue) (body body1 : ReactiveBlock) (id : EvaluationOrder) → m.value test1 ≡ m.value test → block m body1 ≡ block m body
+  pub while : (test test1 : ReactiveValue) (body body1 : ReactiveBlock) (id : EvaluationOrder)
+      → m.value test1 ≡ m.value test → block m body1 ≡ block m body
       → m.terminal (term.While test1 body1 id) ≡ m.terminal (term.While test body id)
-  pub for : (init init1 test test1 : ReactiveValue) (update update1 : Option ReactiveValue) (body body1 : ReactiveBlock) (id : EvaluationOrder)
-      → m.value init1 ≡ m.value init → m.value test1 ≡ m.value test → AlikeIf m.value update1 update → block m body1 ≡ block m body
+  pub for : (init init1 test test1 : ReactiveValue) (update update1 : Option ReactiveValue) (body body1 : ReactiveBlock)
+      (id : EvaluationOrder)
+      → m.value init1 ≡ m.value init → m.value test1 ≡ m.value test → AlikeIf m.value update1 update
+      → block m body1 ≡ block m body
       → m.terminal (term.For init1 test1 update1 body1 id) ≡ m.terminal (term.For init test update body id)
-  pub for_of : (init init1 test test1 : ReactiveValue) (body body1 : ReactiveBlock) (span : Option Span) (id : EvaluationOrder)
+  pub for_of : (init init1 test test1 : ReactiveValue) (body body1 : ReactiveBlock) (span : Option Span)
+      (id : EvaluationOrder)
       → m.value init1 ≡ m.value init → m.value test1 ≡ m.value test → block m body1 ≡ block m body
       → m.terminal (term.ForOf init1 test1 body1 span id) ≡ m.terminal (term.ForOf init test body span id)
   pub for_in : (init init1 : ReactiveValue) (body body1 : ReactiveBlock) (span : Option Span) (id : EvaluationOrder)
       → m.value init1 ≡ m.value init → block m body1 ≡ block m body
       → m.terminal (term.ForIn init1 body1 span id) ≡ m.terminal (term.ForIn init body span id)
-  pub if : (test : Place) (consequent consequent1 : ReactiveBlock) (alternate alternate1 : Option ReactiveBlock) (id : EvaluationOrder)
+  pub if : (test : Place) (consequent consequent1 : ReactiveBlock) (alternate alternate1 : Option ReactiveBlock)
+      (id : EvaluationOrder)
       → block m consequent1 ≡ block m consequent → AlikeIf (block m) alternate1 alternate
       → m.terminal (term.If test consequent1 alternate1 id) ≡ m.terminal (term.If test consequent alternate id)
   pub label : (body body1 : ReactiveBlock) (id : EvaluationOrder) → block m body1 ≡ block m body
       → m.terminal (term.Label body1 id) ≡ m.terminal (term.Label body id)
-  pub try : (body body1 : ReactiveBlock) (binding : Option Place) (handler handler1 : ReactiveBlock) (id : EvaluationOrder)
+  pub try : (body body1 : ReactiveBlock) (binding : Option Place) (handler handler1 : ReactiveBlock)
+      (id : EvaluationOrder)
       → block m body1 ≡ block m body → block m handler1 ≡ block m handler
       → m.terminal (term.Try body1 binding handler1 id) ≡ m.terminal (term.Try body binding handler id)
 
 -- a step keeps the measure of its part
 abbrev pub Holds : {W X Y A : Type 0} → (X → Y) → Hook W X A → Type 0
-Holds {W} {X} {Y} {A} measure step = (w w1 : W) (x x1 : X) (answer : A) → step w x ≡ Ok (answer, (w1, x1)) → measure x1 ≡ measure x
+Holds {W} {X} {Y} {A} measure step =
+    (w w1 : W) (x x1 : X) (answer : A) → step w x ≡ Ok (answer, (w1, x1)) → measure x1 ≡ measure x
 
 -- a `transform_` step leaves in place of its statement what has the measure of that
-abbrev pub Leaves : {W X L : Type 0} → (List ReactiveStatement → L) → (X → ReactiveStatement) → Hook W X (Transformed ReactiveStatement) → Type 0
-Leaves {W} {X} {L} measure made step = (w w1 : W) (x x1 : X) (answer : Transformed ReactiveStatement) → step w x ≡ Ok (answer, (w1, x1))
+abbrev pub Leaves : {W X L : Type 0} → (List ReactiveStatement → L) → (X → ReactiveStatement)
+    → Hook W X (Transformed ReactiveStatement) → Type 0
+Leaves {W} {X} {L} measure made step =
+    (w w1 : W) (x x1 : X) (answer : Transformed ReactiveStatement) → step w x ≡ Ok (answer, (w1, x1))
     → measure (in_place answer (made x1)) ≡ measure (made x ∷ [])
 
 -- enter and leave steps keep the measure of their part, and `transform_` steps that of their statement

@@ -1,4 +1,5 @@
--- What the hooks of a rewriting walk do, as one record of steps; those that change nothing; and what is asked of an enter step.
+-- What the hooks of a rewriting walk do, as one record of steps; those that change nothing; and what is asked of an
+-- enter step.
 use Rattle.std.specs.Prelude.{◌≡◌, ◌≤◌, ℕ, Ok}
 use Rattle.rc_hir.specs.declared.place.Place.{Place}
 use Rattle.rc_names.specs.declared.numbers.EvaluationOrder.{EvaluationOrder}

@@ -25,7 +25,8 @@ abbrev pub last : {A : Type 0} → Result A Fault → Run A
 last (Ok a) = Done a
 last (Err fault) = Failed fault
 
--- a call answers what the computation gives and leaves what it leaves, or it answers want of memory; a spent one says nothing
+-- a call answers what the computation gives and leaves what it leaves, or it answers want of memory; a spent one says
+-- nothing
 abbrev pub Meets : {A S : Type 0} → Run (A × S) → Result A Fault → S → Type 0
 Meets Spent result end = Unit {0}
 Meets (Failed fault) result end = (result ≡ Err NoMemory) ⊎ (result ≡ Err fault)

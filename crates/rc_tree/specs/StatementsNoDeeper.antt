@@ -14,12 +14,14 @@ module _ {T S : Type 0} (steps : T → StatementSteps S) where
   enters_scope_no_deeper w w1 x x1 answer e = by ((steps w.0).enter_scope x w.1) e
     where
       by : (r : Result (Unit {0} × S) Fault)
-          → ◌≡◌ {A = Result (Enter × ((T × S) × ReactiveScopeBlock)) Fault} (bind r (λ r. Ok (Inside, ((w.0, r.1), x)))) (Ok (answer, (w1, x1)))
+          → ◌≡◌ {A = Result (Enter × ((T × S) × ReactiveScopeBlock)) Fault} (bind r (λ r. Ok (Inside, ((w.0, r.1), x))))
+          (Ok (answer, (w1, x1)))
           → size-ReactiveScopeBlock x1 ≤ size-ReactiveScopeBlock x
       by (Ok a) h = goes_inside_no_deeper size-ReactiveScopeBlock (w.0, a.1) w1 x x1 answer h
       by (Err fault) h = absurd (never fault h)
         where
-          never : (fault : Fault) → ◌≡◌ {A = Result (Enter × ((T × S) × ReactiveScopeBlock)) Fault} (Err fault) (Ok (answer, (w1, x1))) → ⊥
+          never : (fault : Fault) → ◌≡◌ {A = Result (Enter × ((T × S) × ReactiveScopeBlock)) Fault} (Err fault)
+              (Ok (answer, (w1, x1))) → ⊥
           never fault h = cc
 
   pub over_statements_no_deeper : EntersNoDeeper (over_statements steps)

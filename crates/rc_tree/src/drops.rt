@@ -20,7 +20,8 @@ use rc_names::List;
 /// Takes what stands in the blocks of a level's statements.
 pub(crate) fn take_inside(level: &mut List<ReactiveStatement>, inside: &mut List<ReactiveStatement>)
     ensures rest { most size-ReactiveStatement level.new ≤ most size-ReactiveStatement level.old }
-    ensures taken { (n : ℕ) → most size-ReactiveStatement level.old ≤ n → most size-ReactiveStatement inside.old < n → most size-ReactiveStatement inside.new < n }
+    ensures taken { (n : ℕ) → most size-ReactiveStatement level.old ≤ n → most size-ReactiveStatement inside.old < n
+        → most size-ReactiveStatement inside.new < n }
 {
     for i in 0..level.len() {
         if let Some(statement) = level.get_mut(i) {
@@ -32,7 +33,8 @@ pub(crate) fn take_inside(level: &mut List<ReactiveStatement>, inside: &mut List
 /// Takes what stands in the blocks of a statement.
 fn take_blocks(statement: &mut ReactiveStatement, inside: &mut List<ReactiveStatement>)
     ensures rest { size-ReactiveStatement statement.new ≤ size-ReactiveStatement statement.old }
-    ensures taken { (n : ℕ) → size-ReactiveStatement statement.old ≤ n → most size-ReactiveStatement inside.old < n → most size-ReactiveStatement inside.new < n }
+    ensures taken { (n : ℕ) → size-ReactiveStatement statement.old ≤ n → most size-ReactiveStatement inside.old < n
+        → most size-ReactiveStatement inside.new < n }
 {
     match statement {
         ReactiveStatement::Instruction(_) => {}
@@ -45,7 +47,8 @@ fn take_blocks(statement: &mut ReactiveStatement, inside: &mut List<ReactiveStat
 /// Takes what stands in a scope block.
 fn take_scope(scope: &mut ReactiveScopeBlock, inside: &mut List<ReactiveStatement>)
     ensures rest { size-ReactiveScopeBlock scope.new ≤ size-ReactiveScopeBlock scope.old }
-    ensures taken { (n : ℕ) → size-ReactiveScopeBlock scope.old ≤ n → most size-ReactiveStatement inside.old < n → most size-ReactiveStatement inside.new < n }
+    ensures taken { (n : ℕ) → size-ReactiveScopeBlock scope.old ≤ n → most size-ReactiveStatement inside.old < n
+        → most size-ReactiveStatement inside.new < n }
 {
     take_block(&mut scope.instructions, inside);
 }
@@ -53,7 +56,8 @@ fn take_scope(scope: &mut ReactiveScopeBlock, inside: &mut List<ReactiveStatemen
 /// Takes what stands in a pruned scope block.
 fn take_pruned_scope(scope: &mut PrunedReactiveScopeBlock, inside: &mut List<ReactiveStatement>)
     ensures rest { size-PrunedReactiveScopeBlock scope.new ≤ size-PrunedReactiveScopeBlock scope.old }
-    ensures taken { (n : ℕ) → size-PrunedReactiveScopeBlock scope.old ≤ n → most size-ReactiveStatement inside.old < n → most size-ReactiveStatement inside.new < n }
+    ensures taken { (n : ℕ) → size-PrunedReactiveScopeBlock scope.old ≤ n → most size-ReactiveStatement inside.old < n
+        → most size-ReactiveStatement inside.new < n }
 {
     take_block(&mut scope.instructions, inside);
 }
@@ -61,7 +65,8 @@ fn take_pruned_scope(scope: &mut PrunedReactiveScopeBlock, inside: &mut List<Rea
 /// Takes what stands in the blocks of a terminal.
 fn take_parts(terminal: &mut ReactiveTerminal, inside: &mut List<ReactiveStatement>)
     ensures rest { size-ReactiveTerminal terminal.new ≤ size-ReactiveTerminal terminal.old }
-    ensures taken { (n : ℕ) → size-ReactiveTerminal terminal.old ≤ n → most size-ReactiveStatement inside.old < n → most size-ReactiveStatement inside.new < n }
+    ensures taken { (n : ℕ) → size-ReactiveTerminal terminal.old ≤ n → most size-ReactiveStatement inside.old < n
+        → most size-ReactiveStatement inside.new < n }
 {
     match terminal {
         ReactiveTerminal::Break { .. } => {}
@@ -95,7 +100,8 @@ fn take_parts(terminal: &mut ReactiveTerminal, inside: &mut List<ReactiveStateme
 /// Takes what stands in the blocks of the cases of a switch.
 fn take_cases(cases: &mut List<ReactiveSwitchCase>, inside: &mut List<ReactiveStatement>)
     ensures rest { most size-ReactiveSwitchCase cases.new ≤ most size-ReactiveSwitchCase cases.old }
-    ensures taken { (n : ℕ) → most size-ReactiveSwitchCase cases.old ≤ n → most size-ReactiveStatement inside.old < n → most size-ReactiveStatement inside.new < n }
+    ensures taken { (n : ℕ) → most size-ReactiveSwitchCase cases.old ≤ n → most size-ReactiveStatement inside.old < n
+        → most size-ReactiveStatement inside.new < n }
 {
     for i in 0..cases.len() {
         if let Some(case) = cases.get_mut(i) {
@@ -107,7 +113,8 @@ fn take_cases(cases: &mut List<ReactiveSwitchCase>, inside: &mut List<ReactiveSt
 /// Takes what stands in the block of a case.
 fn take_case(case: &mut ReactiveSwitchCase, inside: &mut List<ReactiveStatement>)
     ensures rest { size-ReactiveSwitchCase case.new ≤ size-ReactiveSwitchCase case.old }
-    ensures taken { (n : ℕ) → size-ReactiveSwitchCase case.old ≤ n → most size-ReactiveStatement inside.old < n → most size-ReactiveStatement inside.new < n }
+    ensures taken { (n : ℕ) → size-ReactiveSwitchCase case.old ≤ n → most size-ReactiveStatement inside.old < n
+        → most size-ReactiveStatement inside.new < n }
 {
     if let Some(block) = &mut case.block {
         take_block(block, inside);
@@ -117,7 +124,8 @@ fn take_case(case: &mut ReactiveSwitchCase, inside: &mut List<ReactiveStatement>
 /// Takes the statements of a block.
 fn take_block(block: &mut ReactiveBlock, inside: &mut List<ReactiveStatement>)
     ensures rest { size-ReactiveBlock block.new ≤ size-ReactiveBlock block.old }
-    ensures taken { (n : ℕ) → size-ReactiveBlock block.old ≤ n → most size-ReactiveStatement inside.old < n → most size-ReactiveStatement inside.new < n }
+    ensures taken { (n : ℕ) → size-ReactiveBlock block.old ≤ n → most size-ReactiveStatement inside.old < n
+        → most size-ReactiveStatement inside.new < n }
 {
     let _ = inside.take_from(&mut block.statements);
 }

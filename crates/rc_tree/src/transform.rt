@@ -85,7 +85,8 @@ pub trait ReactiveFunctionTransform {
         instruction: &mut ReactiveInstruction,
         state: &mut Self::State,
     ) -> Result<Enter, Fault>
-        ensures step { Gives (steps.enter_instruction (self.old, state.old) instruction.old) result ((self.new, state.new), instruction.new) }
+        ensures step { Gives (steps.enter_instruction (self.old, state.old) instruction.old) result
+            ((self.new, state.new), instruction.new) }
         ensures functions { functions self.new ≡ functions self.old }
         ensures no_deeper { size-ReactiveInstruction instruction.new ≤ size-ReactiveInstruction instruction.old };
 
@@ -95,7 +96,8 @@ pub trait ReactiveFunctionTransform {
         instruction: &mut ReactiveInstruction,
         state: &mut Self::State,
     ) -> Result<(), Fault>
-        ensures step { Gives (steps.leave_instruction (self.old, state.old) instruction.old) result ((self.new, state.new), instruction.new) }
+        ensures step { Gives (steps.leave_instruction (self.old, state.old) instruction.old) result
+            ((self.new, state.new), instruction.new) }
         ensures functions { functions self.new ≡ functions self.old };
 
     /// Called before a value, which it may change, but not make deeper.
@@ -201,7 +203,8 @@ pub trait ReactiveFunctionTransform {
         instruction: &mut ReactiveInstruction,
         state: &mut Self::State,
     ) -> Result<Transformed<ReactiveStatement>, Fault>
-        ensures step { Gives (steps.transform_instruction (self.old, state.old) instruction.old) result ((self.new, state.new), instruction.new) }
+        ensures step { Gives (steps.transform_instruction (self.old, state.old) instruction.old) result
+            ((self.new, state.new), instruction.new) }
         ensures functions { functions self.new ≡ functions self.old };
 
     /// Called last at a terminal that is a statement, entered or not: what stands in its place.
@@ -228,7 +231,8 @@ pub trait ReactiveFunctionTransform {
         scope: &mut PrunedReactiveScopeBlock,
         state: &mut Self::State,
     ) -> Result<Transformed<ReactiveStatement>, Fault>
-        ensures step { Gives (steps.transform_pruned_scope (self.old, state.old) scope.old) result ((self.new, state.new), scope.new) }
+        ensures step { Gives (steps.transform_pruned_scope (self.old, state.old) scope.old) result
+            ((self.new, state.new), scope.new) }
         ensures functions { functions self.new ≡ functions self.old };
 
     /// No enter step makes its part deeper.

@@ -25,26 +25,33 @@ module _ {T S : Type 0} (v : RewriteSteps (T × S)) (functions : T → List HirF
     Answer = Result (Transformed ReactiveStatement × ((T × S) × ReactiveStatement)) Fault
 
     -- what becomes of a walked block: its label, the statement, the leave step and the answer
-    abbrev as_label : EvaluationOrder → Unit {0} × ((T × S) × ReactiveBlock) → Run (Unit {0} × ((T × S) × ReactiveTerminal))
+    abbrev as_label : EvaluationOrder → Unit {0} × ((T × S) × ReactiveBlock)
+        → Run (Unit {0} × ((T × S) × ReactiveTerminal))
     as_label id b = Done (tt, (b.1.0, term.Label b.1.1 id))
 
-    abbrev as_statement : Unit {0} × ((T × S) × ReactiveTerminal) → Run (Unit {0} × ((T × S) × ReactiveTerminalStatement))
+    abbrev as_statement : Unit {0} × ((T × S) × ReactiveTerminal)
+        → Run (Unit {0} × ((T × S) × ReactiveTerminalStatement))
     as_statement a = Done (tt, (a.1.0, record { terminal = a.1.1; label = None }))
 
-    abbrev left : Unit {0} × ((T × S) × ReactiveTerminalStatement) → Run (Unit {0} × ((T × S) × ReactiveTerminalStatement))
+    abbrev left : Unit {0} × ((T × S) × ReactiveTerminalStatement)
+        → Run (Unit {0} × ((T × S) × ReactiveTerminalStatement))
     left r = last (v.leave_terminal r.1.0 r.1.1)
 
-    abbrev with_answer : Transformed ReactiveStatement × ((T × S) × ReactiveTerminalStatement) → Run (Transformed ReactiveStatement × ((T × S) × ReactiveStatement))
+    abbrev with_answer : Transformed ReactiveStatement × ((T × S) × ReactiveTerminalStatement)
+        → Run (Transformed ReactiveStatement × ((T × S) × ReactiveStatement))
     with_answer b = Done (b.0, (b.1.0, stmt.Terminal b.1.1))
 
-    abbrev asked : Unit {0} × ((T × S) × ReactiveTerminalStatement) → Run (Transformed ReactiveStatement × ((T × S) × ReactiveStatement))
+    abbrev asked : Unit {0} × ((T × S) × ReactiveTerminalStatement)
+        → Run (Transformed ReactiveStatement × ((T × S) × ReactiveStatement))
     asked a = after (v.transform_terminal a.1.0 a.1.1) with_answer
 
-    abbrev behind : EvaluationOrder → Run (Unit {0} × ((T × S) × ReactiveBlock)) → Run (Transformed ReactiveStatement × ((T × S) × ReactiveStatement))
+    abbrev behind : EvaluationOrder → Run (Unit {0} × ((T × S) × ReactiveBlock))
+        → Run (Transformed ReactiveStatement × ((T × S) × ReactiveStatement))
     behind id r = bind (bind (bind (bind r (as_label id)) as_statement) left) asked
 
     behind_is : (id : EvaluationOrder) (w : T × S) (block : ReactiveBlock)
-        → (p : (T × S) × ReactiveStatement) × (behind id (Done (tt, (w, block))) ≡ Done (ReplaceMany block.statements, p))
+        → (p : (T × S) × ReactiveStatement) × (behind id (Done (tt, (w, block)))
+        ≡ Done (ReplaceMany block.statements, p))
     behind_is id w block =
         let x : ReactiveTerminalStatement = unnamed block id in
         let l = steps.leaves w x in
@@ -52,16 +59,23 @@ module _ {T S : Type 0} (v : RewriteSteps (T × S)) (functions : T → List HirF
         let end : (T × S) × ReactiveStatement = (t.0, stmt.Terminal (without_name x).1) in
         let first : behind id (Done (tt, (w, block))) ≡ asked (tt, (l.0, x)) = ap (λ q. bind (last q) asked) l.1 in
         let second : asked (tt, (l.0, x)) ≡ Done ((without_name x).0, end) = ap (λ q. after q with_answer) t.1 in
-        let third : ◌≡◌ {A = Run (Transformed ReactiveStatement × ((T × S) × ReactiveStatement))} (Done ((without_name x).0, end)) (Done (ReplaceMany block.statements, end)) = rw (term.outs-Label block id) refl in
+        let third : ◌≡◌ {A = Run (Transformed ReactiveStatement × ((T × S) × ReactiveStatement))}
+        (Done ((without_name x).0, end)) (Done (ReplaceMany block.statements, end)) =
+        rw (term.outs-Label block id) refl in
         (end, first ∙ second ∙ third)
 
-    not_ok : (fault : Fault) (a : Transformed ReactiveStatement × ((T × S) × ReactiveStatement)) → ◌≡◌ {A = Answer} (Err fault) (Ok a) → ⊥
+    not_ok : (fault : Fault) (a : Transformed ReactiveStatement × ((T × S) × ReactiveStatement))
+        → ◌≡◌ {A = Answer} (Err fault) (Ok a) → ⊥
     not_ok fault a e = cc
 
-    same_answer : (a b : Transformed ReactiveStatement) (p q : (T × S) × ReactiveStatement) → ◌≡◌ {A = Answer} (Ok (a, p)) (Ok (b, q)) → b ≡ a
-    same_answer a b p q e = let h : ◌≡◌ {A = Transformed ReactiveStatement × ((T × S) × ReactiveStatement)} (a, p) (b, q) = cc in sym (ap (λ x. x.0) h)
+    same_answer : (a b : Transformed ReactiveStatement) (p q : (T × S) × ReactiveStatement)
+        → ◌≡◌ {A = Answer} (Ok (a, p)) (Ok (b, q)) → b ≡ a
+    same_answer a b p q e =
+        let h : ◌≡◌ {A = Transformed ReactiveStatement × ((T × S) × ReactiveStatement)} (a, p) (b, q) = cc in sym
+        (ap (λ x. x.0) h)
 
-    replaced : (answer : Transformed ReactiveStatement) (p : (T × S) × ReactiveStatement) (id : EvaluationOrder) (r : Run (Unit {0} × ((T × S) × ReactiveBlock)))
+    replaced : (answer : Transformed ReactiveStatement) (p : (T × S) × ReactiveStatement) (id : EvaluationOrder)
+        (r : Run (Unit {0} × ((T × S) × ReactiveBlock)))
         → settled (behind id r) ≡ Ok (answer, p) → (block : ReactiveBlock) × (answer ≡ ReplaceMany block.statements)
     unfolding settled
     replaced answer p id Spent e = absurd (not_ok NoMemory (answer, p) e)
@@ -70,7 +84,8 @@ module _ {T S : Type 0} (v : RewriteSteps (T × S)) (functions : T → List HirF
         let b = behind_is id d.1.0 d.1.1 in
         (d.1.1, same_answer (ReplaceMany d.1.1.statements) answer b.0 p (sym (ap settled b.1) ∙ e))
 
-    pub label_gives_way : (w : T × S) (body : ReactiveBlock) (id : EvaluationOrder) (answer : Transformed ReactiveStatement) (p : (T × S) × ReactiveStatement)
+    pub label_gives_way : (w : T × S) (body : ReactiveBlock) (id : EvaluationOrder)
+        (answer : Transformed ReactiveStatement) (p : (T × S) × ReactiveStatement)
         → rewrite_statement v functions w (stmt.Terminal (unnamed body id)) ≡ Ok (answer, p)
         → (block : ReactiveBlock) × (answer ≡ ReplaceMany block.statements)
     unfolding rewrite_statement terminal_at
@@ -79,12 +94,14 @@ module _ {T S : Type 0} (v : RewriteSteps (T × S)) (functions : T → List HirF
         let n : ℕ = size-ReactiveStatement (stmt.Terminal x) in
         let i = steps.enters w x in
         let j = steps.visits i.0 id in
-        let q : rewrite_statement v functions w (stmt.Terminal x) ≡ settled (behind id (block_to v functions n j.0 body)) =
+        let q : rewrite_statement v functions w (stmt.Terminal x)
+        ≡ settled (behind id (block_to v functions n j.0 body)) =
         rw (stmt.outs-Terminal x, i.1, term.outs-Label body id, j.1) refl in
         replaced answer p id (block_to v functions n j.0 body) (sym q ∙ e)
 
   -- the same of a call
-  pub call_gives_way : (w : T × S) (x : ReactiveStatement) (r : Result (Transformed ReactiveStatement) Fault) (p : (T × S) × ReactiveStatement)
+  pub call_gives_way : (w : T × S) (x : ReactiveStatement) (r : Result (Transformed ReactiveStatement) Fault)
+      (p : (T × S) × ReactiveStatement)
       → Gives (rewrite_statement v functions w x) r p → TakesOut v → GivesWay x r
   call_gives_way w x (Ok answer) p h steps body id e =
       label_gives_way steps w body id answer p (subst (λ x. rewrite_statement v functions w x ≡ Ok (answer, p)) e h)

@@ -10,7 +10,8 @@ module _ {W X : Type 0} where
   abbrev pub Looks : Hook W X Enter → Type 0
   Looks step = (w : W) (x : X) → (answer : Enter) × (w1 : W) × (step w x ≡ Ok (answer, (w1, x)))
 
-  same_part : (a b : Enter) (w w1 : W) (x x1 : X) → ◌≡◌ {A = Result (Enter × (W × X)) Fault} (Ok (a, (w, x))) (Ok (b, (w1, x1))) → x ≡ x1
+  same_part : (a b : Enter) (w w1 : W) (x x1 : X) → ◌≡◌ {A = Result (Enter × (W × X)) Fault} (Ok (a, (w, x)))
+      (Ok (b, (w1, x1))) → x ≡ x1
   same_part a b w w1 x x1 e = let p : ◌≡◌ {A = Enter × (W × X)} (a, (w, x)) (b, (w1, x1)) = cc in ap (λ q. q.1.1) p
 
   pub looks_no_deeper : (size : X → ℕ) (step : Hook W X Enter) → Looks step → NoDeeper size step

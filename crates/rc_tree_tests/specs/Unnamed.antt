@@ -25,20 +25,24 @@ unnamed body id = record { terminal = term.Label body id; label = None }
 
 -- what stands in place of a terminal, with the terminal as it is left
 abbrev pub taken_out : ReactiveTerminalStatement → Option ReactiveLabel
-    → ReactiveTerminal-F ReactiveStatement ReactiveTerminal PrunedReactiveScopeBlock ReactiveScopeBlock ReactiveBlock ReactiveSwitchCase ReactiveTerminalStatement
+    → ReactiveTerminal-F ReactiveStatement ReactiveTerminal PrunedReactiveScopeBlock ReactiveScopeBlock ReactiveBlock
+    ReactiveSwitchCase ReactiveTerminalStatement
     → Transformed ReactiveStatement × ReactiveTerminalStatement
-taken_out x None (layer.Label body id) = (ReplaceMany body.statements, record { terminal = term.Label (record { statements = [] }) id; label = None })
+taken_out x None (layer.Label body id) =
+    (ReplaceMany body.statements, record { terminal = term.Label (record { statements = [] }) id; label = None })
 taken_out x label _ = (Keep, x)
 
 abbrev pub without_name : ReactiveTerminalStatement → Transformed ReactiveStatement × ReactiveTerminalStatement
 without_name x = taken_out x x.label (out-ReactiveTerminal x.terminal)
 
--- the steps that put the statements in place of the label: those at a terminal leave it as it is, and the last takes them out
+-- the steps that put the statements in place of the label: those at a terminal leave it as it is, and the last takes
+-- them out
 pub record TakesOut {W : Type 0} (v : RewriteSteps W) : Type 0 where
   pub enters : (w : W) (x : ReactiveTerminalStatement) → (w1 : W) × (v.enter_terminal w x ≡ Ok (Inside, (w1, x)))
   pub visits : (w : W) (id : EvaluationOrder) → (w1 : W) × (v.visit_id id w ≡ Ok (tt, w1))
   pub leaves : (w : W) (x : ReactiveTerminalStatement) → (w1 : W) × (v.leave_terminal w x ≡ Ok (tt, (w1, x)))
-  pub answers : (w : W) (x : ReactiveTerminalStatement) → (w1 : W) × (v.transform_terminal w x ≡ Ok ((without_name x).0, (w1, (without_name x).1)))
+  pub answers : (w : W) (x : ReactiveTerminalStatement) → (w1 : W)
+      × (v.transform_terminal w x ≡ Ok ((without_name x).0, (w1, (without_name x).1)))
 
 -- where the statement is the label, the answer is the statements that its block has then
 abbrev pub GivesWay : ReactiveStatement → Result (Transformed ReactiveStatement) Fault → Type 0

@@ -42,7 +42,9 @@ impl<'a> Membership<'a> {
         place: &Place,
         around: &OpenScopes,
     ) -> Result<Option<ScopeId>, Fault>
-        ensures { result ≡ spec.operand_outside self.now.env.now self.now.blocks.now (record { id = id; place = place.now; around = around.now }) }
+        ensures { result
+            ≡ spec.operand_outside self.now.env.now self.now.blocks.now
+            (record { id = id; place = place.now; around = around.now }) }
     {
         let Some(scope) = scope_of(self.env, place.identifier)? else {
             return Ok(None);

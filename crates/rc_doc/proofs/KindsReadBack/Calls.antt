@@ -1,4 +1,5 @@
--- What is printed reads as the same value again: kinds that call, that make functions, and that mark a place in the source. A kind does where its fields do.
+-- What is printed reads as the same value again: kinds that call, that make functions, and that mark a place in the
+-- source. A kind does where its fields do.
 use Rattle.std.proofs.Common.{◌≡◌, ℕ, Bool, List, Option, None, Some, refl}
 use Rattle.serde_json.specs.Data.{string}
 use Rattle.rc_names.specs.declared.span.Span.{Span}
@@ -16,21 +17,24 @@ use Rattle.rc_doc.specs.ShownKinds.{ReadsBack}
 use Rattle.rc_doc.specs.ShownParts.{argument_data, lowered_function_data, place_data, span_data}
 
 pub new_expression_again : (callee : Place) (args : List PlaceOrSpread) (span : Option Span)
-    → place_of (place_data callee) ≡ Some callee → list_of argument_of (list_data argument_data args) ≡ Some args → SomeAgain span_of span_data span
+    → place_of (place_data callee) ≡ Some callee → list_of argument_of (list_data argument_data args) ≡ Some args
+    → SomeAgain span_of span_data span
     → ReadsBack (kinds.NewExpression callee args span)
 unfolding instruction_value_of new_expression_of
 new_expression_again callee args None h j s = rw (h, j) refl
 new_expression_again callee args (Some span) h j s = rw (h, j, s) refl
 
 pub call_expression_again : (callee : Place) (args : List PlaceOrSpread) (span : Option Span)
-    → place_of (place_data callee) ≡ Some callee → list_of argument_of (list_data argument_data args) ≡ Some args → SomeAgain span_of span_data span
+    → place_of (place_data callee) ≡ Some callee → list_of argument_of (list_data argument_data args) ≡ Some args
+    → SomeAgain span_of span_data span
     → ReadsBack (kinds.CallExpression callee args span)
 unfolding instruction_value_of call_expression_of
 call_expression_again callee args None h j s = rw (h, j) refl
 call_expression_again callee args (Some span) h j s = rw (h, j, s) refl
 
 pub method_call_again : (receiver : Place) (property : Place) (args : List PlaceOrSpread) (span : Option Span)
-    → place_of (place_data receiver) ≡ Some receiver → place_of (place_data property) ≡ Some property → list_of argument_of (list_data argument_data args) ≡ Some args → SomeAgain span_of span_data span
+    → place_of (place_data receiver) ≡ Some receiver → place_of (place_data property) ≡ Some property
+    → list_of argument_of (list_data argument_data args) ≡ Some args → SomeAgain span_of span_data span
     → ReadsBack (kinds.MethodCall receiver property args span)
 unfolding instruction_value_of method_call_of
 method_call_again receiver property args None h j k s = rw (h, j, k) refl
@@ -44,7 +48,8 @@ object_method_again lowered_func None h s = rw h refl
 object_method_again lowered_func (Some span) h s = rw (h, s) refl
 
 pub function_expression_again : (name : Option (List ℕ)) (lowered_func : LoweredFunction) (span : Option Span)
-    → SomeAgain text_of string name → lowered_function_of (lowered_function_data lowered_func) ≡ Some lowered_func → SomeAgain span_of span_data span
+    → SomeAgain text_of string name → lowered_function_of (lowered_function_data lowered_func) ≡ Some lowered_func
+    → SomeAgain span_of span_data span
     → ReadsBack (kinds.FunctionExpression name lowered_func span)
 unfolding instruction_value_of function_expression_of
 function_expression_again None lowered_func None h j s = rw j refl
@@ -58,14 +63,16 @@ debugger_again None s = refl
 debugger_again (Some span) s = rw s refl
 
 pub start_memoize_again : (manual_memo_id : ℕ) (deps : List Place) (span : Option Span)
-    → number_of (number_data manual_memo_id) ≡ Some manual_memo_id → list_of place_of (list_data place_data deps) ≡ Some deps → SomeAgain span_of span_data span
+    → number_of (number_data manual_memo_id) ≡ Some manual_memo_id
+    → list_of place_of (list_data place_data deps) ≡ Some deps → SomeAgain span_of span_data span
     → ReadsBack (kinds.StartMemoize manual_memo_id deps span)
 unfolding instruction_value_of start_memoize_of
 start_memoize_again manual_memo_id deps None h j s = rw (h, j) refl
 start_memoize_again manual_memo_id deps (Some span) h j s = rw (h, j, s) refl
 
 pub finish_memoize_again : (manual_memo_id : ℕ) (decl : Place) (pruned : Bool) (span : Option Span)
-    → number_of (number_data manual_memo_id) ≡ Some manual_memo_id → place_of (place_data decl) ≡ Some decl → SomeAgain span_of span_data span
+    → number_of (number_data manual_memo_id) ≡ Some manual_memo_id → place_of (place_data decl) ≡ Some decl
+    → SomeAgain span_of span_data span
     → ReadsBack (kinds.FinishMemoize manual_memo_id decl pruned span)
 unfolding instruction_value_of finish_memoize_of
 finish_memoize_again manual_memo_id decl pruned None h j s = rw (h, j) refl

@@ -1,4 +1,5 @@
--- What is printed reads as the same value again: kinds that compute a value from texts and operands. A kind does where its fields do.
+-- What is printed reads as the same value again: kinds that compute a value from texts and operands. A kind does where
+-- its fields do.
 use Rattle.std.proofs.Common.{◌≡◌, ℕ, List, Option, None, Some, refl}
 use Rattle.serde_json.specs.Data.{string}
 use Rattle.rc_names.specs.declared.span.Span.{Span}
@@ -21,13 +22,15 @@ unfolding instruction_value_of primitive_of
 primitive_again value None h s = rw h refl
 primitive_again value (Some span) h s = rw (h, s) refl
 
-pub jsx_text_again : (value : List ℕ) (span : Option Span) → SomeAgain span_of span_data span → ReadsBack (kinds.JSXText value span)
+pub jsx_text_again : (value : List ℕ) (span : Option Span) → SomeAgain span_of span_data span
+    → ReadsBack (kinds.JSXText value span)
 unfolding instruction_value_of jsx_text_of
 jsx_text_again value None s = refl
 jsx_text_again value (Some span) s = rw s refl
 
 pub binary_expression_again : (operator : List ℕ) (left : Place) (right : Place) (span : Option Span)
-    → place_of (place_data left) ≡ Some left → place_of (place_data right) ≡ Some right → SomeAgain span_of span_data span
+    → place_of (place_data left) ≡ Some left → place_of (place_data right) ≡ Some right
+    → SomeAgain span_of span_data span
     → ReadsBack (kinds.BinaryExpression operator left right span)
 unfolding instruction_value_of binary_expression_of
 binary_expression_again operator left right None h j s = rw (h, j) refl
@@ -76,7 +79,8 @@ tagged_template_expression_again tag quasi None h s = rw h refl
 tagged_template_expression_again tag quasi (Some span) h s = rw (h, s) refl
 
 pub template_literal_again : (subexprs : List Place) (quasis : List (List ℕ)) (span : Option Span)
-    → list_of place_of (list_data place_data subexprs) ≡ Some subexprs → list_of text_of (list_data string quasis) ≡ Some quasis → SomeAgain span_of span_data span
+    → list_of place_of (list_data place_data subexprs) ≡ Some subexprs
+    → list_of text_of (list_data string quasis) ≡ Some quasis → SomeAgain span_of span_data span
     → ReadsBack (kinds.TemplateLiteral subexprs quasis span)
 unfolding instruction_value_of template_literal_of
 template_literal_again subexprs quasis None h j s = rw (h, j) refl
@@ -90,7 +94,8 @@ get_iterator_again collection None h s = rw h refl
 get_iterator_again collection (Some span) h s = rw (h, s) refl
 
 pub iterator_next_again : (iterator : Place) (collection : Place) (span : Option Span)
-    → place_of (place_data iterator) ≡ Some iterator → place_of (place_data collection) ≡ Some collection → SomeAgain span_of span_data span
+    → place_of (place_data iterator) ≡ Some iterator → place_of (place_data collection) ≡ Some collection
+    → SomeAgain span_of span_data span
     → ReadsBack (kinds.IteratorNext iterator collection span)
 unfolding instruction_value_of iterator_next_of
 iterator_next_again iterator collection None h j s = rw (h, j) refl

@@ -1,4 +1,5 @@
--- What is printed reads as the same value again: kinds that make objects, arrays and JSX, and that reach into them. A kind does where its fields do.
+-- What is printed reads as the same value again: kinds that make objects, arrays and JSX, and that reach into them. A
+-- kind does where its fields do.
 use Rattle.std.proofs.Common.{◌≡◌, List, Option, None, Some, refl}
 use Rattle.rc_names.specs.declared.span.Span.{Span}
 use Rattle.rc_hir.specs.declared.instruction.JsxAttribute.{JsxAttribute}
@@ -32,8 +33,10 @@ unfolding instruction_value_of array_expression_of
 array_expression_again elements None h s = rw h refl
 array_expression_again elements (Some span) h s = rw (h, s) refl
 
-pub jsx_expression_again : (tag : JsxTag) (props : List JsxAttribute) (children : Option (List Place)) (span : Option Span)
-    → jsx_tag_of (jsx_tag_data tag) ≡ Some tag → list_of jsx_attribute_of (list_data jsx_attribute_data props) ≡ Some props → SomeAgain (list_of place_of) (list_data place_data) children → SomeAgain span_of span_data span
+pub jsx_expression_again : (tag : JsxTag) (props : List JsxAttribute) (children : Option (List Place))
+    (span : Option Span)
+    → jsx_tag_of (jsx_tag_data tag) ≡ Some tag → list_of jsx_attribute_of (list_data jsx_attribute_data props)
+    ≡ Some props → SomeAgain (list_of place_of) (list_data place_data) children → SomeAgain span_of span_data span
     → ReadsBack (kinds.JsxExpression tag props children span)
 unfolding instruction_value_of jsx_expression_of
 jsx_expression_again tag props None None h j k s = rw (h, j) refl
@@ -49,42 +52,48 @@ jsx_fragment_again children None h s = rw h refl
 jsx_fragment_again children (Some span) h s = rw (h, s) refl
 
 pub property_load_again : (object : Place) (property : PropertyLiteral) (span : Option Span)
-    → place_of (place_data object) ≡ Some object → property_literal_of (property_literal_data property) ≡ Some property → SomeAgain span_of span_data span
+    → place_of (place_data object) ≡ Some object → property_literal_of (property_literal_data property) ≡ Some property
+    → SomeAgain span_of span_data span
     → ReadsBack (kinds.PropertyLoad object property span)
 unfolding instruction_value_of property_load_of
 property_load_again object property None h j s = rw (h, j) refl
 property_load_again object property (Some span) h j s = rw (h, j, s) refl
 
 pub property_delete_again : (object : Place) (property : PropertyLiteral) (span : Option Span)
-    → place_of (place_data object) ≡ Some object → property_literal_of (property_literal_data property) ≡ Some property → SomeAgain span_of span_data span
+    → place_of (place_data object) ≡ Some object → property_literal_of (property_literal_data property) ≡ Some property
+    → SomeAgain span_of span_data span
     → ReadsBack (kinds.PropertyDelete object property span)
 unfolding instruction_value_of property_delete_of
 property_delete_again object property None h j s = rw (h, j) refl
 property_delete_again object property (Some span) h j s = rw (h, j, s) refl
 
 pub property_store_again : (object : Place) (property : PropertyLiteral) (value : Place) (span : Option Span)
-    → place_of (place_data object) ≡ Some object → property_literal_of (property_literal_data property) ≡ Some property → place_of (place_data value) ≡ Some value → SomeAgain span_of span_data span
+    → place_of (place_data object) ≡ Some object → property_literal_of (property_literal_data property) ≡ Some property
+    → place_of (place_data value) ≡ Some value → SomeAgain span_of span_data span
     → ReadsBack (kinds.PropertyStore object property value span)
 unfolding instruction_value_of property_store_of
 property_store_again object property value None h j k s = rw (h, j, k) refl
 property_store_again object property value (Some span) h j k s = rw (h, j, k, s) refl
 
 pub computed_load_again : (object : Place) (property : Place) (span : Option Span)
-    → place_of (place_data object) ≡ Some object → place_of (place_data property) ≡ Some property → SomeAgain span_of span_data span
+    → place_of (place_data object) ≡ Some object → place_of (place_data property) ≡ Some property
+    → SomeAgain span_of span_data span
     → ReadsBack (kinds.ComputedLoad object property span)
 unfolding instruction_value_of computed_load_of
 computed_load_again object property None h j s = rw (h, j) refl
 computed_load_again object property (Some span) h j s = rw (h, j, s) refl
 
 pub computed_delete_again : (object : Place) (property : Place) (span : Option Span)
-    → place_of (place_data object) ≡ Some object → place_of (place_data property) ≡ Some property → SomeAgain span_of span_data span
+    → place_of (place_data object) ≡ Some object → place_of (place_data property) ≡ Some property
+    → SomeAgain span_of span_data span
     → ReadsBack (kinds.ComputedDelete object property span)
 unfolding instruction_value_of computed_delete_of
 computed_delete_again object property None h j s = rw (h, j) refl
 computed_delete_again object property (Some span) h j s = rw (h, j, s) refl
 
 pub computed_store_again : (object : Place) (property : Place) (value : Place) (span : Option Span)
-    → place_of (place_data object) ≡ Some object → place_of (place_data property) ≡ Some property → place_of (place_data value) ≡ Some value → SomeAgain span_of span_data span
+    → place_of (place_data object) ≡ Some object → place_of (place_data property) ≡ Some property
+    → place_of (place_data value) ≡ Some value → SomeAgain span_of span_data span
     → ReadsBack (kinds.ComputedStore object property value span)
 unfolding instruction_value_of computed_store_of
 computed_store_again object property value None h j k s = rw (h, j, k) refl

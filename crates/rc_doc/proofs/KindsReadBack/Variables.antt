@@ -1,4 +1,5 @@
--- What is printed reads as the same value again: kinds that read, declare and write variables. A kind does where its fields do.
+-- What is printed reads as the same value again: kinds that read, declare and write variables. A kind does where its
+-- fields do.
 use Rattle.std.proofs.Common.{◌≡◌, ℕ, List, Option, None, Some, refl}
 use Rattle.rc_names.specs.declared.span.Span.{Span}
 use Rattle.rc_hir.specs.declared.instruction.NonLocalBinding.{NonLocalBinding}
@@ -44,21 +45,24 @@ declare_context_again lvalue None h s = rw h refl
 declare_context_again lvalue (Some span) h s = rw (h, s) refl
 
 pub store_local_again : (lvalue : LValue) (value : Place) (span : Option Span)
-    → lvalue_of (lvalue_data lvalue) ≡ Some lvalue → place_of (place_data value) ≡ Some value → SomeAgain span_of span_data span
+    → lvalue_of (lvalue_data lvalue) ≡ Some lvalue → place_of (place_data value) ≡ Some value
+    → SomeAgain span_of span_data span
     → ReadsBack (kinds.StoreLocal lvalue value span)
 unfolding instruction_value_of store_local_of
 store_local_again lvalue value None h j s = rw (h, j) refl
 store_local_again lvalue value (Some span) h j s = rw (h, j, s) refl
 
 pub store_context_again : (lvalue : LValue) (value : Place) (span : Option Span)
-    → lvalue_of (lvalue_data lvalue) ≡ Some lvalue → place_of (place_data value) ≡ Some value → SomeAgain span_of span_data span
+    → lvalue_of (lvalue_data lvalue) ≡ Some lvalue → place_of (place_data value) ≡ Some value
+    → SomeAgain span_of span_data span
     → ReadsBack (kinds.StoreContext lvalue value span)
 unfolding instruction_value_of store_context_of
 store_context_again lvalue value None h j s = rw (h, j) refl
 store_context_again lvalue value (Some span) h j s = rw (h, j, s) refl
 
 pub destructure_again : (lvalue : LValuePattern) (value : Place) (span : Option Span)
-    → lvalue_pattern_of (lvalue_pattern_data lvalue) ≡ Some lvalue → place_of (place_data value) ≡ Some value → SomeAgain span_of span_data span
+    → lvalue_pattern_of (lvalue_pattern_data lvalue) ≡ Some lvalue → place_of (place_data value) ≡ Some value
+    → SomeAgain span_of span_data span
     → ReadsBack (kinds.Destructure lvalue value span)
 unfolding instruction_value_of destructure_of
 destructure_again lvalue value None h j s = rw (h, j) refl
@@ -79,14 +83,16 @@ store_global_again name value None h s = rw h refl
 store_global_again name value (Some span) h s = rw (h, s) refl
 
 pub prefix_update_again : (lvalue : Place) (operation : List ℕ) (value : Place) (span : Option Span)
-    → place_of (place_data lvalue) ≡ Some lvalue → place_of (place_data value) ≡ Some value → SomeAgain span_of span_data span
+    → place_of (place_data lvalue) ≡ Some lvalue → place_of (place_data value) ≡ Some value
+    → SomeAgain span_of span_data span
     → ReadsBack (kinds.PrefixUpdate lvalue operation value span)
 unfolding instruction_value_of prefix_update_of
 prefix_update_again lvalue operation value None h j s = rw (h, j) refl
 prefix_update_again lvalue operation value (Some span) h j s = rw (h, j, s) refl
 
 pub postfix_update_again : (lvalue : Place) (operation : List ℕ) (value : Place) (span : Option Span)
-    → place_of (place_data lvalue) ≡ Some lvalue → place_of (place_data value) ≡ Some value → SomeAgain span_of span_data span
+    → place_of (place_data lvalue) ≡ Some lvalue → place_of (place_data value) ≡ Some value
+    → SomeAgain span_of span_data span
     → ReadsBack (kinds.PostfixUpdate lvalue operation value span)
 unfolding instruction_value_of postfix_update_of
 postfix_update_again lvalue operation value None h j s = rw (h, j) refl

@@ -10,4 +10,5 @@ NameMembers I = record { hash_input : I → List (List ℕ); eq : I → I → Bo
 module _ (I T : RattleType) (g : NameMembers I.Denot) where
   abbrev pub lends_entry : MutBor (List T.Denot) → ℕ → Option (MutBor T.Denot) → Fml
   lends_entry s i r =
-      LendsIf (the_row I T (record { number = g.number }) (record { eq = g.eq }) (record { hash_input = g.hash_input })) T s r (slice_set s.now i) s.now
+      LendsIf (the_row I T (record { number = g.number }) (record { eq = g.eq }) (record { hash_input = g.hash_input }))
+      T s r (slice_set s.now i) s.now

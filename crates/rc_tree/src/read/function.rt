@@ -33,7 +33,8 @@ pub fn visit_reactive_function<V: ReactiveFunctionVisitor>(
     visitor: &V,
     state: &mut V::State,
 ) -> Result<(), Fault>
-    ensures { Gives (read_block (V.steps visitor.now) (V.functions visitor.now) func.now.body state.old) result state.new }
+    ensures { Gives (read_block (V.steps visitor.now) (V.functions visitor.now) func.now.body state.old) result
+        state.new }
 {
     walk_block(alloc, visitor, &func.body, state)
 }
@@ -49,7 +50,8 @@ pub fn visit_hir_function<V: ReactiveFunctionVisitor>(
 ) -> Result<(), Fault>
     ensures walk { Gives (read_function (V.steps visitor.now) (V.functions visitor.now) func state.old) result state.new }
     ensures no_cycle { OnOk result (NoCycle (V.functions visitor.now) func) }
-    ensures cycle { (g : Number) → result ≡ Err (Fault.FunctionCycle g) → HookGives (V.steps visitor.now) (Fault.FunctionCycle g) ⊎ CycleAt (V.functions visitor.now) func g }
+    ensures cycle { (g : Number) → result ≡ Err (Fault.FunctionCycle g) → HookGives (V.steps visitor.now) (Fault.FunctionCycle g)
+        ⊎ CycleAt (V.functions visitor.now) func g }
 {
     let mut entered = none_entered(alloc, visitor.env().functions.as_slice())?;
     walk_function(alloc, visitor, &mut entered, func, state)
@@ -64,7 +66,8 @@ fn walk_function<V: ReactiveFunctionVisitor>(
     func: FunctionId,
     state: &mut V::State,
 ) -> Result<(), Fault>
-    ensures walk { Gives (function_at (V.steps visitor.now) (V.functions visitor.now) entered.old func state.old) result state.new }
+    ensures walk { Gives (function_at (V.steps visitor.now) (V.functions visitor.now) entered.old func state.old) result
+        state.new }
     ensures kept { OnOk result (entered.new ≡ entered.old) }
 {
     match entered.get(func.index()).copied() {
@@ -88,7 +91,8 @@ fn walk_numbered<V: ReactiveFunctionVisitor>(
     func: FunctionId,
     state: &mut V::State,
 ) -> Result<(), Fault>
-    ensures walk { Gives (numbered_at (V.steps visitor.now) (V.functions visitor.now) entered.old func state.old) result state.new }
+    ensures walk { Gives (numbered_at (V.steps visitor.now) (V.functions visitor.now) entered.old func state.old) result
+        state.new }
     ensures kept { OnOk result (entered.new ≡ entered.old) }
 {
     match visitor.env().functions.get(func) {
@@ -117,7 +121,8 @@ fn walk_blocks<V: ReactiveFunctionVisitor>(
     blocks: &Keyed<BlockId, BasicBlock>,
     state: &mut V::State,
 ) -> Result<(), Fault>
-    ensures walk { Gives (each (basic_block_at (V.steps visitor.now) (V.functions visitor.now) entered.old rows.now) blocks.now state.old) result state.new }
+    ensures walk { Gives (each (basic_block_at (V.steps visitor.now) (V.functions visitor.now) entered.old rows.now) blocks.now
+        state.old) result state.new }
     ensures kept { OnOk result (entered.new ≡ entered.old) }
 {
     for i in 0..blocks.len() {
@@ -137,7 +142,8 @@ fn walk_basic_block<V: ReactiveFunctionVisitor>(
     place: usize,
     state: &mut V::State,
 ) -> Result<(), Fault>
-    ensures walk { Gives (perhaps (basic_block_at (V.steps visitor.now) (V.functions visitor.now) entered.old rows.now) (slice_get blocks.now place) state.old) result state.new }
+    ensures walk { Gives (perhaps (basic_block_at (V.steps visitor.now) (V.functions visitor.now) entered.old rows.now)
+        (slice_get blocks.now place) state.old) result state.new }
     ensures kept { OnOk result (entered.new ≡ entered.old) }
 {
     match blocks.at(place) {
@@ -159,7 +165,8 @@ fn walk_rows<V: ReactiveFunctionVisitor>(
     ids: &List<InstructionId>,
     state: &mut V::State,
 ) -> Result<(), Fault>
-    ensures walk { Gives (each (row_at (V.steps visitor.now) (V.functions visitor.now) entered.old rows.now) ids.now state.old) result state.new }
+    ensures walk { Gives (each (row_at (V.steps visitor.now) (V.functions visitor.now) entered.old rows.now) ids.now state.old)
+        result state.new }
     ensures kept { OnOk result (entered.new ≡ entered.old) }
 {
     for id in ids.as_slice() {
@@ -178,7 +185,8 @@ fn walk_row<V: ReactiveFunctionVisitor>(
     id: InstructionId,
     state: &mut V::State,
 ) -> Result<(), Fault>
-    ensures walk { Gives (row_at (V.steps visitor.now) (V.functions visitor.now) entered.old rows.now id state.old) result state.new }
+    ensures walk { Gives (row_at (V.steps visitor.now) (V.functions visitor.now) entered.old rows.now id state.old) result
+        state.new }
     ensures kept { OnOk result (entered.new ≡ entered.old) }
 {
     match rows.get(id.index()) {
@@ -200,7 +208,8 @@ fn walk_held<V: ReactiveFunctionVisitor>(
     held: Option<FunctionId>,
     state: &mut V::State,
 ) -> Result<(), Fault>
-    ensures walk { Gives (perhaps (function_at (V.steps visitor.now) (V.functions visitor.now) entered.old) held state.old) result state.new }
+    ensures walk { Gives (perhaps (function_at (V.steps visitor.now) (V.functions visitor.now) entered.old) held state.old)
+        result state.new }
     ensures kept { OnOk result (entered.new ≡ entered.old) }
 {
     match held {
@@ -215,7 +224,8 @@ fn visit_params<V: ReactiveFunctionVisitor>(
     params: &List<ParamPattern>,
     state: &mut V::State,
 ) -> Result<(), Fault>
-    ensures { Gives (each (λ p. (V.steps visitor.now).visit_param (param_place p)) params.now state.old) result state.new }
+    ensures { Gives (each (λ p. (V.steps visitor.now).visit_param (param_place p)) params.now state.old) result
+        state.new }
 {
     for param in params.as_slice() {
         visitor.visit_param(&place_of(param), state)?;
@@ -230,7 +240,9 @@ fn visit_terminal_operands<V: ReactiveFunctionVisitor>(
     terminal: &Terminal,
     state: &mut V::State,
 ) -> Result<(), Fault>
-    ensures { Gives (each ((V.steps visitor.now).visit_place (evaluation_order terminal.now)) (terminal_operands terminal.now) state.old) result state.new }
+    ensures { Gives
+        (each ((V.steps visitor.now).visit_place (evaluation_order terminal.now)) (terminal_operands terminal.now)
+        state.old) result state.new }
 {
     let places = each_terminal_operand(alloc, terminal)?;
     visit_places(visitor, terminal.evaluation_order(), &places, state)

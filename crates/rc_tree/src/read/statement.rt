@@ -22,7 +22,8 @@ pub fn traverse_terminal<V: ReactiveFunctionVisitor>(
     stmt: &ReactiveTerminalStatement,
     state: &mut V::State,
 ) -> Result<(), Fault>
-    ensures { Gives (inside_terminal (V.steps visitor.now) (V.functions visitor.now) stmt.now state.old) result state.new }
+    ensures { Gives (inside_terminal (V.steps visitor.now) (V.functions visitor.now) stmt.now state.old) result
+        state.new }
 {
     walk_parts(alloc, visitor, &stmt.terminal, state)
 }
@@ -48,7 +49,8 @@ pub fn traverse_pruned_scope<V: ReactiveFunctionVisitor>(
     scope: &PrunedReactiveScopeBlock,
     state: &mut V::State,
 ) -> Result<(), Fault>
-    ensures { Gives (inside_pruned_scope (V.steps visitor.now) (V.functions visitor.now) scope.now state.old) result state.new }
+    ensures { Gives (inside_pruned_scope (V.steps visitor.now) (V.functions visitor.now) scope.now state.old) result
+        state.new }
 {
     walk_block(alloc, visitor, &scope.instructions, state)
 }
@@ -97,7 +99,8 @@ fn walk_statement<V: ReactiveFunctionVisitor>(
     statement: &ReactiveStatement,
     state: &mut V::State,
 ) -> Result<(), Fault>
-    ensures { Gives (read_statement (V.steps visitor.now) (V.functions visitor.now) statement.now state.old) result state.new }
+    ensures { Gives (read_statement (V.steps visitor.now) (V.functions visitor.now) statement.now state.old) result
+        state.new }
 {
     match statement {
         ReactiveStatement::Instruction(row) => walk_instruction(alloc, visitor, row, state),
@@ -134,7 +137,8 @@ fn walk_pruned_scope<V: ReactiveFunctionVisitor>(
     scope: &PrunedReactiveScopeBlock,
     state: &mut V::State,
 ) -> Result<(), Fault>
-    ensures { Gives (read_pruned_scope (V.steps visitor.now) (V.functions visitor.now) scope.now state.old) result state.new }
+    ensures { Gives (read_pruned_scope (V.steps visitor.now) (V.functions visitor.now) scope.now state.old) result
+        state.new }
 {
     match visitor.enter_pruned_scope(scope, state)? {
         Enter::Inside => {
@@ -278,7 +282,8 @@ fn walk_cases<V: ReactiveFunctionVisitor>(
     cases: &List<ReactiveSwitchCase>,
     state: &mut V::State,
 ) -> Result<(), Fault>
-    ensures { Gives (each (λ c. read_case (V.steps visitor.now) (V.functions visitor.now) c id) cases.now state.old) result state.new }
+    ensures { Gives (each (λ c. read_case (V.steps visitor.now) (V.functions visitor.now) c id) cases.now state.old)
+        result state.new }
 {
     for case in cases.as_slice() {
         walk_case(alloc, visitor, id, case, state)?;
@@ -309,7 +314,8 @@ fn walk_block_if<V: ReactiveFunctionVisitor>(
     block: &Option<ReactiveBlock>,
     state: &mut V::State,
 ) -> Result<(), Fault>
-    ensures { Gives (perhaps (read_block (V.steps visitor.now) (V.functions visitor.now)) block.now state.old) result state.new }
+    ensures { Gives (perhaps (read_block (V.steps visitor.now) (V.functions visitor.now)) block.now state.old) result
+        state.new }
 {
     match block {
         Some(block) => walk_block(alloc, visitor, block, state),
@@ -325,7 +331,8 @@ fn walk_value_if<V: ReactiveFunctionVisitor>(
     value: &Option<ReactiveValue>,
     state: &mut V::State,
 ) -> Result<(), Fault>
-    ensures { Gives (perhaps (λ x. read_value (V.steps visitor.now) (V.functions visitor.now) x id) value.now state.old) result state.new }
+    ensures { Gives (perhaps (λ x. read_value (V.steps visitor.now) (V.functions visitor.now) x id) value.now state.old)
+        result state.new }
 {
     match value {
         Some(value) => walk_value(alloc, visitor, id, value, state),

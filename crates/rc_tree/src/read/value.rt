@@ -23,7 +23,8 @@ pub fn traverse_value<V: ReactiveFunctionVisitor>(
     value: &ReactiveValue,
     state: &mut V::State,
 ) -> Result<(), Fault>
-    ensures { Gives (inside_value (V.steps visitor.now) (V.functions visitor.now) value.now id state.old) result state.new }
+    ensures { Gives (inside_value (V.steps visitor.now) (V.functions visitor.now) value.now id state.old) result
+        state.new }
 {
     match value {
         ReactiveValue::Instruction(value) => visit_operands(alloc, visitor, id, value, state),
@@ -67,7 +68,8 @@ pub fn traverse_instruction<V: ReactiveFunctionVisitor>(
     instruction: &ReactiveInstruction,
     state: &mut V::State,
 ) -> Result<(), Fault>
-    ensures { Gives (inside_instruction (V.steps visitor.now) (V.functions visitor.now) instruction.now state.old) result state.new }
+    ensures { Gives (inside_instruction (V.steps visitor.now) (V.functions visitor.now) instruction.now state.old)
+        result state.new }
 {
     visitor.visit_id(instruction.id, state)?;
     visit_target(visitor, instruction.id, &instruction.lvalue, state)?;
@@ -103,7 +105,8 @@ pub(crate) fn walk_instruction<V: ReactiveFunctionVisitor>(
     instruction: &ReactiveInstruction,
     state: &mut V::State,
 ) -> Result<(), Fault>
-    ensures { Gives (read_instruction (V.steps visitor.now) (V.functions visitor.now) instruction.now state.old) result state.new }
+    ensures { Gives (read_instruction (V.steps visitor.now) (V.functions visitor.now) instruction.now state.old) result
+        state.new }
 {
     match visitor.enter_instruction(instruction, state)? {
         Enter::Inside => {
@@ -122,7 +125,8 @@ fn walk_rows<V: ReactiveFunctionVisitor>(
     rows: &List<ReactiveInstruction>,
     state: &mut V::State,
 ) -> Result<(), Fault>
-    ensures { Gives (each (read_instruction (V.steps visitor.now) (V.functions visitor.now)) rows.now state.old) result state.new }
+    ensures { Gives (each (read_instruction (V.steps visitor.now) (V.functions visitor.now)) rows.now state.old) result
+        state.new }
 {
     for row in rows.as_slice() {
         walk_instruction(alloc, visitor, row, state)?;
@@ -138,7 +142,8 @@ fn visit_operands<V: ReactiveFunctionVisitor>(
     value: &InstructionValue,
     state: &mut V::State,
 ) -> Result<(), Fault>
-    ensures { Gives (inside_base (V.steps visitor.now) (V.functions visitor.now) value.now id state.old) result state.new }
+    ensures { Gives (inside_base (V.steps visitor.now) (V.functions visitor.now) value.now id state.old) result
+        state.new }
 {
     let places = each_instruction_value_operand(alloc, value, visitor.env())?;
     visit_places(visitor, id, &places, state)

@@ -19,7 +19,8 @@ pub fn transform_reactive_function<T: ReactiveFunctionTransform>(
     transform: &mut T,
     state: &mut T::State,
 ) -> Result<(), Fault>
-    ensures walk { Gives (rewrite_block T.steps T.functions (transform.old, state.old) func.old.body) result ((transform.new, state.new), func.new.body) }
+    ensures walk { Gives (rewrite_block T.steps T.functions (transform.old, state.old) func.old.body) result
+        ((transform.new, state.new), func.new.body) }
     ensures header { func.new ≡ record func.old { body = func.new.body } }
 {
     walk_block(alloc, transform, &mut func.body, state)

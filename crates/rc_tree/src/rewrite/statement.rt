@@ -27,7 +27,8 @@ pub fn traverse_terminal<T: ReactiveFunctionTransform>(
     stmt: &mut ReactiveTerminalStatement,
     state: &mut T::State,
 ) -> Result<(), Fault>
-    ensures { Gives (inside_terminal T.steps T.functions (transform.old, state.old) stmt.old) result ((transform.new, state.new), stmt.new) }
+    ensures { Gives (inside_terminal T.steps T.functions (transform.old, state.old) stmt.old) result
+        ((transform.new, state.new), stmt.new) }
 {
     walk_inside_terminal(alloc, transform, stmt, state)
 }
@@ -40,7 +41,8 @@ pub fn traverse_scope<T: ReactiveFunctionTransform>(
     scope: &mut ReactiveScopeBlock,
     state: &mut T::State,
 ) -> Result<(), Fault>
-    ensures { Gives (inside_scope T.steps T.functions (transform.old, state.old) scope.old) result ((transform.new, state.new), scope.new) }
+    ensures { Gives (inside_scope T.steps T.functions (transform.old, state.old) scope.old) result
+        ((transform.new, state.new), scope.new) }
 {
     walk_inside_scope(alloc, transform, scope, state)
 }
@@ -53,7 +55,8 @@ pub fn traverse_pruned_scope<T: ReactiveFunctionTransform>(
     scope: &mut PrunedReactiveScopeBlock,
     state: &mut T::State,
 ) -> Result<(), Fault>
-    ensures { Gives (inside_pruned_scope T.steps T.functions (transform.old, state.old) scope.old) result ((transform.new, state.new), scope.new) }
+    ensures { Gives (inside_pruned_scope T.steps T.functions (transform.old, state.old) scope.old) result
+        ((transform.new, state.new), scope.new) }
 {
     walk_inside_pruned_scope(alloc, transform, scope, state)
 }
@@ -67,7 +70,8 @@ pub fn traverse_block<T: ReactiveFunctionTransform>(
     block: &mut ReactiveBlock,
     state: &mut T::State,
 ) -> Result<(), Fault>
-    ensures { Gives (inside_block T.steps T.functions (transform.old, state.old) block.old) result ((transform.new, state.new), block.new) }
+    ensures { Gives (inside_block T.steps T.functions (transform.old, state.old) block.old) result
+        ((transform.new, state.new), block.new) }
 {
     walk_statements(alloc, transform, block, state)
 }
@@ -80,7 +84,8 @@ pub fn transform_stmt<T: ReactiveFunctionTransform>(
     stmt: &mut ReactiveStatement,
     state: &mut T::State,
 ) -> Result<Transformed<ReactiveStatement>, Fault>
-    ensures { Gives (rewrite_statement T.steps T.functions (transform.old, state.old) stmt.old) result ((transform.new, state.new), stmt.new) }
+    ensures { Gives (rewrite_statement T.steps T.functions (transform.old, state.old) stmt.old) result
+        ((transform.new, state.new), stmt.new) }
 {
     walk_held(alloc, transform, stmt, state)?;
     ask(transform, stmt, state)
@@ -93,7 +98,8 @@ pub(crate) fn walk_block<T: ReactiveFunctionTransform>(
     block: &mut ReactiveBlock,
     state: &mut T::State,
 ) -> Result<(), Fault>
-    ensures { Gives (rewrite_block T.steps T.functions (transform.old, state.old) block.old) result ((transform.new, state.new), block.new) }
+    ensures { Gives (rewrite_block T.steps T.functions (transform.old, state.old) block.old) result
+        ((transform.new, state.new), block.new) }
 {
     walk_block_to(alloc, transform, block, state)
 }
@@ -106,7 +112,9 @@ fn walk_block_to<T: ReactiveFunctionTransform>(
     block: &mut ReactiveBlock,
     state: &mut T::State,
 ) -> Result<(), Fault>
-    ensures { (n : ℕ) → Meets (block_to T.steps T.functions n (transform.old, state.old) block.old) result ((transform.new, state.new), block.new) }
+    ensures { (n : ℕ)
+        → Meets (block_to T.steps T.functions n (transform.old, state.old) block.old) result
+        ((transform.new, state.new), block.new) }
 {
     match transform.enter_block(block, state)? {
         Enter::Inside => {
@@ -125,7 +133,9 @@ fn walk_statements<T: ReactiveFunctionTransform>(
     block: &mut ReactiveBlock,
     state: &mut T::State,
 ) -> Result<(), Fault>
-    ensures { (n : ℕ) → Meets (block_inside T.steps T.functions (block_to T.steps T.functions n) (transform.old, state.old) block.old) result ((transform.new, state.new), block.new) }
+    ensures { (n : ℕ)
+        → Meets (block_inside T.steps T.functions (block_to T.steps T.functions n) (transform.old, state.old) block.old)
+        result ((transform.new, state.new), block.new) }
 {
     walk_list(alloc, transform, &mut block.statements, state)
 }
@@ -140,7 +150,9 @@ fn walk_list<T: ReactiveFunctionTransform>(
     statements: &mut List<ReactiveStatement>,
     state: &mut T::State,
 ) -> Result<(), Fault>
-    ensures { (n : ℕ) → Meets (statements_at T.steps T.functions (block_to T.steps T.functions n) (transform.old, state.old) statements.old) result ((transform.new, state.new), statements.new) }
+    ensures { (n : ℕ)
+        → Meets (statements_at T.steps T.functions (block_to T.steps T.functions n) (transform.old, state.old)
+        statements.old) result ((transform.new, state.new), statements.new) }
 {
     let mut left = statements.take();
     left.reverse();
@@ -159,8 +171,11 @@ fn walk_last_into<T: ReactiveFunctionTransform>(
     done: &mut List<ReactiveStatement>,
     state: &mut T::State,
 ) -> Result<(), Fault>
-    ensures left { (rest : Entries ReactiveStatement) → (x : ReactiveStatement) → left.old ≡ rest ++ x ∷ [] → OnOk result (left.new ≡ rest) }
-    ensures done { (n : ℕ) → (rest : Entries ReactiveStatement) → (x : ReactiveStatement) → left.old ≡ rest ++ x ∷ [] → Meets (into_at T.steps T.functions (block_to T.steps T.functions n) (transform.old, state.old) done.old x) result ((transform.new, state.new), done.new) }
+    ensures left { (rest : Entries ReactiveStatement) → (x : ReactiveStatement) → left.old ≡ rest ++ x ∷ []
+        → OnOk result (left.new ≡ rest) }
+    ensures done { (n : ℕ) → (rest : Entries ReactiveStatement) → (x : ReactiveStatement) → left.old ≡ rest ++ x ∷ []
+        → Meets (into_at T.steps T.functions (block_to T.steps T.functions n) (transform.old, state.old) done.old x)
+        result ((transform.new, state.new), done.new) }
 {
     let Some(last) = left.len().checked_sub(1) else {
         return Ok(());
@@ -180,7 +195,9 @@ fn walk_held<T: ReactiveFunctionTransform>(
     statement: &mut ReactiveStatement,
     state: &mut T::State,
 ) -> Result<(), Fault>
-    ensures { (n : ℕ) → Meets (held_at T.steps T.functions (block_to T.steps T.functions n) (transform.old, state.old) statement.old) result ((transform.new, state.new), statement.new) }
+    ensures { (n : ℕ)
+        → Meets (held_at T.steps T.functions (block_to T.steps T.functions n) (transform.old, state.old) statement.old)
+        result ((transform.new, state.new), statement.new) }
 {
     match statement {
         ReactiveStatement::Instruction(row) => walk_instruction(alloc, transform, row, state),
@@ -198,7 +215,9 @@ fn walk_scope<T: ReactiveFunctionTransform>(
     scope: &mut ReactiveScopeBlock,
     state: &mut T::State,
 ) -> Result<(), Fault>
-    ensures { (n : ℕ) → Meets (scope_at T.steps T.functions (block_to T.steps T.functions n) (transform.old, state.old) scope.old) result ((transform.new, state.new), scope.new) }
+    ensures { (n : ℕ)
+        → Meets (scope_at T.steps T.functions (block_to T.steps T.functions n) (transform.old, state.old) scope.old)
+        result ((transform.new, state.new), scope.new) }
 {
     match transform.enter_scope(scope, state)? {
         Enter::Inside => {
@@ -217,7 +236,9 @@ fn walk_inside_scope<T: ReactiveFunctionTransform>(
     scope: &mut ReactiveScopeBlock,
     state: &mut T::State,
 ) -> Result<(), Fault>
-    ensures { (n : ℕ) → Meets (scope_inside T.steps T.functions (block_to T.steps T.functions n) (transform.old, state.old) scope.old) result ((transform.new, state.new), scope.new) }
+    ensures { (n : ℕ)
+        → Meets (scope_inside T.steps T.functions (block_to T.steps T.functions n) (transform.old, state.old) scope.old)
+        result ((transform.new, state.new), scope.new) }
 {
     walk_block_to(alloc, transform, &mut scope.instructions, state)
 }
@@ -230,7 +251,9 @@ fn walk_pruned_scope<T: ReactiveFunctionTransform>(
     scope: &mut PrunedReactiveScopeBlock,
     state: &mut T::State,
 ) -> Result<(), Fault>
-    ensures { (n : ℕ) → Meets (pruned_scope_at T.steps T.functions (block_to T.steps T.functions n) (transform.old, state.old) scope.old) result ((transform.new, state.new), scope.new) }
+    ensures { (n : ℕ)
+        → Meets (pruned_scope_at T.steps T.functions (block_to T.steps T.functions n) (transform.old, state.old)
+        scope.old) result ((transform.new, state.new), scope.new) }
 {
     match transform.enter_pruned_scope(scope, state)? {
         Enter::Inside => {
@@ -249,7 +272,9 @@ fn walk_inside_pruned_scope<T: ReactiveFunctionTransform>(
     scope: &mut PrunedReactiveScopeBlock,
     state: &mut T::State,
 ) -> Result<(), Fault>
-    ensures { (n : ℕ) → Meets (pruned_scope_inside T.steps T.functions (block_to T.steps T.functions n) (transform.old, state.old) scope.old) result ((transform.new, state.new), scope.new) }
+    ensures { (n : ℕ)
+        → Meets (pruned_scope_inside T.steps T.functions (block_to T.steps T.functions n) (transform.old, state.old)
+        scope.old) result ((transform.new, state.new), scope.new) }
 {
     walk_block_to(alloc, transform, &mut scope.instructions, state)
 }
@@ -262,7 +287,9 @@ fn walk_terminal<T: ReactiveFunctionTransform>(
     stmt: &mut ReactiveTerminalStatement,
     state: &mut T::State,
 ) -> Result<(), Fault>
-    ensures { (n : ℕ) → Meets (terminal_at T.steps T.functions (block_to T.steps T.functions n) (transform.old, state.old) stmt.old) result ((transform.new, state.new), stmt.new) }
+    ensures { (n : ℕ)
+        → Meets (terminal_at T.steps T.functions (block_to T.steps T.functions n) (transform.old, state.old) stmt.old)
+        result ((transform.new, state.new), stmt.new) }
 {
     match transform.enter_terminal(stmt, state)? {
         Enter::Inside => {
@@ -281,7 +308,9 @@ fn walk_inside_terminal<T: ReactiveFunctionTransform>(
     stmt: &mut ReactiveTerminalStatement,
     state: &mut T::State,
 ) -> Result<(), Fault>
-    ensures { (n : ℕ) → Meets (terminal_inside T.steps T.functions (block_to T.steps T.functions n) (transform.old, state.old) stmt.old) result ((transform.new, state.new), stmt.new) }
+    ensures { (n : ℕ)
+        → Meets (terminal_inside T.steps T.functions (block_to T.steps T.functions n) (transform.old, state.old)
+        stmt.old) result ((transform.new, state.new), stmt.new) }
 {
     walk_parts(alloc, transform, &mut stmt.terminal, state)
 }
@@ -294,7 +323,9 @@ fn walk_parts<T: ReactiveFunctionTransform>(
     terminal: &mut ReactiveTerminal,
     state: &mut T::State,
 ) -> Result<(), Fault>
-    ensures { (n : ℕ) → Meets (parts_at T.steps T.functions (block_to T.steps T.functions n) (transform.old, state.old) terminal.old) result ((transform.new, state.new), terminal.new) }
+    ensures { (n : ℕ)
+        → Meets (parts_at T.steps T.functions (block_to T.steps T.functions n) (transform.old, state.old) terminal.old)
+        result ((transform.new, state.new), terminal.new) }
 {
     match terminal {
         ReactiveTerminal::Break { id, .. } => transform.visit_id(*id, state),
@@ -403,7 +434,9 @@ fn walk_cases<T: ReactiveFunctionTransform>(
     cases: &mut List<ReactiveSwitchCase>,
     state: &mut T::State,
 ) -> Result<(), Fault>
-    ensures { (n : ℕ) → Meets (cases_at T.steps T.functions (block_to T.steps T.functions n) id (transform.old, state.old) cases.old) result ((transform.new, state.new), cases.new) }
+    ensures { (n : ℕ)
+        → Meets (cases_at T.steps T.functions (block_to T.steps T.functions n) id (transform.old, state.old) cases.old)
+        result ((transform.new, state.new), cases.new) }
 {
     for i in 0..cases.len() {
         let Some(case) = cases.get_mut(i) else {
@@ -423,7 +456,9 @@ fn walk_case<T: ReactiveFunctionTransform>(
     case: &mut ReactiveSwitchCase,
     state: &mut T::State,
 ) -> Result<(), Fault>
-    ensures { (n : ℕ) → Meets (case_at T.steps T.functions (block_to T.steps T.functions n) id (transform.old, state.old) case.old) result ((transform.new, state.new), case.new) }
+    ensures { (n : ℕ)
+        → Meets (case_at T.steps T.functions (block_to T.steps T.functions n) id (transform.old, state.old) case.old)
+        result ((transform.new, state.new), case.new) }
 {
     visit_place_if(transform, id, &case.test, state)?;
     walk_block_if(alloc, transform, &mut case.block, state)
@@ -437,7 +472,9 @@ fn walk_block_if<T: ReactiveFunctionTransform>(
     block: &mut Option<ReactiveBlock>,
     state: &mut T::State,
 ) -> Result<(), Fault>
-    ensures { (n : ℕ) → Meets (perhaps_part (block_to T.steps T.functions n) (transform.old, state.old) block.old) result ((transform.new, state.new), block.new) }
+    ensures { (n : ℕ)
+        → Meets (perhaps_part (block_to T.steps T.functions n) (transform.old, state.old) block.old) result
+        ((transform.new, state.new), block.new) }
 {
     match block {
         Some(block) => walk_block_to(alloc, transform, block, state),
@@ -453,7 +490,8 @@ fn walk_value_if<T: ReactiveFunctionTransform>(
     value: &mut Option<ReactiveValue>,
     state: &mut T::State,
 ) -> Result<(), Fault>
-    ensures { Gives (perhaps_hook (rewrite_value T.steps T.functions id) (transform.old, state.old) value.old) result ((transform.new, state.new), value.new) }
+    ensures { Gives (perhaps_hook (rewrite_value T.steps T.functions id) (transform.old, state.old) value.old) result
+        ((transform.new, state.new), value.new) }
 {
     match value {
         Some(value) => walk_value(alloc, transform, id, value, state),
@@ -470,7 +508,8 @@ fn put_last<T: ReactiveFunctionTransform>(
     state: &mut T::State,
 ) -> Result<(), Fault>
     ensures left { (rest : Entries ReactiveStatement) → (x : ReactiveStatement) → left.old ≡ rest ++ x ∷ [] → left.new ≡ rest }
-    ensures done { (rest : Entries ReactiveStatement) → (x : ReactiveStatement) → left.old ≡ rest ++ x ∷ [] → Gives (put_at T.steps (transform.old, state.old) done.old x) result ((transform.new, state.new), done.new) }
+    ensures done { (rest : Entries ReactiveStatement) → (x : ReactiveStatement) → left.old ≡ rest ++ x ∷ []
+        → Gives (put_at T.steps (transform.old, state.old) done.old x) result ((transform.new, state.new), done.new) }
 {
     match left.pop() {
         Some(statement) => put_asked(transform, statement, done, state),
@@ -486,7 +525,8 @@ fn put_asked<T: ReactiveFunctionTransform>(
     done: &mut List<ReactiveStatement>,
     state: &mut T::State,
 ) -> Result<(), Fault>
-    ensures { Gives (put_at T.steps (transform.old, state.old) done.old statement) result ((transform.new, state.new), done.new) }
+    ensures { Gives (put_at T.steps (transform.old, state.old) done.old statement) result
+        ((transform.new, state.new), done.new) }
 {
     let answer = ask(transform, &mut statement, state)?;
     put(done, statement, answer)?;
@@ -500,7 +540,8 @@ fn ask<T: ReactiveFunctionTransform>(
     statement: &mut ReactiveStatement,
     state: &mut T::State,
 ) -> Result<Transformed<ReactiveStatement>, Fault>
-    ensures { Gives (answer_at T.steps (transform.old, state.old) statement.old) result ((transform.new, state.new), statement.new) }
+    ensures { Gives (answer_at T.steps (transform.old, state.old) statement.old) result
+        ((transform.new, state.new), statement.new) }
 {
     match statement {
         ReactiveStatement::Instruction(row) => transform.transform_instruction(row, state),

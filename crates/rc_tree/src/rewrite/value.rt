@@ -23,7 +23,8 @@ pub fn traverse_value<T: ReactiveFunctionTransform>(
     value: &mut ReactiveValue,
     state: &mut T::State,
 ) -> Result<(), Fault>
-    ensures { Gives (inside_value T.steps T.functions id (transform.old, state.old) value.old) result ((transform.new, state.new), value.new) }
+    ensures { Gives (inside_value T.steps T.functions id (transform.old, state.old) value.old) result
+        ((transform.new, state.new), value.new) }
 {
     walk_inside_value(alloc, transform, id, value, state)
 }
@@ -36,7 +37,8 @@ pub fn traverse_instruction<T: ReactiveFunctionTransform>(
     instruction: &mut ReactiveInstruction,
     state: &mut T::State,
 ) -> Result<(), Fault>
-    ensures { Gives (inside_instruction T.steps T.functions (transform.old, state.old) instruction.old) result ((transform.new, state.new), instruction.new) }
+    ensures { Gives (inside_instruction T.steps T.functions (transform.old, state.old) instruction.old) result
+        ((transform.new, state.new), instruction.new) }
 {
     walk_inside_row(alloc, transform, instruction, state)
 }
@@ -49,7 +51,8 @@ pub(crate) fn walk_value<T: ReactiveFunctionTransform>(
     value: &mut ReactiveValue,
     state: &mut T::State,
 ) -> Result<(), Fault>
-    ensures { Gives (rewrite_value T.steps T.functions id (transform.old, state.old) value.old) result ((transform.new, state.new), value.new) }
+    ensures { Gives (rewrite_value T.steps T.functions id (transform.old, state.old) value.old) result
+        ((transform.new, state.new), value.new) }
 {
     walk_value_to(alloc, transform, id, value, state)
 }
@@ -61,7 +64,8 @@ pub(crate) fn walk_instruction<T: ReactiveFunctionTransform>(
     instruction: &mut ReactiveInstruction,
     state: &mut T::State,
 ) -> Result<(), Fault>
-    ensures { Gives (rewrite_instruction T.steps T.functions (transform.old, state.old) instruction.old) result ((transform.new, state.new), instruction.new) }
+    ensures { Gives (rewrite_instruction T.steps T.functions (transform.old, state.old) instruction.old) result
+        ((transform.new, state.new), instruction.new) }
 {
     walk_row(alloc, transform, instruction, state)
 }
@@ -75,7 +79,9 @@ fn walk_value_to<T: ReactiveFunctionTransform>(
     value: &mut ReactiveValue,
     state: &mut T::State,
 ) -> Result<(), Fault>
-    ensures { (n : ℕ) → Meets (value_to T.steps T.functions n id (transform.old, state.old) value.old) result ((transform.new, state.new), value.new) }
+    ensures { (n : ℕ)
+        → Meets (value_to T.steps T.functions n id (transform.old, state.old) value.old) result
+        ((transform.new, state.new), value.new) }
 {
     match transform.enter_value(id, value, state)? {
         Enter::Inside => {
@@ -95,7 +101,9 @@ fn walk_inside_value<T: ReactiveFunctionTransform>(
     value: &mut ReactiveValue,
     state: &mut T::State,
 ) -> Result<(), Fault>
-    ensures { (n : ℕ) → Meets (value_inside T.steps T.functions (value_to T.steps T.functions n) id (transform.old, state.old) value.old) result ((transform.new, state.new), value.new) }
+    ensures { (n : ℕ)
+        → Meets (value_inside T.steps T.functions (value_to T.steps T.functions n) id (transform.old, state.old)
+        value.old) result ((transform.new, state.new), value.new) }
 {
     match value {
         ReactiveValue::Instruction(value) => visit_operands(alloc, transform, id, value, state),
@@ -139,7 +147,9 @@ fn walk_rows<T: ReactiveFunctionTransform>(
     rows: &mut List<ReactiveInstruction>,
     state: &mut T::State,
 ) -> Result<(), Fault>
-    ensures { (n : ℕ) → Meets (rows_at T.steps T.functions (value_to T.steps T.functions n) (transform.old, state.old) rows.old) result ((transform.new, state.new), rows.new) }
+    ensures { (n : ℕ)
+        → Meets (rows_at T.steps T.functions (value_to T.steps T.functions n) (transform.old, state.old) rows.old)
+        result ((transform.new, state.new), rows.new) }
 {
     let mut left = rows.take();
     left.reverse();
@@ -158,7 +168,9 @@ fn walk_row_into<T: ReactiveFunctionTransform>(
     done: &mut List<ReactiveInstruction>,
     state: &mut T::State,
 ) -> Result<(), Fault>
-    ensures { (n : ℕ) → Meets (kept_into (instruction_at T.steps T.functions (value_to T.steps T.functions n)) (transform.old, state.old) done.old row) result ((transform.new, state.new), done.new) }
+    ensures { (n : ℕ)
+        → Meets (kept_into (instruction_at T.steps T.functions (value_to T.steps T.functions n))
+        (transform.old, state.old) done.old row) result ((transform.new, state.new), done.new) }
 {
     walk_row(alloc, transform, &mut row, state)?;
     done.push(row)?;
@@ -173,7 +185,9 @@ fn walk_row<T: ReactiveFunctionTransform>(
     row: &mut ReactiveInstruction,
     state: &mut T::State,
 ) -> Result<(), Fault>
-    ensures { (n : ℕ) → Meets (instruction_at T.steps T.functions (value_to T.steps T.functions n) (transform.old, state.old) row.old) result ((transform.new, state.new), row.new) }
+    ensures { (n : ℕ)
+        → Meets (instruction_at T.steps T.functions (value_to T.steps T.functions n) (transform.old, state.old) row.old)
+        result ((transform.new, state.new), row.new) }
 {
     match transform.enter_instruction(row, state)? {
         Enter::Inside => {
@@ -192,7 +206,9 @@ fn walk_inside_row<T: ReactiveFunctionTransform>(
     row: &mut ReactiveInstruction,
     state: &mut T::State,
 ) -> Result<(), Fault>
-    ensures { (n : ℕ) → Meets (instruction_inside T.steps T.functions (value_to T.steps T.functions n) (transform.old, state.old) row.old) result ((transform.new, state.new), row.new) }
+    ensures { (n : ℕ)
+        → Meets (instruction_inside T.steps T.functions (value_to T.steps T.functions n) (transform.old, state.old)
+        row.old) result ((transform.new, state.new), row.new) }
 {
     transform.visit_id(row.id, state)?;
     visit_target(transform, row.id, &row.lvalue, state)?;

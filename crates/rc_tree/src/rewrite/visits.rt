@@ -21,7 +21,8 @@ pub(crate) fn visit_operands<T: ReactiveFunctionTransform>(
     value: &InstructionValue,
     state: &mut T::State,
 ) -> Result<(), Fault>
-    ensures { Gives (inside_base T.steps T.functions id value.now (transform.old, state.old)) result (transform.new, state.new) }
+    ensures { Gives (inside_base T.steps T.functions id value.now (transform.old, state.old)) result
+        (transform.new, state.new) }
 {
     let places = each_instruction_value_operand(alloc, value, transform.env())?;
     visit_places(transform, id, &places, state)
@@ -34,7 +35,8 @@ pub(crate) fn visit_target<T: ReactiveFunctionTransform>(
     target: &Option<Place>,
     state: &mut T::State,
 ) -> Result<(), Fault>
-    ensures { Gives (perhaps (T.steps.visit_lvalue id) target.now (transform.old, state.old)) result (transform.new, state.new) }
+    ensures { Gives (perhaps (T.steps.visit_lvalue id) target.now (transform.old, state.old)) result
+        (transform.new, state.new) }
 {
     match target {
         Some(target) => transform.visit_lvalue(id, target, state),
@@ -50,7 +52,8 @@ pub(crate) fn visit_value_targets<T: ReactiveFunctionTransform>(
     value: &ReactiveValue,
     state: &mut T::State,
 ) -> Result<(), Fault>
-    ensures { Gives (each (T.steps.visit_lvalue id) (targets_of value.now) (transform.old, state.old)) result (transform.new, state.new) }
+    ensures { Gives (each (T.steps.visit_lvalue id) (targets_of value.now) (transform.old, state.old)) result
+        (transform.new, state.new) }
 {
     match value {
         ReactiveValue::Instruction(value) => {
@@ -71,7 +74,8 @@ pub(crate) fn visit_place_if<T: ReactiveFunctionTransform>(
     place: &Option<Place>,
     state: &mut T::State,
 ) -> Result<(), Fault>
-    ensures { Gives (perhaps (T.steps.visit_place id) place.now (transform.old, state.old)) result (transform.new, state.new) }
+    ensures { Gives (perhaps (T.steps.visit_place id) place.now (transform.old, state.old)) result
+        (transform.new, state.new) }
 {
     match place {
         Some(place) => transform.visit_place(id, place, state),
@@ -86,7 +90,8 @@ fn visit_places<T: ReactiveFunctionTransform>(
     places: &List<Place>,
     state: &mut T::State,
 ) -> Result<(), Fault>
-    ensures { Gives (each (T.steps.visit_place id) places.now (transform.old, state.old)) result (transform.new, state.new) }
+    ensures { Gives (each (T.steps.visit_place id) places.now (transform.old, state.old)) result
+        (transform.new, state.new) }
 {
     for place in places.as_slice() {
         transform.visit_place(id, place, state)?;
@@ -101,7 +106,8 @@ fn visit_lvalues<T: ReactiveFunctionTransform>(
     places: &List<Place>,
     state: &mut T::State,
 ) -> Result<(), Fault>
-    ensures { Gives (each (T.steps.visit_lvalue id) places.now (transform.old, state.old)) result (transform.new, state.new) }
+    ensures { Gives (each (T.steps.visit_lvalue id) places.now (transform.old, state.old)) result
+        (transform.new, state.new) }
 {
     for place in places.as_slice() {
         transform.visit_lvalue(id, place, state)?;

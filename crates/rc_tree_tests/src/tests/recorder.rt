@@ -212,7 +212,9 @@ pub fn visits(
     recorder: &Recorder,
     func: &ReactiveFunction,
 ) -> Result<List<Visit>, Fault>
-    ensures { IfOk result (λ visits. read_block (⟦<Recorder as ReactiveFunctionVisitor>⟧.steps recorder.now) recorder.now.env.functions func.now.body [] ≡ Ok (tt, visits)) }
+    ensures { IfOk result
+        (λ visits. read_block (⟦<Recorder as ReactiveFunctionVisitor>⟧.steps recorder.now) recorder.now.env.functions
+        func.now.body [] ≡ Ok (tt, visits)) }
 {
     let mut visits = List::new(alloc);
     visit_reactive_function(alloc, func, recorder, &mut visits)?;

@@ -283,7 +283,9 @@ pub fn rewritten(
     rewriter: &mut Rewriter,
     func: &mut ReactiveFunction,
 ) -> Result<List<Visit>, Fault>
-    ensures { IfOk result (λ visits. rewrite_block ⟦<Rewriter as ReactiveFunctionTransform>⟧.steps ⟦<Rewriter as ReactiveFunctionTransform>⟧.functions (rewriter.old, []) func.old.body ≡ Ok (tt, ((rewriter.new, visits), func.new.body))) }
+    ensures { IfOk result
+        (λ visits. rewrite_block ⟦<Rewriter as ReactiveFunctionTransform>⟧.steps ⟦<Rewriter as ReactiveFunctionTransform>⟧.functions (rewriter.old, []) func.old.body
+        ≡ Ok (tt, ((rewriter.new, visits), func.new.body))) }
 {
     let mut visits = List::new(alloc);
     transform_reactive_function(alloc, func, rewriter, &mut visits)?;

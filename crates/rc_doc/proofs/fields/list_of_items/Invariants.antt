@@ -6,4 +6,5 @@ use Rattle.rc_doc.proofs.fields.list_of_items.Given as goal
 -- the items so far and those still to be read are all the items
 abbrev pub invariant-loop-value : goal.invariant-loop-value
 invariant-loop-value g l =
-    option_map (λ rest. l.items ++ rest) (all_items g.T.Read.reads (items_view (drop l.value-index l.values))) ≡ all_items g.T.Read.reads (items_view l.values)
+    option_map (λ rest. l.items ++ rest) (all_items g.T.Read.reads (items_view (drop l.value-index l.values)))
+    ≡ all_items g.T.Read.reads (items_view l.values)

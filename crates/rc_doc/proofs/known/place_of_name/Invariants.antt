@@ -6,4 +6,5 @@ use Rattle.rc_doc.proofs.known.place_of_name.Given as goal
 -- the name stands behind the place, if it stands behind the start
 abbrev pub invariant-loop-place : goal.invariant-loop-place
 invariant-loop-place l =
-    list_any (bytes_eq l.name) (drop l.place (map (λ known. known.now) l.names)) ≡ list_any (bytes_eq l.name) (drop l.start (map (λ known. known.now) l.names))
+    list_any (bytes_eq l.name) (drop l.place (map (λ known. known.now) l.names))
+    ≡ list_any (bytes_eq l.name) (drop l.start (map (λ known. known.now) l.names))

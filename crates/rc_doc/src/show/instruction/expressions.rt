@@ -53,7 +53,8 @@ pub(super) fn binary_expression(
     right: &Place,
     span: &Option<Span>,
 ) -> Result<Value, AllocError>
-    ensures value { IfOk result (λ shown. view shown ≡ value_data (kinds.BinaryExpression operator.now left.now right.now span.now)) }
+    ensures value { IfOk result
+        (λ shown. view shown ≡ value_data (kinds.BinaryExpression operator.now left.now right.now span.now)) }
     ensures again { OnOk result (ReadsBack (kinds.BinaryExpression operator.now left.now right.now span.now)) }
 {
     Ok(

@@ -129,7 +129,8 @@ pub(super) fn property_store(
     value: &Place,
     span: &Option<Span>,
 ) -> Result<Value, AllocError>
-    ensures value { IfOk result (λ shown. view shown ≡ value_data (kinds.PropertyStore object.now property.now value.now span.now)) }
+    ensures value { IfOk result
+        (λ shown. view shown ≡ value_data (kinds.PropertyStore object.now property.now value.now span.now)) }
     ensures again { OnOk result (ReadsBack (kinds.PropertyStore object.now property.now value.now span.now)) }
 {
     Ok(
@@ -188,7 +189,8 @@ pub(super) fn computed_store(
     value: &Place,
     span: &Option<Span>,
 ) -> Result<Value, AllocError>
-    ensures value { IfOk result (λ shown. view shown ≡ value_data (kinds.ComputedStore object.now property.now value.now span.now)) }
+    ensures value { IfOk result
+        (λ shown. view shown ≡ value_data (kinds.ComputedStore object.now property.now value.now span.now)) }
     ensures again { OnOk result (ReadsBack (kinds.ComputedStore object.now property.now value.now span.now)) }
 {
     Ok(

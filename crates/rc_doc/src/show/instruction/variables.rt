@@ -180,7 +180,8 @@ pub(super) fn prefix_update(
     value: &Place,
     span: &Option<Span>,
 ) -> Result<Value, AllocError>
-    ensures value { IfOk result (λ shown. view shown ≡ value_data (kinds.PrefixUpdate lvalue.now operation.now value.now span.now)) }
+    ensures value { IfOk result
+        (λ shown. view shown ≡ value_data (kinds.PrefixUpdate lvalue.now operation.now value.now span.now)) }
     ensures again { OnOk result (ReadsBack (kinds.PrefixUpdate lvalue.now operation.now value.now span.now)) }
 {
     Ok(
@@ -201,7 +202,8 @@ pub(super) fn postfix_update(
     value: &Place,
     span: &Option<Span>,
 ) -> Result<Value, AllocError>
-    ensures value { IfOk result (λ shown. view shown ≡ value_data (kinds.PostfixUpdate lvalue.now operation.now value.now span.now)) }
+    ensures value { IfOk result
+        (λ shown. view shown ≡ value_data (kinds.PostfixUpdate lvalue.now operation.now value.now span.now)) }
     ensures again { OnOk result (ReadsBack (kinds.PostfixUpdate lvalue.now operation.now value.now span.now)) }
 {
     Ok(

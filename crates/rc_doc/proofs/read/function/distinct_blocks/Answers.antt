@@ -9,5 +9,6 @@ returns-then-is_some c =
 
 pub loop-value-preserved : goal.loop-value-preserved
 loop-value-preserved c =
-    new_key _ _ _ _ _ _ c.loop-value.invariant c.loop-value-test.true c.value-item.is c.in_ok-key.ensures _ c.in_ok-insert.ensures.entries
+    new_key _ _ _ _ _ _ c.loop-value.invariant c.loop-value-test.true c.value-item.is c.in_ok-key.ensures _
+    c.in_ok-insert.ensures.entries
     (sym (c.if-is_some.ensures ∙ ap is_some c.in_ok-insert.ensures.old))

@@ -7,4 +7,5 @@ use Rattle.rc_hir.proofs.names.parts.check_each.Given as goal
 -- the answer for the parts that are left is the answer for all
 abbrev pub invariant-loop-part : goal.invariant-loop-part
 invariant-loop-part g l = (answer : Result (Unit {0}) Fault)
-    → Judges l.tables (flat_map g.T.HoldsNames.names (drop l.part-index l.parts)) answer → Judges l.tables (flat_map g.T.HoldsNames.names l.parts) answer
+    → Judges l.tables (flat_map g.T.HoldsNames.names (drop l.part-index l.parts)) answer
+    → Judges l.tables (flat_map g.T.HoldsNames.names l.parts) answer

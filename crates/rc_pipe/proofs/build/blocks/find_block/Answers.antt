@@ -7,4 +7,5 @@ pub returns-in_default-clause-refused : goal.returns-in_default-clause-refused
 returns-in_default-clause-refused c = unusable_missing c.args.hir.now c.args.key (sym c.in_default.ensures)
 
 pub returns-then-ne-clause-refused : goal.returns-then-ne-clause-refused
-returns-then-ne-clause-refused c = unusable_numbered c.args.hir.now c.args.key c.in-Some.block.now (sym c.in-Some.ensures) (not_true _ (sym c.ne.ensures ∙ c.if-ne.true))
+returns-then-ne-clause-refused c = unusable_numbered c.args.hir.now c.args.key c.in-Some.block.now
+    (sym c.in-Some.ensures) (not_true _ (sym c.ne.ensures ∙ c.if-ne.true))

@@ -8,6 +8,7 @@ use Rattle.rc_pipe.proofs.build.jumps.put_goto.Goals as goal
 pub returns-in-Break-clause-ok : goal.returns-in-Break-clause-ok
 returns-in-Break-clause-ok c =
     IfOk-weaker c.put_break.result _ _
-    (λ x p span. subst (λ v. EndsList c.args.hir.now c.args.state.now.frames (terminals.Goto c.args.target v c.args.id span) c.args.out.now c.put_break.new.out) (sym c.in-Break.is)
+    (λ x p span. subst (λ v. EndsList c.args.hir.now c.args.state.now.frames
+    (terminals.Goto c.args.target v c.args.id span) c.args.out.now c.put_break.new.out) (sym c.in-Break.is)
     (record { statements = p.statements; spelled = λ env next. breaks p.asked; put = p.put }))
     c.put_break.ensures.ok

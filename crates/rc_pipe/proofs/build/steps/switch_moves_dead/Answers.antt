@@ -6,8 +6,10 @@ use Rattle.rc_pipe.proofs.build.steps.switch_moves_dead.Goals as goal
 
 pub returns-then-has_dead_case : goal.returns-then-has_dead_case
 returns-then-has_dead_case c =
-    c.if-has_dead_case.true ∙ sym (switch_any (is_dead c.args.hir.now) c.args.cases.now (past_blocks c.args.cases.now c.args.fallthrough) (sym c.has_dead_case.ensures ∙ c.if-has_dead_case.true))
+    c.if-has_dead_case.true ∙ sym (switch_any (is_dead c.args.hir.now) c.args.cases.now
+    (past_blocks c.args.cases.now c.args.fallthrough) (sym c.has_dead_case.ensures ∙ c.if-has_dead_case.true))
 
 pub returns-else-has_dead_case : goal.returns-else-has_dead_case
 returns-else-has_dead_case c =
-    c.falls_dead.ensures ∙ sym (switch_any (is_dead c.args.hir.now) c.args.cases.now (past_blocks c.args.cases.now c.args.fallthrough) (sym c.has_dead_case.ensures ∙ c.if-has_dead_case.false))
+    c.falls_dead.ensures ∙ sym (switch_any (is_dead c.args.hir.now) c.args.cases.now
+    (past_blocks c.args.cases.now c.args.fallthrough) (sym c.has_dead_case.ensures ∙ c.if-has_dead_case.false))

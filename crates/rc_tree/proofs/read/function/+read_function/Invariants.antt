@@ -1,4 +1,5 @@
--- Each call of the cycle is a step down: a function to its inside with one more mark, the inside to its blocks, and so on.
+-- Each call of the cycle is a step down: a function to its inside with one more mark, the inside to its blocks, and so
+-- on.
 use Rattle.std.proofs.Common.{◌≡◌, ◌+◌, ◌*◌, ℕ, drop}
 use Rattle.rc_tree.specs.Outcome.{each}
 use Rattle.rc_tree.specs.ReadFunction.{basic_block_at, not_entered, row_at}
@@ -27,7 +28,8 @@ decreases-walk_held g l = 7 * not_entered l.entered.now + 1
 
 abbrev pub invariant-walk_blocks-loop-i : goal.invariant-walk_blocks-loop-i
 invariant-walk_blocks-loop-i g l =
-    let step = basic_block_at (g.V.ReactiveFunctionVisitor.steps l.visitor) (g.V.ReactiveFunctionVisitor.functions l.visitor) l.initial.entered l.rows in
+    let step = basic_block_at (g.V.ReactiveFunctionVisitor.steps l.visitor)
+    (g.V.ReactiveFunctionVisitor.functions l.visitor) l.initial.entered l.rows in
     record {
       kept : l.entered ≡ l.initial.entered;
       walk : each step l.blocks l.initial.state ≡ each step (drop l.i l.blocks) l.state;
@@ -35,7 +37,8 @@ invariant-walk_blocks-loop-i g l =
 
 abbrev pub invariant-walk_rows-loop-id : goal.invariant-walk_rows-loop-id
 invariant-walk_rows-loop-id g l =
-    let step = row_at (g.V.ReactiveFunctionVisitor.steps l.visitor) (g.V.ReactiveFunctionVisitor.functions l.visitor) l.initial.entered l.rows in
+    let step = row_at (g.V.ReactiveFunctionVisitor.steps l.visitor) (g.V.ReactiveFunctionVisitor.functions l.visitor)
+    l.initial.entered l.rows in
     record {
       kept : l.entered ≡ l.initial.entered;
       walk : each step l.id-items l.initial.state ≡ each step (drop l.id-index l.id-items) l.state;

@@ -9,7 +9,8 @@ pub returns-clause-no_cycle : goal.returns-clause-no_cycle
 returns-clause-no_cycle g c =
     let steps = g.V.ReactiveFunctionVisitor.steps c.args.visitor.now in
     let functions = g.V.ReactiveFunctionVisitor.functions c.args.visitor.now in
-    let given : Gives (read_function steps functions c.args.func c.args.state.now) c.walk_function.result c.walk_function.new.state = search rules in
+    let given : Gives (read_function steps functions c.args.func c.args.state.now) c.walk_function.result
+    c.walk_function.new.state = search rules in
     no_cycle_given steps functions c.args.func c.args.state.now c.walk_function.new.state c.walk_function.result given
 
 -- it gives a cycle only where there is one, or a hook does
@@ -17,5 +18,6 @@ pub returns-clause-cycle : goal.returns-clause-cycle
 returns-clause-cycle g c =
     let steps = g.V.ReactiveFunctionVisitor.steps c.args.visitor.now in
     let functions = g.V.ReactiveFunctionVisitor.functions c.args.visitor.now in
-    let given : Gives (read_function steps functions c.args.func c.args.state.now) c.walk_function.result c.walk_function.new.state = search rules in
+    let given : Gives (read_function steps functions c.args.func c.args.state.now) c.walk_function.result
+    c.walk_function.new.state = search rules in
     cycle_given steps functions c.args.func c.args.state.now c.walk_function.new.state c.walk_function.result given

@@ -4,4 +4,10 @@ use Rattle.rc_tree.proofs.read.statement.+read_tree.Goals as goal
 -- the last part of an `If` stands behind three calls
 pub walk_parts-returns-in_ok-walk_block-in-If : goal.walk_parts-returns-in_ok-walk_block-in-If
 walk_parts-returns-in_ok-walk_block-in-If g t c =
-    rw (c.in-If.is, parts-If, c.in_ok-visit_id-in-If.ensures, c.in_ok-visit_place-in-If.ensures, c.in_ok-walk_block-in-If.ensures) c.walk_block_if.ensures
+    rw (
+      c.in-If.is,
+      parts-If,
+      c.in_ok-visit_id-in-If.ensures,
+      c.in_ok-visit_place-in-If.ensures,
+      c.in_ok-walk_block-in-If.ensures,
+    ) c.walk_block_if.ensures

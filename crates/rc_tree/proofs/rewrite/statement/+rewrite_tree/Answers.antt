@@ -237,9 +237,18 @@ walk_block_to-returns-in_err-walk_statements-in-Inside g t c = λ n.
     let steps = g.T.ReactiveFunctionTransform.steps in
     let functions = g.T.ReactiveFunctionTransform.functions in
     let fault = c.in_err-walk_statements-in-Inside.field-0.0 in
-    let p = err_from_is_err_and c.from_residual-in_err-walk_statements-in-Inside.result c.from_residual-in_err-walk_statements-in-Inside.ensures.1 in
-    rw (p.1, p.2) (meets_block_to steps functions (c.args.transform.now, c.args.state.now) c.args.block.now (Err fault) ((c.walk_statements.new.transform, c.walk_statements.new.state), c.walk_statements.new.block) (λ m. meets_inside_fault (steps.enter_block (c.args.transform.now, c.args.state.now) c.args.block.now) (block_inside steps functions (block_to steps functions m)) steps.leave_block ((c.enter_block.new.self, c.enter_block.new.state), c.enter_block.new.block)
-    ((c.walk_statements.new.transform, c.walk_statements.new.state), c.walk_statements.new.block) fault ((c.walk_statements.new.transform, c.walk_statements.new.state), c.walk_statements.new.block) (c.in_ok-enter_block.ensures.step ∙ ap (λ a. Ok (a, ((c.enter_block.new.self, c.enter_block.new.state), c.enter_block.new.block))) c.in-Inside.is) (c.in_err-walk_statements-in-Inside.ensures m)) n)
+    let p = err_from_is_err_and c.from_residual-in_err-walk_statements-in-Inside.result
+    c.from_residual-in_err-walk_statements-in-Inside.ensures.1 in
+    rw (p.1, p.2) (meets_block_to steps functions (c.args.transform.now, c.args.state.now) c.args.block.now (Err fault)
+    ((c.walk_statements.new.transform, c.walk_statements.new.state), c.walk_statements.new.block)
+    (λ m. meets_inside_fault (steps.enter_block (c.args.transform.now, c.args.state.now) c.args.block.now)
+    (block_inside steps functions (block_to steps functions m)) steps.leave_block
+    ((c.enter_block.new.self, c.enter_block.new.state), c.enter_block.new.block)
+    ((c.walk_statements.new.transform, c.walk_statements.new.state), c.walk_statements.new.block) fault
+    ((c.walk_statements.new.transform, c.walk_statements.new.state), c.walk_statements.new.block)
+    (c.in_ok-enter_block.ensures.step
+    ∙ ap (λ a. Ok (a, ((c.enter_block.new.self, c.enter_block.new.state), c.enter_block.new.block))) c.in-Inside.is)
+    (c.in_err-walk_statements-in-Inside.ensures m)) n)
 
 -- the inside fails
 pub walk_scope-returns-in_err-walk_inside_scope-in-Inside : goal.walk_scope-returns-in_err-walk_inside_scope-in-Inside
@@ -247,39 +256,85 @@ walk_scope-returns-in_err-walk_inside_scope-in-Inside g t c = λ n.
     let steps = g.T.ReactiveFunctionTransform.steps in
     let functions = g.T.ReactiveFunctionTransform.functions in
     let fault = c.in_err-walk_inside_scope-in-Inside.field-0.0 in
-    let p = err_from_is_err_and c.from_residual-in_err-walk_inside_scope-in-Inside.result c.from_residual-in_err-walk_inside_scope-in-Inside.ensures.1 in
-    rw (p.1, p.2) (meets_scope_at steps functions (block_to steps functions n) (c.args.transform.now, c.args.state.now) c.args.scope.now (Err fault) ((c.walk_inside_scope.new.transform, c.walk_inside_scope.new.state), c.walk_inside_scope.new.scope) (meets_inside_fault (steps.enter_scope (c.args.transform.now, c.args.state.now) c.args.scope.now) (scope_inside steps functions (block_to steps functions n)) steps.leave_scope ((c.enter_scope.new.self, c.enter_scope.new.state), c.enter_scope.new.scope)
-    ((c.walk_inside_scope.new.transform, c.walk_inside_scope.new.state), c.walk_inside_scope.new.scope) fault ((c.walk_inside_scope.new.transform, c.walk_inside_scope.new.state), c.walk_inside_scope.new.scope) (c.in_ok-enter_scope.ensures.step ∙ ap (λ a. Ok (a, ((c.enter_scope.new.self, c.enter_scope.new.state), c.enter_scope.new.scope))) c.in-Inside.is) (c.in_err-walk_inside_scope-in-Inside.ensures n)))
+    let p = err_from_is_err_and c.from_residual-in_err-walk_inside_scope-in-Inside.result
+    c.from_residual-in_err-walk_inside_scope-in-Inside.ensures.1 in
+    rw (p.1, p.2) (meets_scope_at steps functions (block_to steps functions n) (c.args.transform.now, c.args.state.now)
+    c.args.scope.now (Err fault)
+    ((c.walk_inside_scope.new.transform, c.walk_inside_scope.new.state), c.walk_inside_scope.new.scope)
+    (meets_inside_fault (steps.enter_scope (c.args.transform.now, c.args.state.now) c.args.scope.now)
+    (scope_inside steps functions (block_to steps functions n)) steps.leave_scope
+    ((c.enter_scope.new.self, c.enter_scope.new.state), c.enter_scope.new.scope)
+    ((c.walk_inside_scope.new.transform, c.walk_inside_scope.new.state), c.walk_inside_scope.new.scope) fault
+    ((c.walk_inside_scope.new.transform, c.walk_inside_scope.new.state), c.walk_inside_scope.new.scope)
+    (c.in_ok-enter_scope.ensures.step
+    ∙ ap (λ a. Ok (a, ((c.enter_scope.new.self, c.enter_scope.new.state), c.enter_scope.new.scope))) c.in-Inside.is)
+    (c.in_err-walk_inside_scope-in-Inside.ensures n)))
 
 -- the inside fails
-pub walk_pruned_scope-returns-in_err-walk_inside_pruned_scope-in-Inside : goal.walk_pruned_scope-returns-in_err-walk_inside_pruned_scope-in-Inside
+pub walk_pruned_scope-returns-in_err-walk_inside_pruned_scope-in-Inside :
+    goal.walk_pruned_scope-returns-in_err-walk_inside_pruned_scope-in-Inside
 walk_pruned_scope-returns-in_err-walk_inside_pruned_scope-in-Inside g t c = λ n.
     let steps = g.T.ReactiveFunctionTransform.steps in
     let functions = g.T.ReactiveFunctionTransform.functions in
     let fault = c.in_err-walk_inside_pruned_scope-in-Inside.field-0.0 in
-    let p = err_from_is_err_and c.from_residual-in_err-walk_inside_pruned_scope-in-Inside.result c.from_residual-in_err-walk_inside_pruned_scope-in-Inside.ensures.1 in
-    rw (p.1, p.2) (meets_pruned_scope_at steps functions (block_to steps functions n) (c.args.transform.now, c.args.state.now) c.args.scope.now (Err fault) ((c.walk_inside_pruned_scope.new.transform, c.walk_inside_pruned_scope.new.state), c.walk_inside_pruned_scope.new.scope) (meets_inside_fault (steps.enter_pruned_scope (c.args.transform.now, c.args.state.now) c.args.scope.now) (pruned_scope_inside steps functions (block_to steps functions n)) steps.leave_pruned_scope ((c.enter_pruned_scope.new.self, c.enter_pruned_scope.new.state), c.enter_pruned_scope.new.scope)
-    ((c.walk_inside_pruned_scope.new.transform, c.walk_inside_pruned_scope.new.state), c.walk_inside_pruned_scope.new.scope) fault ((c.walk_inside_pruned_scope.new.transform, c.walk_inside_pruned_scope.new.state), c.walk_inside_pruned_scope.new.scope) (c.in_ok-enter_pruned_scope.ensures.step ∙ ap (λ a. Ok (a, ((c.enter_pruned_scope.new.self, c.enter_pruned_scope.new.state), c.enter_pruned_scope.new.scope))) c.in-Inside.is) (c.in_err-walk_inside_pruned_scope-in-Inside.ensures n)))
+    let p = err_from_is_err_and c.from_residual-in_err-walk_inside_pruned_scope-in-Inside.result
+    c.from_residual-in_err-walk_inside_pruned_scope-in-Inside.ensures.1 in
+    rw (p.1, p.2) (meets_pruned_scope_at steps functions (block_to steps functions n)
+    (c.args.transform.now, c.args.state.now) c.args.scope.now (Err fault) (
+      (c.walk_inside_pruned_scope.new.transform, c.walk_inside_pruned_scope.new.state),
+      c.walk_inside_pruned_scope.new.scope,
+    ) (meets_inside_fault
+    (steps.enter_pruned_scope (c.args.transform.now, c.args.state.now) c.args.scope.now)
+    (pruned_scope_inside steps functions (block_to steps functions n)) steps.leave_pruned_scope
+    ((c.enter_pruned_scope.new.self, c.enter_pruned_scope.new.state), c.enter_pruned_scope.new.scope) (
+      (c.walk_inside_pruned_scope.new.transform, c.walk_inside_pruned_scope.new.state),
+      c.walk_inside_pruned_scope.new.scope,
+    ) fault (
+      (c.walk_inside_pruned_scope.new.transform, c.walk_inside_pruned_scope.new.state),
+      c.walk_inside_pruned_scope.new.scope,
+    ) (c.in_ok-enter_pruned_scope.ensures.step
+    ∙ ap (λ a. Ok
+    (a, ((c.enter_pruned_scope.new.self, c.enter_pruned_scope.new.state), c.enter_pruned_scope.new.scope)))
+    c.in-Inside.is) (c.in_err-walk_inside_pruned_scope-in-Inside.ensures n)))
 
 -- the inside fails
-pub walk_terminal-returns-in_err-walk_inside_terminal-in-Inside : goal.walk_terminal-returns-in_err-walk_inside_terminal-in-Inside
+pub walk_terminal-returns-in_err-walk_inside_terminal-in-Inside :
+    goal.walk_terminal-returns-in_err-walk_inside_terminal-in-Inside
 walk_terminal-returns-in_err-walk_inside_terminal-in-Inside g t c = λ n.
     let steps = g.T.ReactiveFunctionTransform.steps in
     let functions = g.T.ReactiveFunctionTransform.functions in
     let fault = c.in_err-walk_inside_terminal-in-Inside.field-0.0 in
-    let p = err_from_is_err_and c.from_residual-in_err-walk_inside_terminal-in-Inside.result c.from_residual-in_err-walk_inside_terminal-in-Inside.ensures.1 in
-    rw (p.1, p.2) (meets_terminal_at steps functions (block_to steps functions n) (c.args.transform.now, c.args.state.now) c.args.stmt.now (Err fault) ((c.walk_inside_terminal.new.transform, c.walk_inside_terminal.new.state), c.walk_inside_terminal.new.stmt) (meets_inside_fault (steps.enter_terminal (c.args.transform.now, c.args.state.now) c.args.stmt.now) (terminal_inside steps functions (block_to steps functions n)) steps.leave_terminal ((c.enter_terminal.new.self, c.enter_terminal.new.state), c.enter_terminal.new.stmt)
-    ((c.walk_inside_terminal.new.transform, c.walk_inside_terminal.new.state), c.walk_inside_terminal.new.stmt) fault ((c.walk_inside_terminal.new.transform, c.walk_inside_terminal.new.state), c.walk_inside_terminal.new.stmt) (c.in_ok-enter_terminal.ensures.step ∙ ap (λ a. Ok (a, ((c.enter_terminal.new.self, c.enter_terminal.new.state), c.enter_terminal.new.stmt))) c.in-Inside.is) (c.in_err-walk_inside_terminal-in-Inside.ensures n)))
+    let p = err_from_is_err_and c.from_residual-in_err-walk_inside_terminal-in-Inside.result
+    c.from_residual-in_err-walk_inside_terminal-in-Inside.ensures.1 in
+    rw (p.1, p.2) (meets_terminal_at steps functions (block_to steps functions n)
+    (c.args.transform.now, c.args.state.now) c.args.stmt.now (Err fault)
+    ((c.walk_inside_terminal.new.transform, c.walk_inside_terminal.new.state), c.walk_inside_terminal.new.stmt)
+    (meets_inside_fault (steps.enter_terminal (c.args.transform.now, c.args.state.now) c.args.stmt.now)
+    (terminal_inside steps functions (block_to steps functions n)) steps.leave_terminal
+    ((c.enter_terminal.new.self, c.enter_terminal.new.state), c.enter_terminal.new.stmt)
+    ((c.walk_inside_terminal.new.transform, c.walk_inside_terminal.new.state), c.walk_inside_terminal.new.stmt) fault
+    ((c.walk_inside_terminal.new.transform, c.walk_inside_terminal.new.state), c.walk_inside_terminal.new.stmt)
+    (c.in_ok-enter_terminal.ensures.step
+    ∙ ap (λ a. Ok (a, ((c.enter_terminal.new.self, c.enter_terminal.new.state), c.enter_terminal.new.stmt)))
+    c.in-Inside.is) (c.in_err-walk_inside_terminal-in-Inside.ensures n)))
 
 -- the inside of a terminal, and then its leave step
-pub walk_terminal-returns-in_ok-walk_inside_terminal-in-Inside : goal.walk_terminal-returns-in_ok-walk_inside_terminal-in-Inside
+pub walk_terminal-returns-in_ok-walk_inside_terminal-in-Inside :
+    goal.walk_terminal-returns-in_ok-walk_inside_terminal-in-Inside
 walk_terminal-returns-in_ok-walk_inside_terminal-in-Inside g t c = λ n.
     let steps = g.T.ReactiveFunctionTransform.steps in
     let functions = g.T.ReactiveFunctionTransform.functions in
-    meets_terminal_at steps functions (block_to steps functions n) (c.args.transform.now, c.args.state.now) c.args.stmt.now c.leave_terminal.result ((c.leave_terminal.new.self, c.leave_terminal.new.state), c.leave_terminal.new.stmt)
-    (meets_inside (steps.enter_terminal (c.args.transform.now, c.args.state.now) c.args.stmt.now) (terminal_inside steps functions (block_to steps functions n)) steps.leave_terminal
-    ((c.enter_terminal.new.self, c.enter_terminal.new.state), c.enter_terminal.new.stmt) ((c.walk_inside_terminal.new.transform, c.walk_inside_terminal.new.state), c.walk_inside_terminal.new.stmt) c.leave_terminal.result ((c.leave_terminal.new.self, c.leave_terminal.new.state), c.leave_terminal.new.stmt)
-    (c.in_ok-enter_terminal.ensures.step ∙ ap (λ a. Ok (a, ((c.enter_terminal.new.self, c.enter_terminal.new.state), c.enter_terminal.new.stmt))) c.in-Inside.is) (c.in_ok-walk_inside_terminal-in-Inside.ensures n) c.leave_terminal.ensures.step)
+    meets_terminal_at steps functions (block_to steps functions n) (c.args.transform.now, c.args.state.now)
+    c.args.stmt.now c.leave_terminal.result
+    ((c.leave_terminal.new.self, c.leave_terminal.new.state), c.leave_terminal.new.stmt)
+    (meets_inside (steps.enter_terminal (c.args.transform.now, c.args.state.now) c.args.stmt.now)
+    (terminal_inside steps functions (block_to steps functions n)) steps.leave_terminal
+    ((c.enter_terminal.new.self, c.enter_terminal.new.state), c.enter_terminal.new.stmt)
+    ((c.walk_inside_terminal.new.transform, c.walk_inside_terminal.new.state), c.walk_inside_terminal.new.stmt)
+    c.leave_terminal.result ((c.leave_terminal.new.self, c.leave_terminal.new.state), c.leave_terminal.new.stmt)
+    (c.in_ok-enter_terminal.ensures.step
+    ∙ ap (λ a. Ok (a, ((c.enter_terminal.new.self, c.enter_terminal.new.state), c.enter_terminal.new.stmt)))
+    c.in-Inside.is) (c.in_ok-walk_inside_terminal-in-Inside.ensures n) c.leave_terminal.ensures.step)
 
 -- the body of a `For`, behind four steps
 pub walk_parts-returns-in_ok-walk_value_if-in-For : goal.walk_parts-returns-in_ok-walk_value_if-in-For
@@ -289,15 +344,27 @@ walk_parts-returns-in_ok-walk_value_if-in-For g t c = λ n.
     let w : g.row.T.Denot × g.row.T-State.Denot = (c.args.transform.now, c.args.state.now) in
     let w1 : g.row.T.Denot × g.row.T-State.Denot = (c.visit_id-in-For.new.self, c.visit_id-in-For.new.state) in
     let w2 : g.row.T.Denot × g.row.T-State.Denot = (c.walk_value-in-For.new.transform, c.walk_value-in-For.new.state) in
-    let w3 : g.row.T.Denot × g.row.T-State.Denot = (c.walk_value-in-For-2.new.transform, c.walk_value-in-For-2.new.state) in
+    let w3 : g.row.T.Denot
+    × g.row.T-State.Denot = (c.walk_value-in-For-2.new.transform, c.walk_value-in-For-2.new.state) in
     let w4 : g.row.T.Denot × g.row.T-State.Denot = (c.walk_value_if.new.transform, c.walk_value_if.new.state) in
-    let w5 : g.row.T.Denot × g.row.T-State.Denot = (c.walk_block_to-in-For.new.transform, c.walk_block_to-in-For.new.state) in
-    subst (λ id. Meets (parts_at steps functions (block_to steps functions n) w c.args.terminal.now) c.walk_block_to-in-For.result
-    (w5, term.For c.walk_value-in-For.new.value c.walk_value-in-For-2.new.value c.walk_value_if.new.value c.walk_block_to-in-For.new.block id)) (sym c.in-For.id-is)
-    (rw c.in-For.is (meets_For steps functions (block_to steps functions n) w w1 w2 w3 w4 w5 c.in-For.init c.walk_value-in-For.new.value c.in-For.test c.walk_value-in-For-2.new.value
-    c.in-For.update c.walk_value_if.new.value c.in-For.body c.walk_block_to-in-For.new.block c.in-For.id c.walk_block_to-in-For.result
+    let w5 : g.row.T.Denot
+    × g.row.T-State.Denot = (c.walk_block_to-in-For.new.transform, c.walk_block_to-in-For.new.state) in
+    subst (λ id. Meets (parts_at steps functions (block_to steps functions n) w c.args.terminal.now)
+    c.walk_block_to-in-For.result (
+      w5,
+      term.For c.walk_value-in-For.new.value c.walk_value-in-For-2.new.value c.walk_value_if.new.value
+          c.walk_block_to-in-For.new.block id,
+    )) (sym c.in-For.id-is)
+    (rw c.in-For.is (meets_For steps functions (block_to steps functions n) w w1 w2 w3 w4 w5 c.in-For.init
+    c.walk_value-in-For.new.value c.in-For.test c.walk_value-in-For-2.new.value
+    c.in-For.update c.walk_value_if.new.value c.in-For.body c.walk_block_to-in-For.new.block c.in-For.id
+    c.walk_block_to-in-For.result
     (subst (λ id. steps.visit_id id w ≡ Ok (tt, w1)) c.in-For.id-is c.in_ok-visit_id-in-For.ensures.step)
-    (both_same (λ id x. rewrite_value steps functions id w1 x ≡ Ok (tt, (w2, c.walk_value-in-For.new.value))) c.in-For.id-is c.in-For.init-is c.in_ok-walk_value-in-For.ensures)
-    (both_same (λ id x. rewrite_value steps functions id w2 x ≡ Ok (tt, (w3, c.walk_value-in-For-2.new.value))) c.in-For.id-is c.in-For.test-is c.in_ok-walk_value-in-For-2.ensures)
-    (both_same (λ id x. perhaps_hook (rewrite_value steps functions id) w3 x ≡ Ok (tt, (w4, c.walk_value_if.new.value))) c.in-For.id-is c.in-For.update-is c.in_ok-walk_value_if-in-For.ensures)
-    (subst (λ x. Meets (block_to steps functions n w4 x) c.walk_block_to-in-For.result (w5, c.walk_block_to-in-For.new.block)) c.in-For.body-is (c.walk_block_to-in-For.ensures n))))
+    (both_same (λ id x. rewrite_value steps functions id w1 x ≡ Ok (tt, (w2, c.walk_value-in-For.new.value)))
+    c.in-For.id-is c.in-For.init-is c.in_ok-walk_value-in-For.ensures)
+    (both_same (λ id x. rewrite_value steps functions id w2 x ≡ Ok (tt, (w3, c.walk_value-in-For-2.new.value)))
+    c.in-For.id-is c.in-For.test-is c.in_ok-walk_value-in-For-2.ensures)
+    (both_same (λ id x. perhaps_hook (rewrite_value steps functions id) w3 x ≡ Ok (tt, (w4, c.walk_value_if.new.value)))
+    c.in-For.id-is c.in-For.update-is c.in_ok-walk_value_if-in-For.ensures)
+    (subst (λ x. Meets (block_to steps functions n w4 x) c.walk_block_to-in-For.result
+    (w5, c.walk_block_to-in-For.new.block)) c.in-For.body-is (c.walk_block_to-in-For.ensures n))))

@@ -15,8 +15,10 @@ invariant-walk_list-statement g l =
     record {
       no_deeper : most statement.the_size l.left ≤ most statement.the_size l.fn.statements;
       so_far : (n : ℕ) → So (into_at steps functions (block_to steps functions n))
-          (statements_at steps functions (block_to steps functions n) (l.initial.transform, l.initial.state) l.fn.statements)
-          (in_turn (into_at steps functions (block_to steps functions n)) (l.transform, l.state) l.statements (reverse l.left));
+          (statements_at steps functions (block_to steps functions n) (l.initial.transform, l.initial.state)
+          l.fn.statements)
+          (in_turn (into_at steps functions (block_to steps functions n)) (l.transform, l.state) l.statements
+          (reverse l.left));
     }
 
 abbrev pub decreases-walk_list-statement : goal.decreases-walk_list-statement
@@ -30,7 +32,8 @@ invariant-walk_cases-loop-i g l =
       as_long : length l.cases ≡ length l.fn.cases;
       no_deeper : most switch_case.the_size (drop l.i l.cases) ≤ most switch_case.the_size l.fn.cases;
       so_far : (n : ℕ) → So (kept_into (case_at steps functions (block_to steps functions n) l.fn.id))
-          (cases_at steps functions (block_to steps functions n) l.fn.id (l.initial.transform, l.initial.state) l.fn.cases)
+          (cases_at steps functions (block_to steps functions n) l.fn.id (l.initial.transform, l.initial.state)
+          l.fn.cases)
           (in_turn (kept_into (case_at steps functions (block_to steps functions n) l.fn.id)) (l.transform, l.state)
           (take l.i l.cases) (drop l.i l.cases));
     }

@@ -15,7 +15,8 @@ invariant-walk_rows-loop-row g l =
       no_deeper : most the_size l.left ≤ most the_size l.fn.rows;
       so_far : (n : ℕ) → So (kept_into (instruction_at steps functions (value_to steps functions n)))
           (rows_at steps functions (value_to steps functions n) (l.initial.transform, l.initial.state) l.fn.rows)
-          (in_turn (kept_into (instruction_at steps functions (value_to steps functions n))) (l.transform, l.state) l.rows (reverse l.left));
+          (in_turn (kept_into (instruction_at steps functions (value_to steps functions n))) (l.transform, l.state)
+          l.rows (reverse l.left));
     }
 
 abbrev pub decreases-walk_rows-loop-row : goal.decreases-walk_rows-loop-row

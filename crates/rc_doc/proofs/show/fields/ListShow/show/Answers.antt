@@ -10,4 +10,5 @@ loop-x-preserved g c =
 
 pub returns-clause-value : goal.returns-clause-value
 returns-clause-value g c =
-    all_shown _ _ _ _ _ c.loop-x-test.false c.loop-x.invariant ∙ ap (λ xs. list_data g.T.Show.shows xs) c.as_slice-x-items.ensures
+    all_shown _ _ _ _ _ c.loop-x-test.false c.loop-x.invariant
+    ∙ ap (λ xs. list_data g.T.Show.shows xs) c.as_slice-x-items.ensures

@@ -9,12 +9,14 @@ pub returns-in_err-check_at : goal.returns-in_err-check_at
 returns-in_err-check_at g c =
     let p = err_from_is_err_and c.from_residual.result c.from_residual.ensures.1 in
     let here : c.loop-i.i < length c.args.self.now = omega arith in
-    rw (p.1, p.2) (c.loop-i.invariant _ (judges_stop_at c.args.tables (under_key g.V.HoldsNames.names) _ _ here _ c.in_err-check_at.ensures))
+    rw (p.1, p.2) (c.loop-i.invariant _ (judges_stop_at c.args.tables (under_key g.V.HoldsNames.names) _ _ here _
+    c.in_err-check_at.ensures))
 
 pub loop-i-preserved : goal.loop-i-preserved
 loop-i-preserved g c answer left =
     let here : c.loop-i.i < length c.args.self.now = omega arith in
-    c.loop-i.invariant answer (judges_next_at c.args.tables (under_key g.V.HoldsNames.names) _ _ here _ answer c.in_ok-check_at.ensures left)
+    c.loop-i.invariant answer (judges_next_at c.args.tables (under_key g.V.HoldsNames.names) _ _ here _ answer
+    c.in_ok-check_at.ensures left)
 
 pub returns : goal.returns
 returns g c =

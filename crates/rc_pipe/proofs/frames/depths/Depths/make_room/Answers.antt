@@ -13,5 +13,6 @@ returns-in_ok-insert-clause-same c = λ key.
 
 pub returns-in_ok-insert-clause-there : goal.returns-in_ok-insert-clause-there
 returns-in_ok-insert-clause-there c =
-    let found = ap (lookup (same_block c.in-Some.block)) c.in_ok-insert.ensures.entries ∙ lookup-insert_there c.in-Some.block c.at-depth.result c.args.self.now.depths in
+    let found = ap (lookup (same_block c.in-Some.block)) c.in_ok-insert.ensures.entries
+    ∙ lookup-insert_there c.in-Some.block c.at-depth.result c.args.self.now.depths in
     subst (HasRoom (record { depths = c.insert.new.self })) (sym c.in-Some.is) (subst IsSome (sym found) refl)

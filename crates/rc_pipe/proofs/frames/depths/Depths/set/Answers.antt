@@ -9,6 +9,7 @@ use Rattle.rc_pipe.proofs.frames.depths.Depths.set.Goals as goal
 pub returns-in-Some-get_mut : goal.returns-in-Some-get_mut
 returns-in-Some-get_mut c = λ key.
     let old = c.args.self.now in
-    let changed = ap (λ entries. unwrap_or (lookup (same_block key) entries) 0) (c.get_mut.follows.holds c.args.depth) in
+    let changed = ap (λ entries. unwrap_or (lookup (same_block key) entries) 0) (c.get_mut.follows.holds c.args.depth)
+    in
     changed ∙ depth-set old.depths c.in-Some.block c.args.depth key (subst (HasRoom old) c.in-Some.is c.requires)
     ∙ ap (λ b. if is_block b key then c.args.depth else depth_at old key) (sym c.in-Some.is)
