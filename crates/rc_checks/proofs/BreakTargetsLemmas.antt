@@ -1,5 +1,7 @@
 -- The check of break targets, terminal by terminal: where it ends is the first jump that names no label met by then.
-use Rattle.std.proofs.Common.{◌≡◌, ◌⊎◌, inl, inr, ℕ, zero, suc, Bool, true, false, List, [], ◌∷◌, ◌++◌, map, flat_map, take, Option, None, Some, Result, Ok, Err, Contains, refl, sym, ap, subst, ◌∙◌, if◌then◌else◌, append_assoc, true≢false, arith}
+use Rattle.std.proofs.Common.{◌≡◌, ◌⊎◌, inl, inr, ℕ, zero, suc, Bool, true, false, List, [], ◌∷◌, ◌++◌, map, flat_map}
+use Rattle.std.proofs.Common.{take, Option, None, Some, Result, Ok, Err, Contains, refl, sym, ap, subst, ◌∙◌}
+use Rattle.std.proofs.Common.{if◌then◌else◌, append_assoc, true≢false, arith}
 use Rattle.std.specs.Prelude.{option_and_then, IfErr, OnOk}
 use Rattle.std.specs.List.{list_any}
 use Rattle.std.proofs.lemmas.List.{append-nil}
@@ -18,11 +20,16 @@ use Rattle.rc_tree.specs.declared.scope.ReactiveScopeBlock.{ReactiveScopeBlock}
 use Rattle.rc_tree.specs.declared.statement.ReactiveBlock.{ReactiveBlock}
 use Rattle.rc_tree.specs.declared.statement.ReactiveStatement.TheOpen as layer
 use Rattle.rc_tree.specs.declared.statement.ReactiveStatement.TheVariants as stmt
-use Rattle.rc_tree.specs.declared.statement.ReactiveStatement.TheFolds.{para-roll-ReactiveStatement, para-roll-PrunedReactiveScopeBlock, para-roll-ReactiveScopeBlock, para-roll-ReactiveBlock}
+use Rattle.rc_tree.specs.declared.statement.ReactiveStatement.TheFolds.{para-roll-ReactiveStatement}
+use Rattle.rc_tree.specs.declared.statement.ReactiveStatement.TheFolds.{para-roll-PrunedReactiveScopeBlock}
+use Rattle.rc_tree.specs.declared.statement.ReactiveStatement.TheFolds.{para-roll-ReactiveScopeBlock}
+use Rattle.rc_tree.specs.declared.statement.ReactiveStatement.TheFolds.{para-roll-ReactiveBlock}
 use Rattle.rc_tree.specs.declared.terminal.ReactiveLabel.{ReactiveLabel}
 use Rattle.rc_tree.specs.declared.terminal.ReactiveTerminalStatement.{ReactiveTerminalStatement}
 use Rattle.rc_tree.specs.declared.value.ReactiveInstruction.{ReactiveInstruction}
-use Rattle.rc_checks.specs.BreakTargets.{Terminals, met_in, met_at, met_by_statement, met_by_parts, met_by_pruned_scope, met_by_scope, met_by_block, met_by_case, met_by_terminal, label_block, labels_of, jump_target, JumpsTo, AllTargetsAreMet, IsFirstUnmet}
+use Rattle.rc_checks.specs.BreakTargets.{Terminals, met_in, met_at, met_by_statement, met_by_parts, met_by_pruned_scope}
+use Rattle.rc_checks.specs.BreakTargets.{met_by_scope, met_by_block, met_by_case, met_by_terminal, label_block}
+use Rattle.rc_checks.specs.BreakTargets.{labels_of, jump_target, JumpsTo, AllTargetsAreMet, IsFirstUnmet}
 use Rattle.rc_checks.specs.TargetSteps.{Labels, with_label, target_step, terminal_step}
 
 -- what is met in a block, and at each form of statement

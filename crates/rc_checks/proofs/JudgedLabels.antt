@@ -3,7 +3,7 @@
 use Rattle.std.proofs.Common.{◌≡◌, ◌∙◌, Bool, true, false, List, [], ◌∷◌, ◌++◌, Option, None, Some, Result, Ok, Err}
 use Rattle.std.proofs.Common.{if◌then◌else◌, is_some, length, refl, sym, ap}
 use Rattle.std.proofs.lemmas.List.{append-nil, drop_at, take_at}
-use Rattle.rc_checks.proofs.LabelLemmas.{by_ok}
+use Rattle.rc_tree.proofs.OutcomeLemmas.{Ok-injective}
 use Rattle.rc_checks.specs.LabelPruning.{OpenLabel, as_label, behind, done_before, emptied, label_in, moved}
 use Rattle.rc_checks.specs.LabelPruning.{opened, refilled}
 use Rattle.rc_checks.specs.Labels.{OpenTerminal, Targets, flattened, in_place_of, is_named, label_after, label_rules}
@@ -150,7 +150,7 @@ module _ (x : ReactiveTerminalStatement) (t t1 t2 : Targets) (done done1 : List 
 
   whole_left : (a : Targets × ReactiveTerminal) → opened done (Ok a) ≡ Ok (t1, (left, done1))
       → ◌≡◌ {A = Left} (t1, (left, done1)) (a.0, (emptied (label_in a.1) a.1, done ++ moved (label_in a.1)))
-  whole_left a e = sym (by_ok (a.0, (emptied (label_in a.1) a.1, done ++ moved (label_in a.1))) (t1, (left, done1)) e)
+  whole_left a e = sym (Ok-injective (a.0, (emptied (label_in a.1) a.1, done ++ moved (label_in a.1))) (t1, (left, done1)) e)
 
   pub given_way : gives_way t2 x.label left ≡ true
       → behind done (rebuilt_statement label_rules (stmt.Terminal x) t) ≡ Ok (t2, done1 ++ [])

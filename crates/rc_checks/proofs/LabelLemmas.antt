@@ -9,6 +9,7 @@ use Rattle.std.proofs.Math.Seq.{set-append_seam}
 use Rattle.rc_checks.specs.LabelPruning.{PutsLast, added_if, behind}
 use Rattle.rc_checks.specs.Labels.{IsWithoutUnusedLabels, Targets, label_rules}
 use Rattle.rc_hir.specs.declared.fault.Fault.{Fault}
+use Rattle.rc_tree.proofs.OutcomeLemmas.{Ok-injective}
 use Rattle.rc_tree.proofs.RebuiltLemmas.{if_some, rebuilt-block, rebuilt-case, rebuilt-scope, rebuilt-pruned_scope}
 use Rattle.rc_tree.proofs.RebuiltLemmas.{rebuilt-Instruction, rebuilt-Scope, rebuilt-PrunedScope}
 use Rattle.rc_tree.specs.Outcome.{bind}
@@ -29,9 +30,6 @@ all_of statements t = joined (map (rebuilt_statement label_rules) statements) t
 -- the same of the cases of a switch
 abbrev pub all_cases : List ReactiveSwitchCase → Targets → Result (Targets × List ReactiveSwitchCase) Fault
 all_cases cases t = in_order (map (rebuilt_case label_rules) cases) t
-
-pub by_ok : {A : Type 0} (a b : A) → ◌≡◌ {A = Result A Fault} (Ok a) (Ok b) → a ≡ b
-by_ok a b e = cc
 
 -- what stands behind nothing
 pub behind_nothing : {X : Type 0} (part : Result (Targets × List X) Fault) → behind [] part ≡ part
@@ -55,7 +53,7 @@ module _ (left rest : List ReactiveStatement) (last : ReactiveStatement) (t t1 :
       → behind done (bind part (λ a. bind (all_of (reverse rest) a.0) (λ b. Ok (b.0, a.1 ++ b.1))))
       ≡ behind done1 (all_of (reverse rest) t1)
   next_behind (Ok a) e =
-      let same : (a.0, done ++ a.1) ≡ (t1, done1) = by_ok (a.0, done ++ a.1) (t1, done1) e in
+      let same : (a.0, done ++ a.1) ≡ (t1, done1) = Ok-injective (a.0, done ++ a.1) (t1, done1) e in
       behind_front done a.1 (all_of (reverse rest) a.0)
       ∙ ap (λ (p : Targets × List ReactiveStatement). behind p.1 (all_of (reverse rest) p.0)) same
   next_behind (Err fault) e = let bad : ⊥ = cc in absurd bad

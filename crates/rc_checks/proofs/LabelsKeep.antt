@@ -1,5 +1,6 @@
 -- Label pruning keeps each measure that counts no label and that a `Label` adds nothing to.
-use Rattle.std.proofs.Common.{◌≡◌, ◌∙◌, [], ◌∷◌, ◌++◌, Bool, true, false, if◌then◌else◌, Option, None, Some, Result, Ok, refl, sym, ap}
+use Rattle.std.proofs.Common.{◌≡◌, ◌∙◌, [], ◌∷◌, ◌++◌, Bool, true, false, if◌then◌else◌, Option, None, Some, Result, Ok}
+use Rattle.std.proofs.Common.{refl, sym, ap}
 use Rattle.std.proofs.lemmas.List.{append-nil}
 use Rattle.rc_hir.specs.declared.fault.Fault.{Fault}
 use Rattle.rc_names.specs.declared.numbers.EvaluationOrder.{EvaluationOrder}
@@ -9,12 +10,15 @@ use Rattle.rc_tree.specs.declared.statement.ReactiveBlock.{ReactiveBlock}
 use Rattle.rc_tree.specs.declared.statement.ReactiveStatement.TheOpen as layer
 use Rattle.rc_tree.specs.declared.statement.ReactiveStatement.TheVariants as stmt
 use Rattle.rc_tree.specs.declared.terminal.ReactiveLabel.{ReactiveLabel}
-use Rattle.rc_tree.specs.declared.terminal.ReactiveTerminal.{ReactiveTerminal, out-ReactiveTerminal, roll-ReactiveTerminal, roll-out-ReactiveTerminal}
+use Rattle.rc_tree.specs.declared.terminal.ReactiveTerminal.{ReactiveTerminal, out-ReactiveTerminal}
+use Rattle.rc_tree.specs.declared.terminal.ReactiveTerminal.{roll-ReactiveTerminal, roll-out-ReactiveTerminal}
 use Rattle.rc_tree.specs.declared.terminal.ReactiveTerminal.TheVariants as term
 use Rattle.rc_tree.specs.declared.terminal.ReactiveTerminalStatement.{ReactiveTerminalStatement}
-use Rattle.rc_tree.proofs.TreeNamesLemmas.{of_list, block-names, names_laws, names_measure, statement-Terminal, terminal-Label}
+use Rattle.rc_tree.proofs.TreeNamesLemmas.{of_list, block-names, names_laws, names_measure, statement-Terminal}
+use Rattle.rc_tree.proofs.TreeNamesLemmas.{terminal-Label}
 use Rattle.rc_runs.proofs.RebuiltKeeps.{only_answer, rebuilt_keeps}
-use Rattle.rc_checks.specs.Labels.{IsWithoutUnusedLabels, OpenTerminal, Targets, flattened, in_place_of, is_named, label_after, label_rules, targets_behind}
+use Rattle.rc_checks.specs.Labels.{IsWithoutUnusedLabels, OpenTerminal, Targets, flattened, in_place_of, is_named}
+use Rattle.rc_checks.specs.Labels.{label_after, label_rules, targets_behind}
 
 -- a block has one form without its unused labels
 pub one_without_labels : (before after other : ReactiveBlock) → IsWithoutUnusedLabels before after

@@ -1,7 +1,8 @@
 -- What the membership check answers is what its visits give: where none is outside, the last one that is, or the first
 -- number
 -- outside its table.
-use Rattle.std.proofs.Common.{◌≡◌, ◌⊎◌, inl, inr, ℕ, Bool, ◌&&◌, not, List, [], ◌∷◌, ◌++◌, Option, None, Some, Result, Ok, Err, All, refl, sym, ap, subst, ◌∙◌, slice_get, if◌then◌else◌}
+use Rattle.std.proofs.Common.{◌≡◌, ◌⊎◌, inl, inr, ℕ, Bool, ◌&&◌, not, List, [], ◌∷◌, ◌++◌, Option, None, Some, Result}
+use Rattle.std.proofs.Common.{Ok, Err, All, refl, sym, ap, subst, ◌∙◌, slice_get, if◌then◌else◌}
 use Rattle.std.specs.Prelude.{IfErr}
 use Rattle.std.specs.List.{AllByRecursion}
 use Rattle.std.proofs.lemmas.List.Elements.{All-cons, All-nil}
@@ -22,7 +23,8 @@ use Rattle.rc_tree.specs.declared.statement.ReactiveBlock.{ReactiveBlock}
 use Rattle.rc_checks.proofs.MembershipWalk.{IsBadName, Names, seen, told, visits_name, walk_follows}
 use Rattle.rc_checks.specs.declared.membership.visitor.Outside.{Outside}
 use Rattle.rc_checks.specs.declared.membership.visitor.Seen.{Seen}
-use Rattle.rc_checks.specs.Membership.{is_among, is_in_range, scope_found, scope_of, range_found, range_of, if_outside, operand_outside, outside, IsKnown, IsInside, IsLastOutside, IsFirstUnknown}
+use Rattle.rc_checks.specs.Membership.{is_among, is_in_range, scope_found, scope_of, range_found, range_of, if_outside}
+use Rattle.rc_checks.specs.Membership.{operand_outside, outside, IsKnown, IsInside, IsLastOutside, IsFirstUnknown}
 use Rattle.rc_checks.specs.MembershipSteps.{noted, visit_step, after_visits, membership_steps}
 use Rattle.rc_checks.specs.ScopesIn.{scopes_in}
 use Rattle.rc_checks.specs.Visits.{PlacedOperand, Visit, visits_of}

@@ -1,6 +1,7 @@
 -- The membership check's walk goes through the visits of the tree in their order, and leaves the scopes around as they
 -- were.
-use Rattle.std.proofs.Common.{◌≡◌, ℕ, List, [], ◌∷◌, ◌++◌, map, drop, Option, None, Some, Result, Ok, Err, refl, sym, ap, subst, ◌∙◌}
+use Rattle.std.proofs.Common.{◌≡◌, ℕ, List, [], ◌∷◌, ◌++◌, map, drop, Option, None, Some, Result, Ok, Err, refl, sym}
+use Rattle.std.proofs.Common.{ap, subst, ◌∙◌}
 use Rattle.std.specs.List.{AllByRecursion}
 use Rattle.rc_hir.specs.Operands.{operands, context_found}
 use Rattle.rc_hir.specs.declared.environment.Environment.{Environment}
@@ -16,17 +17,41 @@ use Rattle.rc_names.specs.declared.numbers.EvaluationOrder.{EvaluationOrder}
 use Rattle.rc_names.specs.declared.numbers.FunctionId.{FunctionId}
 use Rattle.rc_names.specs.declared.numbers.ScopeId.{ScopeId}
 use Rattle.rc_tree.specs.Outcome.{Walk, bind, next_to, each, perhaps}
-use Rattle.rc_tree.specs.Read.{WalkAt, OfStatement, OfParts, OfPruned, OfScope, OfBlock, OfCase, OfTerminal, around_value, around_instruction, around_scope, around_block, inside_base, value_step, instruction_step, statement_step, parts_step, pruned_step, scope_step, block_step, case_step, terminal_step, inside_value, inside_instruction, read_value, read_instruction, read_statement, read_parts, read_case, inside_block, inside_scope, inside_pruned_scope, inside_terminal, read_block}
+use Rattle.rc_tree.specs.Read.{WalkAt, OfStatement, OfParts, OfPruned, OfScope, OfBlock, OfCase, OfTerminal}
+use Rattle.rc_tree.specs.Read.{around_value, around_instruction, around_scope, around_block, inside_base, value_step}
+use Rattle.rc_tree.specs.Read.{instruction_step, statement_step, parts_step, pruned_step, scope_step, block_step}
+use Rattle.rc_tree.specs.Read.{case_step, terminal_step, inside_value, inside_instruction, read_value, read_instruction}
+use Rattle.rc_tree.specs.Read.{read_statement, read_parts, read_case, inside_block, inside_scope, inside_pruned_scope}
+use Rattle.rc_tree.specs.Read.{inside_terminal, read_block}
 use Rattle.rc_tree.specs.Steps.{ReadSteps, targets_of}
 use Rattle.rc_tree.specs.declared.scope.PrunedReactiveScopeBlock.{PrunedReactiveScopeBlock}
 use Rattle.rc_tree.specs.declared.scope.ReactiveScopeBlock.{ReactiveScopeBlock}
 use Rattle.rc_tree.specs.declared.statement.ReactiveBlock.{ReactiveBlock}
 use Rattle.rc_tree.specs.declared.statement.ReactiveStatement.{ReactiveStatement}
 use Rattle.rc_tree.specs.declared.statement.ReactiveStatement.TheOpen as layer
-use Rattle.rc_tree.specs.declared.statement.ReactiveStatement.TheOpen.{ReactiveStatement-F, ReactiveTerminal-F, PrunedReactiveScopeBlock-F, ReactiveScopeBlock-F, ReactiveBlock-F, ReactiveSwitchCase-F, ReactiveTerminalStatement-F}
+use Rattle.rc_tree.specs.declared.statement.ReactiveStatement.TheOpen.{ReactiveStatement-F, ReactiveTerminal-F}
+use Rattle.rc_tree.specs.declared.statement.ReactiveStatement.TheOpen.{PrunedReactiveScopeBlock-F, ReactiveScopeBlock-F}
+use Rattle.rc_tree.specs.declared.statement.ReactiveStatement.TheOpen.{ReactiveBlock-F, ReactiveSwitchCase-F}
+use Rattle.rc_tree.specs.declared.statement.ReactiveStatement.TheOpen.{ReactiveTerminalStatement-F}
 use Rattle.rc_tree.specs.declared.statement.ReactiveStatement.TheShapes.{former-ReactiveTerminal-If-2}
-use Rattle.rc_tree.specs.declared.statement.ReactiveStatement.TheViews.{roll-ReactiveTerminal, roll-ReactiveStatement, roll-ReactiveSwitchCase}
-use Rattle.rc_tree.specs.declared.statement.ReactiveStatement.TheFolds.{map-ReactiveStatement, map-ReactiveTerminal, para-roll-ReactiveStatement, para-roll-ReactiveTerminal, para-roll-PrunedReactiveScopeBlock, para-roll-ReactiveScopeBlock, para-roll-ReactiveBlock, para-roll-ReactiveSwitchCase, para-roll-ReactiveTerminalStatement, fold-roll-ReactiveStatement, fold-roll-ReactiveTerminal, fold-roll-PrunedReactiveScopeBlock, fold-roll-ReactiveScopeBlock, fold-roll-ReactiveBlock, fold-roll-ReactiveSwitchCase, fold-roll-ReactiveTerminalStatement, ind-ReactiveBlock}
+use Rattle.rc_tree.specs.declared.statement.ReactiveStatement.TheViews.{roll-ReactiveTerminal, roll-ReactiveStatement}
+use Rattle.rc_tree.specs.declared.statement.ReactiveStatement.TheViews.{roll-ReactiveSwitchCase}
+use Rattle.rc_tree.specs.declared.statement.ReactiveStatement.TheFolds.{map-ReactiveStatement, map-ReactiveTerminal}
+use Rattle.rc_tree.specs.declared.statement.ReactiveStatement.TheFolds.{para-roll-ReactiveStatement}
+use Rattle.rc_tree.specs.declared.statement.ReactiveStatement.TheFolds.{para-roll-ReactiveTerminal}
+use Rattle.rc_tree.specs.declared.statement.ReactiveStatement.TheFolds.{para-roll-PrunedReactiveScopeBlock}
+use Rattle.rc_tree.specs.declared.statement.ReactiveStatement.TheFolds.{para-roll-ReactiveScopeBlock}
+use Rattle.rc_tree.specs.declared.statement.ReactiveStatement.TheFolds.{para-roll-ReactiveBlock}
+use Rattle.rc_tree.specs.declared.statement.ReactiveStatement.TheFolds.{para-roll-ReactiveSwitchCase}
+use Rattle.rc_tree.specs.declared.statement.ReactiveStatement.TheFolds.{para-roll-ReactiveTerminalStatement}
+use Rattle.rc_tree.specs.declared.statement.ReactiveStatement.TheFolds.{fold-roll-ReactiveStatement}
+use Rattle.rc_tree.specs.declared.statement.ReactiveStatement.TheFolds.{fold-roll-ReactiveTerminal}
+use Rattle.rc_tree.specs.declared.statement.ReactiveStatement.TheFolds.{fold-roll-PrunedReactiveScopeBlock}
+use Rattle.rc_tree.specs.declared.statement.ReactiveStatement.TheFolds.{fold-roll-ReactiveScopeBlock}
+use Rattle.rc_tree.specs.declared.statement.ReactiveStatement.TheFolds.{fold-roll-ReactiveBlock}
+use Rattle.rc_tree.specs.declared.statement.ReactiveStatement.TheFolds.{fold-roll-ReactiveSwitchCase}
+use Rattle.rc_tree.specs.declared.statement.ReactiveStatement.TheFolds.{fold-roll-ReactiveTerminalStatement}
+use Rattle.rc_tree.specs.declared.statement.ReactiveStatement.TheFolds.{ind-ReactiveBlock}
 use Rattle.rc_tree.specs.declared.terminal.ReactiveLabel.{ReactiveLabel}
 use Rattle.rc_tree.specs.declared.terminal.ReactiveSwitchCase.{ReactiveSwitchCase}
 use Rattle.rc_tree.specs.declared.terminal.ReactiveTerminal.{ReactiveTerminal}
@@ -35,11 +60,18 @@ use Rattle.rc_tree.specs.declared.value.ReactiveInstruction.{ReactiveInstruction
 use Rattle.rc_tree.specs.declared.value.ReactiveValue.{ReactiveValue, roll-ReactiveValue}
 use Rattle.rc_tree.specs.declared.value.ReactiveValue.TheOpen as value
 use Rattle.rc_tree.specs.declared.value.ReactiveValue.TheOpen.{ReactiveValue-F, ReactiveInstruction-F}
-use Rattle.rc_tree.specs.declared.value.ReactiveValue.TheFolds.{map-ReactiveValue, map-ReactiveInstruction, para-roll-ReactiveValue, para-roll-ReactiveInstruction, fold-roll-ReactiveValue, fold-roll-ReactiveInstruction, ind-ReactiveValue, ind-ReactiveInstruction}
+use Rattle.rc_tree.specs.declared.value.ReactiveValue.TheFolds.{map-ReactiveValue, map-ReactiveInstruction}
+use Rattle.rc_tree.specs.declared.value.ReactiveValue.TheFolds.{para-roll-ReactiveValue, para-roll-ReactiveInstruction}
+use Rattle.rc_tree.specs.declared.value.ReactiveValue.TheFolds.{fold-roll-ReactiveValue, fold-roll-ReactiveInstruction}
+use Rattle.rc_tree.specs.declared.value.ReactiveValue.TheFolds.{ind-ReactiveValue, ind-ReactiveInstruction}
 use Rattle.rc_checks.specs.declared.membership.visitor.Outside.{Outside}
 use Rattle.rc_checks.specs.declared.membership.visitor.Seen.{Seen}
 use Rattle.rc_checks.specs.MembershipSteps.{visit_step, after_visits, membership_steps}
-use Rattle.rc_checks.specs.Visits.{Visit, Visits, VisitsAt, nothing, one, followed_by, all_of, if_there, of_operands, of_value, of_row, value_visits, row_visits, of_statement, of_parts, of_pruned_scope, of_scope, of_block, of_case, of_terminal, statement_visits, parts_visits, pruned_scope_visits, scope_visits, block_visits, case_visits, terminal_visits, visits_of}
+use Rattle.rc_checks.specs.Visits.{Visit, Visits, VisitsAt, nothing, one, followed_by, all_of, if_there, of_operands}
+use Rattle.rc_checks.specs.Visits.{of_value, of_row, value_visits, row_visits, of_statement, of_parts, of_pruned_scope}
+use Rattle.rc_checks.specs.Visits.{of_scope, of_block, of_case, of_terminal, statement_visits, parts_visits}
+use Rattle.rc_checks.specs.Visits.{pruned_scope_visits, scope_visits, block_visits, case_visits, terminal_visits}
+use Rattle.rc_checks.specs.Visits.{visits_of}
 
 -- the faults of reading operands
 

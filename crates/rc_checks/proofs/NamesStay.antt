@@ -1,6 +1,7 @@
 -- Pruning unused scopes leaves the numbers of a tree, as label pruning does. So where each of them is in its table,
 -- each still is.
-use Rattle.std.proofs.Common.{◌≡◌, ◌∙◌, Bool, true, false, List, [], ◌∷◌, ◌++◌, Option, None, Some, Result, Ok, Err, All, OnOk, refl, sym, ap, subst, slice_get}
+use Rattle.std.proofs.Common.{◌≡◌, ◌∙◌, Bool, true, false, List, [], ◌∷◌, ◌++◌, Option, None, Some, Result, Ok, Err}
+use Rattle.std.proofs.Common.{All, OnOk, refl, sym, ap, subst, slice_get}
 use Rattle.rc_hir.specs.Names.{IsInTable, lengths}
 use Rattle.rc_hir.specs.declared.environment.Environment.{Environment}
 use Rattle.rc_hir.specs.declared.fault.Fault.{Fault}
@@ -12,7 +13,8 @@ use Rattle.rc_tree.specs.declared.scope.ReactiveScopeBlock.{ReactiveScopeBlock}
 use Rattle.rc_tree.specs.declared.statement.ReactiveBlock.{ReactiveBlock}
 use Rattle.rc_tree.specs.declared.statement.ReactiveStatement.{ReactiveStatement}
 use Rattle.rc_tree.specs.declared.statement.ReactiveStatement.TheVariants as stmt
-use Rattle.rc_tree.proofs.TreeNamesLemmas.{of_list, block-names, names_laws, names_measure, statement-PrunedScope, statement-Scope}
+use Rattle.rc_tree.proofs.TreeNamesLemmas.{of_list, block-names, names_laws, names_measure, statement-PrunedScope}
+use Rattle.rc_tree.proofs.TreeNamesLemmas.{statement-Scope}
 use Rattle.rc_runs.proofs.RebuiltKeeps.{made_answer, only_answer, rebuilt_keeps, same_answer}
 use Rattle.rc_checks.specs.Labels.{IsWithoutUnusedLabels}
 use Rattle.rc_checks.proofs.LabelsKeep.{labels_keep_names}

@@ -1,5 +1,7 @@
 -- A kept place finds an open scope, and no other; and what opening and closing leave of the places.
-use Rattle.std.proofs.Common.{◌≡◌, ℕ, suc, zero, Bool, true, false, cond, ◌||◌, List, [], ◌∷◌, ◌++◌, reverse, length, slice_get, Option, None, Some, Result, Ok, Err, refl, sym, ap, subst, ◌∙◌, true≢false, if◌then◌else◌, eqb-true, arith}
+use Rattle.std.proofs.Common.{◌≡◌, ℕ, suc, zero, Bool, true, false, cond, ◌||◌, List, [], ◌∷◌, ◌++◌, reverse, length}
+use Rattle.std.proofs.Common.{slice_get, Option, None, Some, Result, Ok, Err, refl, sym, ap, subst, ◌∙◌, true≢false}
+use Rattle.std.proofs.Common.{if◌then◌else◌, eqb-true, arith}
 use Rattle.std.specs.Prelude.{OnOk, OnErr, IfSome, IfNone}
 use Rattle.std.specs.Cmp.{IsEquivalence}
 use Rattle.std.specs.Map.{lookup}

@@ -2,7 +2,8 @@
 use Rattle.std.proofs.Common.{◌≡◌, List, [], ◌++◌, Option, Result, Ok, Err, OnOk, option_map, refl, ap}
 use Rattle.std.proofs.lemmas.List.{append-nil}
 use Rattle.std.proofs.lemmas.Result.{on_ok_weaker}
-use Rattle.rc_checks.proofs.LabelLemmas.{all_cases, all_of, as_block, by_ok, same_if}
+use Rattle.rc_checks.proofs.LabelLemmas.{all_cases, all_of, as_block, same_if}
+use Rattle.rc_tree.proofs.OutcomeLemmas.{Ok-injective}
 use Rattle.rc_checks.specs.LabelPruning.{behind, opened}
 use Rattle.rc_checks.specs.Labels.{Targets, label_rules}
 use Rattle.rc_hir.specs.declared.fault.Fault.{Fault}
@@ -77,7 +78,7 @@ module _ (done : List ReactiveStatement) (t : Targets) where
             → opened done (bind (bind part as_block) (as_terminal id)) ≡ Ok (t1, (empty_label id, done1))
         by (Ok a) e =
             let same : ◌≡◌ {A = Targets × List ReactiveStatement} (a.0, done ++ a.1) (t1, done1) =
-            by_ok (a.0, done ++ a.1) (t1, done1) e in
+            Ok-injective (a.0, done ++ a.1) (t1, done1) e in
             rw (term.outs-Label (record { statements = a.1 }) id)
             (ap (λ (b : Targets × List ReactiveStatement). Ok (b.0, (empty_label id, b.1))) same)
         by (Err fault) e = let bad : ⊥ = cc in absurd bad

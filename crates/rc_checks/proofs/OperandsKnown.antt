@@ -1,13 +1,17 @@
 -- Where the numbers of a value are in their tables, its operands can be read, and each of them is in the table of
 -- identifiers.
-use Rattle.std.proofs.Common.{◌≡◌, ◌<◌, inl, inr, ℕ, List, [], ◌∷◌, ◌++◌, length, Option, None, Some, Ok, arith, refl, ap, subst}
+use Rattle.std.proofs.Common.{◌≡◌, ◌<◌, inl, inr, ℕ, List, [], ◌∷◌, ◌++◌, length, Option, None, Some, Ok, arith, refl}
+use Rattle.std.proofs.Common.{ap, subst}
 use Rattle.std.specs.List.{All, flat_map}
 use Rattle.std.proofs.lemmas.List.Elements.{All-append, All-cons, All-nil}
 use Rattle.std.proofs.lemmas.Option.{slice_get_cases}
 use Rattle.rc_hir.specs.GraphNames.{block_names, instruction_names, under_key}
 use Rattle.rc_hir.specs.Names.{FunctionInTables, IsInTable, lengths}
-use Rattle.rc_hir.specs.Operands.{argument_places, attribute_places, child_places, context_found, context_places, element_places, entry_places, jsx_places, key_places, operands, tag_places}
-use Rattle.rc_hir.specs.PartNames.{Name, argument_names, attribute_names, element_names, entry_names, key_names, lowered_names, parameter_names, perhaps, pattern_names, place_names, tag_names, target_names}
+use Rattle.rc_hir.specs.Operands.{argument_places, attribute_places, child_places, context_found, context_places}
+use Rattle.rc_hir.specs.Operands.{element_places, entry_places, jsx_places, key_places, operands, tag_places}
+use Rattle.rc_hir.specs.PartNames.{Name, argument_names, attribute_names, element_names, entry_names, key_names}
+use Rattle.rc_hir.specs.PartNames.{lowered_names, parameter_names, perhaps, pattern_names, place_names, tag_names}
+use Rattle.rc_hir.specs.PartNames.{target_names}
 use Rattle.rc_hir.specs.ValueNames.{value_names}
 use Rattle.rc_hir.specs.declared.environment.Environment.{Environment}
 use Rattle.rc_hir.specs.declared.fault.TableName.TheVariants.{Functions, Identifiers}

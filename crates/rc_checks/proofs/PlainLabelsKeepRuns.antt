@@ -6,10 +6,16 @@ use Rattle.std.proofs.Common.{◌≡◌, Bool, true, false, Option, None, Some, 
 use Rattle.rc_names.specs.declared.numbers.EvaluationOrder.{EvaluationOrder}
 use Rattle.rc_hir.specs.declared.environment.Environment.{Environment}
 use Rattle.rc_tree.specs.declared.terminal.ReactiveLabel.{ReactiveLabel}
-use Rattle.rc_runs.specs.PlainTree.{Statements, Nil, Cons, Statement, RowStatement, TerminalStatement, ScopeStatement, PrunedScopeStatement, TreeTerminal, Break, Continue, Return, Throw, Switch, DoWhile, While, For, ForOf, ForIn, If, Label, Try, Alternate, Absent, Present}
+use Rattle.rc_runs.specs.PlainTree.{Statements, Nil, Cons, Statement, RowStatement, TerminalStatement, ScopeStatement}
+use Rattle.rc_runs.specs.PlainTree.{PrunedScopeStatement, TreeTerminal, Break, Continue, Return, Throw, Switch, DoWhile}
+use Rattle.rc_runs.specs.PlainTree.{While, For, ForOf, ForIn, If, Label, Try, Alternate, Absent, Present}
 use Rattle.rc_runs.specs.BodyRun.{Normal, BreakTo, BreakLoop, ContinueTo, ContinueLoop, Ended}
 use Rattle.rc_runs.proofs.PlainLists.{alone, labeled}
-use Rattle.rc_runs.proofs.KeepsRunsLemmas.{CatchAlike, has_no_runs, SameRuns, SameAlternateRuns, append-keeps_runs, same-keeps_runs, scope-keeps_runs, pruned_scope-keeps_runs, break-keeps_runs, return-keeps_runs, present-keeps_runs, absent-keeps_runs, if-keeps_runs, label-keeps_runs, CatchesNothing, flat-keeps_runs, keeps_runs-flat, no_runs-keeps_runs}
+use Rattle.rc_runs.proofs.KeepsRunsLemmas.{CatchAlike, has_no_runs, SameRuns, SameAlternateRuns, append-keeps_runs}
+use Rattle.rc_runs.proofs.KeepsRunsLemmas.{same-keeps_runs, scope-keeps_runs, pruned_scope-keeps_runs, break-keeps_runs}
+use Rattle.rc_runs.proofs.KeepsRunsLemmas.{return-keeps_runs, present-keeps_runs, absent-keeps_runs, if-keeps_runs}
+use Rattle.rc_runs.proofs.KeepsRunsLemmas.{label-keeps_runs, CatchesNothing, flat-keeps_runs, keeps_runs-flat}
+use Rattle.rc_runs.proofs.KeepsRunsLemmas.{no_runs-keeps_runs}
 use Rattle.rc_checks.specs.Labels.{Targets, is_target, is_named, label_after}
 use Rattle.rc_checks.proofs.PlainLabels.{in_place, pruned_list, pruned_statement, pruned_alternate}
 use Rattle.rc_checks.proofs.TargetsLemmas.{list_names, caught-unnamed}

@@ -1,5 +1,6 @@
 -- The tree of a plain tree, rebuilt by `label_rules`, is the tree of the plain tree without its unused labels.
-use Rattle.std.proofs.Common.{◌≡◌, List, ◌∷◌, ◌++◌, Bool, true, false, Option, Some, None, Result, Ok, if◌then◌else◌, map, option_map, refl, ap}
+use Rattle.std.proofs.Common.{◌≡◌, List, ◌∷◌, ◌++◌, Bool, true, false, Option, Some, None, Result, Ok, if◌then◌else◌}
+use Rattle.std.proofs.Common.{map, option_map, refl, ap}
 use Rattle.rc_hir.specs.declared.fault.Fault.{Fault}
 use Rattle.rc_tree.specs.declared.scope.ReactiveScopeBlock.{ReactiveScopeBlock}
 use Rattle.rc_tree.specs.declared.scope.PrunedReactiveScopeBlock.{PrunedReactiveScopeBlock}
@@ -7,17 +8,26 @@ use Rattle.rc_tree.specs.declared.statement.ReactiveStatement.{ReactiveStatement
 use Rattle.rc_tree.specs.declared.statement.ReactiveBlock.{ReactiveBlock}
 use Rattle.rc_tree.specs.declared.statement.ReactiveStatement.TheOpen.{ReactiveSwitchCase-F}
 use Rattle.rc_tree.specs.declared.terminal.ReactiveTerminal.{ReactiveTerminal}
-use Rattle.rc_tree.specs.declared.terminal.ReactiveSwitchCase.{ReactiveSwitchCase, roll-ReactiveSwitchCase, out-roll-ReactiveSwitchCase}
+use Rattle.rc_tree.specs.declared.terminal.ReactiveSwitchCase.{ReactiveSwitchCase, roll-ReactiveSwitchCase}
+use Rattle.rc_tree.specs.declared.terminal.ReactiveSwitchCase.{out-roll-ReactiveSwitchCase}
 use Rattle.rc_tree.specs.declared.terminal.ReactiveTerminalStatement.{ReactiveTerminalStatement}
 use Rattle.rc_tree.specs.Rebuilt.{in_order, joined, rebuilt_block, rebuilt_statement, rebuilt_terminal, rebuilt_case}
 use Rattle.rc_tree.specs.declared.terminal.ReactiveLabel.{ReactiveLabel}
 use Rattle.rc_tree.specs.declared.terminal.ReactiveTerminal.TheVariants as terminals
-use Rattle.rc_tree.proofs.RebuiltLemmas.{if_some, rebuilt-block, rebuilt-labeled, rebuilt-scope, rebuilt-pruned_scope, rebuilt-case, rebuilt-Instruction, rebuilt-Terminal, rebuilt-Scope, rebuilt-PrunedScope, rebuilt-Break, rebuilt-Continue, rebuilt-Return, rebuilt-Throw, rebuilt-Switch, rebuilt-DoWhile, rebuilt-While, rebuilt-For, rebuilt-ForOf, rebuilt-ForIn, rebuilt-If, rebuilt-Label, rebuilt-Try}
-use Rattle.rc_runs.specs.PlainTree.{Statements, Nil, Cons, Statement, RowStatement, TerminalStatement, ScopeStatement, PrunedScopeStatement, TreeTerminal, Break, Continue, Return, Throw, Switch, DoWhile, While, For, ForOf, ForIn, If, Label, Try, Alternate, Absent, Present, Cases, NoCases, Case}
+use Rattle.rc_tree.proofs.RebuiltLemmas.{if_some, rebuilt-block, rebuilt-labeled, rebuilt-scope, rebuilt-pruned_scope}
+use Rattle.rc_tree.proofs.RebuiltLemmas.{rebuilt-case, rebuilt-Instruction, rebuilt-Terminal, rebuilt-Scope}
+use Rattle.rc_tree.proofs.RebuiltLemmas.{rebuilt-PrunedScope, rebuilt-Break, rebuilt-Continue, rebuilt-Return}
+use Rattle.rc_tree.proofs.RebuiltLemmas.{rebuilt-Throw, rebuilt-Switch, rebuilt-DoWhile, rebuilt-While, rebuilt-For}
+use Rattle.rc_tree.proofs.RebuiltLemmas.{rebuilt-ForOf, rebuilt-ForIn, rebuilt-If, rebuilt-Label, rebuilt-Try}
+use Rattle.rc_runs.specs.PlainTree.{Statements, Nil, Cons, Statement, RowStatement, TerminalStatement, ScopeStatement}
+use Rattle.rc_runs.specs.PlainTree.{PrunedScopeStatement, TreeTerminal, Break, Continue, Return, Throw, Switch, DoWhile}
+use Rattle.rc_runs.specs.PlainTree.{While, For, ForOf, ForIn, If, Label, Try, Alternate, Absent, Present, Cases}
+use Rattle.rc_runs.specs.PlainTree.{NoCases, Case}
 use Rattle.rc_runs.specs.TreeOf.{value_of, statements_of, statement_of, terminal_of, alternate_of, cases_of, block_of}
 use Rattle.rc_checks.specs.Labels.{Targets, is_named, label_after, in_place_of, label_rules}
 use Rattle.rc_runs.proofs.PlainLists.{labeled, append}
-use Rattle.rc_checks.proofs.PlainLabels.{settled, pruned_list, pruned_statement, pruned_terminal, pruned_alternate, pruned_cases}
+use Rattle.rc_checks.proofs.PlainLabels.{settled, pruned_list, pruned_statement, pruned_terminal, pruned_alternate}
+use Rattle.rc_checks.proofs.PlainLabels.{pruned_cases}
 
 statements_of-append : (front behind : Statements) →
     statements_of (append front behind) ≡ statements_of front ++ statements_of behind

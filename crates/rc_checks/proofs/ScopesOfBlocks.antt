@@ -3,10 +3,12 @@
 -- By induction over the tree, with both sides opened at its first layer.
 use Rattle.std.proofs.Common.{◌≡◌, ◌∙◌, List, [], ◌∷◌, ◌++◌, Option, None, Some, map, refl, sym, ap, subst}
 use Rattle.std.proofs.lemmas.List.{map-append}
-use Rattle.rc_checks.proofs.ScopeBlocksLemmas.{held_statement, held_terminal, held_pruned_scope, held_scope, held_case, held_labeled}
+use Rattle.rc_checks.proofs.ScopeBlocksLemmas.{held_statement, held_terminal, held_pruned_scope, held_scope, held_case}
+use Rattle.rc_checks.proofs.ScopeBlocksLemmas.{held_labeled}
 use Rattle.rc_checks.specs.ScopeBlocks.{Held, ScopeBlock, all_of, held, scope_blocks}
 use Rattle.rc_checks.specs.ScopeBlocks as blocks
-use Rattle.rc_checks.specs.ScopesIn.{Scopes, one_by_one, scopes_in, scopes_in_statement, scopes_in_terminal, scopes_in_case}
+use Rattle.rc_checks.specs.ScopesIn.{Scopes, one_by_one, scopes_in, scopes_in_statement, scopes_in_terminal}
+use Rattle.rc_checks.specs.ScopesIn.{scopes_in_case}
 use Rattle.rc_checks.specs.ScopesIn as scopes
 use Rattle.rc_hir.specs.declared.place.Place.{Place}
 use Rattle.rc_names.specs.declared.numbers.ScopeId.{ScopeId}
@@ -14,7 +16,18 @@ use Rattle.rc_tree.specs.declared.scope.PrunedReactiveScopeBlock.{PrunedReactive
 use Rattle.rc_tree.specs.declared.scope.ReactiveScopeBlock.{ReactiveScopeBlock}
 use Rattle.rc_tree.specs.declared.statement.ReactiveBlock.{ReactiveBlock, roll-ReactiveBlock}
 use Rattle.rc_tree.specs.declared.statement.ReactiveStatement.{ReactiveStatement, roll-ReactiveStatement}
-use Rattle.rc_tree.specs.declared.statement.ReactiveStatement.TheFolds.{fold-PrunedReactiveScopeBlock, fold-ReactiveScopeBlock, fold-ReactiveTerminalStatement, fold-roll-ReactiveStatement, fold-roll-ReactiveTerminal, fold-roll-PrunedReactiveScopeBlock, fold-roll-ReactiveBlock, fold-roll-ReactiveScopeBlock, fold-roll-ReactiveSwitchCase, fold-roll-ReactiveTerminalStatement, map-ReactiveStatement, map-ReactiveTerminal, ind-ReactiveBlock}
+use Rattle.rc_tree.specs.declared.statement.ReactiveStatement.TheFolds.{fold-PrunedReactiveScopeBlock}
+use Rattle.rc_tree.specs.declared.statement.ReactiveStatement.TheFolds.{fold-ReactiveScopeBlock}
+use Rattle.rc_tree.specs.declared.statement.ReactiveStatement.TheFolds.{fold-ReactiveTerminalStatement}
+use Rattle.rc_tree.specs.declared.statement.ReactiveStatement.TheFolds.{fold-roll-ReactiveStatement}
+use Rattle.rc_tree.specs.declared.statement.ReactiveStatement.TheFolds.{fold-roll-ReactiveTerminal}
+use Rattle.rc_tree.specs.declared.statement.ReactiveStatement.TheFolds.{fold-roll-PrunedReactiveScopeBlock}
+use Rattle.rc_tree.specs.declared.statement.ReactiveStatement.TheFolds.{fold-roll-ReactiveBlock}
+use Rattle.rc_tree.specs.declared.statement.ReactiveStatement.TheFolds.{fold-roll-ReactiveScopeBlock}
+use Rattle.rc_tree.specs.declared.statement.ReactiveStatement.TheFolds.{fold-roll-ReactiveSwitchCase}
+use Rattle.rc_tree.specs.declared.statement.ReactiveStatement.TheFolds.{fold-roll-ReactiveTerminalStatement}
+use Rattle.rc_tree.specs.declared.statement.ReactiveStatement.TheFolds.{map-ReactiveStatement, map-ReactiveTerminal}
+use Rattle.rc_tree.specs.declared.statement.ReactiveStatement.TheFolds.{ind-ReactiveBlock}
 use Rattle.rc_tree.specs.declared.statement.ReactiveStatement.TheOpen as layer
 use Rattle.rc_tree.specs.declared.statement.ReactiveStatement.TheShapes as shapes
 use Rattle.rc_tree.specs.declared.terminal.ReactiveSwitchCase.{ReactiveSwitchCase, roll-ReactiveSwitchCase}

@@ -1,5 +1,6 @@
 -- A block that is a target stays one, and a jump out of a list names one.
-use Rattle.std.proofs.Common.{◌≡◌, List, [], ◌∷◌, ◌++◌, Bool, true, false, Option, Some, None, ◌||◌, if◌then◌else◌, refl, sym, ap, ◌∙◌, subst}
+use Rattle.std.proofs.Common.{◌≡◌, List, [], ◌∷◌, ◌++◌, Bool, true, false, Option, Some, None, ◌||◌, if◌then◌else◌}
+use Rattle.std.proofs.Common.{refl, sym, ap, ◌∙◌, subst}
 use Rattle.std.proofs.lemmas.List.Folds.{list_any-append}
 use Rattle.indexmap.specs.IndexSet.{insert_key}
 use Rattle.rc_names.specs.declared.numbers.BlockId.{BlockId}
@@ -9,8 +10,14 @@ use Rattle.rc_tree.specs.declared.kind.ReactiveTerminalTargetKind.TheVariants.{I
 use Rattle.rc_tree.specs.declared.terminal.ReactiveLabel.{ReactiveLabel}
 use Rattle.rc_runs.specs.Event.{Event}
 use Rattle.rc_runs.specs.Graph.{same_block}
-use Rattle.rc_runs.specs.PlainTree.{Statements, Nil, Cons, Statement, RowStatement, TerminalStatement, ScopeStatement, PrunedScopeStatement, TreeTerminal, Break, Continue, Return, Throw, Switch, DoWhile, While, For, ForOf, ForIn, If, Label, Try, Alternate, Absent, Present, Cases, NoCases, Case}
-use Rattle.rc_runs.specs.BodyRun.{Outcome, Normal, BreakTo, BreakLoop, ContinueTo, ContinueLoop, Ended, caught, RunsList, stopped, nothing, and_then, goes_on, leaves_list, RunsStatement, quiet_row, did_row, returned, break_implicit, break_labeled, break_unlabeled, took_arm, took_other, in_label, in_scope, in_pruned_scope, RunsAlternate, absent, present}
+use Rattle.rc_runs.specs.PlainTree.{Statements, Nil, Cons, Statement, RowStatement, TerminalStatement, ScopeStatement}
+use Rattle.rc_runs.specs.PlainTree.{PrunedScopeStatement, TreeTerminal, Break, Continue, Return, Throw, Switch, DoWhile}
+use Rattle.rc_runs.specs.PlainTree.{While, For, ForOf, ForIn, If, Label, Try, Alternate, Absent, Present, Cases}
+use Rattle.rc_runs.specs.PlainTree.{NoCases, Case}
+use Rattle.rc_runs.specs.BodyRun.{Outcome, Normal, BreakTo, BreakLoop, ContinueTo, ContinueLoop, Ended, caught}
+use Rattle.rc_runs.specs.BodyRun.{RunsList, stopped, nothing, and_then, goes_on, leaves_list, RunsStatement, quiet_row}
+use Rattle.rc_runs.specs.BodyRun.{did_row, returned, break_implicit, break_labeled, break_unlabeled, took_arm}
+use Rattle.rc_runs.specs.BodyRun.{took_other, in_label, in_scope, in_pruned_scope, RunsAlternate, absent, present}
 use Rattle.rc_runs.proofs.GraphLemmas.{same_block-eq, blocks_equivalence}
 use Rattle.rc_checks.specs.Labels.{Targets, is_target, with_jump, is_named}
 use Rattle.rc_checks.proofs.PlainLabels.{pruned_list, pruned_statement, pruned_alternate, pruned_cases}

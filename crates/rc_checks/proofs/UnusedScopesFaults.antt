@@ -1,6 +1,7 @@
 -- Where every number of a tree is in its table, unused scopes are pruned without a fault.
-use Rattle.std.proofs.Common.{◌≡◌, ◌⊎◌, inl, inr, ℕ, ◌<◌, ◌≤◌, Bool, false, List, [], ◌∷◌, length, get_or, Option, None, Some, Result, Ok, Err, All, Any, slice_get, arith, refl, sym, ap, subst}
-use Rattle.std.proofs.lemmas.Option.{slice_get_cases}
+use Rattle.std.proofs.Common.{◌≡◌, ◌⊎◌, inl, inr, ℕ, ◌<◌, ◌≤◌, Bool, false, List, [], ◌∷◌, length, get_or, Option, None}
+use Rattle.std.proofs.Common.{Some, Result, Ok, Err, All, Any, slice_get, arith, refl, sym, ap, subst}
+use Rattle.rc_tree.proofs.PlaceLemmas.{past_end}
 use Rattle.rc_hir.specs.Names.{IsInTable, IsOutside, lengths}
 use Rattle.rc_hir.specs.PartNames.{Name, scope_name}
 use Rattle.rc_hir.specs.declared.environment.Environment.{Environment}
@@ -15,15 +16,6 @@ use Rattle.rc_tree.specs.declared.statement.ReactiveBlock.{ReactiveBlock}
 use Rattle.rc_tree.specs.declared.statement.ReactiveStatement.{ReactiveStatement}
 use Rattle.rc_runs.proofs.RebuiltFaults.{rebuilt_faults}
 use Rattle.rc_checks.specs.UnusedScopes.{NamesFirstScopeOutside, judged, unused_scope_rules}
-
--- a number past the end of its table
-past_end : {X : Type 0} (xs : List X) (i : ℕ) → slice_get xs i ≡ None → length xs ≤ i
-past_end {X = X} xs i none = by (slice_get_cases xs i).1
-  where
-    by : ((x : X) × (i < length xs) × (slice_get xs i ≡ Some x) × (get_or xs i x ≡ x))
-        ⊎ ((length xs ≤ i) × (slice_get xs i ≡ None)) → length xs ≤ i
-    by (inl found) = absurd (let some : slice_get xs i ≡ Some found.0 = found.2 in let no : ⊥ = cc in no)
-    by (inr past) = past.0
 
 module _ (env : Environment) (rows : ℕ) (fault : Fault) where
   answered : {A : Type 0} (a : A) → ◌≡◌ {A = Result A Fault} (Ok a) (Err fault) → ⊥

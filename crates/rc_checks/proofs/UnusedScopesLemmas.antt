@@ -1,13 +1,17 @@
 -- The pass on unused scopes follows its rules: flags are set aside and found again, and an answer is the judgement.
-use Rattle.std.proofs.Common.{◌≡◌, ◌∙◌, ◌↔◌, ◌⊎◌, ◌-◌, Bool, true, false, List, [], ◌∷◌, ◌++◌, Option, None, Some, Result, Ok, Err, IsTrue, IsNone, IfSome, IfNone, IfErr, inl, inr, not, OnOk, refl, sym, ap, subst, length, slice_get, take, unwrap_or, arith}
+use Rattle.std.proofs.Common.{◌≡◌, ◌∙◌, ◌↔◌, ◌⊎◌, ◌-◌, Bool, true, false, List, [], ◌∷◌, ◌++◌, Option, None, Some}
+use Rattle.std.proofs.Common.{Result, Ok, Err, IsTrue, IsNone, IfSome, IfNone, IfErr, inl, inr, not, OnOk, refl, sym}
+use Rattle.std.proofs.Common.{ap, subst, length, slice_get, take, unwrap_or, arith}
 use Rattle.std.proofs.lemmas.List.{length-append}
 use Rattle.std.proofs.Math.Seq.{take-append_seam}
 use Rattle.std.specs.List.{last_or}
 use Rattle.rc_checks.proofs.UnusedScopesKeepErase.{unused_scopes_keep_erase}
 use Rattle.rc_checks.proofs.UsedScopesStay.{names_a_scope_block, used_scopes_stay}
 use Rattle.rc_checks.specs.ScopeBlocks.{NamesScopeOutside, scope_blocks, staying_blocks}
-use Rattle.rc_checks.specs.UnusedScopes.{NamesFirstScopeOutside, IsWithoutUnusedScopes, has_entry, judged, kept_if, is_used, unused_scope_rules}
-use Rattle.rc_checks.specs.UnusedScopesSteps.{answer_for, answer_if, last_flag, outside_scope, unused_scope_steps, without_last}
+use Rattle.rc_checks.specs.UnusedScopes.{NamesFirstScopeOutside, IsWithoutUnusedScopes, has_entry, judged, kept_if}
+use Rattle.rc_checks.specs.UnusedScopes.{is_used, unused_scope_rules}
+use Rattle.rc_checks.specs.UnusedScopesSteps.{answer_for, answer_if, last_flag, outside_scope, unused_scope_steps}
+use Rattle.rc_checks.specs.UnusedScopesSteps.{without_last}
 use Rattle.rc_checks.specs.declared.unused_scopes.Returns.{Returns}
 use Rattle.rc_hir.specs.declared.environment.Environment.{Environment}
 use Rattle.rc_hir.specs.declared.fault.Fault.{Fault}

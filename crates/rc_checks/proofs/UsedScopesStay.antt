@@ -5,34 +5,50 @@
 -- By induction over the tree. Of each part it is shown what it holds once it is rebuilt, and that the state behind it
 -- tells
 -- whether a `Return` was met before it or stands in it.
-use Rattle.std.proofs.Common.{◌≡◌, ◌∙◌, ◌≤◌, ◌<◌, ◌⊎◌, inl, inr, ℕ, Bool, true, false, List, [], ◌∷◌, ◌++◌, Option, None, Some, Result, Ok, Err, map, refl, sym, ap, subst, slice_get, get_or, length, arith, ◌||◌}
+use Rattle.std.proofs.Common.{◌≡◌, ◌∙◌, ◌≤◌, ◌<◌, ◌⊎◌, inl, inr, ℕ, Bool, true, false, List, [], ◌∷◌, ◌++◌, Option}
+use Rattle.std.proofs.Common.{None, Some, Result, Ok, Err, map, refl, sym, ap, subst, slice_get, get_or, length, arith}
+use Rattle.std.proofs.Common.{◌||◌}
 use Rattle.std.proofs.Math.Bool.{or-false, or_assoc}
 use Rattle.std.proofs.lemmas.Bool.{or_parts}
 use Rattle.std.proofs.lemmas.Option.{slice_get_cases}
 use Rattle.std.proofs.lemmas.List.Elements.{filter-append, Contains-append_left, Contains-append_right}
 use Rattle.std.specs.List.{filter, Contains}
 use Rattle.std.specs.Option.{option_map_or}
-use Rattle.rc_checks.proofs.ScopeBlocksLemmas.{held_if, held_list, held_list-append, held_statement, held_terminal, held_case, held-block, held-case, held-Instruction, held-Terminal, held-Scope, held-PrunedScope, held-Break, held-Continue, held-Return, held-Throw, held-Switch, held-DoWhile, held-While, held-For, held-ForOf, held-ForIn, held-If, held-Label, held-Try, both-nothing}
-use Rattle.rc_checks.specs.ScopeBlocks.{ScopeBlock, Held, IsOutside, nothing, both, all_of, of_scope, held, returns_in, scope_blocks, stays, staying_blocks}
-use Rattle.rc_checks.specs.UnusedScopes.{NamesFirstScopeOutside, IsWithoutUnusedScopes, as_pruned, has_own_output, is_return, is_used, judged, kept_if, unused_scope_rules}
+use Rattle.rc_checks.proofs.ScopeBlocksLemmas.{held_if, held_list, held_list-append, held_statement, held_terminal}
+use Rattle.rc_checks.proofs.ScopeBlocksLemmas.{held_case, held-block, held-case, held-Instruction, held-Terminal}
+use Rattle.rc_checks.proofs.ScopeBlocksLemmas.{held-Scope, held-PrunedScope, held-Break, held-Continue, held-Return}
+use Rattle.rc_checks.proofs.ScopeBlocksLemmas.{held-Throw, held-Switch, held-DoWhile, held-While, held-For, held-ForOf}
+use Rattle.rc_checks.proofs.ScopeBlocksLemmas.{held-ForIn, held-If, held-Label, held-Try, both-nothing}
+use Rattle.rc_checks.specs.ScopeBlocks.{ScopeBlock, Held, IsOutside, nothing, both, all_of, of_scope, held, returns_in}
+use Rattle.rc_checks.specs.ScopeBlocks.{scope_blocks, stays, staying_blocks}
+use Rattle.rc_checks.specs.UnusedScopes.{NamesFirstScopeOutside, IsWithoutUnusedScopes, as_pruned, has_own_output}
+use Rattle.rc_checks.specs.UnusedScopes.{is_return, is_used, judged, kept_if, unused_scope_rules}
 use Rattle.rc_hir.specs.declared.environment.Environment.{Environment}
 use Rattle.rc_hir.specs.declared.fault.Fault.{Fault}
 use Rattle.rc_hir.specs.declared.scope.ReactiveScope.{ReactiveScope}
 use Rattle.rc_hir.specs.declared.place.Place.{Place}
 use Rattle.rc_names.specs.declared.numbers.ScopeId.{ScopeId}
-use Rattle.rc_tree.proofs.RebuiltLemmas.{if_some, rebuilt-block, rebuilt-labeled, rebuilt-scope, rebuilt-pruned_scope, rebuilt-case, rebuilt-Instruction, rebuilt-Terminal, rebuilt-Scope, rebuilt-PrunedScope, rebuilt-Break, rebuilt-Continue, rebuilt-Return, rebuilt-Throw, rebuilt-Switch, rebuilt-DoWhile, rebuilt-While, rebuilt-For, rebuilt-ForOf, rebuilt-ForIn, rebuilt-If, rebuilt-Label, rebuilt-Try}
+use Rattle.rc_tree.proofs.RebuiltLemmas.{if_some, rebuilt-block, rebuilt-labeled, rebuilt-scope, rebuilt-pruned_scope}
+use Rattle.rc_tree.proofs.RebuiltLemmas.{rebuilt-case, rebuilt-Instruction, rebuilt-Terminal, rebuilt-Scope}
+use Rattle.rc_tree.proofs.RebuiltLemmas.{rebuilt-PrunedScope, rebuilt-Break, rebuilt-Continue, rebuilt-Return}
+use Rattle.rc_tree.proofs.RebuiltLemmas.{rebuilt-Throw, rebuilt-Switch, rebuilt-DoWhile, rebuilt-While, rebuilt-For}
+use Rattle.rc_tree.proofs.RebuiltLemmas.{rebuilt-ForOf, rebuilt-ForIn, rebuilt-If, rebuilt-Label, rebuilt-Try}
 use Rattle.rc_tree.specs.Outcome.{bind}
-use Rattle.rc_tree.specs.Rebuilt.{Rebuilds, Rules, in_order, joined, rebuilt_block, rebuilt_statement, rebuilt_terminal, rebuilt_case}
+use Rattle.rc_tree.specs.Rebuilt.{Rebuilds, Rules, in_order, joined, rebuilt_block, rebuilt_statement, rebuilt_terminal}
+use Rattle.rc_tree.specs.Rebuilt.{rebuilt_case}
 use Rattle.rc_tree.specs.declared.scope.PrunedReactiveScopeBlock.{PrunedReactiveScopeBlock}
 use Rattle.rc_tree.specs.declared.scope.ReactiveScopeBlock.{ReactiveScopeBlock}
 use Rattle.rc_tree.specs.declared.statement.ReactiveBlock.{ReactiveBlock, roll-ReactiveBlock}
 use Rattle.rc_tree.specs.declared.statement.ReactiveStatement.{ReactiveStatement, roll-ReactiveStatement}
-use Rattle.rc_tree.specs.declared.statement.ReactiveStatement.TheFolds.{map-ReactiveStatement, map-ReactiveTerminal, ind-ReactiveBlock}
+use Rattle.rc_tree.specs.declared.statement.ReactiveStatement.TheFolds.{map-ReactiveStatement, map-ReactiveTerminal}
+use Rattle.rc_tree.specs.declared.statement.ReactiveStatement.TheFolds.{ind-ReactiveBlock}
 use Rattle.rc_tree.specs.declared.statement.ReactiveStatement.TheOpen as layer
 use Rattle.rc_tree.specs.declared.statement.ReactiveStatement.TheShapes as shapes
 use Rattle.rc_tree.specs.declared.statement.ReactiveStatement.TheVariants as stmt
-use Rattle.rc_tree.specs.declared.terminal.ReactiveSwitchCase.{ReactiveSwitchCase, roll-ReactiveSwitchCase, out-roll-ReactiveSwitchCase}
-use Rattle.rc_tree.specs.declared.terminal.ReactiveTerminal.{ReactiveTerminal, out-ReactiveTerminal, roll-ReactiveTerminal}
+use Rattle.rc_tree.specs.declared.terminal.ReactiveSwitchCase.{ReactiveSwitchCase, roll-ReactiveSwitchCase}
+use Rattle.rc_tree.specs.declared.terminal.ReactiveSwitchCase.{out-roll-ReactiveSwitchCase}
+use Rattle.rc_tree.specs.declared.terminal.ReactiveTerminal.{ReactiveTerminal, out-ReactiveTerminal}
+use Rattle.rc_tree.specs.declared.terminal.ReactiveTerminal.{roll-ReactiveTerminal}
 use Rattle.rc_tree.specs.declared.terminal.ReactiveTerminal.TheVariants as term
 use Rattle.rc_tree.specs.declared.terminal.ReactiveTerminalStatement.{ReactiveTerminalStatement}
 

@@ -14,7 +14,14 @@ use Rattle.rc_tree.specs.declared.scope.PrunedReactiveScopeBlock.{PrunedReactive
 use Rattle.rc_tree.specs.declared.scope.ReactiveScopeBlock.{ReactiveScopeBlock}
 use Rattle.rc_tree.specs.declared.statement.ReactiveBlock.{ReactiveBlock}
 use Rattle.rc_tree.specs.declared.statement.ReactiveStatement.{ReactiveStatement, roll-ReactiveStatement}
-use Rattle.rc_tree.specs.declared.statement.ReactiveStatement.TheFolds.{fold-roll-ReactiveStatement, fold-roll-ReactiveTerminal, fold-roll-PrunedReactiveScopeBlock, fold-roll-ReactiveBlock, fold-roll-ReactiveScopeBlock, fold-roll-ReactiveSwitchCase, fold-roll-ReactiveTerminalStatement, map-ReactiveStatement, map-ReactiveTerminal}
+use Rattle.rc_tree.specs.declared.statement.ReactiveStatement.TheFolds.{fold-roll-ReactiveStatement}
+use Rattle.rc_tree.specs.declared.statement.ReactiveStatement.TheFolds.{fold-roll-ReactiveTerminal}
+use Rattle.rc_tree.specs.declared.statement.ReactiveStatement.TheFolds.{fold-roll-PrunedReactiveScopeBlock}
+use Rattle.rc_tree.specs.declared.statement.ReactiveStatement.TheFolds.{fold-roll-ReactiveBlock}
+use Rattle.rc_tree.specs.declared.statement.ReactiveStatement.TheFolds.{fold-roll-ReactiveScopeBlock}
+use Rattle.rc_tree.specs.declared.statement.ReactiveStatement.TheFolds.{fold-roll-ReactiveSwitchCase}
+use Rattle.rc_tree.specs.declared.statement.ReactiveStatement.TheFolds.{fold-roll-ReactiveTerminalStatement}
+use Rattle.rc_tree.specs.declared.statement.ReactiveStatement.TheFolds.{map-ReactiveStatement, map-ReactiveTerminal}
 use Rattle.rc_tree.specs.declared.statement.ReactiveStatement.TheOpen as layer
 use Rattle.rc_tree.specs.declared.statement.ReactiveStatement.TheOpen.{ReactiveStatement-F, ReactiveTerminal-F}
 use Rattle.rc_tree.specs.declared.statement.ReactiveStatement.TheVariants as stmt
@@ -24,11 +31,15 @@ use Rattle.rc_tree.specs.declared.terminal.ReactiveTerminal.TheVariants as term
 use Rattle.rc_tree.specs.declared.terminal.ReactiveTerminalStatement.{ReactiveTerminalStatement}
 use Rattle.rc_tree.specs.declared.value.ReactiveInstruction.{ReactiveInstruction}
 use Rattle.rc_tree.specs.declared.value.ReactiveValue.{ReactiveValue, roll-ReactiveValue}
-use Rattle.rc_tree.specs.declared.value.ReactiveValue.TheFolds.{fold-roll-ReactiveValue, fold-roll-ReactiveInstruction, map-ReactiveValue}
+use Rattle.rc_tree.specs.declared.value.ReactiveValue.TheFolds.{fold-roll-ReactiveValue, fold-roll-ReactiveInstruction}
+use Rattle.rc_tree.specs.declared.value.ReactiveValue.TheFolds.{map-ReactiveValue}
 use Rattle.rc_tree.specs.declared.value.ReactiveValue.TheOpen as value
 use Rattle.rc_tree.specs.declared.value.ReactiveValue.TheOpen.{ReactiveValue-F}
 use Rattle.rc_tree.specs.declared.value.ReactiveValue.TheVariants as val
-use Rattle.rc_checks.specs.Visits.{Visits, VisitsAt, one, if_there, of_operands, of_value, of_row, of_statement, of_parts, of_pruned_scope, of_scope, of_block, of_case, of_terminal, value_visits, row_visits, statement_visits, parts_visits, pruned_scope_visits, scope_visits, block_visits, case_visits, terminal_visits}
+use Rattle.rc_checks.specs.Visits.{Visits, VisitsAt, one, if_there, of_operands, of_value, of_row, of_statement}
+use Rattle.rc_checks.specs.Visits.{of_parts, of_pruned_scope, of_scope, of_block, of_case, of_terminal, value_visits}
+use Rattle.rc_checks.specs.Visits.{row_visits, statement_visits, parts_visits, pruned_scope_visits, scope_visits}
+use Rattle.rc_checks.specs.Visits.{block_visits, case_visits, terminal_visits}
 
 module _ (functions : List HirFunction) (around : List ScopeId) where
   -- a value by the visits of its parts, at the id that is handed in

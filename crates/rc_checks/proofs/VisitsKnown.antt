@@ -1,6 +1,7 @@
 -- Where every number of a tree and of its environment is in its table, each number that the membership check looks
 -- up is found.
-use Rattle.std.proofs.Common.{◌≡◌, ◌∙◌, ◌<◌, inl, inr, ℕ, List, [], ◌∷◌, ◌++◌, length, get_or, Option, None, Some, option_map, map, if◌then◌else◌, Result, Ok, Err, arith, refl, sym, ap, subst}
+use Rattle.std.proofs.Common.{◌≡◌, ◌∙◌, ◌<◌, inl, inr, ℕ, List, [], ◌∷◌, ◌++◌, length, get_or, Option, None, Some}
+use Rattle.std.proofs.Common.{option_map, map, if◌then◌else◌, Result, Ok, Err, arith, refl, sym, ap, subst}
 use Rattle.std.specs.List.{All, flat_map}
 use Rattle.std.proofs.lemmas.List.Elements.{All-append, All-cons, All-nil}
 use Rattle.std.proofs.lemmas.Option.{slice_get_cases}
@@ -19,7 +20,8 @@ use Rattle.rc_hir.specs.declared.scope.MutableRange.{MutableRange}
 use Rattle.rc_names.specs.declared.numbers.EvaluationOrder.{EvaluationOrder}
 use Rattle.rc_names.specs.declared.numbers.ScopeId.{ScopeId}
 use Rattle.rc_tree.specs.Outcome.{bind}
-use Rattle.rc_tree.specs.TreeNames.{names_in, names_in_case, names_in_row, names_in_statement, names_in_terminal, names_in_value, one_by_one}
+use Rattle.rc_tree.specs.TreeNames.{names_in, names_in_case, names_in_row, names_in_statement, names_in_terminal}
+use Rattle.rc_tree.specs.TreeNames.{names_in_value, one_by_one}
 use Rattle.rc_tree.specs.TreeNames.{if_there as names_if_there}
 use Rattle.rc_tree.specs.declared.scope.PrunedReactiveScopeBlock.{PrunedReactiveScopeBlock}
 use Rattle.rc_tree.specs.declared.scope.ReactiveScopeBlock.{ReactiveScopeBlock}
@@ -28,12 +30,18 @@ use Rattle.rc_tree.specs.declared.terminal.ReactiveTerminalStatement.{ReactiveTe
 use Rattle.rc_tree.specs.declared.value.ReactiveInstruction.{ReactiveInstruction}
 use Rattle.rc_tree.proofs.TreeNamesLemmas as names
 use Rattle.rc_tree.proofs.TreeNamesLemmas.{of_list}
-use Rattle.rc_runs.specs.PlainTree.{Value, Base, Logical, Conditional, Sequence, Optional, Rows, NoRows, Row, Statements, Nil, Cons, Statement, RowStatement, TerminalStatement, ScopeStatement, PrunedScopeStatement, TreeTerminal, Break, Continue, Return, Throw, Switch, DoWhile, While, For, ForOf, ForIn, If, Label, Try, Alternate, Absent, Present, Cases, NoCases, Case}
-use Rattle.rc_runs.specs.TreeOf.{alternate_of, block_of, cases_of, rows_of, statement_of, statements_of, terminal_of, value_of}
+use Rattle.rc_runs.specs.PlainTree.{Value, Base, Logical, Conditional, Sequence, Optional, Rows, NoRows, Row}
+use Rattle.rc_runs.specs.PlainTree.{Statements, Nil, Cons, Statement, RowStatement, TerminalStatement, ScopeStatement}
+use Rattle.rc_runs.specs.PlainTree.{PrunedScopeStatement, TreeTerminal, Break, Continue, Return, Throw, Switch, DoWhile}
+use Rattle.rc_runs.specs.PlainTree.{While, For, ForOf, ForIn, If, Label, Try, Alternate, Absent, Present, Cases}
+use Rattle.rc_runs.specs.PlainTree.{NoCases, Case}
+use Rattle.rc_runs.specs.TreeOf.{alternate_of, block_of, cases_of, rows_of, statement_of, statements_of, terminal_of}
+use Rattle.rc_runs.specs.TreeOf.{value_of}
 use Rattle.rc_runs.proofs.AllLemmas.{All-left, All-right, All-flat_map}
 use Rattle.rc_runs.proofs.EveryBlockIsPlain.{every_block_is_plain}
 use Rattle.rc_checks.specs.Membership.{IsFirstUnknown, IsKnown, if_outside, is_outside, range_found, scope_found}
-use Rattle.rc_checks.specs.Visits.{PlacedOperand, Visit, block_visits, case_visits, if_there, of_operands, one, parts_visits, row_visits, statement_visits, value_visits, visits_of}
+use Rattle.rc_checks.specs.Visits.{PlacedOperand, Visit, block_visits, case_visits, if_there, of_operands, one}
+use Rattle.rc_checks.specs.Visits.{parts_visits, row_visits, statement_visits, value_visits, visits_of}
 use Rattle.rc_checks.proofs.OperandsKnown.{IsKnownPlace, operands_known, place_known}
 use Rattle.rc_checks.proofs.VisitsForms as visits
 

@@ -2,14 +2,18 @@
 --
 -- The check meets the terminals of a list, and those of the scope and pruned scope blocks in it, at every depth of
 -- scopes. What stands inside a terminal isn't met.
-use Rattle.std.specs.Prelude.{◌≡◌, ℕ, suc, List, [], ◌∷◌, Option, None, Some, Contains, flat_map, slice_get, take, option_and_then}
+use Rattle.std.specs.Prelude.{◌≡◌, ℕ, suc, List, [], ◌∷◌, Option, None, Some, Contains, flat_map, slice_get, take}
+use Rattle.std.specs.Prelude.{option_and_then}
 use Rattle.rc_names.specs.declared.numbers.BlockId.{BlockId}
 use Rattle.rc_tree.specs.declared.scope.PrunedReactiveScopeBlock.{PrunedReactiveScopeBlock}
 use Rattle.rc_tree.specs.declared.scope.ReactiveScopeBlock.{ReactiveScopeBlock}
 use Rattle.rc_tree.specs.declared.statement.ReactiveBlock.{ReactiveBlock}
 use Rattle.rc_tree.specs.declared.statement.ReactiveStatement.{ReactiveStatement}
 use Rattle.rc_tree.specs.declared.statement.ReactiveStatement.TheOpen as layer
-use Rattle.rc_tree.specs.declared.statement.ReactiveStatement.TheOpen.{ReactiveStatement-F, ReactiveTerminal-F, PrunedReactiveScopeBlock-F, ReactiveScopeBlock-F, ReactiveBlock-F, ReactiveSwitchCase-F, ReactiveTerminalStatement-F}
+use Rattle.rc_tree.specs.declared.statement.ReactiveStatement.TheOpen.{ReactiveStatement-F, ReactiveTerminal-F}
+use Rattle.rc_tree.specs.declared.statement.ReactiveStatement.TheOpen.{PrunedReactiveScopeBlock-F, ReactiveScopeBlock-F}
+use Rattle.rc_tree.specs.declared.statement.ReactiveStatement.TheOpen.{ReactiveBlock-F, ReactiveSwitchCase-F}
+use Rattle.rc_tree.specs.declared.statement.ReactiveStatement.TheOpen.{ReactiveTerminalStatement-F}
 use Rattle.rc_tree.specs.declared.statement.ReactiveStatement.TheFolds.{para-ReactiveStatement, para-ReactiveBlock}
 use Rattle.rc_tree.specs.declared.terminal.ReactiveLabel.{ReactiveLabel}
 use Rattle.rc_tree.specs.declared.terminal.ReactiveSwitchCase.{ReactiveSwitchCase}

@@ -3,7 +3,8 @@
 -- An operand is outside where its identifier has a scope, the operand is visited inside that scope's range, the scope
 -- has
 -- a scope block in the tree, and no block of it is around the operand.
-use Rattle.std.specs.Prelude.{◌≡◌, Bool, ◌&&◌, not, nat_eq, nat_le, nat_lt, List, ◌∷◌, ◌++◌, Option, None, Some, Result, Ok, Err, All, slice_get, if◌then◌else◌}
+use Rattle.std.specs.Prelude.{◌≡◌, Bool, ◌&&◌, not, nat_eq, nat_le, nat_lt, List, ◌∷◌, ◌++◌, Option, None, Some, Result}
+use Rattle.std.specs.Prelude.{Ok, Err, All, slice_get, if◌then◌else◌}
 use Rattle.std.specs.List.{list_any}
 use Rattle.rc_hir.specs.declared.environment.Environment.{Environment}
 use Rattle.rc_hir.specs.declared.environment.Identifier.{Identifier}

@@ -8,7 +8,10 @@ use Rattle.rc_tree.specs.declared.statement.ReactiveStatement.{ReactiveStatement
 use Rattle.rc_tree.specs.declared.terminal.ReactiveTerminal.{ReactiveTerminal, fold-ReactiveTerminal}
 use Rattle.rc_tree.specs.declared.terminal.ReactiveSwitchCase.{ReactiveSwitchCase, fold-ReactiveSwitchCase}
 use Rattle.rc_tree.specs.declared.statement.ReactiveStatement.TheOpen as layer
-use Rattle.rc_tree.specs.declared.statement.ReactiveStatement.TheOpen.{ReactiveStatement-F, ReactiveTerminal-F, PrunedReactiveScopeBlock-F, ReactiveScopeBlock-F, ReactiveBlock-F, ReactiveSwitchCase-F, ReactiveTerminalStatement-F}
+use Rattle.rc_tree.specs.declared.statement.ReactiveStatement.TheOpen.{ReactiveStatement-F, ReactiveTerminal-F}
+use Rattle.rc_tree.specs.declared.statement.ReactiveStatement.TheOpen.{PrunedReactiveScopeBlock-F, ReactiveScopeBlock-F}
+use Rattle.rc_tree.specs.declared.statement.ReactiveStatement.TheOpen.{ReactiveBlock-F, ReactiveSwitchCase-F}
+use Rattle.rc_tree.specs.declared.statement.ReactiveStatement.TheOpen.{ReactiveTerminalStatement-F}
 
 -- the scopes found in a part of the tree, in the order of the text
 abbrev pub Scopes : Type 0

@@ -3,7 +3,8 @@
 -- A scope gives something where it reassigns a name, declares one of its own, or a `Return` stands in its block outside
 -- nested scope blocks. Blocks are judged from the inside. A `Return` in a nested scope block doesn't count, also where
 -- that block becomes a pruned one; one in a block that was pruned before does.
-use Rattle.std.specs.Prelude.{◌≡◌, Bool, true, false, List, [], ◌∷◌, Option, None, Some, Result, Ok, Err, nat_eq, slice_get, not, ◌||◌, if◌then◌else◌}
+use Rattle.std.specs.Prelude.{◌≡◌, Bool, true, false, List, [], ◌∷◌, Option, None, Some, Result, Ok, Err, nat_eq}
+use Rattle.std.specs.Prelude.{slice_get, not, ◌||◌, if◌then◌else◌}
 use Rattle.std.specs.List.{list_any}
 use Rattle.rc_checks.specs.Labels.{OpenTerminal}
 use Rattle.rc_hir.specs.declared.environment.Environment.{Environment}

@@ -1,6 +1,7 @@
 -- The steps of the pass on unused scopes, as a pass over statements: its flags, its answers, and what it leaves of a
 -- scope block.
-use Rattle.std.specs.Prelude.{Bool, true, false, List, [], ◌∷◌, ◌++◌, ◌-◌, Option, None, Some, Result, Ok, Err, length, slice_get, take, unwrap_or, ◌||◌}
+use Rattle.std.specs.Prelude.{Bool, true, false, List, [], ◌∷◌, ◌++◌, ◌-◌, Option, None, Some, Result, Ok, Err, length}
+use Rattle.std.specs.Prelude.{slice_get, take, unwrap_or, ◌||◌}
 use Rattle.std.specs.List.{last_or}
 use Rattle.rc_checks.specs.UnusedScopes.{as_pruned, is_return, is_used}
 use Rattle.rc_checks.specs.declared.unused_scopes.Returns.{Returns}

@@ -1,5 +1,7 @@
 -- Names that ascend, and keys that ascend beside them: a key above a name is none of the names up to that one.
-use Rattle.std.proofs.Common.{◌≡◌, ℕ, zero, suc, ◌<◌, ◌+◌, Bool, true, false, ◌&&◌, ◌||◌, List, [], ◌∷◌, length, drop, map, get_or, Bor, Ordering, Less, Equal, Greater, is_eq, String, Global, refl, sym, ap, subst, ◌∙◌, arith, add-one, bytes_eq, nat_cmp, string_bytes, string_cmp}
+use Rattle.std.proofs.Common.{◌≡◌, ℕ, zero, suc, ◌<◌, ◌+◌, Bool, true, false, ◌&&◌, ◌||◌, List, [], ◌∷◌, length, drop}
+use Rattle.std.proofs.Common.{map, get_or, Bor, Ordering, Less, Equal, Greater, is_eq, String, Global, refl, sym, ap}
+use Rattle.std.proofs.Common.{subst, ◌∙◌, arith, add-one, bytes_eq, nat_cmp, string_bytes, string_cmp}
 use Rattle.std.proofs.lemmas.Cmp.{nat_list_cmp_total}
 use Rattle.std.proofs.lemmas.List.{at_drop_more, drop-map, get_or-map}
 use Rattle.std.proofs.lemmas.Map.Text.{is_eq-slice_cmp}

@@ -35,7 +35,11 @@ use Rattle.rc_hir.specs.declared.place.PlaceOrSpread.TheVariants as arguments
 use Rattle.rc_hir.specs.declared.place.SpreadPattern.{SpreadPattern}
 use Rattle.rc_doc.specs.Showing.{list_data, number_data}
 use Rattle.rc_doc.specs.ShownKinds.{value_data}
-use Rattle.rc_doc.specs.ShownParts.{argument_data, binding_data, element_data, is_short, jsx_attribute_data, jsx_tag_data, long_form, lowered_function_data, lvalue_data, lvalue_pattern_data, object_property_data, pattern_data, pattern_element_data, place_data, primitive_value_data, property_data, property_key_data, property_literal_data, span_items, spread_data}
+use Rattle.rc_doc.specs.ShownParts.{argument_data, binding_data, element_data, is_short, jsx_attribute_data}
+use Rattle.rc_doc.specs.ShownParts.{jsx_tag_data, long_form, lowered_function_data, lvalue_data, lvalue_pattern_data}
+use Rattle.rc_doc.specs.ShownParts.{object_property_data, pattern_data, pattern_element_data, place_data}
+use Rattle.rc_doc.specs.ShownParts.{primitive_value_data, property_data, property_key_data, property_literal_data}
+use Rattle.rc_doc.specs.ShownParts.{span_items, spread_data}
 
 -- there is no float in what x is printed as
 abbrev NoFloat : {X : Type 0} → (X → Data) → X → Type 0

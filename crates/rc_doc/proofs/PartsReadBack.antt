@@ -22,12 +22,19 @@ use Rattle.rc_hir.specs.declared.pattern.PropertyLiteral.TheVariants as literals
 use Rattle.rc_hir.specs.declared.place.Place.{Place}
 use Rattle.rc_hir.specs.declared.place.PlaceOrSpread.TheVariants as arguments
 use Rattle.rc_hir.specs.declared.place.SpreadPattern.{SpreadPattern}
-use Rattle.rc_doc.specs.Parts.{binding_of, global_of, jsx_attribute_of, jsx_tag_of, lowered_function_of, module_name_of, named_attribute_of, primitive_content_of, primitive_value_of, spread_attribute_of}
-use Rattle.rc_doc.specs.Patterns.{array_pattern_of, element_of, filled_element_of, filled_pattern_element_of, kind_of, lvalue_of, lvalue_pattern_of, object_pattern_of, object_property_of, pattern_element_of, pattern_of, property_key_of, property_literal_of, property_of}
+use Rattle.rc_doc.specs.Parts.{binding_of, global_of, jsx_attribute_of, jsx_tag_of, lowered_function_of, module_name_of}
+use Rattle.rc_doc.specs.Parts.{named_attribute_of, primitive_content_of, primitive_value_of, spread_attribute_of}
+use Rattle.rc_doc.specs.Patterns.{array_pattern_of, element_of, filled_element_of, filled_pattern_element_of, kind_of}
+use Rattle.rc_doc.specs.Patterns.{lvalue_of, lvalue_pattern_of, object_pattern_of, object_property_of}
+use Rattle.rc_doc.specs.Patterns.{pattern_element_of, pattern_of, property_key_of, property_literal_of, property_of}
 use Rattle.rc_doc.specs.Places.{argument_of, place_of, spread_of}
 use Rattle.rc_doc.specs.Reading.{list_of, number_of}
 use Rattle.rc_doc.specs.Showing.{list_data, number_data}
-use Rattle.rc_doc.specs.ShownParts.{argument_data, binding_data, element_data, jsx_attribute_data, jsx_tag_data, kind_data, lowered_function_data, lvalue_data, lvalue_pattern_data, object_property_data, pattern_data, pattern_element_data, place_data, primitive_value_data, property_data, property_key_data, property_literal_data, spread_data}
+use Rattle.rc_doc.specs.ShownParts.{argument_data, binding_data, element_data, jsx_attribute_data, jsx_tag_data}
+use Rattle.rc_doc.specs.ShownParts.{kind_data, lowered_function_data, lvalue_data, lvalue_pattern_data}
+use Rattle.rc_doc.specs.ShownParts.{object_property_data, pattern_data, pattern_element_data, place_data}
+use Rattle.rc_doc.specs.ShownParts.{primitive_value_data, property_data, property_key_data, property_literal_data}
+use Rattle.rc_doc.specs.ShownParts.{spread_data}
 
 pub spread_again : (x : SpreadPattern) → place_of (place_data x.place) ≡ Some x.place
     → spread_of (spread_data x) ≡ Some x

@@ -19,10 +19,12 @@ use Rattle.rc_hir.specs.declared.types.Shape.{Shape}
 use Rattle.rc_hir.specs.declared.types.Shape.TheVariants as shapes
 use Rattle.rc_hir.specs.declared.types.ShapeRow.{ShapeRow}
 use Rattle.rc_doc.specs.Graph.{function_of}
-use Rattle.rc_doc.specs.Numbers.{block_id_of, declaration_id_of, evaluation_order_of, identifier_id_of, scope_id_of, type_id_of}
+use Rattle.rc_doc.specs.Numbers.{block_id_of, declaration_id_of, evaluation_order_of, identifier_id_of, scope_id_of}
+use Rattle.rc_doc.specs.Numbers.{type_id_of}
 use Rattle.rc_doc.specs.Patterns.{property_literal_of}
 use Rattle.rc_doc.specs.Places.{span_of}
-use Rattle.rc_doc.specs.Reading.{◌>>=◌, content, field, flag_field, list_field, named, number_of, only, option_field, or_tagged, table_field, tag_of, text_of, variant}
+use Rattle.rc_doc.specs.Reading.{◌>>=◌, content, field, flag_field, list_field, named, number_of, only, option_field}
+use Rattle.rc_doc.specs.Reading.{or_tagged, table_field, tag_of, text_of, variant}
 
 -- a name in the source, or one that a pass gave
 unfoldable pub identifier_name_of : Data → Option IdentifierName

@@ -6,10 +6,18 @@ pub mod Objects
 use Rattle.std.specs.Prelude.{ℕ, List, [], ◌∷◌, Option, option_and_then, codes}
 use Rattle.serde_json.specs.Data.{Data}
 use Rattle.rc_hir.specs.declared.instruction.InstructionValue.{InstructionValue}
-use Rattle.rc_doc.specs.Kinds.Variables.{declare_context_of, declare_local_of, destructure_of, load_context_of, load_global_of, load_local_of, postfix_update_of, prefix_update_of, store_context_of, store_global_of, store_local_of}
-use Rattle.rc_doc.specs.Kinds.Expressions.{await_of, binary_expression_of, get_iterator_of, iterator_next_of, jsx_text_of, meta_property_of, next_property_of_of, primitive_of, regexp_literal_of, tagged_template_expression_of, template_literal_of, type_cast_expression_of, unary_expression_of}
-use Rattle.rc_doc.specs.Kinds.Calls.{call_expression_of, debugger_of, finish_memoize_of, function_expression_of, method_call_of, new_expression_of, object_method_of, start_memoize_of}
-use Rattle.rc_doc.specs.Kinds.Objects.{array_expression_of, computed_delete_of, computed_load_of, computed_store_of, jsx_expression_of, jsx_fragment_of, object_expression_of, property_delete_of, property_load_of, property_store_of}
+use Rattle.rc_doc.specs.Kinds.Variables.{declare_context_of, declare_local_of, destructure_of, load_context_of}
+use Rattle.rc_doc.specs.Kinds.Variables.{load_global_of, load_local_of, postfix_update_of, prefix_update_of}
+use Rattle.rc_doc.specs.Kinds.Variables.{store_context_of, store_global_of, store_local_of}
+use Rattle.rc_doc.specs.Kinds.Expressions.{await_of, binary_expression_of, get_iterator_of, iterator_next_of}
+use Rattle.rc_doc.specs.Kinds.Expressions.{jsx_text_of, meta_property_of, next_property_of_of, primitive_of}
+use Rattle.rc_doc.specs.Kinds.Expressions.{regexp_literal_of, tagged_template_expression_of, template_literal_of}
+use Rattle.rc_doc.specs.Kinds.Expressions.{type_cast_expression_of, unary_expression_of}
+use Rattle.rc_doc.specs.Kinds.Calls.{call_expression_of, debugger_of, finish_memoize_of, function_expression_of}
+use Rattle.rc_doc.specs.Kinds.Calls.{method_call_of, new_expression_of, object_method_of, start_memoize_of}
+use Rattle.rc_doc.specs.Kinds.Objects.{array_expression_of, computed_delete_of, computed_load_of, computed_store_of}
+use Rattle.rc_doc.specs.Kinds.Objects.{jsx_expression_of, jsx_fragment_of, object_expression_of, property_delete_of}
+use Rattle.rc_doc.specs.Kinds.Objects.{property_load_of, property_store_of}
 use Rattle.rc_doc.specs.Reading.{◌>>=◌, named, tag_of}
 use Rattle.rc_doc.specs.declared.read.kind_name.KindName.{KindName}
 use Rattle.rc_doc.specs.declared.read.kind_name.KindName.TheVariants as names

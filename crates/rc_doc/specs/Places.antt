@@ -1,5 +1,6 @@
 -- Spans, places in their three forms, and what holds a place alone.
-use Rattle.std.specs.Prelude.{ℕ, ◌==◌, false, List, [], ◌∷◌, Option, Some, None, option_and_then, option_map, if◌then◌else◌, codes}
+use Rattle.std.specs.Prelude.{ℕ, ◌==◌, false, List, [], ◌∷◌, Option, Some, None, option_and_then, option_map}
+use Rattle.std.specs.Prelude.{if◌then◌else◌, codes}
 use Rattle.serde_json.specs.Data.{Data}
 use Rattle.serde_json.specs.Find.{as_str}
 use Rattle.rc_names.specs.declared.span.Span.{Span}
@@ -12,7 +13,8 @@ use Rattle.rc_hir.specs.declared.place.PlaceOrSpread.{PlaceOrSpread}
 use Rattle.rc_hir.specs.declared.place.PlaceOrSpread.TheVariants as arguments
 use Rattle.rc_hir.specs.declared.place.SpreadPattern.{SpreadPattern}
 use Rattle.rc_doc.specs.Numbers.{identifier_id_of}
-use Rattle.rc_doc.specs.Reading.{◌>>=◌, array_len, content, field, flag_of, item_at, named, number_of, only, tag_of, variant}
+use Rattle.rc_doc.specs.Reading.{◌>>=◌, array_len, content, field, flag_of, item_at, named, number_of, only, tag_of}
+use Rattle.rc_doc.specs.Reading.{variant}
 
 -- the array of start and end
 unfoldable pub span_of : Data → Option Span

@@ -7,7 +7,9 @@ use Rattle.rc_hir.specs.declared.instruction.InstructionValue.{InstructionValue}
 use Rattle.rc_hir.specs.declared.instruction.InstructionValue.TheVariants as kinds
 use Rattle.rc_doc.specs.Kinds.{instruction_value_of}
 use Rattle.rc_doc.specs.Showing.{◌▸◌, list_data, number_data, put_some, tagged}
-use Rattle.rc_doc.specs.ShownParts.{argument_data, binding_data, element_data, jsx_attribute_data, jsx_tag_data, lowered_function_data, lvalue_data, lvalue_pattern_data, place_data, primitive_value_data, property_data, property_literal_data, span_data}
+use Rattle.rc_doc.specs.ShownParts.{argument_data, binding_data, element_data, jsx_attribute_data, jsx_tag_data}
+use Rattle.rc_doc.specs.ShownParts.{lowered_function_data, lvalue_data, lvalue_pattern_data, place_data}
+use Rattle.rc_doc.specs.ShownParts.{primitive_value_data, property_data, property_literal_data, span_data}
 
 -- the members with the span, if there is one
 abbrev pub put_span : Option Span → Members → Members

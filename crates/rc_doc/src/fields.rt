@@ -4,7 +4,8 @@
 ghost use Rattle.std.specs.Prelude.{◌≡◌, Option, option_map};
 ghost use Rattle.serde_json.specs.Data.{Data};
 ghost use Rattle.serde_json.specs.View.{view, items_view};
-ghost use Rattle.rc_doc.specs.Reading.{Gives, all_items, array_len, field, flag_field, flag_of, item_at, list_field, list_of, number_of, option_field, table_field, table_of, tag_of, text_of};
+ghost use Rattle.rc_doc.specs.Reading.{Gives, all_items, array_len, field, flag_field, flag_of, item_at, list_field};
+ghost use Rattle.rc_doc.specs.Reading.{list_of, number_of, option_field, table_field, table_of, tag_of, text_of};
 
 use crate::refusal::Refusal;
 use rc_names::{List, Name, Table, Text};

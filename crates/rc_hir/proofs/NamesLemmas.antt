@@ -1,5 +1,6 @@
 -- What a check of numbers answers, put together from what checks of parts answer.
-use Rattle.std.proofs.Common.{◌≡◌, ◌∙◌, ◌≤◌, ◌<◌, ℕ, List, [], ◌∷◌, ◌++◌, ◌+◌, Result, Ok, Err, OnOk, IfErr, length, Some, inl, inr, slice_get, sym, add-one, arith, drop, get_or, refl}
+use Rattle.std.proofs.Common.{◌≡◌, ◌∙◌, ◌≤◌, ◌<◌, ℕ, List, [], ◌∷◌, ◌++◌, ◌+◌, Result, Ok, Err, OnOk, IfErr, length}
+use Rattle.std.proofs.Common.{Some, inl, inr, slice_get, sym, add-one, arith, drop, get_or, refl}
 use Rattle.std.specs.List.{All, Any, flat_map}
 use Rattle.std.proofs.lemmas.List.{drop_all, length-append, get_or-append-add}
 use Rattle.std.proofs.lemmas.Option.{slice_get_cases}

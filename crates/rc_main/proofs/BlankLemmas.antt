@@ -1,5 +1,6 @@
 -- What is known of a text of spaces.
-use Rattle.std.proofs.Common.{◌≡◌, ℕ, ◌+◌, ◌≤◌, List, ◌++◌, length, take, replicate, slice_index, codes, sym, ap, ◌∙◌, arith, length-append}
+use Rattle.std.proofs.Common.{◌≡◌, ℕ, ◌+◌, ◌≤◌, List, ◌++◌, length, take, replicate, slice_index, codes, sym, ap, ◌∙◌}
+use Rattle.std.proofs.Common.{arith, length-append}
 use Rattle.std.proofs.lemmas.List.{replicate-append-replicate, take-replicate, get_or-replicate}
 use Rattle.std.specs.Str.{IsCharBoundary}
 use Rattle.rc_main.specs.Blank.{IsBlank}

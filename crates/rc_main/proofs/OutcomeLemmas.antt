@@ -1,14 +1,17 @@
 -- Bytes deserve one status. So what a status says of a source that tells its bytes decides when it comes.
-use Rattle.std.proofs.Common.{◌≡◌, ℕ, ◌⊎◌, inl, inr, List, ◌++◌, length, length-append, Option, Some, None, refl, sym, ap, ◌∙◌, subst, append-nil, arith, rules}
+use Rattle.std.proofs.Common.{◌≡◌, ℕ, ◌⊎◌, inl, inr, List, ◌++◌, length, length-append, Option, Some, None, refl, sym}
+use Rattle.std.proofs.Common.{ap, ◌∙◌, subst, append-nil, arith, rules}
 use Rattle.serde_json.specs.Data.{Data}
 use Rattle.serde_json.specs.Read.{read}
 use Rattle.rc_doc.specs.declared.document.Doc.{Doc}
 use Rattle.rc_doc.specs.Document.{doc_of}
 use Rattle.rc_pipe.proofs.HeadlineHolds.{has_answer}
 use Rattle.rc_main.specs.declared.status.Status.{Status}
-use Rattle.rc_main.specs.declared.status.Status.TheVariants.{Done, Usage, NotJson, NotDoc, Refused, ReadFault, WriteFault, TooLarge, NoMemory}
+use Rattle.rc_main.specs.declared.status.Status.TheVariants.{Done, Usage, NotJson, NotDoc, Refused, ReadFault}
+use Rattle.rc_main.specs.declared.status.Status.TheVariants.{WriteFault, TooLarge, NoMemory}
 use Rattle.rc_main.specs.Device.{ReadToEnd}
-use Rattle.rc_main.specs.Outcome.{IsTree, IsJson, NoJson, IsJsonOfDoc, IsJsonOfOther, IsAnswerable, Due, Excused, TookTooMany, ReadsDue, Prints, Outcome}
+use Rattle.rc_main.specs.Outcome.{IsTree, IsJson, NoJson, IsJsonOfDoc, IsJsonOfOther, IsAnswerable, Due, Excused}
+use Rattle.rc_main.specs.Outcome.{TookTooMany, ReadsDue, Prints, Outcome}
 
 module _ (bytes : List ℕ) where
   -- the bytes are JSON of one value

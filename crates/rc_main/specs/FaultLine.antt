@@ -2,7 +2,9 @@
 use Rattle.std.specs.Prelude.{List, ℕ, [], Option, Some, None, codes, decimal}
 use Rattle.std.specs.Option.{option_map_or}
 use Rattle.rc_hir.specs.declared.fault.Fault.{Fault}
-use Rattle.rc_hir.specs.declared.fault.Fault.TheVariants.{Malformed, Todo, EarlyReturnSet, ScopeCompleted, Uninitialised, NoScopeNode, BadName, NoIds, NoMemory, BadTarget, NotBuilt, FunctionCycle}
+use Rattle.rc_hir.specs.declared.fault.Fault.TheVariants.{Malformed, Todo, EarlyReturnSet, ScopeCompleted}
+use Rattle.rc_hir.specs.declared.fault.Fault.TheVariants.{Uninitialised, NoScopeNode, BadName, NoIds, NoMemory}
+use Rattle.rc_hir.specs.declared.fault.Fault.TheVariants.{BadTarget, NotBuilt, FunctionCycle}
 use Rattle.rc_hir.specs.declared.fault.Rule.{Rule}
 use Rattle.rc_hir.specs.declared.fault.Rule.TheVariants as rules
 use Rattle.rc_hir.specs.declared.fault.TableName.{TableName}

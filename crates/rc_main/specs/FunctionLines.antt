@@ -4,7 +4,8 @@ use Rattle.rc_hir.specs.declared.place.ParamPattern.{ParamPattern}
 use Rattle.rc_hir.specs.declared.place.ParamPattern.TheVariants.{Place, Spread}
 use Rattle.rc_tree.specs.declared.function.ReactiveFunction.{ReactiveFunction}
 use Rattle.rc_pipe.specs.declared.fates.Fate.{Fate}
-use Rattle.rc_pipe.specs.declared.fates.Fate.TheVariants.{Kept, NotEscaping, Unused, MergedInto, DissolvedInto, AlwaysInvalidating}
+use Rattle.rc_pipe.specs.declared.fates.Fate.TheVariants.{Kept, NotEscaping, Unused, MergedInto, DissolvedInto}
+use Rattle.rc_pipe.specs.declared.fates.Fate.TheVariants.{AlwaysInvalidating}
 use Rattle.rc_pipe.specs.declared.fates.ScopeFate.{ScopeFate}
 use Rattle.rc_main.specs.LineText.{◌&◌, line, bool_text, quoted_text, json_text, span_text, place_text}
 use Rattle.rc_main.specs.Lines.{Lines, block_lines}

@@ -1,5 +1,6 @@
 -- The words that printed lines are made of. A line begins with spaces, two more for each level that it stands deeper.
-use Rattle.std.specs.Prelude.{ℕ, ◌+◌, Bool, List, [], ◌++◌, Option, Some, None, if◌then◌else◌, codes, decimal, replicate}
+use Rattle.std.specs.Prelude.{ℕ, ◌+◌, Bool, List, [], ◌++◌, Option, Some, None, if◌then◌else◌, codes, decimal}
+use Rattle.std.specs.Prelude.{replicate}
 use Rattle.serde_json.specs.Data.{string}
 use Rattle.serde_json.specs.Written.{compact_text}
 use Rattle.rc_names.specs.declared.span.Span.{Span}

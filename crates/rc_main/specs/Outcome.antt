@@ -1,5 +1,6 @@
 -- What each status says of the words, of the bytes taken and of the bytes written, and which status bytes deserve.
-use Rattle.std.specs.Prelude.{◌≡◌, ℕ, ◌+◌, ◌≤◌, ◌<◌, List, [], ◌∷◌, length, Option, None, Some, Result, Ok, Err, codes, ⊤}
+use Rattle.std.specs.Prelude.{◌≡◌, ℕ, ◌+◌, ◌≤◌, ◌<◌, List, [], ◌∷◌, length, Option, None, Some, Result, Ok, Err, codes}
+use Rattle.std.specs.Prelude.{⊤}
 use Rattle.std.specs.Str.{IsUtf8}
 use Rattle.std.specs.Io.KnownBytes.{Appends}
 use Rattle.serde_json.specs.Data.{Data}
@@ -13,7 +14,8 @@ use Rattle.rc_doc.specs.Document.{doc_of}
 use Rattle.rc_main.specs.declared.stop.Stop.{Stop}
 use Rattle.rc_main.specs.declared.stop.Stop.TheVariants as stops
 use Rattle.rc_main.specs.declared.status.Status.{Status}
-use Rattle.rc_main.specs.declared.status.Status.TheVariants.{Done, Usage, NotJson, NotDoc, Refused, ReadFault, WriteFault, TooLarge, NoMemory}
+use Rattle.rc_main.specs.declared.status.Status.TheVariants.{Done, Usage, NotJson, NotDoc, Refused, ReadFault}
+use Rattle.rc_main.specs.declared.status.Status.TheVariants.{WriteFault, TooLarge, NoMemory}
 use Rattle.rc_main.specs.FunctionLines.{lines_of}
 use Rattle.rc_main.specs.FaultLine.{fault_line}
 use Rattle.rc_main.specs.Device.{most_bytes, Took, ReadToEnd, AppendsPrefix}

@@ -3,7 +3,8 @@ use Rattle.std.specs.Prelude.{ℕ, Result, Ok, Err}
 use Rattle.rc_main.specs.declared.stop.Stop.{Stop}
 use Rattle.rc_main.specs.declared.stop.Stop.TheVariants as stops
 use Rattle.rc_main.specs.declared.status.Status.{Status}
-use Rattle.rc_main.specs.declared.status.Status.TheVariants.{Done, Usage, NotJson, NotDoc, Refused, ReadFault, WriteFault, TooLarge, NoMemory}
+use Rattle.rc_main.specs.declared.status.Status.TheVariants.{Done, Usage, NotJson, NotDoc, Refused, ReadFault}
+use Rattle.rc_main.specs.declared.status.Status.TheVariants.{WriteFault, TooLarge, NoMemory}
 
 -- the number that the process ends with
 abbrev pub code_of : Status → ℕ

@@ -6,7 +6,9 @@ use Rattle.rc_hir.specs.declared.place.Place.{Place}
 use Rattle.rc_hir.specs.declared.instruction.LogicalOperator.{LogicalOperator}
 use Rattle.rc_hir.specs.declared.instruction.LogicalOperator.TheVariants.{And, Or, Coalesce}
 use Rattle.rc_tree.specs.declared.value.ReactiveValue.{ReactiveValue, fold-ReactiveValue}
-use Rattle.rc_tree.specs.declared.value.ReactiveValue.TheOpen.{ReactiveValue-F, Instruction, LogicalExpression, ConditionalExpression, SequenceExpression, OptionalExpression, ReactiveInstruction-F}
+use Rattle.rc_tree.specs.declared.value.ReactiveValue.TheOpen.{ReactiveValue-F, Instruction, LogicalExpression}
+use Rattle.rc_tree.specs.declared.value.ReactiveValue.TheOpen.{ConditionalExpression, SequenceExpression}
+use Rattle.rc_tree.specs.declared.value.ReactiveValue.TheOpen.{OptionalExpression, ReactiveInstruction-F}
 use Rattle.rc_tree.specs.declared.value.ReactiveInstruction.{ReactiveInstruction, fold-ReactiveInstruction}
 use Rattle.rc_doc.specs.ShownKinds.{value_data}
 use Rattle.rc_main.specs.LineText.{◌&◌, bool_text, span_text, place_text}

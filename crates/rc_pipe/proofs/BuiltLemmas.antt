@@ -1,5 +1,6 @@
 -- What the builder's parts give together, whatever they are parts of.
-use Rattle.std.proofs.Common.{◌≡◌, ◌≤◌, Bool, true, false, List, [], ◌∷◌, ◌++◌, Option, Some, None, refl, sym, ap, ◌∙◌, subst, append_assoc, arith, map}
+use Rattle.std.proofs.Common.{◌≡◌, ◌≤◌, Bool, true, false, List, [], ◌∷◌, ◌++◌, Option, Some, None, refl, sym, ap, ◌∙◌}
+use Rattle.std.proofs.Common.{subst, append_assoc, arith, map}
 use Rattle.std.proofs.lemmas.List.{append-nil}
 use Rattle.rc_names.specs.declared.numbers.BlockId.{BlockId}
 use Rattle.rc_hir.specs.declared.terminal.Terminal.{Terminal}
@@ -13,11 +14,13 @@ use Rattle.rc_pipe.specs.declared.build.state.Marks.{Marks}
 use Rattle.rc_runs.specs.Graph.{Block}
 use Rattle.rc_runs.specs.PlainTree.{Statements, Nil, Cons, Statement, RowStatement, Base}
 use Rattle.rc_runs.specs.TreeOf.{statements_of, statement_of}
-use Rattle.rc_runs.specs.Grammar.{SpellsList, SpellsTerminal, SpellsStatement, SpellsRest, rows_before, block, and_rest, opened, closed, returns, unreachable, breaks}
+use Rattle.rc_runs.specs.Grammar.{SpellsList, SpellsTerminal, SpellsStatement, SpellsRest, rows_before, block, and_rest}
+use Rattle.rc_runs.specs.Grammar.{opened, closed, returns, unreachable, breaks}
 use Rattle.rc_runs.specs.Spelled.{AreSound}
 use Rattle.rc_pipe.specs.Rows.{row_statement_of}
 use Rattle.rc_pipe.specs.Namings.{named_blocks, listed, times}
-use Rattle.rc_pipe.specs.Built.{join, Marked, Follows, IsTaken, IsUnusable, MadeList, Refused, Partly, Rest, GoesOn, rest_of}
+use Rattle.rc_pipe.specs.Built.{join, Marked, Follows, IsTaken, IsUnusable, MadeList, Refused, Partly, Rest, GoesOn}
+use Rattle.rc_pipe.specs.Built.{rest_of}
 use Rattle.rc_pipe.proofs.MarksLemmas.{front_sound, named_fewer, times_append}
 use Rattle.rc_runs.proofs.OneTree.{one_terminal, one_statement, rest_at, terminal_at}
 

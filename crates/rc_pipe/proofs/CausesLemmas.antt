@@ -1,6 +1,8 @@
 -- Causes exclude what is accepted, and what the builder refuses has a cause.
-use Rattle.std.proofs.Common.{◌≡◌, ℕ, zero, suc, ◌||◌, if◌then◌else◌, ◌+◌, ◌<◌, ◌≤◌, ◌⊎◌, inl, inr, Bool, true, false, not, List, [], ◌∷◌, ◌++◌, length, get_or, Some, None, refl, ap, subst, eqb-true, arith, length-append, slice_get}
-use Rattle.std.proofs.lemmas.Option.{slice_get_cases}
+use Rattle.std.proofs.Common.{◌≡◌, ℕ, zero, suc, ◌||◌, if◌then◌else◌, ◌+◌, ◌<◌, ◌≤◌, ◌⊎◌, inl, inr, Bool, true, false}
+use Rattle.std.proofs.Common.{not, List, [], ◌∷◌, ◌++◌, length, get_or, Some, None, refl, ap, subst, eqb-true, arith}
+use Rattle.std.proofs.Common.{length-append, slice_get}
+use Rattle.rc_tree.proofs.PlaceLemmas.{past_end}
 use Rattle.std.proofs.lemmas.Map.Views.{Contains-from_lookup}
 use Rattle.std.specs.List.{All, Any, flat_map, list_any, find}
 use Rattle.std.specs.Prelude.{option_map}
@@ -14,7 +16,8 @@ use Rattle.rc_hir.specs.declared.fault.TableName.TheVariants as tables
 use Rattle.rc_hir.specs.declared.function.BasicBlock.{BasicBlock}
 use Rattle.rc_hir.specs.declared.function.HirFunction.{HirFunction}
 use Rattle.rc_hir.specs.declared.environment.Environment.{Environment}
-use Rattle.rc_hir.specs.GraphNames.{Name, row_name, block_names, under_key, function_names, parameter_names, place_names, instruction_names, terminal_names}
+use Rattle.rc_hir.specs.GraphNames.{Name, row_name, block_names, under_key, function_names, parameter_names}
+use Rattle.rc_hir.specs.GraphNames.{place_names, instruction_names, terminal_names}
 use Rattle.rc_hir.specs.Names.{NamesOutside, IsInTable, IsOutside, lengths, FunctionInTables, NamesOutsideIn}
 use Rattle.rc_tree.specs.declared.function.ReactiveFunction.{ReactiveFunction}
 use Rattle.rc_runs.specs.Spelled.{Spells}
@@ -37,15 +40,6 @@ module _ {X : Type 0} (P : X → Type 0) where
 either : (first rest : Bool) → (first || rest) ≡ true → (first ≡ true) ⊎ (rest ≡ true)
 either true rest is = inl refl
 either false rest is = inr is
-
--- a number past the end of a list names nothing, and one that names nothing is past the end
-past_end : {X : Type 0} (xs : List X) (i : ℕ) → slice_get xs i ≡ None → length xs ≤ i
-past_end {X = X} xs i none = by (slice_get_cases xs i).1
-  where
-    by : ((x : X) × (i < length xs) × (slice_get xs i ≡ Some x) × (get_or xs i x ≡ x))
-        ⊎ ((length xs ≤ i) × (slice_get xs i ≡ None)) → length xs ≤ i
-    by (inl found) = absurd (let some : slice_get xs i ≡ Some found.0 = found.2 in let no : ⊥ = cc in no)
-    by (inr past) = past.0
 
 module _ (hir : HirFunction) (env : Environment) where
   -- the number is in its table, where the function's rows count

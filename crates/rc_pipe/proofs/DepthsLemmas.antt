@@ -1,5 +1,7 @@
 -- Depths of frames: what a change leaves under each block, and that a depth finds the frame that decides.
-use Rattle.std.proofs.Common.{◌≡◌, ℕ, ◌+◌, ◌<◌, ◌≤◌, suc, zero, Bool, true, false, cond, ◌||◌, List, [], ◌∷◌, ◌++◌, Option, Some, None, IsSome, length, slice_get, map, reverse, nat_lt, refl, sym, ap, ◌∙◌, subst, eq-eqb, arith}
+use Rattle.std.proofs.Common.{◌≡◌, ℕ, ◌+◌, ◌<◌, ◌≤◌, suc, zero, Bool, true, false, cond, ◌||◌, List, [], ◌∷◌, ◌++◌}
+use Rattle.std.proofs.Common.{Option, Some, None, IsSome, length, slice_get, map, reverse, nat_lt, refl, sym, ap, ◌∙◌}
+use Rattle.std.proofs.Common.{subst, eq-eqb, arith}
 use Rattle.std.specs.Prelude.{nat_eq, not, unwrap_or, option_map, if◌then◌else◌}
 use Rattle.std.proofs.lemmas.List.{length-map, length-reverse, reverse-append}
 use Rattle.std.proofs.lemmas.Option.{slice_get_past}
@@ -12,7 +14,8 @@ use Rattle.rc_runs.specs.declared.frames.Frame.TheVariants as kinds
 use Rattle.rc_pipe.specs.declared.frames.stack.Held.{Held}
 use Rattle.rc_runs.specs.declared.frames.Way.TheVariants.{NoFrame}
 use Rattle.rc_runs.specs.Graph.{same_block}
-use Rattle.rc_runs.specs.Frames.{break_block, is_live, is_live_at, is_loop, way_out_of, way_from, break_way, continue_block}
+use Rattle.rc_runs.specs.Frames.{break_block, is_live, is_live_at, is_loop, way_out_of, way_from, break_way}
+use Rattle.rc_runs.specs.Frames.{continue_block}
 use Rattle.rc_pipe.specs.Depths.{is_block, depth_where, break_depth, continue_depth, loop_depth, frame_of}
 use Rattle.rc_runs.proofs.GraphLemmas.{same_block-eq, blocks_equivalence}
 

@@ -1,5 +1,6 @@
 -- Fates that are listed from an ordered set of scopes.
-use Rattle.std.proofs.Common.{◌≡◌, ◌∙◌, ◌↔◌, ℕ, zero, suc, List, [], ◌∷◌, ◌++◌, append_assoc, map, get_or, ap, subst, arith, IsTrue, IfOk, Result, Ok, Err, All, Contains}
+use Rattle.std.proofs.Common.{◌≡◌, ◌∙◌, ◌↔◌, ℕ, zero, suc, List, [], ◌∷◌, ◌++◌, append_assoc, map, get_or, ap, subst}
+use Rattle.std.proofs.Common.{arith, IsTrue, IfOk, Result, Ok, Err, All, Contains}
 use Rattle.std.proofs.lemmas.List.{map-append}
 use Rattle.std.proofs.lemmas.List.Elements.{All-append}
 use Rattle.std.specs.declared.alloc.AllocError.{AllocError}
@@ -17,7 +18,8 @@ use Rattle.std.proofs.lemmas.Map.Views.{btree_set_contains_from_list, btree_set_
 use Rattle.rc_names.specs.declared.numbers.ScopeId.{ScopeId}
 use Rattle.rc_tree.specs.declared.statement.ReactiveBlock.{ReactiveBlock}
 use Rattle.rc_pipe.specs.declared.fates.Fate.{Fate}
-use Rattle.rc_pipe.specs.declared.fates.Fate.TheVariants.{Kept, NotEscaping, Unused, MergedInto, DissolvedInto, AlwaysInvalidating}
+use Rattle.rc_pipe.specs.declared.fates.Fate.TheVariants.{Kept, NotEscaping, Unused, MergedInto, DissolvedInto}
+use Rattle.rc_pipe.specs.declared.fates.Fate.TheVariants.{AlwaysInvalidating}
 use Rattle.rc_pipe.specs.declared.fates.ScopeFate.{ScopeFate}
 use Rattle.rc_checks.specs.ScopesIn.{scopes_in}
 use Rattle.rc_pipe.specs.Fates.{IsFate, HasFate, listed_scopes, AreFates}

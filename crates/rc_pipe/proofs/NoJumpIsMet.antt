@@ -1,6 +1,7 @@
 -- The check of break targets meets no jump in a spelled tree: it enters scopes alone, and a break out of a scope is no
 -- statement.
-use Rattle.std.proofs.Common.{◌≡◌, ◌∙◌, ℕ, zero, suc, List, [], ◌∷◌, ◌++◌, flat_map, slice_get, Bool, true, false, if◌then◌else◌, ◌||◌, Option, None, Some, option_and_then, refl, sym, ap, subst}
+use Rattle.std.proofs.Common.{◌≡◌, ◌∙◌, ℕ, zero, suc, List, [], ◌∷◌, ◌++◌, flat_map, slice_get, Bool, true, false}
+use Rattle.std.proofs.Common.{if◌then◌else◌, ◌||◌, Option, None, Some, option_and_then, refl, sym, ap, subst}
 use Rattle.rc_names.specs.declared.numbers.BlockId.{BlockId}
 use Rattle.rc_names.specs.declared.numbers.EvaluationOrder.{EvaluationOrder}
 use Rattle.rc_hir.specs.declared.environment.Environment.{Environment}
@@ -18,9 +19,12 @@ use Rattle.rc_tree.specs.declared.value.ReactiveInstruction.{ReactiveInstruction
 use Rattle.rc_tree.specs.declared.value.ReactiveValue.TheVariants as val
 use Rattle.rc_runs.specs.Frames.{break_block, break_way, is_loop, way_from, way_out_of}
 use Rattle.rc_runs.specs.Graph.{same_block}
-use Rattle.rc_runs.specs.Grammar.{SpellsList, SpellsRest, SpellsStatement, SpellsTerminal, break_statements, frames_inside, rows_before, unlabeled}
-use Rattle.rc_runs.specs.Grammar.{block, returns, unreachable, breaks, and_rest, if_only, if_else, label, scope, pruned_scope, closed, opened}
-use Rattle.rc_runs.specs.PlainTree.{Base, Statement, RowStatement, TerminalStatement, Statements, Nil, Cons, TreeTerminal, Break, Return, If, Label, Absent, Present}
+use Rattle.rc_runs.specs.Grammar.{SpellsList, SpellsRest, SpellsStatement, SpellsTerminal, break_statements}
+use Rattle.rc_runs.specs.Grammar.{frames_inside, rows_before, unlabeled}
+use Rattle.rc_runs.specs.Grammar.{block, returns, unreachable, breaks, and_rest, if_only, if_else, label, scope}
+use Rattle.rc_runs.specs.Grammar.{pruned_scope, closed, opened}
+use Rattle.rc_runs.specs.PlainTree.{Base, Statement, RowStatement, TerminalStatement, Statements, Nil, Cons}
+use Rattle.rc_runs.specs.PlainTree.{TreeTerminal, Break, Return, If, Label, Absent, Present}
 use Rattle.rc_runs.specs.Spelled.{Spells}
 use Rattle.rc_runs.specs.TreeOf.{block_of, statement_of, statements_of, terminal_of}
 use Rattle.rc_runs.specs.declared.frames.Frame.{Frame}
@@ -28,7 +32,8 @@ use Rattle.rc_runs.specs.declared.frames.Frame.TheVariants as frame
 use Rattle.rc_runs.specs.declared.frames.Way.{Way}
 use Rattle.rc_runs.specs.declared.frames.Way.TheVariants.{NoFrame, LeavesScope, LeavesCase, FallsOff, Breaks}
 use Rattle.rc_checks.specs.BreakTargets.{Terminals, met_in, met_at, jump_target, target_of, JumpsTo}
-use Rattle.rc_checks.proofs.BreakTargetsLemmas.{met_in-statements, met_at-Instruction, met_at-Terminal, met_at-Scope, met_at-PrunedScope}
+use Rattle.rc_checks.proofs.BreakTargetsLemmas.{met_in-statements, met_at-Instruction, met_at-Terminal, met_at-Scope}
+use Rattle.rc_checks.proofs.BreakTargetsLemmas.{met_at-PrunedScope}
 
 -- none of the terminals is a jump
 abbrev NoJumps : Terminals → Type 0

@@ -1,5 +1,6 @@
 -- The rows that numbers name, number by number.
-use Rattle.std.proofs.Common.{◌≡◌, ℕ, ◌<◌, ◌+◌, Bool, true, false, List, [], ◌∷◌, ◌++◌, Option, Some, None, ◌||◌, length, take, get_or, map, refl, sym, ap, ◌∙◌, subst, eqb-true, append_assoc}
+use Rattle.std.proofs.Common.{◌≡◌, ℕ, ◌<◌, ◌+◌, Bool, true, false, List, [], ◌∷◌, ◌++◌, Option, Some, None, ◌||◌}
+use Rattle.std.proofs.Common.{length, take, get_or, map, refl, sym, ap, ◌∙◌, subst, eqb-true, append_assoc}
 use Rattle.std.specs.Prelude.{nat_eq, not, ◌&&◌, slice_get, option_map, option_and_then}
 use Rattle.std.specs.List.{list_any}
 use Rattle.std.proofs.lemmas.List.{take_more, map-append}

@@ -1,5 +1,6 @@
 -- The moves of a terminal lead to its step blocks, and to each of them.
-use Rattle.std.proofs.Common.{◌≡◌, Bool, true, false, List, [], ◌∷◌, ◌++◌, Option, Some, None, ◌||◌, refl, sym, ap, ◌∙◌, subst}
+use Rattle.std.proofs.Common.{◌≡◌, Bool, true, false, List, [], ◌∷◌, ◌++◌, Option, Some, None, ◌||◌, refl, sym, ap, ◌∙◌}
+use Rattle.std.proofs.Common.{subst}
 use Rattle.std.specs.Prelude.{if◌then◌else◌, not}
 use Rattle.std.specs.List.{list_any}
 use Rattle.std.proofs.lemmas.List.Folds.{list_any-append}
@@ -12,7 +13,11 @@ use Rattle.rc_hir.specs.declared.terminal.Case.{Case}
 use Rattle.rc_hir.specs.declared.terminal.Terminal.{Terminal}
 use Rattle.rc_hir.specs.declared.terminal.Terminal.TheVariants as terminals
 use Rattle.rc_runs.specs.Event.{Event}
-use Rattle.rc_runs.specs.GraphRun.{Move, then_arm, else_arm, branch_true, branch_false, to_case, past_cases, into_do_while, into_while, into_for, into_for_of, into_for_in, into_logical, into_ternary, into_optional, into_sequence, into_label, into_scope, into_pruned_scope, into_try, goes_to, goes_on, throws, InCases, first, later, is_default}
+use Rattle.rc_runs.specs.GraphRun.{Move, then_arm, else_arm, branch_true, branch_false, to_case, past_cases}
+use Rattle.rc_runs.specs.GraphRun.{into_do_while, into_while, into_for, into_for_of, into_for_in, into_logical}
+use Rattle.rc_runs.specs.GraphRun.{into_ternary, into_optional, into_sequence, into_label, into_scope}
+use Rattle.rc_runs.specs.GraphRun.{into_pruned_scope, into_try, goes_to, goes_on, throws, InCases, first, later}
+use Rattle.rc_runs.specs.GraphRun.{is_default}
 use Rattle.rc_runs.specs.Graph.{is_dead}
 use Rattle.rc_pipe.specs.RuleFacts.{StepsDead}
 use Rattle.rc_pipe.specs.Namings.{step_blocks, case_blocks, past_blocks, listed}

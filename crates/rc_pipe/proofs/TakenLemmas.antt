@@ -1,5 +1,6 @@
 -- One more used block: the marks stay sound, or no tree may use it.
-use Rattle.std.proofs.Common.{◌≡◌, ℕ, Bool, true, false, List, [], ◌∷◌, ◌++◌, Option, Some, None, ◌||◌, refl, sym, ap, ◌∙◌, subst, arith, eqb-true}
+use Rattle.std.proofs.Common.{◌≡◌, ℕ, Bool, true, false, List, [], ◌∷◌, ◌++◌, Option, Some, None, ◌||◌, refl, sym, ap}
+use Rattle.std.proofs.Common.{◌∙◌, subst, arith, eqb-true}
 use Rattle.std.specs.Cmp.{IsEquivalence}
 use Rattle.std.specs.Prelude.{IsSome, is_some, if◌then◌else◌, option_and_then, option_map}
 use Rattle.std.specs.List.{IsDistinct, list_any, filter_map, cons_option, AllByRecursion}
@@ -21,9 +22,11 @@ use Rattle.rc_runs.specs.GraphRun.{MovesAlive}
 use Rattle.rc_runs.specs.Spelled.{same_scope, scope_named, scope_at}
 use Rattle.rc_pipe.specs.Namings.{is_among, named_blocks}
 use Rattle.rc_pipe.specs.RuleFacts.{At, StepsDead, SharesScope, RuleFact}
-use Rattle.rc_pipe.specs.Built.{Marked, AreNamed, AtList, Follows, live_blocks, IsUnusable, listed_scope, is_fresh_scope}
+use Rattle.rc_pipe.specs.Built.{Marked, AreNamed, AtList, Follows, live_blocks, IsUnusable, listed_scope}
+use Rattle.rc_pipe.specs.Built.{is_fresh_scope}
 use Rattle.rc_runs.proofs.GraphLemmas.{same_block-eq, blocks_equivalence}
-use Rattle.rc_pipe.proofs.MarksLemmas.{times_append, times_among, named_twice, scopes_equivalence, one_more, among_push, named_push}
+use Rattle.rc_pipe.proofs.MarksLemmas.{times_append, times_among, named_twice, scopes_equivalence, one_more, among_push}
+use Rattle.rc_pipe.proofs.MarksLemmas.{named_push}
 use Rattle.rc_pipe.proofs.StepsLemmas.{not_true, not_false}
 use Rattle.rc_pipe.proofs.OwnersLemmas.{live_times}
 use Rattle.rc_pipe.proofs.UsableLemmas.{found_terminal, found_block}

@@ -1,5 +1,6 @@
 -- What the parts of a terminal's statement give together, terminal by terminal.
-use Rattle.std.proofs.Common.{◌≡◌, ◌≤◌, ◌+◌, Bool, true, false, List, [], ◌∷◌, ◌++◌, Option, Some, None, ◌||◌, refl, sym, ap, ◌∙◌, subst, arith, inl, inr}
+use Rattle.std.proofs.Common.{◌≡◌, ◌≤◌, ◌+◌, Bool, true, false, List, [], ◌∷◌, ◌++◌, Option, Some, None, ◌||◌, refl}
+use Rattle.std.proofs.Common.{sym, ap, ◌∙◌, subst, arith, inl, inr}
 use Rattle.std.specs.Prelude.{if◌then◌else◌, ◌⊎◌, not}
 use Rattle.std.proofs.lemmas.List.Folds.{list_any-append}
 use Rattle.rc_names.specs.declared.numbers.BlockId.{BlockId}
@@ -21,16 +22,20 @@ use Rattle.rc_runs.specs.declared.frames.Frame.TheVariants as kinds
 use Rattle.rc_pipe.specs.declared.build.state.Marks.{Marks}
 use Rattle.rc_runs.specs.Graph.{same_block, is_dead}
 use Rattle.rc_runs.specs.Frames.{is_live, break_block}
-use Rattle.rc_runs.specs.PlainTree.{Statements, TerminalStatement, ScopeStatement, PrunedScopeStatement, If, Label, Absent, Present}
+use Rattle.rc_runs.specs.PlainTree.{Statements, TerminalStatement, ScopeStatement, PrunedScopeStatement, If, Label}
+use Rattle.rc_runs.specs.PlainTree.{Absent, Present}
 use Rattle.rc_runs.specs.TreeOf.{statements_of}
-use Rattle.rc_runs.specs.Grammar.{SpellsList, SpellsTerminal, opens, opens_reachable, next_inside, frames_inside, label_of, falls_to, if_only, if_else, label, scope, pruned_scope, and_rest}
+use Rattle.rc_runs.specs.Grammar.{SpellsList, SpellsTerminal, opens, opens_reachable, next_inside, frames_inside}
+use Rattle.rc_runs.specs.Grammar.{label_of, falls_to, if_only, if_else, label, scope, pruned_scope, and_rest}
 use Rattle.rc_pipe.specs.Namings.{framed_blocks, is_among, times, scope_fallthrough, fallthrough_of}
 use Rattle.rc_pipe.specs.RuleFacts.{At, RuleFact, IsFramedApart}
-use Rattle.rc_pipe.specs.Built.{Marked, AreNamed, AtList, AtTerminal, IsUsed, IsUsedApart, AreOwned, IsFrameOf, Follows, Made, Refused, GoesOn, rest_of, live_blocks, frame_blocks, terminal_statement}
+use Rattle.rc_pipe.specs.Built.{Marked, AreNamed, AtList, AtTerminal, IsUsed, IsUsedApart, AreOwned, IsFrameOf, Follows}
+use Rattle.rc_pipe.specs.Built.{Made, Refused, GoesOn, rest_of, live_blocks, frame_blocks, terminal_statement}
 use Rattle.rc_runs.proofs.GraphLemmas.{blocks_equivalence}
 use Rattle.rc_pipe.proofs.MarksLemmas.{named_fewer, times_append}
 use Rattle.rc_pipe.proofs.OwnersLemmas.{owned_weaker, live_framed}
-use Rattle.rc_pipe.proofs.BuiltLemmas.{follows_then, follows_beside, follows_drop, refused_front, refused_back, statement_partly}
+use Rattle.rc_pipe.proofs.BuiltLemmas.{follows_then, follows_beside, follows_drop, refused_front, refused_back}
+use Rattle.rc_pipe.proofs.BuiltLemmas.{statement_partly}
 use Rattle.rc_runs.proofs.OneTree.{part_at, one_list}
 
 -- the frame of an `If`, a `Label` or any other terminal whose fallthrough takes breaks

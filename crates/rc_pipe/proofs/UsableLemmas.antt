@@ -5,7 +5,8 @@ use Rattle.rc_names.specs.declared.numbers.BlockId.{BlockId}
 use Rattle.rc_hir.specs.declared.function.Instruction.{Instruction}
 use Rattle.rc_hir.specs.declared.function.BasicBlock.{BasicBlock}
 use Rattle.rc_hir.specs.declared.function.HirFunction.{HirFunction}
-use Rattle.rc_runs.specs.Graph.{Block, same_block, basic_block, block_at, usable_block, rows_of, with_rows, with_ids, has_all_ids, under_own_number}
+use Rattle.rc_runs.specs.Graph.{Block, same_block, basic_block, block_at, usable_block, rows_of, with_rows, with_ids}
+use Rattle.rc_runs.specs.Graph.{has_all_ids, under_own_number}
 use Rattle.rc_pipe.specs.Rows.{HasIds}
 
 module _ (hir : HirFunction) (key : BlockId) where

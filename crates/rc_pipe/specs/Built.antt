@@ -1,5 +1,6 @@
 -- What the builder's functions start from, and what they give.
-use Rattle.std.specs.Prelude.{◌≡◌, ◌≤◌, Bool, true, false, List, [], ◌∷◌, ◌++◌, Option, Some, None, IsSome, Result, Err, not, if◌then◌else◌}
+use Rattle.std.specs.Prelude.{◌≡◌, ◌≤◌, Bool, true, false, List, [], ◌∷◌, ◌++◌, Option, Some, None, IsSome, Result, Err}
+use Rattle.std.specs.Prelude.{not, if◌then◌else◌}
 use Rattle.std.specs.List.{filter_map, flat_map, list_any}
 use Rattle.rc_names.specs.declared.numbers.BlockId.{BlockId}
 use Rattle.rc_names.specs.declared.numbers.ScopeId.{ScopeId}
@@ -26,7 +27,8 @@ use Rattle.rc_runs.specs.PlainTree.{Statements, Nil, Cons}
 use Rattle.rc_runs.specs.TreeOf.{statements_of}
 use Rattle.rc_runs.specs.Grammar.{SpellsList, SpellsTerminal, break_statements}
 use Rattle.rc_runs.specs.Spelled.{AreSound, same_scope, scope_at}
-use Rattle.rc_pipe.specs.Namings.{listed, named_blocks, framed_blocks, scope_fallthrough, case_blocks, cases_of, is_among, times, namings_of}
+use Rattle.rc_pipe.specs.Namings.{listed, named_blocks, framed_blocks, scope_fallthrough, case_blocks, cases_of}
+use Rattle.rc_pipe.specs.Namings.{is_among, times, namings_of}
 use Rattle.rc_pipe.specs.RuleFacts.{At}
 
 -- these statements, and then those

@@ -1,6 +1,7 @@
 -- Why a graph is refused before it is built: numbers, early returns, room for new numbers, and forms that
 -- aren't built yet.
-use Rattle.std.specs.Prelude.{◌≡◌, ◌+◌, ◌*◌, ◌<◌, ◌≤◌, ℕ, Bool, true, false, length, Option, None, is_some, not, All, count_by, position, find}
+use Rattle.std.specs.Prelude.{◌≡◌, ◌+◌, ◌*◌, ◌<◌, ◌≤◌, ℕ, Bool, true, false, length, Option, None, is_some, not, All}
+use Rattle.std.specs.Prelude.{count_by, position, find}
 use Rattle.rc_names.specs.declared.numbers.BlockId.{BlockId}
 use Rattle.rc_hir.specs.declared.terminal.GotoVariant.TheVariants as variants
 use Rattle.rc_hir.specs.declared.terminal.Terminal.{Terminal}

@@ -23,7 +23,8 @@ use Rattle.rc_runs.specs.Event.{Event}
 use Rattle.rc_runs.specs.Silent.{is_unset}
 use Rattle.rc_runs.specs.Graph.{same_block, basic_block, is_dead}
 use Rattle.rc_runs.specs.GraphRun.{Move}
-use Rattle.rc_pipe.specs.Namings.{times, namings, is_among, framed_blocks, fallthrough_of, scope_fallthrough, case_blocks, cases_of}
+use Rattle.rc_pipe.specs.Namings.{times, namings, is_among, framed_blocks, fallthrough_of, scope_fallthrough}
+use Rattle.rc_pipe.specs.Namings.{case_blocks, cases_of}
 use Rattle.rc_runs.specs.Spelled.{scope_named}
 use Rattle.rc_pipe.specs.Causes.{is_built}
 

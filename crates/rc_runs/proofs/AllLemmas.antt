@@ -1,5 +1,6 @@
 -- What holds of each element of a list that is made of parts holds of those of each part.
-use Rattle.std.proofs.Common.{◌≡◌, ℕ, zero, suc, ◌<◌, ◌+◌, List, [], ◌∷◌, ◌++◌, length, get_or, subst, arith, length-append}
+use Rattle.std.proofs.Common.{◌≡◌, ℕ, zero, suc, ◌<◌, ◌+◌, List, [], ◌∷◌, ◌++◌, length, get_or, subst, arith}
+use Rattle.std.proofs.Common.{length-append}
 use Rattle.std.proofs.Math.ListN.{get_or-append}
 use Rattle.std.proofs.lemmas.List.{get_or-append-add}
 use Rattle.std.specs.List.{All, flat_map}

@@ -3,7 +3,8 @@
 -- Of statements that end with an outcome, `After` says how runs of the graph go on: they end there, or any run from
 -- the block to which the outcome leads continues them. A block that ends in `Unreachable` spells nothing, so its
 -- list falls off where the graph goes nowhere; no used block steps to one, and the entry is a case of its own.
-use Rattle.std.proofs.Common.{◌≡◌, List, [], ◌∷◌, ◌++◌, Bool, true, false, Option, None, ◌⊎◌, inl, inr, refl, sym, ap, ◌∙◌, subst, append_assoc, arith, Contains, Some}
+use Rattle.std.proofs.Common.{◌≡◌, List, [], ◌∷◌, ◌++◌, Bool, true, false, Option, None, ◌⊎◌, inl, inr, refl, sym, ap}
+use Rattle.std.proofs.Common.{◌∙◌, subst, append_assoc, arith, Contains, Some}
 use Rattle.std.proofs.lemmas.List.{append-nil}
 use Rattle.std.proofs.lemmas.List.Elements.{Contains-append_left, Contains-append_right}
 use Rattle.rc_names.specs.declared.numbers.BlockId.{BlockId}
@@ -21,13 +22,16 @@ use Rattle.rc_runs.specs.GraphRun.{Move, MovesAlive, GraphRun, GraphRunAt, IsGra
 use Rattle.rc_runs.specs.GraphRun as graph
 use Rattle.rc_runs.specs.PlainTree.{Statements, Statement}
 use Rattle.rc_runs.specs.TreeOf.{block_of}
-use Rattle.rc_runs.specs.Grammar.{next_inside, frames_inside, label_of, falls_to, SpellsList, SpellsStatement, SpellsRest}
+use Rattle.rc_runs.specs.Grammar.{next_inside, frames_inside, label_of, falls_to, SpellsList, SpellsStatement}
+use Rattle.rc_runs.specs.Grammar.{SpellsRest}
 use Rattle.rc_runs.specs.Grammar as grammar
 use Rattle.rc_runs.specs.Spelled.{SpellsBody, Spells}
 use Rattle.rc_runs.specs.BodyRun.{Outcome, Normal, Ended, leaves, caught, RunsList, RunsStatement, IsBodyRun}
 use Rattle.rc_runs.specs.BodyRun as body
 use Rattle.rc_runs.proofs.GraphLemmas.{same_block-eq, usable_block-at, is_dead-at}
-use Rattle.rc_runs.proofs.FramesLemmas.{Fits, fits_body, fits_inside, Aims, Aims-leaves, Passed, to_rest, further, caught-ended, caught-normal, passed_labeled, passed_scope, Jumps, falls_off, breaks_implicit, breaks_labeled, breaks_unlabeled, break_jumps, falls_to-next}
+use Rattle.rc_runs.proofs.FramesLemmas.{Fits, fits_body, fits_inside, Aims, Aims-leaves, Passed, to_rest, further}
+use Rattle.rc_runs.proofs.FramesLemmas.{caught-ended, caught-normal, passed_labeled, passed_scope, Jumps, falls_off}
+use Rattle.rc_runs.proofs.FramesLemmas.{breaks_implicit, breaks_labeled, breaks_unlabeled, break_jumps, falls_to-next}
 use Rattle.rc_runs.proofs.TreeOfLemmas.{block_of-injective}
 use Rattle.rc_runs.proofs.RowsLemmas.{SpellsRows, row_then, rows_done, rows_spelled}
 

@@ -1,7 +1,8 @@
 -- Erasing goes by parts, so that a transform keeps it whose steps keep it of their own part.
 --
 -- First the laws that the walk's lemma asks for, and then what a pass cites.
-use Rattle.std.proofs.Common.{◌≡◌, List, [], ◌∷◌, ◌++◌, append-nil, Option, None, Some, option_map, Result, Ok, Err, OnOk, refl, sym, ap, ◌∙◌, subst}
+use Rattle.std.proofs.Common.{◌≡◌, List, [], ◌∷◌, ◌++◌, append-nil, Option, None, Some, option_map, Result, Ok, Err}
+use Rattle.std.proofs.Common.{OnOk, refl, sym, ap, ◌∙◌, subst}
 use Rattle.std.proofs.lemmas.List.Concat.{flat_map-append}
 use Rattle.rc_hir.specs.declared.fault.Fault.{Fault}
 use Rattle.rc_hir.specs.declared.function.HirFunction.{HirFunction}
@@ -23,8 +24,14 @@ use Rattle.rc_tree.specs.declared.terminal.ReactiveSwitchCase.{ReactiveSwitchCas
 use Rattle.rc_tree.specs.declared.terminal.ReactiveTerminal.{ReactiveTerminal}
 use Rattle.rc_tree.specs.declared.terminal.ReactiveTerminal.TheVariants as terminals
 use Rattle.rc_tree.proofs.RewriteKeepLemmas.{call_keeps}
-use Rattle.rc_runs.specs.Erase.{without_flag, erased_value, erased_row, erased_block, erased_statement, erased_case, erased_terminal, erased_statements, erased}
-use Rattle.rc_runs.proofs.ErasedPartLemmas.{erased-Instruction, erased-LogicalExpression, erased-ConditionalExpression, erased-SequenceExpression, erased-OptionalExpression, erased-row, erased-block, erased-row_statement, erased-labeled, erased-scope, erased-pruned_scope, erased-case, erased-Switch, erased-DoWhile, erased-While, erased-For, erased-ForOf, erased-ForIn, erased-If, erased-Label, erased-Try}
+use Rattle.rc_runs.specs.Erase.{without_flag, erased_value, erased_row, erased_block, erased_statement, erased_case}
+use Rattle.rc_runs.specs.Erase.{erased_terminal, erased_statements, erased}
+use Rattle.rc_runs.proofs.ErasedPartLemmas.{erased-Instruction, erased-LogicalExpression, erased-ConditionalExpression}
+use Rattle.rc_runs.proofs.ErasedPartLemmas.{erased-SequenceExpression, erased-OptionalExpression, erased-row}
+use Rattle.rc_runs.proofs.ErasedPartLemmas.{erased-block, erased-row_statement, erased-labeled, erased-scope}
+use Rattle.rc_runs.proofs.ErasedPartLemmas.{erased-pruned_scope, erased-case, erased-Switch, erased-DoWhile}
+use Rattle.rc_runs.proofs.ErasedPartLemmas.{erased-While, erased-For, erased-ForOf, erased-ForIn, erased-If}
+use Rattle.rc_runs.proofs.ErasedPartLemmas.{erased-Label, erased-Try}
 
 -- parts of one measure leave the same
 same_block : (block block1 : ReactiveBlock) → erased_statements block1.statements ≡ erased_statements block.statements

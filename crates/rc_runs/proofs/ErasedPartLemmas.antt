@@ -11,7 +11,8 @@ use Rattle.rc_tree.specs.RewriteKeeps.{block}
 use Rattle.rc_tree.specs.declared.kind.ReactiveTerminalTargetKind.{ReactiveTerminalTargetKind}
 use Rattle.rc_tree.specs.declared.value.ReactiveInstruction.{ReactiveInstruction}
 use Rattle.rc_tree.specs.declared.value.ReactiveValue.{ReactiveValue, roll-ReactiveValue}
-use Rattle.rc_tree.specs.declared.value.ReactiveValue.TheFolds.{map-ReactiveValue, fold-roll-ReactiveValue, fold-roll-ReactiveInstruction}
+use Rattle.rc_tree.specs.declared.value.ReactiveValue.TheFolds.{map-ReactiveValue, fold-roll-ReactiveValue}
+use Rattle.rc_tree.specs.declared.value.ReactiveValue.TheFolds.{fold-roll-ReactiveInstruction}
 use Rattle.rc_tree.specs.declared.value.ReactiveValue.TheOpen as value_layers
 use Rattle.rc_tree.specs.declared.value.ReactiveValue.TheOpen.{ReactiveValue-F}
 use Rattle.rc_tree.specs.declared.value.ReactiveValue.TheVariants as values
@@ -19,7 +20,17 @@ use Rattle.rc_tree.specs.declared.scope.ReactiveScopeBlock.{ReactiveScopeBlock}
 use Rattle.rc_tree.specs.declared.scope.PrunedReactiveScopeBlock.{PrunedReactiveScopeBlock}
 use Rattle.rc_tree.specs.declared.statement.ReactiveBlock.{ReactiveBlock}
 use Rattle.rc_tree.specs.declared.statement.ReactiveStatement.{ReactiveStatement, roll-ReactiveStatement}
-use Rattle.rc_tree.specs.declared.statement.ReactiveStatement.TheFolds.{map-ReactiveStatement, map-ReactiveTerminal, fold-ReactiveScopeBlock, fold-PrunedReactiveScopeBlock, fold-ReactiveTerminalStatement, fold-roll-ReactiveStatement, fold-roll-ReactiveTerminal, fold-roll-PrunedReactiveScopeBlock, fold-roll-ReactiveBlock, fold-roll-ReactiveScopeBlock, fold-roll-ReactiveSwitchCase, fold-roll-ReactiveTerminalStatement}
+use Rattle.rc_tree.specs.declared.statement.ReactiveStatement.TheFolds.{map-ReactiveStatement, map-ReactiveTerminal}
+use Rattle.rc_tree.specs.declared.statement.ReactiveStatement.TheFolds.{fold-ReactiveScopeBlock}
+use Rattle.rc_tree.specs.declared.statement.ReactiveStatement.TheFolds.{fold-PrunedReactiveScopeBlock}
+use Rattle.rc_tree.specs.declared.statement.ReactiveStatement.TheFolds.{fold-ReactiveTerminalStatement}
+use Rattle.rc_tree.specs.declared.statement.ReactiveStatement.TheFolds.{fold-roll-ReactiveStatement}
+use Rattle.rc_tree.specs.declared.statement.ReactiveStatement.TheFolds.{fold-roll-ReactiveTerminal}
+use Rattle.rc_tree.specs.declared.statement.ReactiveStatement.TheFolds.{fold-roll-PrunedReactiveScopeBlock}
+use Rattle.rc_tree.specs.declared.statement.ReactiveStatement.TheFolds.{fold-roll-ReactiveBlock}
+use Rattle.rc_tree.specs.declared.statement.ReactiveStatement.TheFolds.{fold-roll-ReactiveScopeBlock}
+use Rattle.rc_tree.specs.declared.statement.ReactiveStatement.TheFolds.{fold-roll-ReactiveSwitchCase}
+use Rattle.rc_tree.specs.declared.statement.ReactiveStatement.TheFolds.{fold-roll-ReactiveTerminalStatement}
 use Rattle.rc_tree.specs.declared.statement.ReactiveStatement.TheOpen as layers
 use Rattle.rc_tree.specs.declared.statement.ReactiveStatement.TheOpen.{ReactiveStatement-F, ReactiveTerminal-F}
 use Rattle.rc_tree.specs.declared.statement.ReactiveStatement.TheShapes as shapes
@@ -28,7 +39,9 @@ use Rattle.rc_tree.specs.declared.terminal.ReactiveSwitchCase.{ReactiveSwitchCas
 use Rattle.rc_tree.specs.declared.terminal.ReactiveTerminal.{ReactiveTerminal, roll-ReactiveTerminal}
 use Rattle.rc_tree.specs.declared.terminal.ReactiveTerminal.TheVariants as terminals
 use Rattle.rc_tree.specs.declared.terminal.ReactiveTerminalStatement.{ReactiveTerminalStatement}
-use Rattle.rc_runs.specs.Erase.{Erased, without_flag, of_value, of_row, erased_value, erased_row, of_statement, of_terminal, of_pruned_scope, of_scope, of_block, of_case, of_labeled, erased_block, erased_statement, erased_case, erased_terminal, erased_statements}
+use Rattle.rc_runs.specs.Erase.{Erased, without_flag, of_value, of_row, erased_value, erased_row, of_statement}
+use Rattle.rc_runs.specs.Erase.{of_terminal, of_pruned_scope, of_scope, of_block, of_case, of_labeled, erased_block}
+use Rattle.rc_runs.specs.Erase.{erased_statement, erased_case, erased_terminal, erased_statements}
 
 -- values and rows
 abbrev left_value : ReactiveValue-F ReactiveValue ReactiveInstruction

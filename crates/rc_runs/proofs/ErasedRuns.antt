@@ -14,12 +14,20 @@ use Rattle.rc_tree.specs.declared.function.ReactiveFunction.{ReactiveFunction}
 use Rattle.rc_tree.specs.declared.terminal.ReactiveLabel.{ReactiveLabel}
 use Rattle.rc_runs.specs.Event.{Event, Did, End}
 use Rattle.rc_runs.specs.Silent.{is_unset, is_silent, is_silent_value}
-use Rattle.rc_runs.specs.PlainTree.{Value, Base, Logical, Conditional, Sequence, Optional, Statements, Nil, Cons, Statement, RowStatement, TerminalStatement, ScopeStatement, PrunedScopeStatement, TreeTerminal, Break, Continue, Return, Throw, Switch, DoWhile, While, For, ForOf, ForIn, If, Label, Try, Alternate, Absent, Present}
+use Rattle.rc_runs.specs.PlainTree.{Value, Base, Logical, Conditional, Sequence, Optional, Statements, Nil, Cons}
+use Rattle.rc_runs.specs.PlainTree.{Statement, RowStatement, TerminalStatement, ScopeStatement, PrunedScopeStatement}
+use Rattle.rc_runs.specs.PlainTree.{TreeTerminal, Break, Continue, Return, Throw, Switch, DoWhile, While, For, ForOf}
+use Rattle.rc_runs.specs.PlainTree.{ForIn, If, Label, Try, Alternate, Absent, Present}
 use Rattle.rc_runs.specs.BodyRun.{Normal, Ended, RunsList, RunsStatement, quiet_row, did_row, IsBodyRun}
 use Rattle.rc_runs.specs.Erase.{without_flag, erased_block, erased}
 use Rattle.rc_runs.proofs.PlainLists.{alone, labeled}
-use Rattle.rc_runs.proofs.KeepsRunsLemmas.{has_no_runs, StatementKeepsRuns, SameRuns, SameAlternateRuns, append-keeps_runs, same-keeps_runs, statement-keeps_runs, contents-keep_runs, keeps_runs-contents, pruned_contents-keep_runs, keeps_runs-pruned_contents, present-keeps_runs, absent-keeps_runs, if-keeps_runs, label-keeps_runs, no_runs-keeps_runs}
-use Rattle.rc_runs.proofs.ErasedTreeLemmas.{plain_value, erased_plain, plain_statement, plain_terminal, plain_alternate, block-erased}
+use Rattle.rc_runs.proofs.KeepsRunsLemmas.{has_no_runs, StatementKeepsRuns, SameRuns, SameAlternateRuns}
+use Rattle.rc_runs.proofs.KeepsRunsLemmas.{append-keeps_runs, same-keeps_runs, statement-keeps_runs, contents-keep_runs}
+use Rattle.rc_runs.proofs.KeepsRunsLemmas.{keeps_runs-contents, pruned_contents-keep_runs, keeps_runs-pruned_contents}
+use Rattle.rc_runs.proofs.KeepsRunsLemmas.{present-keeps_runs, absent-keeps_runs, if-keeps_runs, label-keeps_runs}
+use Rattle.rc_runs.proofs.KeepsRunsLemmas.{no_runs-keeps_runs}
+use Rattle.rc_runs.proofs.ErasedTreeLemmas.{plain_value, erased_plain, plain_statement, plain_terminal, plain_alternate}
+use Rattle.rc_runs.proofs.ErasedTreeLemmas.{block-erased}
 use Rattle.rc_runs.proofs.TreeOfLemmas.{block_of-injective}
 use Rattle.rc_runs.proofs.EveryBlockIsPlain.{every_block_is_plain}
 

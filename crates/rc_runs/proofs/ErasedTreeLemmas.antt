@@ -4,11 +4,22 @@ use Rattle.rc_tree.specs.declared.statement.ReactiveStatement.TheVariants as sta
 use Rattle.rc_tree.specs.declared.terminal.ReactiveSwitchCase.{roll-ReactiveSwitchCase}
 use Rattle.rc_tree.specs.declared.terminal.ReactiveTerminal.TheVariants as terminals
 use Rattle.rc_tree.specs.declared.value.ReactiveValue.TheVariants as values
-use Rattle.rc_runs.specs.PlainTree.{Value, Base, Logical, Conditional, Sequence, Optional, Rows, NoRows, Row, Statements, Nil, Cons, Statement, RowStatement, TerminalStatement, ScopeStatement, PrunedScopeStatement, TreeTerminal, Break, Continue, Return, Throw, Switch, DoWhile, While, For, ForOf, ForIn, If, Label, Try, Alternate, Absent, Present, Cases, NoCases, Case}
-use Rattle.rc_runs.specs.TreeOf.{value_of, rows_of, statements_of, statement_of, terminal_of, alternate_of, cases_of, block_of}
-use Rattle.rc_runs.specs.Erase.{without_flag, erased_value, erased_row, erased_block, erased_statement, erased_case, erased_terminal, erased_statements}
+use Rattle.rc_runs.specs.PlainTree.{Value, Base, Logical, Conditional, Sequence, Optional, Rows, NoRows, Row}
+use Rattle.rc_runs.specs.PlainTree.{Statements, Nil, Cons, Statement, RowStatement, TerminalStatement, ScopeStatement}
+use Rattle.rc_runs.specs.PlainTree.{PrunedScopeStatement, TreeTerminal, Break, Continue, Return, Throw, Switch, DoWhile}
+use Rattle.rc_runs.specs.PlainTree.{While, For, ForOf, ForIn, If, Label, Try, Alternate, Absent, Present, Cases}
+use Rattle.rc_runs.specs.PlainTree.{NoCases, Case}
+use Rattle.rc_runs.specs.TreeOf.{value_of, rows_of, statements_of, statement_of, terminal_of, alternate_of, cases_of}
+use Rattle.rc_runs.specs.TreeOf.{block_of}
+use Rattle.rc_runs.specs.Erase.{without_flag, erased_value, erased_row, erased_block, erased_statement, erased_case}
+use Rattle.rc_runs.specs.Erase.{erased_terminal, erased_statements}
 use Rattle.rc_runs.proofs.PlainLists.{alone, labeled, append}
-use Rattle.rc_runs.proofs.ErasedPartLemmas.{erased-Instruction, erased-LogicalExpression, erased-ConditionalExpression, erased-SequenceExpression, erased-OptionalExpression, erased-row, erased-block, erased-row_statement, erased-labeled, erased-scope, erased-pruned_scope, erased-case, erased-Break, erased-Continue, erased-Return, erased-Throw, erased-Switch, erased-DoWhile, erased-While, erased-For, erased-ForOf, erased-ForIn, erased-If, erased-Label, erased-Try}
+use Rattle.rc_runs.proofs.ErasedPartLemmas.{erased-Instruction, erased-LogicalExpression, erased-ConditionalExpression}
+use Rattle.rc_runs.proofs.ErasedPartLemmas.{erased-SequenceExpression, erased-OptionalExpression, erased-row}
+use Rattle.rc_runs.proofs.ErasedPartLemmas.{erased-block, erased-row_statement, erased-labeled, erased-scope}
+use Rattle.rc_runs.proofs.ErasedPartLemmas.{erased-pruned_scope, erased-case, erased-Break, erased-Continue}
+use Rattle.rc_runs.proofs.ErasedPartLemmas.{erased-Return, erased-Throw, erased-Switch, erased-DoWhile, erased-While}
+use Rattle.rc_runs.proofs.ErasedPartLemmas.{erased-For, erased-ForOf, erased-ForIn, erased-If, erased-Label, erased-Try}
 
 -- values and rows without the flags of their instructions
 abbrev mutual

@@ -14,15 +14,20 @@ use Rattle.rc_tree.specs.declared.statement.ReactiveStatement.TheVariants as sta
 use Rattle.rc_tree.specs.declared.statement.ReactiveStatement.TheOpen as layers
 use Rattle.rc_tree.specs.declared.statement.ReactiveStatement.TheShapes as shapes
 use Rattle.rc_tree.specs.declared.statement.ReactiveStatement.TheOpen.{ReactiveStatement-F, ReactiveTerminal-F}
-use Rattle.rc_tree.specs.declared.statement.ReactiveStatement.TheFolds.{map-ReactiveStatement, map-ReactiveTerminal, ind-ReactiveBlock}
+use Rattle.rc_tree.specs.declared.statement.ReactiveStatement.TheFolds.{map-ReactiveStatement, map-ReactiveTerminal}
+use Rattle.rc_tree.specs.declared.statement.ReactiveStatement.TheFolds.{ind-ReactiveBlock}
 use Rattle.rc_tree.specs.declared.scope.ReactiveScopeBlock.{ReactiveScopeBlock}
 use Rattle.rc_tree.specs.declared.scope.PrunedReactiveScopeBlock.{PrunedReactiveScopeBlock}
 use Rattle.rc_tree.specs.declared.terminal.ReactiveTerminal.{ReactiveTerminal, roll-ReactiveTerminal}
 use Rattle.rc_tree.specs.declared.terminal.ReactiveTerminal.TheVariants as terminals
 use Rattle.rc_tree.specs.declared.terminal.ReactiveTerminalStatement.{ReactiveTerminalStatement}
 use Rattle.rc_tree.specs.declared.terminal.ReactiveSwitchCase.{ReactiveSwitchCase, roll-ReactiveSwitchCase}
-use Rattle.rc_runs.specs.PlainTree.{Base, Logical, Conditional, Sequence, Optional, NoRows, Row, Nil, Cons, RowStatement, TerminalStatement, ScopeStatement, PrunedScopeStatement, Break, Continue, Return, Throw, Switch, DoWhile, While, For, ForOf, ForIn, If, Label, Try, Alternate, Absent, Present, NoCases, Case}
-use Rattle.rc_runs.specs.TreeOf.{value_of, rows_of, statements_of, statement_of, terminal_of, alternate_of, cases_of, block_of}
+use Rattle.rc_runs.specs.PlainTree.{Base, Logical, Conditional, Sequence, Optional, NoRows, Row, Nil, Cons}
+use Rattle.rc_runs.specs.PlainTree.{RowStatement, TerminalStatement, ScopeStatement, PrunedScopeStatement, Break}
+use Rattle.rc_runs.specs.PlainTree.{Continue, Return, Throw, Switch, DoWhile, While, For, ForOf, ForIn, If, Label, Try}
+use Rattle.rc_runs.specs.PlainTree.{Alternate, Absent, Present, NoCases, Case}
+use Rattle.rc_runs.specs.TreeOf.{value_of, rows_of, statements_of, statement_of, terminal_of, alternate_of, cases_of}
+use Rattle.rc_runs.specs.TreeOf.{block_of}
 
 -- the part is the tree of a plain one
 abbrev pub IsPlain : {P X : Type 0} → (P → X) → X → Type 0

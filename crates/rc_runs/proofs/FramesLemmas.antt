@@ -2,7 +2,8 @@
 --
 -- `Aims` says where; `passed_labeled` and `passed_scope` say what a statement makes of an outcome of its parts, and
 -- `break_jumps` what the statements of a jump do. Both directions between runs rest on these.
-use Rattle.std.proofs.Common.{◌≡◌, List, [], ◌∷◌, Bool, true, false, ◌||◌, if◌then◌else◌, Option, Some, None, refl, sym, ap, ◌∙◌, subst}
+use Rattle.std.proofs.Common.{◌≡◌, List, [], ◌∷◌, Bool, true, false, ◌||◌, if◌then◌else◌, Option, Some, None, refl, sym}
+use Rattle.std.proofs.Common.{ap, ◌∙◌, subst}
 use Rattle.rc_names.specs.declared.numbers.BlockId.{BlockId}
 use Rattle.rc_names.specs.declared.numbers.EvaluationOrder.{EvaluationOrder}
 use Rattle.rc_hir.specs.declared.function.HirFunction.{HirFunction}
@@ -17,7 +18,8 @@ use Rattle.rc_runs.specs.Event.{End}
 use Rattle.rc_runs.specs.Graph.{Block, same_block, block_at}
 use Rattle.rc_runs.specs.Frames.{break_block, is_loop, way_out_of, way_from, break_way}
 use Rattle.rc_runs.specs.PlainTree.{Statements, Nil, Break}
-use Rattle.rc_runs.specs.Grammar.{next_inside, frames_inside, label_of, falls_to, unlabeled, break_statements, SpellsRest, block as of_block, closed, opened as opened_rest}
+use Rattle.rc_runs.specs.Grammar.{next_inside, frames_inside, label_of, falls_to, unlabeled, break_statements}
+use Rattle.rc_runs.specs.Grammar.{SpellsRest, block as of_block, closed, opened as opened_rest}
 use Rattle.rc_runs.specs.BodyRun.{Outcome, Normal, BreakTo, BreakLoop, ContinueTo, ContinueLoop, Ended, leaves, caught}
 use Rattle.rc_runs.proofs.GraphLemmas.{same_block-eq, usable_block-at}
 

@@ -1,12 +1,14 @@
 -- What the look-ups of blocks say of each other.
-use Rattle.std.proofs.Common.{◌≡◌, ℕ, List, Bool, true, false, Option, Some, None, ap, eqb-true, option_and_then, option_map, if◌then◌else◌}
+use Rattle.std.proofs.Common.{◌≡◌, ℕ, List, Bool, true, false, Option, Some, None, ap, eqb-true, option_and_then}
+use Rattle.std.proofs.Common.{option_map, if◌then◌else◌}
 use Rattle.std.specs.Cmp.{IsEquivalence}
 use Rattle.std.proofs.lemmas.Cmp.{nat_eq_equiv}
 use Rattle.rc_names.specs.declared.numbers.BlockId.{BlockId}
 use Rattle.rc_hir.specs.declared.function.Instruction.{Instruction}
 use Rattle.rc_hir.specs.declared.function.BasicBlock.{BasicBlock}
 use Rattle.rc_hir.specs.declared.function.HirFunction.{HirFunction}
-use Rattle.rc_runs.specs.Graph.{Block, same_block, basic_block, rows_of, with_rows, block_at, has_all_ids, with_ids, under_own_number, usable_block, is_unreachable, ends_unreachable, is_dead}
+use Rattle.rc_runs.specs.Graph.{Block, same_block, basic_block, rows_of, with_rows, block_at, has_all_ids, with_ids}
+use Rattle.rc_runs.specs.Graph.{under_own_number, usable_block, is_unreachable, ends_unreachable, is_dead}
 
 pub same_block-eq : (a b : BlockId) → same_block a b ≡ true → a ≡ b
 same_block-eq a b same =

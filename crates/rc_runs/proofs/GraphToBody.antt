@@ -7,7 +7,8 @@
 -- of which each terminal takes one. A terminal adds its moves to `statement_leads`, or a case to `terminal_leads`
 -- where it ends
 -- its list; what a terminal needs of smaller runs beside those of lists is a further field of `Below`.
-use Rattle.std.proofs.Common.{◌≡◌, ℕ, zero, suc, ◌<◌, ◌≤◌, Bool, true, false, List, [], ◌∷◌, ◌++◌, Option, Some, None, ◌⊎◌, inl, inr}
+use Rattle.std.proofs.Common.{◌≡◌, ℕ, zero, suc, ◌<◌, ◌≤◌, Bool, true, false, List, [], ◌∷◌, ◌++◌, Option, Some, None}
+use Rattle.std.proofs.Common.{◌⊎◌, inl, inr}
 use Rattle.std.proofs.Common.{refl, sym, ap, ◌∙◌, subst, append_assoc, append-nil, arith}
 use Rattle.rc_names.specs.declared.numbers.BlockId.{BlockId}
 use Rattle.rc_hir.specs.declared.terminal.Terminal.{Terminal}
@@ -19,20 +20,28 @@ use Rattle.rc_tree.specs.declared.function.ReactiveFunction.{ReactiveFunction}
 use Rattle.rc_runs.specs.declared.frames.Frame.{Frame}
 use Rattle.rc_runs.specs.declared.frames.Frame.TheVariants as frame
 use Rattle.rc_runs.specs.Event.{Event, Did, Arm, End}
-use Rattle.rc_runs.specs.GraphRun.{Move, then_arm, else_arm, goes_to, into_label, into_scope, into_pruned_scope, GraphRunAt, IsGraphRun}
+use Rattle.rc_runs.specs.GraphRun.{Move, then_arm, else_arm, goes_to, into_label, into_scope, into_pruned_scope}
+use Rattle.rc_runs.specs.GraphRun.{GraphRunAt, IsGraphRun}
 use Rattle.rc_runs.specs.GraphRun.{GraphRun, stopped, quiet, did, moved, returned, thrown}
 use Rattle.rc_runs.specs.PlainTree.{Statements, Cons, Statement, ScopeStatement, PrunedScopeStatement}
-use Rattle.rc_runs.specs.Grammar.{next_inside, frames_inside, rows_before, SpellsList, SpellsTerminal, SpellsStatement, SpellsRest}
-use Rattle.rc_runs.specs.Grammar.{block, returns, unreachable, breaks, and_rest, if_only, if_else, label, scope, pruned_scope}
+use Rattle.rc_runs.specs.Grammar.{next_inside, frames_inside, rows_before, SpellsList, SpellsTerminal, SpellsStatement}
+use Rattle.rc_runs.specs.Grammar.{SpellsRest}
+use Rattle.rc_runs.specs.Grammar.{block, returns, unreachable, breaks, and_rest, if_only, if_else, label, scope}
+use Rattle.rc_runs.specs.Grammar.{pruned_scope}
 use Rattle.rc_runs.specs.Grammar.{closed as no_rest, opened as has_rest}
 use Rattle.rc_runs.specs.Spelled.{SpellsBody, Spells}
-use Rattle.rc_runs.specs.BodyRun.{Outcome, Normal, BreakTo, BreakLoop, ContinueTo, ContinueLoop, Ended, leaves, caught, RunsList, RunsStatement, IsBodyRun}
-use Rattle.rc_runs.specs.BodyRun.{stopped as stops, nothing, and_then, goes_on, leaves_list, quiet_row, did_row, returned as returns_here}
-use Rattle.rc_runs.specs.BodyRun.{break_implicit, break_labeled, break_unlabeled, took_arm, took_other, in_label, in_scope, in_pruned_scope, absent, present}
+use Rattle.rc_runs.specs.BodyRun.{Outcome, Normal, BreakTo, BreakLoop, ContinueTo, ContinueLoop, Ended, leaves, caught}
+use Rattle.rc_runs.specs.BodyRun.{RunsList, RunsStatement, IsBodyRun}
+use Rattle.rc_runs.specs.BodyRun.{stopped as stops, nothing, and_then, goes_on, leaves_list, quiet_row, did_row}
+use Rattle.rc_runs.specs.BodyRun.{returned as returns_here}
+use Rattle.rc_runs.specs.BodyRun.{break_implicit, break_labeled, break_unlabeled, took_arm, took_other, in_label}
+use Rattle.rc_runs.specs.BodyRun.{in_scope, in_pruned_scope, absent, present}
 use Rattle.rc_runs.proofs.GraphLemmas.{same_block-eq, usable_block-at}
 use Rattle.rc_runs.proofs.FramesLemmas.{fall_block, Fits, fits_body, fits_inside, Aims, Aims-leaves, falls_to-next}
-use Rattle.rc_runs.proofs.FramesLemmas.{Passed, to_rest, further, caught-ended, caught-normal, passed_labeled, passed_scope}
-use Rattle.rc_runs.proofs.FramesLemmas.{Jumps, falls_off, breaks_implicit, breaks_labeled, breaks_unlabeled, break_jumps}
+use Rattle.rc_runs.proofs.FramesLemmas.{Passed, to_rest, further, caught-ended, caught-normal, passed_labeled}
+use Rattle.rc_runs.proofs.FramesLemmas.{passed_scope}
+use Rattle.rc_runs.proofs.FramesLemmas.{Jumps, falls_off, breaks_implicit, breaks_labeled, breaks_unlabeled}
+use Rattle.rc_runs.proofs.FramesLemmas.{break_jumps}
 use Rattle.rc_runs.proofs.OneTree.{one_held, terminal_at}
 
 -- the runs of a part of a tree

@@ -9,8 +9,13 @@ use Rattle.rc_hir.specs.declared.place.Place.{Place}
 use Rattle.rc_tree.specs.declared.kind.ReactiveTerminalTargetKind.{ReactiveTerminalTargetKind}
 use Rattle.rc_tree.specs.declared.terminal.ReactiveLabel.{ReactiveLabel}
 use Rattle.rc_runs.specs.Event.{Event, Open}
-use Rattle.rc_runs.specs.PlainTree.{Statements, Nil, Cons, Statement, TerminalStatement, ScopeStatement, PrunedScopeStatement, TreeTerminal, Break, Return, If, Label, Alternate, Absent, Present}
-use Rattle.rc_runs.specs.BodyRun.{Outcome, Normal, BreakTo, BreakLoop, ContinueTo, ContinueLoop, Ended, caught, RunsList, stopped, nothing, and_then, RunsAfter, goes_on, leaves_list, RunsStatement, returned, break_implicit, break_labeled, break_unlabeled, took_arm, took_other, in_label, in_scope, in_pruned_scope, RunsAlternate, present}
+use Rattle.rc_runs.specs.PlainTree.{Statements, Nil, Cons, Statement, TerminalStatement, ScopeStatement}
+use Rattle.rc_runs.specs.PlainTree.{PrunedScopeStatement, TreeTerminal, Break, Return, If, Label, Alternate, Absent}
+use Rattle.rc_runs.specs.PlainTree.{Present}
+use Rattle.rc_runs.specs.BodyRun.{Outcome, Normal, BreakTo, BreakLoop, ContinueTo, ContinueLoop, Ended, caught}
+use Rattle.rc_runs.specs.BodyRun.{RunsList, stopped, nothing, and_then, RunsAfter, goes_on, leaves_list, RunsStatement}
+use Rattle.rc_runs.specs.BodyRun.{returned, break_implicit, break_labeled, break_unlabeled, took_arm, took_other}
+use Rattle.rc_runs.specs.BodyRun.{in_label, in_scope, in_pruned_scope, RunsAlternate, present}
 use Rattle.rc_runs.proofs.PlainLists.{alone, labeled, append}
 
 append-Nil : (statements : Statements) → append statements Nil ≡ statements

@@ -3,7 +3,8 @@ use Rattle.std.proofs.Common.{◌≢◌, ℕ, List, [], ◌∷◌, ◌++◌, Opt
 use Rattle.std.specs.List.{All, flat_map}
 use Rattle.std.proofs.lemmas.List.Elements.{All-append, All-cons, All-nil}
 use Rattle.rc_hir.specs.Names.{IsInTable, lengths}
-use Rattle.rc_hir.specs.PartNames.{Name, argument_names, attribute_names, element_names, entry_names, item_names, key_names, lowered_names, pattern_names, perhaps, place_names, scope_name, tag_names}
+use Rattle.rc_hir.specs.PartNames.{Name, argument_names, attribute_names, element_names, entry_names, item_names}
+use Rattle.rc_hir.specs.PartNames.{key_names, lowered_names, pattern_names, perhaps, place_names, scope_name, tag_names}
 use Rattle.rc_hir.specs.ValueNames.{value_names}
 use Rattle.rc_hir.specs.declared.environment.Environment.{Environment}
 use Rattle.rc_hir.specs.declared.fault.TableName.{TableName}

@@ -15,7 +15,8 @@ use Rattle.rc_runs.specs.Graph.{Block}
 use Rattle.rc_runs.specs.PlainTree.{Statements, Statement}
 use Rattle.rc_runs.specs.TreeOf.{block_of}
 use Rattle.rc_runs.specs.Grammar.{next_inside, frames_inside, SpellsList, SpellsTerminal, SpellsStatement, SpellsRest}
-use Rattle.rc_runs.specs.Grammar.{block, returns, unreachable, breaks, and_rest, if_only, if_else, label, scope, pruned_scope, closed, opened}
+use Rattle.rc_runs.specs.Grammar.{block, returns, unreachable, breaks, and_rest, if_only, if_else, label, scope}
+use Rattle.rc_runs.specs.Grammar.{pruned_scope, closed, opened}
 use Rattle.rc_runs.specs.Spelled.{with_header, SpellsBody, Spells}
 
 -- the same part and the same used blocks

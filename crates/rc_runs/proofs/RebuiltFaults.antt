@@ -1,5 +1,6 @@
 -- Where rules fault at the scope blocks alone, the fault of a rebuilt tree is one of a number that stands in the tree.
-use Rattle.std.proofs.Common.{◌≡◌, ◌∙◌, ◌⊎◌, inl, inr, ◌+◌, List, [], ◌∷◌, ◌++◌, length, length-append, Option, None, Some, option_map, map, Result, Ok, Err, arith, refl, sym, ap, subst}
+use Rattle.std.proofs.Common.{◌≡◌, ◌∙◌, ◌⊎◌, inl, inr, ◌+◌, List, [], ◌∷◌, ◌++◌, length, length-append, Option, None}
+use Rattle.std.proofs.Common.{Some, option_map, map, Result, Ok, Err, arith, refl, sym, ap, subst}
 use Rattle.std.specs.List.{Any}
 use Rattle.std.proofs.Math.ListN.{get_or-append}
 use Rattle.std.proofs.lemmas.List.{get_or-append-add}
@@ -8,19 +9,32 @@ use Rattle.rc_names.specs.declared.numbers.ScopeId.{ScopeId}
 use Rattle.rc_hir.specs.declared.fault.Fault.{Fault}
 use Rattle.rc_hir.specs.declared.place.Place.{Place}
 use Rattle.rc_tree.specs.Outcome.{bind}
-use Rattle.rc_tree.specs.Rebuilt.{Rules, joined, in_order, rebuilt_block, rebuilt_case, rebuilt_labeled, rebuilt_pruned_scope, rebuilt_scope, rebuilt_statement, rebuilt_terminal}
-use Rattle.rc_tree.specs.TreeNames.{if_there, names_in, names_in_case, names_in_statement, names_in_terminal, names_in_value, one_by_one}
+use Rattle.rc_tree.specs.Rebuilt.{Rules, joined, in_order, rebuilt_block, rebuilt_case, rebuilt_labeled}
+use Rattle.rc_tree.specs.Rebuilt.{rebuilt_pruned_scope, rebuilt_scope, rebuilt_statement, rebuilt_terminal}
+use Rattle.rc_tree.specs.TreeNames.{if_there, names_in, names_in_case, names_in_statement, names_in_terminal}
+use Rattle.rc_tree.specs.TreeNames.{names_in_value, one_by_one}
 use Rattle.rc_tree.specs.declared.scope.PrunedReactiveScopeBlock.{PrunedReactiveScopeBlock}
 use Rattle.rc_tree.specs.declared.scope.ReactiveScopeBlock.{ReactiveScopeBlock}
 use Rattle.rc_tree.specs.declared.statement.ReactiveBlock.{ReactiveBlock}
 use Rattle.rc_tree.specs.declared.statement.ReactiveStatement.{ReactiveStatement}
 use Rattle.rc_tree.specs.declared.statement.ReactiveStatement.TheVariants as stmt
-use Rattle.rc_tree.specs.declared.terminal.ReactiveSwitchCase.{ReactiveSwitchCase, roll-ReactiveSwitchCase, out-ReactiveSwitchCase, out-roll-ReactiveSwitchCase}
+use Rattle.rc_tree.specs.declared.terminal.ReactiveSwitchCase.{ReactiveSwitchCase, roll-ReactiveSwitchCase}
+use Rattle.rc_tree.specs.declared.terminal.ReactiveSwitchCase.{out-ReactiveSwitchCase, out-roll-ReactiveSwitchCase}
 use Rattle.rc_tree.specs.declared.terminal.ReactiveTerminalStatement.{ReactiveTerminalStatement}
 use Rattle.rc_tree.specs.declared.value.ReactiveInstruction.{ReactiveInstruction}
-use Rattle.rc_tree.proofs.RebuiltLemmas.{if_some, rebuilt-block, rebuilt-labeled, rebuilt-scope, rebuilt-pruned_scope, rebuilt-case, rebuilt-Instruction, rebuilt-Terminal, rebuilt-Scope, rebuilt-PrunedScope, rebuilt-Break, rebuilt-Continue, rebuilt-Return, rebuilt-Throw, rebuilt-Switch, rebuilt-DoWhile, rebuilt-While, rebuilt-For, rebuilt-ForOf, rebuilt-ForIn, rebuilt-If, rebuilt-Label, rebuilt-Try}
-use Rattle.rc_tree.proofs.TreeNamesLemmas.{of_list, block-names, case-names, statement-Terminal, statement-Scope, statement-PrunedScope, terminal-Switch, terminal-DoWhile, terminal-While, terminal-For, terminal-ForOf, terminal-ForIn, terminal-If, terminal-Label, terminal-Try}
-use Rattle.rc_runs.specs.PlainTree.{Statements, Nil, Cons, Statement, RowStatement, TerminalStatement, ScopeStatement, PrunedScopeStatement, TreeTerminal, Break, Continue, Return, Throw, Switch, DoWhile, While, For, ForOf, ForIn, If, Label, Try, Alternate, Absent, Present, Cases, NoCases, Case}
+use Rattle.rc_tree.proofs.RebuiltLemmas.{if_some, rebuilt-block, rebuilt-labeled, rebuilt-scope, rebuilt-pruned_scope}
+use Rattle.rc_tree.proofs.RebuiltLemmas.{rebuilt-case, rebuilt-Instruction, rebuilt-Terminal, rebuilt-Scope}
+use Rattle.rc_tree.proofs.RebuiltLemmas.{rebuilt-PrunedScope, rebuilt-Break, rebuilt-Continue, rebuilt-Return}
+use Rattle.rc_tree.proofs.RebuiltLemmas.{rebuilt-Throw, rebuilt-Switch, rebuilt-DoWhile, rebuilt-While, rebuilt-For}
+use Rattle.rc_tree.proofs.RebuiltLemmas.{rebuilt-ForOf, rebuilt-ForIn, rebuilt-If, rebuilt-Label, rebuilt-Try}
+use Rattle.rc_tree.proofs.TreeNamesLemmas.{of_list, block-names, case-names, statement-Terminal, statement-Scope}
+use Rattle.rc_tree.proofs.TreeNamesLemmas.{statement-PrunedScope, terminal-Switch, terminal-DoWhile, terminal-While}
+use Rattle.rc_tree.proofs.TreeNamesLemmas.{terminal-For, terminal-ForOf, terminal-ForIn, terminal-If, terminal-Label}
+use Rattle.rc_tree.proofs.TreeNamesLemmas.{terminal-Try}
+use Rattle.rc_runs.specs.PlainTree.{Statements, Nil, Cons, Statement, RowStatement, TerminalStatement, ScopeStatement}
+use Rattle.rc_runs.specs.PlainTree.{PrunedScopeStatement, TreeTerminal, Break, Continue, Return, Throw, Switch, DoWhile}
+use Rattle.rc_runs.specs.PlainTree.{While, For, ForOf, ForIn, If, Label, Try, Alternate, Absent, Present, Cases}
+use Rattle.rc_runs.specs.PlainTree.{NoCases, Case}
 use Rattle.rc_runs.specs.TreeOf.{alternate_of, block_of, cases_of, statement_of, statements_of, terminal_of, value_of}
 use Rattle.rc_runs.proofs.EveryBlockIsPlain.{every_block_is_plain}
 

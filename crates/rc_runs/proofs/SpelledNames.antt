@@ -1,5 +1,6 @@
 -- The numbers of a spelled tree are in their tables, where those of its graph are; none of them names a row.
-use Rattle.std.proofs.Common.{◌≡◌, ◌∙◌, ◌⊎◌, inl, inr, ℕ, ◌<◌, ◌≤◌, List, [], ◌∷◌, ◌++◌, length, get_or, Bool, Option, None, Some, option_and_then, option_map, slice_get, refl, sym, ap, subst}
+use Rattle.std.proofs.Common.{◌≡◌, ◌∙◌, ◌⊎◌, inl, inr, ℕ, ◌<◌, ◌≤◌, List, [], ◌∷◌, ◌++◌, length, get_or, Bool, Option}
+use Rattle.std.proofs.Common.{None, Some, option_and_then, option_map, slice_get, refl, sym, ap, subst}
 use Rattle.std.specs.List.{All, flat_map}
 use Rattle.std.proofs.lemmas.List.Elements.{All-append}
 use Rattle.std.proofs.lemmas.Map.Views.{Contains-from_lookup}
@@ -8,7 +9,8 @@ use Rattle.rc_names.specs.declared.numbers.BlockId.{BlockId}
 use Rattle.rc_names.specs.declared.numbers.EvaluationOrder.{EvaluationOrder}
 use Rattle.rc_names.specs.declared.numbers.InstructionId.{InstructionId}
 use Rattle.rc_names.specs.declared.numbers.ScopeId.{ScopeId}
-use Rattle.rc_hir.specs.GraphNames.{Name, block_names, function_names, instruction_names, parameter_names, place_names, row_name, terminal_names, under_key}
+use Rattle.rc_hir.specs.GraphNames.{Name, block_names, function_names, instruction_names, parameter_names, place_names}
+use Rattle.rc_hir.specs.GraphNames.{row_name, terminal_names, under_key}
 use Rattle.rc_hir.specs.PartNames.{scope_name}
 use Rattle.rc_hir.specs.ValueNames.{value_names}
 use Rattle.rc_hir.specs.Names.{FunctionInTables, IsInTable, lengths}
@@ -27,9 +29,12 @@ use Rattle.rc_tree.specs.declared.terminal.ReactiveTerminalStatement.{ReactiveTe
 use Rattle.rc_tree.specs.declared.value.ReactiveInstruction.{ReactiveInstruction}
 use Rattle.rc_tree.specs.declared.value.ReactiveValue.TheVariants as val
 use Rattle.rc_runs.specs.Graph.{Block, basic_block, block_at, rows_of, usable_block, with_rows}
-use Rattle.rc_runs.specs.Grammar.{SpellsList, SpellsRest, SpellsStatement, SpellsTerminal, break_statements, rows_before, unlabeled}
-use Rattle.rc_runs.specs.Grammar.{block, returns, unreachable, breaks, and_rest, if_only, if_else, label, scope, pruned_scope, closed, opened}
-use Rattle.rc_runs.specs.PlainTree.{Base, Statement, RowStatement, TerminalStatement, Statements, Nil, Cons, TreeTerminal, Break, Return, If, Label, Absent, Present}
+use Rattle.rc_runs.specs.Grammar.{SpellsList, SpellsRest, SpellsStatement, SpellsTerminal, break_statements}
+use Rattle.rc_runs.specs.Grammar.{rows_before, unlabeled}
+use Rattle.rc_runs.specs.Grammar.{block, returns, unreachable, breaks, and_rest, if_only, if_else, label, scope}
+use Rattle.rc_runs.specs.Grammar.{pruned_scope, closed, opened}
+use Rattle.rc_runs.specs.PlainTree.{Base, Statement, RowStatement, TerminalStatement, Statements, Nil, Cons}
+use Rattle.rc_runs.specs.PlainTree.{TreeTerminal, Break, Return, If, Label, Absent, Present}
 use Rattle.rc_runs.specs.Spelled.{Spells}
 use Rattle.rc_runs.specs.TreeOf.{block_of, statement_of, statements_of, terminal_of}
 use Rattle.rc_runs.specs.Frames.{break_way}
@@ -40,7 +45,9 @@ use Rattle.rc_runs.proofs.GraphLemmas.{same_block-eq, usable_block-at}
 use Rattle.rc_tree.specs.TreeNames.{names_in, names_in_statement, names_in_terminal}
 use Rattle.rc_runs.proofs.AllLemmas.{All-none, All-left, All-right, All-flat_map}
 use Rattle.rc_runs.proofs.NoRowNamed.{IsNoRow, NoRows, all_in_environment, place_no_row, scope_no_row, value_no_row}
-use Rattle.rc_tree.proofs.TreeNamesLemmas.{of_list, block-names, row-names, value-Instruction, statement-Instruction, statement-Terminal, statement-Scope, statement-PrunedScope, terminal-Break, terminal-Return, terminal-If, terminal-Label}
+use Rattle.rc_tree.proofs.TreeNamesLemmas.{of_list, block-names, row-names, value-Instruction, statement-Instruction}
+use Rattle.rc_tree.proofs.TreeNamesLemmas.{statement-Terminal, statement-Scope, statement-PrunedScope, terminal-Break}
+use Rattle.rc_tree.proofs.TreeNamesLemmas.{terminal-Return, terminal-If, terminal-Label}
 
 module _ (hir : HirFunction) (env : Environment) (named : FunctionInTables env hir) where
   -- the number is in its table

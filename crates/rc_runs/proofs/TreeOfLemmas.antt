@@ -8,7 +8,8 @@ use Rattle.rc_tree.specs.declared.value.ReactiveValue.{ReactiveValue, ReactiveVa
 use Rattle.rc_tree.specs.declared.value.ReactiveValue.TheVariants as values
 use Rattle.rc_tree.specs.declared.value.ReactiveValue.TheOpen as value_layers
 use Rattle.rc_tree.specs.declared.statement.ReactiveBlock.{ReactiveBlock}
-use Rattle.rc_tree.specs.declared.statement.ReactiveStatement.{ReactiveStatement, ReactiveStatement-F, out-ReactiveStatement}
+use Rattle.rc_tree.specs.declared.statement.ReactiveStatement.{ReactiveStatement, ReactiveStatement-F}
+use Rattle.rc_tree.specs.declared.statement.ReactiveStatement.{out-ReactiveStatement}
 use Rattle.rc_tree.specs.declared.statement.ReactiveStatement.TheVariants as statements
 use Rattle.rc_tree.specs.declared.statement.ReactiveStatement.TheOpen as layers
 use Rattle.rc_tree.specs.declared.scope.ReactiveScopeBlock.{ReactiveScopeBlock}
@@ -16,10 +17,17 @@ use Rattle.rc_tree.specs.declared.scope.PrunedReactiveScopeBlock.{PrunedReactive
 use Rattle.rc_tree.specs.declared.terminal.ReactiveTerminal.{ReactiveTerminal, ReactiveTerminal-F, out-ReactiveTerminal}
 use Rattle.rc_tree.specs.declared.terminal.ReactiveTerminal.TheVariants as terminals
 use Rattle.rc_tree.specs.declared.terminal.ReactiveTerminalStatement.{ReactiveTerminalStatement}
-use Rattle.rc_tree.specs.declared.terminal.ReactiveSwitchCase.{ReactiveSwitchCase, ReactiveSwitchCase-F, out-ReactiveSwitchCase, roll-ReactiveSwitchCase, out-roll-ReactiveSwitchCase}
+use Rattle.rc_tree.specs.declared.terminal.ReactiveSwitchCase.{ReactiveSwitchCase, ReactiveSwitchCase-F}
+use Rattle.rc_tree.specs.declared.terminal.ReactiveSwitchCase.{out-ReactiveSwitchCase, roll-ReactiveSwitchCase}
+use Rattle.rc_tree.specs.declared.terminal.ReactiveSwitchCase.{out-roll-ReactiveSwitchCase}
 use Rattle.rc_hir.specs.declared.place.Place.{Place}
-use Rattle.rc_runs.specs.PlainTree.{Value, Base, Logical, Conditional, Sequence, Optional, Rows, NoRows, Row, Statements, Nil, Cons, Statement, RowStatement, TerminalStatement, ScopeStatement, PrunedScopeStatement, TreeTerminal, Break, Continue, Return, Throw, Switch, DoWhile, While, For, ForOf, ForIn, If, Label, Try, Alternate, Absent, Present, Cases, NoCases, Case}
-use Rattle.rc_runs.specs.TreeOf.{value_of, rows_of, statements_of, statement_of, terminal_of, alternate_of, cases_of, block_of}
+use Rattle.rc_runs.specs.PlainTree.{Value, Base, Logical, Conditional, Sequence, Optional, Rows, NoRows, Row}
+use Rattle.rc_runs.specs.PlainTree.{Statements, Nil, Cons, Statement, RowStatement, TerminalStatement, ScopeStatement}
+use Rattle.rc_runs.specs.PlainTree.{PrunedScopeStatement, TreeTerminal, Break, Continue, Return, Throw, Switch, DoWhile}
+use Rattle.rc_runs.specs.PlainTree.{While, For, ForOf, ForIn, If, Label, Try, Alternate, Absent, Present, Cases}
+use Rattle.rc_runs.specs.PlainTree.{NoCases, Case}
+use Rattle.rc_runs.specs.TreeOf.{value_of, rows_of, statements_of, statement_of, terminal_of, alternate_of, cases_of}
+use Rattle.rc_runs.specs.TreeOf.{block_of}
 
 -- the first layer of a value's tree
 abbrev value_layer : Value → ReactiveValue-F ReactiveValue ReactiveInstruction

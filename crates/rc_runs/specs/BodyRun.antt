@@ -13,7 +13,9 @@ use Rattle.rc_tree.specs.declared.function.ReactiveFunction.{ReactiveFunction}
 use Rattle.rc_runs.specs.Event.{Event, Did, Arm, End, Open, Returned}
 use Rattle.rc_runs.specs.Silent.{is_silent}
 use Rattle.rc_runs.specs.Graph.{same_block}
-use Rattle.rc_runs.specs.PlainTree.{Base, Statements, Nil, Cons, Statement, RowStatement, TerminalStatement, ScopeStatement, PrunedScopeStatement, Break, Return, If, Label, Alternate, Absent, Present}
+use Rattle.rc_runs.specs.PlainTree.{Base, Statements, Nil, Cons, Statement, RowStatement, TerminalStatement}
+use Rattle.rc_runs.specs.PlainTree.{ScopeStatement, PrunedScopeStatement, Break, Return, If, Label, Alternate, Absent}
+use Rattle.rc_runs.specs.PlainTree.{Present}
 use Rattle.rc_runs.specs.TreeOf.{block_of}
 
 -- where a statement leads: to what follows it, out by a jump, or to an end of the run

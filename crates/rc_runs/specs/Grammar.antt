@@ -22,7 +22,9 @@ use Rattle.rc_runs.specs.declared.frames.Way.{Way}
 use Rattle.rc_runs.specs.declared.frames.Way.TheVariants.{NoFrame, LeavesScope, LeavesCase, FallsOff, Breaks}
 use Rattle.rc_runs.specs.Graph.{Block, same_block, usable_block, is_dead}
 use Rattle.rc_runs.specs.Frames.{is_live, break_way}
-use Rattle.rc_runs.specs.PlainTree.{Base, Statements, Nil, Cons, Statement, RowStatement, TerminalStatement, ScopeStatement, PrunedScopeStatement, TreeTerminal, Break, Return, If, Label, Absent, Present}
+use Rattle.rc_runs.specs.PlainTree.{Base, Statements, Nil, Cons, Statement, RowStatement, TerminalStatement}
+use Rattle.rc_runs.specs.PlainTree.{ScopeStatement, PrunedScopeStatement, TreeTerminal, Break, Return, If, Label}
+use Rattle.rc_runs.specs.PlainTree.{Absent, Present}
 
 -- a fallthrough is opened unless a jump can name it already
 abbrev pub opens : List Frame → BlockId → Bool

@@ -1,5 +1,6 @@
 -- A graph's blocks with their rows, and which of them a tree may use.
-use Rattle.std.specs.Prelude.{Bool, true, false, List, [], ◌∷◌, Option, Some, None, nat_eq, slice_get, option_and_then, option_map, not, ◌&&◌, if◌then◌else◌}
+use Rattle.std.specs.Prelude.{Bool, true, false, List, [], ◌∷◌, Option, Some, None, nat_eq, slice_get, option_and_then}
+use Rattle.std.specs.Prelude.{option_map, not, ◌&&◌, if◌then◌else◌}
 use Rattle.std.specs.List.{list_any}
 use Rattle.std.specs.Map.{lookup}
 use Rattle.rc_names.specs.declared.numbers.BlockId.{BlockId}

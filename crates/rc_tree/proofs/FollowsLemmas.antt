@@ -1,37 +1,46 @@
 -- A rewriting walk whose steps follow the rules of a pass gives the tree that the rules rebuild.
-use Rattle.std.proofs.Common.{◌≡◌, ◌⊎◌, ◌∙◌, inl, inr, ℕ, zero, suc, List, [], ◌∷◌, ◌++◌, append_assoc, append-nil, Option, None, Some, map, Result, Ok, Err, OnOk, IfErr, refl, sym, ap, subst, arith}
+use Rattle.std.proofs.Common.{◌≡◌, ◌⊎◌, ◌∙◌, inl, inr, ℕ, zero, suc, List, [], ◌∷◌, ◌++◌, append_assoc, append-nil}
+use Rattle.std.proofs.Common.{Option, None, Some, map, Result, Ok, Err, OnOk, IfErr, refl, sym, ap, subst, arith}
 use Rattle.rc_hir.specs.declared.fault.Fault.{Fault}
 use Rattle.rc_hir.specs.declared.fault.Fault.TheVariants.{NoMemory}
 use Rattle.rc_hir.specs.declared.function.HirFunction.{HirFunction}
 use Rattle.rc_hir.specs.declared.place.Place.{Place}
 use Rattle.rc_names.specs.declared.numbers.EvaluationOrder.{EvaluationOrder}
-use Rattle.rc_tree.proofs.RebuiltLemmas.{if_some, rebuilt-block, rebuilt-labeled, rebuilt-scope, rebuilt-pruned_scope, rebuilt-case, rebuilt-Instruction, rebuilt-Terminal, rebuilt-Scope, rebuilt-PrunedScope, rebuilt-Break, rebuilt-Continue, rebuilt-Return, rebuilt-Throw, rebuilt-Switch, rebuilt-DoWhile, rebuilt-While, rebuilt-For, rebuilt-ForOf, rebuilt-ForIn, rebuilt-If, rebuilt-Label, rebuilt-Try}
+use Rattle.rc_tree.proofs.RebuiltLemmas.{if_some, rebuilt-block, rebuilt-labeled, rebuilt-scope, rebuilt-pruned_scope}
+use Rattle.rc_tree.proofs.RebuiltLemmas.{rebuilt-case, rebuilt-Instruction, rebuilt-Terminal, rebuilt-Scope}
+use Rattle.rc_tree.proofs.RebuiltLemmas.{rebuilt-PrunedScope, rebuilt-Break, rebuilt-Continue, rebuilt-Return}
+use Rattle.rc_tree.proofs.RebuiltLemmas.{rebuilt-Throw, rebuilt-Switch, rebuilt-DoWhile, rebuilt-While, rebuilt-For}
+use Rattle.rc_tree.proofs.RebuiltLemmas.{rebuilt-ForOf, rebuilt-ForIn, rebuilt-If, rebuilt-Label, rebuilt-Try}
+use Rattle.rc_tree.proofs.OutcomeLemmas.{Err-injective, Ok-injective}
 use Rattle.rc_tree.proofs.RewriteStatementKnownLemmas.{known_block_to, known_statement}
 use Rattle.rc_tree.specs.Follows.{Does, Follows, Leaves}
 use Rattle.rc_tree.specs.Outcome.{Gives, perhaps}
 use Rattle.rc_tree.specs.Outcome as outcome
-use Rattle.rc_tree.specs.Rebuilt.{Rebuilds, Rules, in_order, joined, rebuilt_block, rebuilt_statement, rebuilt_terminal, rebuilt_labeled, rebuilt_scope, rebuilt_pruned_scope, rebuilt_case}
-use Rattle.rc_tree.specs.Run.{Run, Spent, Failed, Done, Known, bind, after, settled, Part, Into, in_turn, kept_into, perhaps_part}
-use Rattle.rc_tree.specs.Rewrite.{by_answer, in_place, value_to, rewrite_value, instruction_at, rewrite_instruction, case_at, cases_at, parts_layer, parts_at, terminal_inside, terminal_at, scope_inside, scope_at, pruned_scope_inside, pruned_scope_at, statement_layer, statement_at, into_at, statements_at, block_inside, block_to, rewrite_block, rewrite_statement}
+use Rattle.rc_tree.specs.Rebuilt.{Rebuilds, Rules, in_order, joined, rebuilt_block, rebuilt_statement, rebuilt_terminal}
+use Rattle.rc_tree.specs.Rebuilt.{rebuilt_labeled, rebuilt_scope, rebuilt_pruned_scope, rebuilt_case}
+use Rattle.rc_tree.specs.Run.{Run, Spent, Failed, Done, Known, bind, after, settled, Part, Into, in_turn, kept_into}
+use Rattle.rc_tree.specs.Run.{perhaps_part}
+use Rattle.rc_tree.specs.Rewrite.{by_answer, in_place, value_to, rewrite_value, instruction_at, rewrite_instruction}
+use Rattle.rc_tree.specs.Rewrite.{case_at, cases_at, parts_layer, parts_at, terminal_inside, terminal_at, scope_inside}
+use Rattle.rc_tree.specs.Rewrite.{scope_at, pruned_scope_inside, pruned_scope_at, statement_layer, statement_at}
+use Rattle.rc_tree.specs.Rewrite.{into_at, statements_at, block_inside, block_to, rewrite_block, rewrite_statement}
 use Rattle.rc_tree.specs.RewriteSteps.{RewriteSteps, EntersNoDeeper, goes_inside, does_nothing, skips}
 use Rattle.rc_tree.specs.declared.scope.PrunedReactiveScopeBlock.{PrunedReactiveScopeBlock}
 use Rattle.rc_tree.specs.declared.scope.ReactiveScopeBlock.{ReactiveScopeBlock}
 use Rattle.rc_tree.specs.declared.statement.ReactiveBlock.{ReactiveBlock, size-ReactiveBlock}
-use Rattle.rc_tree.specs.declared.statement.ReactiveStatement.{ReactiveStatement, out-ReactiveStatement, roll-ReactiveStatement, roll-out-ReactiveStatement, size-ReactiveStatement}
+use Rattle.rc_tree.specs.declared.statement.ReactiveStatement.{ReactiveStatement, out-ReactiveStatement}
+use Rattle.rc_tree.specs.declared.statement.ReactiveStatement.{roll-ReactiveStatement, roll-out-ReactiveStatement}
+use Rattle.rc_tree.specs.declared.statement.ReactiveStatement.{size-ReactiveStatement}
 use Rattle.rc_tree.specs.declared.statement.ReactiveStatement.TheOpen as layer
 use Rattle.rc_tree.specs.declared.statement.ReactiveStatement.TheOpen.{ReactiveStatement-F, ReactiveTerminal-F}
 use Rattle.rc_tree.specs.declared.statement.ReactiveStatement.TheVariants as stmt
-use Rattle.rc_tree.specs.declared.terminal.ReactiveSwitchCase.{ReactiveSwitchCase, out-ReactiveSwitchCase, roll-ReactiveSwitchCase}
-use Rattle.rc_tree.specs.declared.terminal.ReactiveTerminal.{ReactiveTerminal, out-ReactiveTerminal, roll-ReactiveTerminal, roll-out-ReactiveTerminal}
+use Rattle.rc_tree.specs.declared.terminal.ReactiveSwitchCase.{ReactiveSwitchCase, out-ReactiveSwitchCase}
+use Rattle.rc_tree.specs.declared.terminal.ReactiveSwitchCase.{roll-ReactiveSwitchCase}
+use Rattle.rc_tree.specs.declared.terminal.ReactiveTerminal.{ReactiveTerminal, out-ReactiveTerminal}
+use Rattle.rc_tree.specs.declared.terminal.ReactiveTerminal.{roll-ReactiveTerminal, roll-out-ReactiveTerminal}
 use Rattle.rc_tree.specs.declared.terminal.ReactiveTerminal.TheVariants as term
 use Rattle.rc_tree.specs.declared.terminal.ReactiveTerminalStatement.{ReactiveTerminalStatement}
 use Rattle.rc_tree.specs.declared.transform.Transformed.{Transformed}
-
-by_ok : {A : Type 0} (a b : A) → ◌≡◌ {A = Result A Fault} (Ok a) (Ok b) → a ≡ b
-by_ok a b e = cc
-
-by_err : {A : Type 0} (a b : Fault) → ◌≡◌ {A = Result A Fault} (Err a) (Err b) → a ≡ b
-by_err a b e = cc
 
 module _ {S R T St : Type 0} (world : R → S → T × St) where
   -- what a computation gives is what is expected, at the world of the state expected; a spent one says nothing
@@ -203,13 +212,13 @@ module _ {S R T St : Type 0} (world : R → S → T × St) where
       → Gives (told r e) result (w, y)
       → OnOk result ((s : S) × (e ≡ Ok (s, y))) × IfErr result (λ fault. (fault ≡ NoMemory) ⊎ (e ≡ Err fault))
   gives_leaves r (Ok a) (Ok u) w y h =
-      ((a.0, ap (λ d. Ok (a.0, d.1.1)) (by_ok (tt, (world r a.0, a.1)) (u, (w, y)) h)), tt)
+      ((a.0, ap (λ d. Ok (a.0, d.1.1)) (Ok-injective (tt, (world r a.0, a.1)) (u, (w, y)) h)), tt)
   gives_leaves r (Ok a) (Err fault) w y (inl h) = (tt, inl h)
   gives_leaves r (Ok a) (Err fault) w y (inr h) = let bad : ⊥ = cc in absurd bad
   gives_leaves r (Err given) (Ok u) w y h = let bad : ⊥ = cc in absurd bad
   gives_leaves r (Err given) (Err fault) w y (inl h) = (tt, inl h)
   gives_leaves {X} r (Err given) (Err fault) w y (inr h) =
-      (tt, inr (ap Err (by_err {A = Unit {0} × ((T × St) × X)} given fault h)))
+      (tt, inr (ap Err (Err-injective {A = Unit {0} × ((T × St) × X)} given fault h)))
 
 -- the walk of steps that follow the rules
 module _ {S R T St : Type 0} (rules : Rules S) (v : RewriteSteps (T × St)) (functions : T → List HirFunction)

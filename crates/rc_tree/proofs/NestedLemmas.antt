@@ -1,6 +1,7 @@
 -- When the walk of a graph's function answers, and when it gives a cycle: marks of the entered functions against the
 -- functions that stand inside each other.
-use Rattle.std.proofs.Common.{◌≡◌, ◌<◌, ◌⊎◌, inl, inr, ℕ, zero, suc, Bool, true, false, List, [], ◌∷◌, Option, None, Some, Result, Ok, Err, map, arith, ap, refl, sym, subst, ◌∙◌}
+use Rattle.std.proofs.Common.{◌≡◌, ◌<◌, ◌⊎◌, inl, inr, ℕ, zero, suc, Bool, true, false, List, [], ◌∷◌, Option, None}
+use Rattle.std.proofs.Common.{Some, Result, Ok, Err, map, arith, ap, refl, sym, subst, ◌∙◌}
 use Rattle.std.specs.Prelude.{slice_get, slice_set, OnOk}
 use Rattle.rc_names.specs.declared.numbers.BlockId.{BlockId}
 use Rattle.rc_names.specs.declared.numbers.EvaluationOrder.{EvaluationOrder}
@@ -17,11 +18,17 @@ use Rattle.rc_hir.specs.declared.function.Instruction.{Instruction}
 use Rattle.rc_hir.specs.declared.instruction.InstructionValue.{InstructionValue}
 use Rattle.rc_hir.specs.declared.instruction.InstructionValue.TheVariants as kind
 use Rattle.rc_tree.proofs.ReadFunctionLemmas.{left_marked}
-use Rattle.rc_tree.proofs.ReadLemmas.{read_instruction-around, inside_instruction-parts, read_value-around, inside-Instruction}
-use Rattle.rc_tree.specs.Nested.{NamesRow, in_block, Holds, by_row, Reaches, itself, through, InsideItself, NoCycle, CycleAt, HookGives, by_id, by_place, by_lvalue, by_param, by_enter_instruction, by_leave_instruction, by_enter_value, by_leave_value}
+use Rattle.rc_tree.proofs.ReadLemmas.{read_instruction-around, inside_instruction-parts, read_value-around}
+use Rattle.rc_tree.proofs.ReadLemmas.{inside-Instruction}
+use Rattle.rc_tree.specs.Nested.{NamesRow, in_block, Holds, by_row, Reaches, itself, through, InsideItself, NoCycle}
+use Rattle.rc_tree.specs.Nested.{CycleAt, HookGives, by_id, by_place, by_lvalue, by_param, by_enter_instruction}
+use Rattle.rc_tree.specs.Nested.{by_leave_instruction, by_enter_value, by_leave_value}
 use Rattle.rc_tree.specs.Outcome.{Step, Walk, Gives, bind, next_to, each, perhaps}
-use Rattle.rc_tree.specs.Read.{by_answer, around, inside_base, inside_value, inside_instruction, read_instruction, read_value}
-use Rattle.rc_tree.specs.ReadFunction.{as_row, held_function, param_place, not_entered, row_and_function, numbered_row, block_row, basic_block, inside_function, numbered_function, by_mark, function_to, function_at, read_function}
+use Rattle.rc_tree.specs.Read.{by_answer, around, inside_base, inside_value, inside_instruction, read_instruction}
+use Rattle.rc_tree.specs.Read.{read_value}
+use Rattle.rc_tree.specs.ReadFunction.{as_row, held_function, param_place, not_entered, row_and_function, numbered_row}
+use Rattle.rc_tree.specs.ReadFunction.{block_row, basic_block, inside_function, numbered_function, by_mark, function_to}
+use Rattle.rc_tree.specs.ReadFunction.{function_at, read_function}
 use Rattle.rc_tree.specs.Steps.{ReadSteps, targets_of}
 use Rattle.rc_tree.specs.declared.value.ReactiveValue.TheVariants as value
 use Rattle.rc_tree.specs.declared.visitor.Enter.{Enter}

@@ -1,4 +1,4 @@
--- How the results of steps join: a first step that answers, and one that fails.
+-- How the results of steps join: a first step that answers, and one that fails. What equal results hold is equal.
 use Rattle.std.proofs.Common.{◌≡◌, ◌⊎◌, inl, inr, List, [], ◌∷◌, map, Option, Result, Ok, Err, refl, sym, ap, subst}
 use Rattle.rc_hir.specs.declared.fault.Fault.{Fault}
 use Rattle.rc_hir.specs.declared.fault.Fault.TheVariants.{NoMemory}
@@ -28,3 +28,11 @@ pub each-map : {S X Y : Type 0} (step : Y → Walk S) (f : X → Y) (xs : List X
     → each step (map f xs) s ≡ each (λ x. step (f x)) xs s
 each-map step f [] s = refl
 each-map step f (x ∷ xs) s = same_rest (step (f x) s) _ _ (λ r. each-map step f xs r.1)
+
+-- equal answers hold equal values
+pub Ok-injective : {A : Type 0} (a b : A) → ◌≡◌ {A = Result A Fault} (Ok a) (Ok b) → a ≡ b
+Ok-injective a b e = cc
+
+-- equal refusals hold equal faults
+pub Err-injective : {A : Type 0} (a b : Fault) → ◌≡◌ {A = Result A Fault} (Err a) (Err b) → a ≡ b
+Err-injective a b e = cc

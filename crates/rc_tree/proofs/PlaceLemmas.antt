@@ -1,5 +1,6 @@
 -- The entries of a list at a place and at the end, changed there, and what is left behind them.
-use Rattle.std.proofs.Common.{◌≡◌, ◌∙◌, ◌+◌, ◌<◌, ◌≤◌, ℕ, zero, suc, add-one, max, List, [], ◌∷◌, ◌++◌, length, take, drop, Option, None, Some, slice_get, slice_set, Result, Ok, Err, OnOk, refl, ap, arith}
+use Rattle.std.proofs.Common.{◌≡◌, ◌∙◌, ◌+◌, ◌<◌, ◌≤◌, ℕ, zero, suc, add-one, max, List, [], ◌∷◌, ◌++◌, length, take}
+use Rattle.std.proofs.Common.{drop, Option, None, Some, slice_get, slice_set, Result, Ok, Err, OnOk, refl, ap, arith}
 use Rattle.std.proofs.lemmas.List.{length-append}
 use denote.Param.Weighed.{most, most-append}
 
@@ -119,8 +120,8 @@ taken_all (x ∷ xs) (suc n) h =
     let p = taken_all xs n (omega (arith, h)) in
     (ap (λ l. x ∷ l) p.0, p.1)
 
--- nothing is found past the end
-pub past_end : {X : Type 0} (xs : List X) (i : ℕ) → None ≡ slice_get xs i → length xs ≤ i
+-- a place where nothing is found is past the end
+pub past_end : {X : Type 0} (xs : List X) (i : ℕ) → slice_get xs i ≡ None → length xs ≤ i
 past_end [] i e = omega arith
 past_end (x ∷ xs) zero e = let bad : ⊥ = cc in absurd bad
 past_end (x ∷ xs) (suc i) e = let h = past_end xs i e in omega (arith, h)

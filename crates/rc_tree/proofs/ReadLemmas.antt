@@ -7,7 +7,8 @@ use Rattle.rc_names.specs.declared.numbers.EvaluationOrder.{EvaluationOrder}
 use Rattle.rc_tree.proofs.OutcomeLemmas.{gives_next, gives_fault, each-map}
 use Rattle.rc_tree.specs.Outcome.{Walk, bind, next_to, each, perhaps}
 use Rattle.rc_tree.specs.Steps.{ReadSteps, targets_of}
-use Rattle.rc_tree.specs.Read.{WalkAt, around, around_instruction, inside_base, value_step, instruction_step, inside_value, inside_instruction, read_value, read_instruction}
+use Rattle.rc_tree.specs.Read.{WalkAt, around, around_instruction, inside_base, value_step, instruction_step}
+use Rattle.rc_tree.specs.Read.{inside_value, inside_instruction, read_value, read_instruction}
 use Rattle.rc_tree.specs.declared.value.ReactiveInstruction.{ReactiveInstruction}
 use Rattle.rc_tree.specs.declared.value.ReactiveValue.{ReactiveValue, roll-ReactiveValue, map-ReactiveValue}
 use Rattle.rc_tree.specs.declared.value.ReactiveValue.TheOpen as value

@@ -8,7 +8,11 @@ use Rattle.rc_names.specs.declared.span.Span.{Span}
 use Rattle.rc_tree.proofs.OutcomeLemmas.{gives_next, gives_fault, each-map, same_rest}
 use Rattle.rc_tree.specs.Outcome.{Walk, bind, next_to, each, perhaps}
 use Rattle.rc_tree.specs.Steps.{ReadSteps}
-use Rattle.rc_tree.specs.Read.{WalkAt, around, OfStatement, OfParts, OfPruned, OfScope, OfBlock, OfCase, OfTerminal, around_block, statement_step, parts_step, pruned_step, scope_step, block_step, case_step, terminal_step, read_value, read_instruction, read_statement, read_parts, read_case, inside_block, inside_scope, inside_pruned_scope, inside_terminal, read_block, read_scope, read_pruned_scope, read_terminal}
+use Rattle.rc_tree.specs.Read.{WalkAt, around, OfStatement, OfParts, OfPruned, OfScope, OfBlock, OfCase, OfTerminal}
+use Rattle.rc_tree.specs.Read.{around_block, statement_step, parts_step, pruned_step, scope_step, block_step, case_step}
+use Rattle.rc_tree.specs.Read.{terminal_step, read_value, read_instruction, read_statement, read_parts, read_case}
+use Rattle.rc_tree.specs.Read.{inside_block, inside_scope, inside_pruned_scope, inside_terminal, read_block, read_scope}
+use Rattle.rc_tree.specs.Read.{read_pruned_scope, read_terminal}
 use Rattle.rc_tree.specs.declared.kind.ReactiveTerminalTargetKind.{ReactiveTerminalTargetKind}
 use Rattle.rc_tree.specs.declared.scope.PrunedReactiveScopeBlock.{PrunedReactiveScopeBlock}
 use Rattle.rc_tree.specs.declared.scope.ReactiveScopeBlock.{ReactiveScopeBlock}
@@ -17,8 +21,17 @@ use Rattle.rc_tree.specs.declared.statement.ReactiveStatement.{ReactiveStatement
 use Rattle.rc_tree.specs.declared.statement.ReactiveStatement.TheOpen as layer
 use Rattle.rc_tree.specs.declared.statement.ReactiveStatement.TheShapes.{former-ReactiveTerminal-If-2}
 use Rattle.rc_tree.specs.declared.statement.ReactiveStatement.TheVariants as stmt
-use Rattle.rc_tree.specs.declared.statement.ReactiveStatement.TheViews.{roll-ReactiveTerminal, roll-ReactiveStatement, out-ReactiveSwitchCase, roll-out-ReactiveSwitchCase}
-use Rattle.rc_tree.specs.declared.statement.ReactiveStatement.TheFolds.{map-ReactiveTerminal, map-ReactiveStatement, para-roll-ReactiveStatement, para-roll-ReactiveTerminal, para-roll-PrunedReactiveScopeBlock, para-roll-ReactiveBlock, para-roll-ReactiveScopeBlock, para-roll-ReactiveSwitchCase, para-roll-ReactiveTerminalStatement}
+use Rattle.rc_tree.specs.declared.statement.ReactiveStatement.TheViews.{roll-ReactiveTerminal, roll-ReactiveStatement}
+use Rattle.rc_tree.specs.declared.statement.ReactiveStatement.TheViews.{out-ReactiveSwitchCase}
+use Rattle.rc_tree.specs.declared.statement.ReactiveStatement.TheViews.{roll-out-ReactiveSwitchCase}
+use Rattle.rc_tree.specs.declared.statement.ReactiveStatement.TheFolds.{map-ReactiveTerminal, map-ReactiveStatement}
+use Rattle.rc_tree.specs.declared.statement.ReactiveStatement.TheFolds.{para-roll-ReactiveStatement}
+use Rattle.rc_tree.specs.declared.statement.ReactiveStatement.TheFolds.{para-roll-ReactiveTerminal}
+use Rattle.rc_tree.specs.declared.statement.ReactiveStatement.TheFolds.{para-roll-PrunedReactiveScopeBlock}
+use Rattle.rc_tree.specs.declared.statement.ReactiveStatement.TheFolds.{para-roll-ReactiveBlock}
+use Rattle.rc_tree.specs.declared.statement.ReactiveStatement.TheFolds.{para-roll-ReactiveScopeBlock}
+use Rattle.rc_tree.specs.declared.statement.ReactiveStatement.TheFolds.{para-roll-ReactiveSwitchCase}
+use Rattle.rc_tree.specs.declared.statement.ReactiveStatement.TheFolds.{para-roll-ReactiveTerminalStatement}
 use Rattle.rc_tree.specs.declared.terminal.ReactiveSwitchCase.{ReactiveSwitchCase}
 use Rattle.rc_tree.specs.declared.terminal.ReactiveTerminal.{ReactiveTerminal}
 use Rattle.rc_tree.specs.declared.terminal.ReactiveTerminal.TheVariants as term

@@ -1,19 +1,26 @@
 -- The faults of a rebuilt tree are those of the rules.
-use Rattle.std.proofs.Common.{◌≡◌, ◌⊎◌, inl, inr, List, [], ◌∷◌, ◌++◌, Option, None, Some, map, Result, Ok, Err, IfErr, sym, subst}
+use Rattle.std.proofs.Common.{◌≡◌, ◌⊎◌, inl, inr, List, [], ◌∷◌, ◌++◌, Option, None, Some, map, Result, Ok, Err, IfErr}
+use Rattle.std.proofs.Common.{sym, subst}
 use Rattle.rc_hir.specs.declared.fault.Fault.{Fault}
 use Rattle.rc_hir.specs.declared.fault.Fault.TheVariants.{NoMemory}
-use Rattle.rc_tree.proofs.RebuiltLemmas.{LayerOfTerminal, LayerOfStatement, terminal_rebuilt, statement_rebuilt, opened_terminal, opened_statement, if_some, rebuilt-block, rebuilt-labeled, rebuilt-scope, rebuilt-pruned_scope, opened_case}
+use Rattle.rc_tree.proofs.RebuiltLemmas.{LayerOfTerminal, LayerOfStatement, terminal_rebuilt, statement_rebuilt}
+use Rattle.rc_tree.proofs.RebuiltLemmas.{opened_terminal, opened_statement, if_some, rebuilt-block, rebuilt-labeled}
+use Rattle.rc_tree.proofs.RebuiltLemmas.{rebuilt-scope, rebuilt-pruned_scope, opened_case}
 use Rattle.rc_tree.specs.Follows.{Leaves}
 use Rattle.rc_tree.specs.Outcome.{bind}
-use Rattle.rc_tree.specs.Rebuilt.{Rebuilds, Rules, FaultsOnly, in_order, joined, if_there, of_terminal, of_statement, rebuilt_block, rebuilt_statement, rebuilt_terminal, rebuilt_labeled, rebuilt_scope, rebuilt_pruned_scope, rebuilt_case}
+use Rattle.rc_tree.specs.Rebuilt.{Rebuilds, Rules, FaultsOnly, in_order, joined, if_there, of_terminal, of_statement}
+use Rattle.rc_tree.specs.Rebuilt.{rebuilt_block, rebuilt_statement, rebuilt_terminal, rebuilt_labeled, rebuilt_scope}
+use Rattle.rc_tree.specs.Rebuilt.{rebuilt_pruned_scope, rebuilt_case}
 use Rattle.rc_tree.specs.declared.scope.PrunedReactiveScopeBlock.{PrunedReactiveScopeBlock}
 use Rattle.rc_tree.specs.declared.scope.ReactiveScopeBlock.{ReactiveScopeBlock}
 use Rattle.rc_tree.specs.declared.statement.ReactiveBlock.{ReactiveBlock}
 use Rattle.rc_tree.specs.declared.statement.ReactiveStatement.{ReactiveStatement}
-use Rattle.rc_tree.specs.declared.statement.ReactiveStatement.TheFolds.{ind-ReactiveBlock, map-ReactiveTerminal, map-ReactiveStatement}
+use Rattle.rc_tree.specs.declared.statement.ReactiveStatement.TheFolds.{ind-ReactiveBlock, map-ReactiveTerminal}
+use Rattle.rc_tree.specs.declared.statement.ReactiveStatement.TheFolds.{map-ReactiveStatement}
 use Rattle.rc_tree.specs.declared.statement.ReactiveStatement.TheOpen as layer
 use Rattle.rc_tree.specs.declared.statement.ReactiveStatement.TheShapes.{former-ReactiveTerminal-If-2}
-use Rattle.rc_tree.specs.declared.statement.ReactiveStatement.TheViews.{roll-ReactiveTerminal, roll-ReactiveStatement, roll-ReactiveSwitchCase}
+use Rattle.rc_tree.specs.declared.statement.ReactiveStatement.TheViews.{roll-ReactiveTerminal, roll-ReactiveStatement}
+use Rattle.rc_tree.specs.declared.statement.ReactiveStatement.TheViews.{roll-ReactiveSwitchCase}
 use Rattle.rc_tree.specs.declared.terminal.ReactiveSwitchCase.{ReactiveSwitchCase}
 use Rattle.rc_tree.specs.declared.terminal.ReactiveTerminal.{ReactiveTerminal}
 use Rattle.rc_tree.specs.declared.terminal.ReactiveTerminal.TheVariants as term

@@ -6,7 +6,8 @@ use Rattle.rc_tree.proofs.RewriteRunLemmas.{meets_next, meets_fault, meets_last}
 use Rattle.rc_tree.specs.Outcome.{Gives}
 use Rattle.rc_tree.specs.Outcome as outcome
 use Rattle.rc_tree.specs.Run.{Run, Spent, Failed, Done, bind, after, last, Meets, Hook, Part}
-use Rattle.rc_tree.specs.Rewrite.{in_place, rewrite_instruction, terminal_at, scope_at, pruned_scope_at, statement_layer, statement_at, into_at}
+use Rattle.rc_tree.specs.Rewrite.{in_place, rewrite_instruction, terminal_at, scope_at, pruned_scope_at}
+use Rattle.rc_tree.specs.Rewrite.{statement_layer, statement_at, into_at}
 use Rattle.rc_tree.specs.RewriteInPlace.{Statement-F, answer_layer, answer_at, put_at, held_layer, held_at}
 use Rattle.rc_tree.specs.RewriteSteps.{RewriteSteps}
 use Rattle.rc_tree.specs.declared.statement.ReactiveBlock.{ReactiveBlock}

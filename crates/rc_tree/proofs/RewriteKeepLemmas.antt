@@ -1,28 +1,38 @@
 -- A rewriting walk whose steps keep a measure keeps it for the whole tree.
-use Rattle.std.proofs.Common.{◌≡◌, ◌∙◌, ℕ, zero, suc, List, [], ◌∷◌, ◌++◌, append_assoc, Option, None, Some, map, Result, Ok, Err, OnOk, refl, sym, ap, subst}
+use Rattle.std.proofs.Common.{◌≡◌, ◌∙◌, ℕ, zero, suc, List, [], ◌∷◌, ◌++◌, append_assoc, Option, None, Some, map}
+use Rattle.std.proofs.Common.{Result, Ok, Err, OnOk, refl, sym, ap, subst}
 use Rattle.rc_hir.specs.declared.fault.Fault.{Fault}
 use Rattle.rc_hir.specs.declared.function.HirFunction.{HirFunction}
 use Rattle.rc_names.specs.declared.numbers.EvaluationOrder.{EvaluationOrder}
 use Rattle.rc_tree.specs.Outcome.{Gives, each, perhaps}
-use Rattle.rc_tree.specs.Run.{Run, Spent, Failed, Done, bind, after, last, settled, Hook, Part, in_turn, kept_into, perhaps_part, perhaps_hook}
-use Rattle.rc_tree.specs.Rewrite.{around, by_answer, in_place, inside_base, instruction_inside, instruction_at, rows_at, value_layer, value_inside, value_to, rewrite_value, rewrite_instruction, case_at, cases_at, parts_layer, parts_at, terminal_inside, terminal_at, scope_inside, scope_at, pruned_scope_inside, pruned_scope_at, statement_layer, statement_at, into_at, statements_at, block_inside, block_to, rewrite_block}
+use Rattle.rc_tree.specs.Run.{Run, Spent, Failed, Done, bind, after, last, settled, Hook, Part, in_turn, kept_into}
+use Rattle.rc_tree.specs.Run.{perhaps_part, perhaps_hook}
+use Rattle.rc_tree.specs.Rewrite.{around, by_answer, in_place, inside_base, instruction_inside, instruction_at, rows_at}
+use Rattle.rc_tree.specs.Rewrite.{value_layer, value_inside, value_to, rewrite_value, rewrite_instruction, case_at}
+use Rattle.rc_tree.specs.Rewrite.{cases_at, parts_layer, parts_at, terminal_inside, terminal_at, scope_inside, scope_at}
+use Rattle.rc_tree.specs.Rewrite.{pruned_scope_inside, pruned_scope_at, statement_layer, statement_at, into_at}
+use Rattle.rc_tree.specs.Rewrite.{statements_at, block_inside, block_to, rewrite_block}
 use Rattle.rc_tree.specs.RewriteKeeps.{AlikeIf, Measure, block, one, Compositional, Holds, KeepsMeasure}
 use Rattle.rc_tree.specs.RewriteSteps.{RewriteSteps}
 use Rattle.rc_tree.specs.Steps.{targets_of}
 use Rattle.rc_tree.specs.declared.scope.PrunedReactiveScopeBlock.{PrunedReactiveScopeBlock}
 use Rattle.rc_tree.specs.declared.scope.ReactiveScopeBlock.{ReactiveScopeBlock}
 use Rattle.rc_tree.specs.declared.statement.ReactiveBlock.{ReactiveBlock, size-ReactiveBlock}
-use Rattle.rc_tree.specs.declared.statement.ReactiveStatement.{ReactiveStatement, out-ReactiveStatement, roll-ReactiveStatement, roll-out-ReactiveStatement}
+use Rattle.rc_tree.specs.declared.statement.ReactiveStatement.{ReactiveStatement, out-ReactiveStatement}
+use Rattle.rc_tree.specs.declared.statement.ReactiveStatement.{roll-ReactiveStatement, roll-out-ReactiveStatement}
 use Rattle.rc_tree.specs.declared.statement.ReactiveStatement.TheOpen as layer
 use Rattle.rc_tree.specs.declared.statement.ReactiveStatement.TheOpen.{ReactiveStatement-F, ReactiveTerminal-F}
 use Rattle.rc_tree.specs.declared.statement.ReactiveStatement.TheVariants as stmt
-use Rattle.rc_tree.specs.declared.terminal.ReactiveSwitchCase.{ReactiveSwitchCase, out-ReactiveSwitchCase, roll-ReactiveSwitchCase, roll-out-ReactiveSwitchCase}
-use Rattle.rc_tree.specs.declared.terminal.ReactiveTerminal.{ReactiveTerminal, out-ReactiveTerminal, roll-ReactiveTerminal, roll-out-ReactiveTerminal}
+use Rattle.rc_tree.specs.declared.terminal.ReactiveSwitchCase.{ReactiveSwitchCase, out-ReactiveSwitchCase}
+use Rattle.rc_tree.specs.declared.terminal.ReactiveSwitchCase.{roll-ReactiveSwitchCase, roll-out-ReactiveSwitchCase}
+use Rattle.rc_tree.specs.declared.terminal.ReactiveTerminal.{ReactiveTerminal, out-ReactiveTerminal}
+use Rattle.rc_tree.specs.declared.terminal.ReactiveTerminal.{roll-ReactiveTerminal, roll-out-ReactiveTerminal}
 use Rattle.rc_tree.specs.declared.terminal.ReactiveTerminal.TheVariants as term
 use Rattle.rc_tree.specs.declared.terminal.ReactiveTerminalStatement.{ReactiveTerminalStatement}
 use Rattle.rc_tree.specs.declared.transform.Transformed.{Transformed}
 use Rattle.rc_tree.specs.declared.value.ReactiveInstruction.{ReactiveInstruction, size-ReactiveInstruction}
-use Rattle.rc_tree.specs.declared.value.ReactiveValue.{ReactiveValue, out-ReactiveValue, roll-ReactiveValue, roll-out-ReactiveValue, size-ReactiveValue}
+use Rattle.rc_tree.specs.declared.value.ReactiveValue.{ReactiveValue, out-ReactiveValue, roll-ReactiveValue}
+use Rattle.rc_tree.specs.declared.value.ReactiveValue.{roll-out-ReactiveValue, size-ReactiveValue}
 use Rattle.rc_tree.specs.declared.value.ReactiveValue.TheOpen as value
 use Rattle.rc_tree.specs.declared.value.ReactiveValue.TheOpen.{ReactiveValue-F}
 use Rattle.rc_tree.specs.declared.value.ReactiveValue.TheVariants as val

@@ -5,11 +5,15 @@ use denote.Param.Weighed.{most}
 use Rattle.rc_hir.specs.declared.fault.Fault.{Fault}
 use Rattle.rc_hir.specs.declared.function.HirFunction.{HirFunction}
 use Rattle.rc_names.specs.declared.numbers.EvaluationOrder.{EvaluationOrder}
-use Rattle.rc_tree.specs.Run.{Run, Spent, Failed, Done, bind, after, last, Known, Hook, Part, Into, in_turn, kept_into, each_part}
-use Rattle.rc_tree.specs.Rewrite.{around, by_answer, inside_base, instruction_inside, instruction_at, rows_at, value_layer, value_inside, value_to}
+use Rattle.rc_tree.specs.Run.{Run, Spent, Failed, Done, bind, after, last, Known, Hook, Part, Into, in_turn, kept_into}
+use Rattle.rc_tree.specs.Run.{each_part}
+use Rattle.rc_tree.specs.Rewrite.{around, by_answer, inside_base, instruction_inside, instruction_at, rows_at}
+use Rattle.rc_tree.specs.Rewrite.{value_layer, value_inside, value_to}
 use Rattle.rc_tree.specs.RewriteSteps.{RewriteSteps, EntersNoDeeper}
-use Rattle.rc_tree.specs.declared.value.ReactiveInstruction.{ReactiveInstruction, size-ReactiveInstruction, size_is-ReactiveInstruction}
-use Rattle.rc_tree.specs.declared.value.ReactiveValue.{ReactiveValue, out-ReactiveValue, size-ReactiveValue, size_is-ReactiveValue}
+use Rattle.rc_tree.specs.declared.value.ReactiveInstruction.{ReactiveInstruction, size-ReactiveInstruction}
+use Rattle.rc_tree.specs.declared.value.ReactiveInstruction.{size_is-ReactiveInstruction}
+use Rattle.rc_tree.specs.declared.value.ReactiveValue.{ReactiveValue, out-ReactiveValue, size-ReactiveValue}
+use Rattle.rc_tree.specs.declared.value.ReactiveValue.{size_is-ReactiveValue}
 use Rattle.rc_tree.specs.declared.value.ReactiveValue.TheBlock as values
 use Rattle.rc_tree.specs.declared.value.ReactiveValue.TheOpen as value
 use Rattle.rc_tree.specs.declared.value.ReactiveValue.TheOpen.{ReactiveValue-F}

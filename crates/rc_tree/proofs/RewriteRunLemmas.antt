@@ -1,22 +1,19 @@
 -- How bounded computations join: a first one that answers, one that fails, a step before and after, a list in turn.
-use Rattle.std.proofs.Common.{◌≡◌, ◌⊎◌, ◌≤◌, inl, inr, ℕ, max, List, [], ◌∷◌, ◌++◌, reverse, take, drop, slice_get, slice_set, length, Some, ◌+◌, suc, add-one, Result, Ok, Err, refl, sym, ap, ◌∙◌, subst, arith}
+use Rattle.std.proofs.Common.{◌≡◌, ◌⊎◌, ◌≤◌, inl, inr, ℕ, max, List, [], ◌∷◌, ◌++◌, reverse, take, drop, slice_get}
+use Rattle.std.proofs.Common.{slice_set, length, Some, ◌+◌, suc, add-one, Result, Ok, Err, refl, sym, ap, ◌∙◌, subst}
+use Rattle.std.proofs.Common.{arith}
 use denote.Param.Weighed.{most, most-append}
 use Rattle.std.proofs.lemmas.List.{reverse-append}
 use Rattle.rc_hir.specs.declared.fault.Fault.{Fault}
 use Rattle.rc_hir.specs.declared.fault.Fault.TheVariants.{NoMemory}
-use Rattle.rc_tree.proofs.OutcomeLemmas.{gives_next, gives_fault}
+use Rattle.rc_tree.proofs.OutcomeLemmas.{Err-injective, Ok-injective, gives_next, gives_fault}
 use Rattle.rc_tree.proofs.PlaceLemmas.{ends_with, at_place, take_set, drop_set, taken_all}
 use Rattle.rc_tree.specs.Outcome.{Gives}
-use Rattle.rc_tree.specs.Run.{Run, Spent, Failed, Done, bind, after, last, Meets, Known, settled, Hook, Part, Into, in_turn, kept_into}
+use Rattle.rc_tree.specs.Run.{Run, Spent, Failed, Done, bind, after, last, Meets, Known, settled, Hook, Part, Into}
+use Rattle.rc_tree.specs.Run.{in_turn, kept_into}
 use Rattle.rc_tree.specs.Rewrite.{by_answer}
 use Rattle.rc_tree.specs.declared.visitor.Enter.{Enter}
 use Rattle.rc_tree.specs.declared.visitor.Enter.TheVariants.{Inside}
-
-by_ok : {A : Type 0} (a b : A) → ◌≡◌ {A = Result A Fault} (Ok a) (Ok b) → a ≡ b
-by_ok a b e = cc
-
-by_err : {A : Type 0} (a b : Fault) → ◌≡◌ {A = Result A Fault} (Err a) (Err b) → a ≡ b
-by_err a b e = cc
 
 not_err : {A E : Type 0} (a : A) (e : E) → Ok a ≡ Err e → ⊥
 not_err a e h = cc
@@ -30,7 +27,7 @@ meets_next (Failed fault) next a s r t (inl e) h = absurd (not_err a NoMemory e)
 meets_next (Failed fault) next a s r t (inr e) h = absurd (not_err a fault e)
 meets_next (Done d) next a s r t (inl e) h = absurd (not_err a NoMemory e)
 meets_next (Done d) next a s r t (inr e) h =
-    let same : (a, s) ≡ d = λ i. (by_ok a d.0 e.0 i, e.1 i) in subst (λ p. Meets (next p) r t) same h
+    let same : (a, s) ≡ d = λ i. (Ok-injective a d.0 e.0 i, e.1 i) in subst (λ p. Meets (next p) r t) same h
 
 -- want of memory is always met
 meets_no_memory : {B T : Type 0} (x : Run (B × T)) (t : T) → Meets x (Err NoMemory) t
@@ -45,9 +42,9 @@ none_left x fault t e = subst (λ f. Meets x (Err f) t) (sym e) (meets_no_memory
 pub meets_fault : {A B S T : Type 0} (first : Run (A × S)) (next : A × S → Run (B × T)) (fault : Fault) (s : S) (t : T)
     → Meets first (Err fault) s → Meets (bind first next) (Err fault) t
 meets_fault Spent next fault s t f = tt
-meets_fault (Failed bad) next fault s t (inl e) = inl (ap Err (by_err fault NoMemory e))
-meets_fault (Failed bad) next fault s t (inr e) = inr (ap Err (by_err fault bad e))
-meets_fault (Done d) next fault s t (inl e) = none_left (next d) fault t (by_err fault NoMemory e)
+meets_fault (Failed bad) next fault s t (inl e) = inl (ap Err (Err-injective fault NoMemory e))
+meets_fault (Failed bad) next fault s t (inr e) = inr (ap Err (Err-injective fault bad e))
+meets_fault (Done d) next fault s t (inl e) = none_left (next d) fault t (Err-injective fault NoMemory e)
 meets_fault (Done d) next fault s t (inr e) = absurd (not_err d.0 fault (sym e.0))
 
 -- a part's walk, with what is made of the part after it
@@ -104,11 +101,11 @@ unfolding Known settled
 gives_settled Spent r t k h = absurd k
 gives_settled (Failed bad) (Ok a) t k (inl e) = absurd (not_err a NoMemory e)
 gives_settled (Failed bad) (Ok a) t k (inr e) = absurd (not_err a bad e)
-gives_settled (Failed bad) (Err fault) t k (inl e) = inl (by_err fault NoMemory e)
-gives_settled (Failed bad) (Err fault) t k (inr e) = inr (ap Err (sym (by_err fault bad e)))
+gives_settled (Failed bad) (Err fault) t k (inl e) = inl (Err-injective fault NoMemory e)
+gives_settled (Failed bad) (Err fault) t k (inr e) = inr (ap Err (sym (Err-injective fault bad e)))
 gives_settled (Done d) (Ok a) t k (inl e) = absurd (not_err a NoMemory e)
-gives_settled (Done d) (Ok a) t k (inr e) = ap Ok (λ i. (by_ok d.0 a (sym e.0) i, sym e.1 i))
-gives_settled (Done d) (Err fault) t k (inl e) = inl (by_err fault NoMemory e)
+gives_settled (Done d) (Ok a) t k (inr e) = ap Ok (λ i. (Ok-injective d.0 a (sym e.0) i, sym e.1 i))
+gives_settled (Done d) (Err fault) t k (inl e) = inl (Err-injective fault NoMemory e)
 gives_settled (Done d) (Err fault) t k (inr e) = absurd (not_err d.0 fault (sym e.0))
 
 -- the loop over a list: so far the whole is spent, or what is left of it

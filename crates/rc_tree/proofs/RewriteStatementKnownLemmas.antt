@@ -4,21 +4,32 @@ use denote.Hole.Carrier.{Values}
 use denote.Param.Weighed.{most}
 use Rattle.rc_hir.specs.declared.function.HirFunction.{HirFunction}
 use Rattle.rc_names.specs.declared.numbers.EvaluationOrder.{EvaluationOrder}
-use Rattle.rc_tree.proofs.RewriteKnownLemmas.{known_bind, known_after, known_turn, known_each, known_around, done, visit, hook, part}
+use Rattle.rc_tree.proofs.RewriteKnownLemmas.{known_bind, known_after, known_turn, known_each, known_around, done}
+use Rattle.rc_tree.proofs.RewriteKnownLemmas.{visit, hook, part}
 use Rattle.rc_tree.specs.Run.{Done, Known, Part, perhaps_part}
-use Rattle.rc_tree.specs.Rewrite.{case_at, cases_at, parts_layer, parts_at, terminal_inside, terminal_at, scope_inside, scope_at, pruned_scope_inside, pruned_scope_at, statement_layer, statement_at, into_at, statements_at, block_inside, block_to, in_place}
+use Rattle.rc_tree.specs.Rewrite.{case_at, cases_at, parts_layer, parts_at, terminal_inside, terminal_at, scope_inside}
+use Rattle.rc_tree.specs.Rewrite.{scope_at, pruned_scope_inside, pruned_scope_at, statement_layer, statement_at}
+use Rattle.rc_tree.specs.Rewrite.{into_at, statements_at, block_inside, block_to, in_place}
 use Rattle.rc_tree.specs.RewriteSteps.{RewriteSteps, EntersNoDeeper}
-use Rattle.rc_tree.specs.declared.scope.PrunedReactiveScopeBlock.{PrunedReactiveScopeBlock, size-PrunedReactiveScopeBlock, size_is-PrunedReactiveScopeBlock}
-use Rattle.rc_tree.specs.declared.scope.ReactiveScopeBlock.{ReactiveScopeBlock, size-ReactiveScopeBlock, size_is-ReactiveScopeBlock}
+use Rattle.rc_tree.specs.declared.scope.PrunedReactiveScopeBlock.{PrunedReactiveScopeBlock}
+use Rattle.rc_tree.specs.declared.scope.PrunedReactiveScopeBlock.{size-PrunedReactiveScopeBlock}
+use Rattle.rc_tree.specs.declared.scope.PrunedReactiveScopeBlock.{size_is-PrunedReactiveScopeBlock}
+use Rattle.rc_tree.specs.declared.scope.ReactiveScopeBlock.{ReactiveScopeBlock, size-ReactiveScopeBlock}
+use Rattle.rc_tree.specs.declared.scope.ReactiveScopeBlock.{size_is-ReactiveScopeBlock}
 use Rattle.rc_tree.specs.declared.statement.ReactiveBlock.{ReactiveBlock, size-ReactiveBlock, size_is-ReactiveBlock}
-use Rattle.rc_tree.specs.declared.statement.ReactiveStatement.{ReactiveStatement, size-ReactiveStatement, size_is-ReactiveStatement, out-ReactiveStatement}
+use Rattle.rc_tree.specs.declared.statement.ReactiveStatement.{ReactiveStatement, size-ReactiveStatement}
+use Rattle.rc_tree.specs.declared.statement.ReactiveStatement.{size_is-ReactiveStatement, out-ReactiveStatement}
 use Rattle.rc_tree.specs.declared.statement.ReactiveStatement.TheBlock as tree
 use Rattle.rc_tree.specs.declared.statement.ReactiveStatement.TheOpen as layer
 use Rattle.rc_tree.specs.declared.statement.ReactiveStatement.TheOpen.{ReactiveStatement-F, ReactiveTerminal-F}
 use Rattle.rc_tree.specs.declared.statement.ReactiveStatement.TheShapes as shapes
-use Rattle.rc_tree.specs.declared.terminal.ReactiveSwitchCase.{ReactiveSwitchCase, out-ReactiveSwitchCase, size-ReactiveSwitchCase, size_is-ReactiveSwitchCase}
-use Rattle.rc_tree.specs.declared.terminal.ReactiveTerminal.{ReactiveTerminal, out-ReactiveTerminal, size_is-ReactiveTerminal}
-use Rattle.rc_tree.specs.declared.terminal.ReactiveTerminalStatement.{ReactiveTerminalStatement, size-ReactiveTerminalStatement, size_is-ReactiveTerminalStatement}
+use Rattle.rc_tree.specs.declared.terminal.ReactiveSwitchCase.{ReactiveSwitchCase, out-ReactiveSwitchCase}
+use Rattle.rc_tree.specs.declared.terminal.ReactiveSwitchCase.{size-ReactiveSwitchCase, size_is-ReactiveSwitchCase}
+use Rattle.rc_tree.specs.declared.terminal.ReactiveTerminal.{ReactiveTerminal, out-ReactiveTerminal}
+use Rattle.rc_tree.specs.declared.terminal.ReactiveTerminal.{size_is-ReactiveTerminal}
+use Rattle.rc_tree.specs.declared.terminal.ReactiveTerminalStatement.{ReactiveTerminalStatement}
+use Rattle.rc_tree.specs.declared.terminal.ReactiveTerminalStatement.{size-ReactiveTerminalStatement}
+use Rattle.rc_tree.specs.declared.terminal.ReactiveTerminalStatement.{size_is-ReactiveTerminalStatement}
 
 module _ {T S : Type 0} (v : RewriteSteps (T × S)) (functions : T → List HirFunction) where
   module _ (n : ℕ) (inner : Part (T × S) ReactiveBlock) (known : (w : T × S) (b : ReactiveBlock)

@@ -1,21 +1,30 @@
 -- The rewriting walk of blocks and statements: by its first step to any depth, and as a step since its depth is enough.
-use Rattle.std.proofs.Common.{◌≡◌, inl, inr, arith, ℕ, zero, suc, List, [], Option, Some, Result, Ok, Err, refl, sym, subst}
+use Rattle.std.proofs.Common.{◌≡◌, inl, inr, arith, ℕ, zero, suc, List, [], Option, Some, Result, Ok, Err, refl, sym}
+use Rattle.std.proofs.Common.{subst}
 use Rattle.rc_hir.specs.declared.fault.Fault.{Fault}
 use Rattle.rc_hir.specs.declared.function.HirFunction.{HirFunction}
 use Rattle.rc_names.specs.declared.numbers.EvaluationOrder.{EvaluationOrder}
 use Rattle.rc_tree.proofs.RewriteRunLemmas.{gives_settled, meets_made}
-use Rattle.rc_tree.proofs.RewriteStatementKnownLemmas.{known_block_to, known_block_inside, known_statement, known_scope_inside, known_pruned_scope_inside, known_terminal_inside}
+use Rattle.rc_tree.proofs.RewriteStatementKnownLemmas.{known_block_to, known_block_inside, known_statement}
+use Rattle.rc_tree.proofs.RewriteStatementKnownLemmas.{known_scope_inside, known_pruned_scope_inside}
+use Rattle.rc_tree.proofs.RewriteStatementKnownLemmas.{known_terminal_inside}
 use Rattle.rc_tree.specs.Outcome.{Gives, perhaps}
 use Rattle.rc_tree.specs.Run.{Done, bind, after, Meets, Hook, Part, in_turn, kept_into, perhaps_part, perhaps_hook}
-use Rattle.rc_tree.specs.Rewrite.{by_answer, case_at, cases_at, parts_at, terminal_inside, terminal_at, scope_inside, scope_at, pruned_scope_inside, pruned_scope_at, statement_at, into_at, statements_at, block_inside, block_to, rewrite_block, rewrite_value, inside_block, inside_scope, inside_pruned_scope, inside_terminal, rewrite_statement}
+use Rattle.rc_tree.specs.Rewrite.{by_answer, case_at, cases_at, parts_at, terminal_inside, terminal_at, scope_inside}
+use Rattle.rc_tree.specs.Rewrite.{scope_at, pruned_scope_inside, pruned_scope_at, statement_at, into_at, statements_at}
+use Rattle.rc_tree.specs.Rewrite.{block_inside, block_to, rewrite_block, rewrite_value, inside_block, inside_scope}
+use Rattle.rc_tree.specs.Rewrite.{inside_pruned_scope, inside_terminal, rewrite_statement}
 use Rattle.rc_tree.specs.RewriteSteps.{RewriteSteps, EntersNoDeeper}
-use Rattle.rc_tree.specs.declared.scope.PrunedReactiveScopeBlock.{PrunedReactiveScopeBlock, size-PrunedReactiveScopeBlock}
+use Rattle.rc_tree.specs.declared.scope.PrunedReactiveScopeBlock.{PrunedReactiveScopeBlock}
+use Rattle.rc_tree.specs.declared.scope.PrunedReactiveScopeBlock.{size-PrunedReactiveScopeBlock}
 use Rattle.rc_tree.specs.declared.scope.ReactiveScopeBlock.{ReactiveScopeBlock, size-ReactiveScopeBlock}
 use Rattle.rc_tree.specs.declared.statement.ReactiveBlock.{ReactiveBlock, size-ReactiveBlock}
 use Rattle.rc_tree.specs.declared.statement.ReactiveStatement.{ReactiveStatement, size-ReactiveStatement}
-use Rattle.rc_tree.specs.declared.terminal.ReactiveSwitchCase.{ReactiveSwitchCase, out-ReactiveSwitchCase, roll-ReactiveSwitchCase}
+use Rattle.rc_tree.specs.declared.terminal.ReactiveSwitchCase.{ReactiveSwitchCase, out-ReactiveSwitchCase}
+use Rattle.rc_tree.specs.declared.terminal.ReactiveSwitchCase.{roll-ReactiveSwitchCase}
 use Rattle.rc_tree.specs.declared.terminal.ReactiveTerminal.TheVariants as term
-use Rattle.rc_tree.specs.declared.terminal.ReactiveTerminalStatement.{ReactiveTerminalStatement, size-ReactiveTerminalStatement}
+use Rattle.rc_tree.specs.declared.terminal.ReactiveTerminalStatement.{ReactiveTerminalStatement}
+use Rattle.rc_tree.specs.declared.terminal.ReactiveTerminalStatement.{size-ReactiveTerminalStatement}
 use Rattle.rc_tree.specs.declared.transform.Transformed.{Transformed}
 use Rattle.rc_tree.specs.declared.value.ReactiveValue.{ReactiveValue}
 

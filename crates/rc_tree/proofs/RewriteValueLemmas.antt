@@ -3,11 +3,13 @@ use Rattle.std.proofs.Common.{◌≡◌, arith, ℕ, zero, suc, List, [], Result
 use Rattle.rc_hir.specs.declared.fault.Fault.{Fault}
 use Rattle.rc_hir.specs.declared.function.HirFunction.{HirFunction}
 use Rattle.rc_names.specs.declared.numbers.EvaluationOrder.{EvaluationOrder}
-use Rattle.rc_tree.proofs.RewriteKnownLemmas.{known_instruction, known_instruction_inside, known_value_inside, known_value_to}
+use Rattle.rc_tree.proofs.RewriteKnownLemmas.{known_instruction, known_instruction_inside, known_value_inside}
+use Rattle.rc_tree.proofs.RewriteKnownLemmas.{known_value_to}
 use Rattle.rc_tree.proofs.RewriteRunLemmas.{gives_settled}
 use Rattle.rc_tree.specs.Outcome.{Gives}
 use Rattle.rc_tree.specs.Run.{after, Meets, Part, in_turn, kept_into}
-use Rattle.rc_tree.specs.Rewrite.{by_answer, inside_instruction, inside_value, instruction_at, instruction_inside, rows_at, rewrite_instruction, rewrite_value, value_inside, value_to}
+use Rattle.rc_tree.specs.Rewrite.{by_answer, inside_instruction, inside_value, instruction_at, instruction_inside}
+use Rattle.rc_tree.specs.Rewrite.{rows_at, rewrite_instruction, rewrite_value, value_inside, value_to}
 use Rattle.rc_tree.specs.RewriteSteps.{RewriteSteps, EntersNoDeeper}
 use Rattle.rc_tree.specs.declared.value.ReactiveInstruction.{ReactiveInstruction, size-ReactiveInstruction}
 use Rattle.rc_tree.specs.declared.value.ReactiveValue.{ReactiveValue, size-ReactiveValue}

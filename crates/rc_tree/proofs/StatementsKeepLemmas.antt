@@ -5,7 +5,8 @@ use Rattle.rc_tree.specs.Outcome.{bind}
 use Rattle.rc_tree.specs.Rewrite.{in_place}
 use Rattle.rc_tree.specs.RewriteKeeps.{Measure, KeepsMeasure, one}
 use Rattle.rc_tree.specs.RewriteSteps.{skips}
-use Rattle.rc_tree.specs.StatementSteps.{StatementSteps, enters_scope, over_statements, transforms_scope, transforms_terminal}
+use Rattle.rc_tree.specs.StatementSteps.{StatementSteps, enters_scope, over_statements, transforms_scope}
+use Rattle.rc_tree.specs.StatementSteps.{transforms_terminal}
 use Rattle.rc_tree.specs.declared.scope.ReactiveScopeBlock.{ReactiveScopeBlock}
 use Rattle.rc_tree.specs.declared.statement.ReactiveStatement.{ReactiveStatement}
 use Rattle.rc_tree.specs.declared.statement.ReactiveStatement.TheVariants as stmt

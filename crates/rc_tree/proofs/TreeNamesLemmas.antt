@@ -1,5 +1,6 @@
 -- What the numbers of a tree are, form by form; what keeps them part by part keeps them for the whole.
-use Rattle.std.proofs.Common.{◌≡◌, ◌∙◌, Bool, List, [], ◌∷◌, ◌++◌, append_assoc, Option, None, Some, option_map, map, refl, sym, ap}
+use Rattle.std.proofs.Common.{◌≡◌, ◌∙◌, Bool, List, [], ◌∷◌, ◌++◌, append_assoc, Option, None, Some, option_map, map}
+use Rattle.std.proofs.Common.{refl, sym, ap}
 use Rattle.std.specs.List.{flat_map}
 use Rattle.rc_hir.specs.PartNames.{perhaps, place_names, scope_name}
 use Rattle.rc_hir.specs.ValueNames.{value_names}
@@ -15,7 +16,16 @@ use Rattle.rc_tree.specs.declared.scope.PrunedReactiveScopeBlock.{PrunedReactive
 use Rattle.rc_tree.specs.declared.scope.ReactiveScopeBlock.{ReactiveScopeBlock}
 use Rattle.rc_tree.specs.declared.statement.ReactiveBlock.{ReactiveBlock}
 use Rattle.rc_tree.specs.declared.statement.ReactiveStatement.{ReactiveStatement}
-use Rattle.rc_tree.specs.declared.statement.ReactiveStatement.TheFolds.{fold-PrunedReactiveScopeBlock, fold-ReactiveScopeBlock, fold-ReactiveTerminalStatement, fold-roll-ReactiveStatement, fold-roll-ReactiveTerminal, fold-roll-PrunedReactiveScopeBlock, fold-roll-ReactiveBlock, fold-roll-ReactiveScopeBlock, fold-roll-ReactiveSwitchCase, fold-roll-ReactiveTerminalStatement}
+use Rattle.rc_tree.specs.declared.statement.ReactiveStatement.TheFolds.{fold-PrunedReactiveScopeBlock}
+use Rattle.rc_tree.specs.declared.statement.ReactiveStatement.TheFolds.{fold-ReactiveScopeBlock}
+use Rattle.rc_tree.specs.declared.statement.ReactiveStatement.TheFolds.{fold-ReactiveTerminalStatement}
+use Rattle.rc_tree.specs.declared.statement.ReactiveStatement.TheFolds.{fold-roll-ReactiveStatement}
+use Rattle.rc_tree.specs.declared.statement.ReactiveStatement.TheFolds.{fold-roll-ReactiveTerminal}
+use Rattle.rc_tree.specs.declared.statement.ReactiveStatement.TheFolds.{fold-roll-PrunedReactiveScopeBlock}
+use Rattle.rc_tree.specs.declared.statement.ReactiveStatement.TheFolds.{fold-roll-ReactiveBlock}
+use Rattle.rc_tree.specs.declared.statement.ReactiveStatement.TheFolds.{fold-roll-ReactiveScopeBlock}
+use Rattle.rc_tree.specs.declared.statement.ReactiveStatement.TheFolds.{fold-roll-ReactiveSwitchCase}
+use Rattle.rc_tree.specs.declared.statement.ReactiveStatement.TheFolds.{fold-roll-ReactiveTerminalStatement}
 use Rattle.rc_tree.specs.declared.statement.ReactiveStatement.TheOpen as layer
 use Rattle.rc_tree.specs.declared.statement.ReactiveStatement.TheVariants as stmt
 use Rattle.rc_tree.specs.declared.terminal.ReactiveLabel.{ReactiveLabel}
@@ -28,7 +38,9 @@ use Rattle.rc_tree.specs.declared.value.ReactiveValue.{ReactiveValue}
 use Rattle.rc_tree.specs.declared.value.ReactiveValue.TheFolds.{fold-roll-ReactiveValue, fold-roll-ReactiveInstruction}
 use Rattle.rc_tree.specs.declared.value.ReactiveValue.TheOpen as value
 use Rattle.rc_tree.specs.declared.value.ReactiveValue.TheVariants as val
-use Rattle.rc_tree.specs.TreeNames.{Names, one_by_one, if_there, of_value, of_row, names_in_value, names_in_row, of_terminal, of_statement, of_scope, of_pruned_scope, of_block, of_case, of_labeled, names_in, names_in_statement, names_in_terminal, names_in_case}
+use Rattle.rc_tree.specs.TreeNames.{Names, one_by_one, if_there, of_value, of_row, names_in_value, names_in_row}
+use Rattle.rc_tree.specs.TreeNames.{of_terminal, of_statement, of_scope, of_pruned_scope, of_block, of_case, of_labeled}
+use Rattle.rc_tree.specs.TreeNames.{names_in, names_in_statement, names_in_terminal, names_in_case}
 
 -- values and rows
 pub value-Instruction : (x : InstructionValue) → names_in_value (val.Instruction x) ≡ value_names x

@@ -16,8 +16,15 @@ use Rattle.rc_tree.specs.declared.scope.ReactiveScopeBlock.{ReactiveScopeBlock}
 use Rattle.rc_tree.specs.declared.statement.ReactiveBlock.{ReactiveBlock}
 use Rattle.rc_tree.specs.declared.statement.ReactiveStatement.{ReactiveStatement}
 use Rattle.rc_tree.specs.declared.statement.ReactiveStatement.TheOpen as layer
-use Rattle.rc_tree.specs.declared.statement.ReactiveStatement.TheOpen.{ReactiveStatement-F, ReactiveTerminal-F, PrunedReactiveScopeBlock-F, ReactiveScopeBlock-F, ReactiveBlock-F, ReactiveSwitchCase-F, ReactiveTerminalStatement-F}
-use Rattle.rc_tree.specs.declared.statement.ReactiveStatement.TheFolds.{para-ReactiveStatement, para-ReactiveTerminal, para-PrunedReactiveScopeBlock, para-ReactiveScopeBlock, para-ReactiveBlock, para-ReactiveSwitchCase, para-ReactiveTerminalStatement}
+use Rattle.rc_tree.specs.declared.statement.ReactiveStatement.TheOpen.{ReactiveStatement-F, ReactiveTerminal-F}
+use Rattle.rc_tree.specs.declared.statement.ReactiveStatement.TheOpen.{PrunedReactiveScopeBlock-F, ReactiveScopeBlock-F}
+use Rattle.rc_tree.specs.declared.statement.ReactiveStatement.TheOpen.{ReactiveBlock-F, ReactiveSwitchCase-F}
+use Rattle.rc_tree.specs.declared.statement.ReactiveStatement.TheOpen.{ReactiveTerminalStatement-F}
+use Rattle.rc_tree.specs.declared.statement.ReactiveStatement.TheFolds.{para-ReactiveStatement, para-ReactiveTerminal}
+use Rattle.rc_tree.specs.declared.statement.ReactiveStatement.TheFolds.{para-PrunedReactiveScopeBlock}
+use Rattle.rc_tree.specs.declared.statement.ReactiveStatement.TheFolds.{para-ReactiveScopeBlock, para-ReactiveBlock}
+use Rattle.rc_tree.specs.declared.statement.ReactiveStatement.TheFolds.{para-ReactiveSwitchCase}
+use Rattle.rc_tree.specs.declared.statement.ReactiveStatement.TheFolds.{para-ReactiveTerminalStatement}
 use Rattle.rc_tree.specs.declared.terminal.ReactiveSwitchCase.{ReactiveSwitchCase}
 use Rattle.rc_tree.specs.declared.terminal.ReactiveTerminal.{ReactiveTerminal}
 use Rattle.rc_tree.specs.declared.terminal.ReactiveTerminalStatement.{ReactiveTerminalStatement}

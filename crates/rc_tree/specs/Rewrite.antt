@@ -15,20 +15,25 @@ use Rattle.rc_hir.specs.declared.instruction.InstructionValue.{InstructionValue}
 use Rattle.rc_names.specs.declared.numbers.EvaluationOrder.{EvaluationOrder}
 use Rattle.rc_tree.specs.Outcome.{Walk, each, perhaps}
 use Rattle.rc_tree.specs.Outcome as outcome
-use Rattle.rc_tree.specs.Run.{Run, Spent, Done, bind, after, last, settled, Hook, Part, Into, in_turn, each_part, perhaps_part, perhaps_hook}
+use Rattle.rc_tree.specs.Run.{Run, Spent, Done, bind, after, last, settled, Hook, Part, Into, in_turn, each_part}
+use Rattle.rc_tree.specs.Run.{perhaps_part, perhaps_hook}
 use Rattle.rc_tree.specs.Steps.{targets_of}
 use Rattle.rc_tree.specs.RewriteSteps.{RewriteSteps}
-use Rattle.rc_tree.specs.declared.scope.PrunedReactiveScopeBlock.{PrunedReactiveScopeBlock, size-PrunedReactiveScopeBlock}
+use Rattle.rc_tree.specs.declared.scope.PrunedReactiveScopeBlock.{PrunedReactiveScopeBlock}
+use Rattle.rc_tree.specs.declared.scope.PrunedReactiveScopeBlock.{size-PrunedReactiveScopeBlock}
 use Rattle.rc_tree.specs.declared.scope.ReactiveScopeBlock.{ReactiveScopeBlock, size-ReactiveScopeBlock}
 use Rattle.rc_tree.specs.declared.statement.ReactiveBlock.{ReactiveBlock, size-ReactiveBlock}
-use Rattle.rc_tree.specs.declared.statement.ReactiveStatement.{ReactiveStatement, out-ReactiveStatement, size-ReactiveStatement}
+use Rattle.rc_tree.specs.declared.statement.ReactiveStatement.{ReactiveStatement, out-ReactiveStatement}
+use Rattle.rc_tree.specs.declared.statement.ReactiveStatement.{size-ReactiveStatement}
 use Rattle.rc_tree.specs.declared.statement.ReactiveStatement.TheOpen as layer
 use Rattle.rc_tree.specs.declared.statement.ReactiveStatement.TheOpen.{ReactiveStatement-F, ReactiveTerminal-F}
 use Rattle.rc_tree.specs.declared.statement.ReactiveStatement.TheVariants as stmt
-use Rattle.rc_tree.specs.declared.terminal.ReactiveSwitchCase.{ReactiveSwitchCase, out-ReactiveSwitchCase, roll-ReactiveSwitchCase}
+use Rattle.rc_tree.specs.declared.terminal.ReactiveSwitchCase.{ReactiveSwitchCase, out-ReactiveSwitchCase}
+use Rattle.rc_tree.specs.declared.terminal.ReactiveSwitchCase.{roll-ReactiveSwitchCase}
 use Rattle.rc_tree.specs.declared.terminal.ReactiveTerminal.{ReactiveTerminal, out-ReactiveTerminal}
 use Rattle.rc_tree.specs.declared.terminal.ReactiveTerminal.TheVariants as term
-use Rattle.rc_tree.specs.declared.terminal.ReactiveTerminalStatement.{ReactiveTerminalStatement, size-ReactiveTerminalStatement}
+use Rattle.rc_tree.specs.declared.terminal.ReactiveTerminalStatement.{ReactiveTerminalStatement}
+use Rattle.rc_tree.specs.declared.terminal.ReactiveTerminalStatement.{size-ReactiveTerminalStatement}
 use Rattle.rc_tree.specs.declared.transform.Transformed.{Transformed}
 use Rattle.rc_tree.specs.declared.transform.Transformed.TheVariants.{Keep, Remove, Replace, ReplaceMany}
 use Rattle.rc_tree.specs.declared.value.ReactiveInstruction.{ReactiveInstruction, size-ReactiveInstruction}

@@ -8,7 +8,8 @@ use Rattle.rc_hir.specs.declared.place.Place.{Place}
 use Rattle.rc_hir.specs.declared.place.PlaceOrSpread.{PlaceOrSpread}
 use Rattle.rc_hir.specs.declared.instruction.InstructionValue.TheVariants as kinds
 use Rattle.rc_doc.specs.Kinds.{instruction_value_of}
-use Rattle.rc_doc.specs.Kinds.Calls.{call_expression_of, debugger_of, finish_memoize_of, function_expression_of, method_call_of, new_expression_of, object_method_of, start_memoize_of}
+use Rattle.rc_doc.specs.Kinds.Calls.{call_expression_of, debugger_of, finish_memoize_of, function_expression_of}
+use Rattle.rc_doc.specs.Kinds.Calls.{method_call_of, new_expression_of, object_method_of, start_memoize_of}
 use Rattle.rc_doc.specs.Parts.{lowered_function_of}
 use Rattle.rc_doc.specs.Places.{argument_of, place_of, span_of}
 use Rattle.rc_doc.specs.Reading.{list_of, number_of, text_of}

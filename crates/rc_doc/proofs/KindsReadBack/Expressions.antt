@@ -7,7 +7,10 @@ use Rattle.rc_hir.specs.declared.instruction.PrimitiveValue.{PrimitiveValue}
 use Rattle.rc_hir.specs.declared.place.Place.{Place}
 use Rattle.rc_hir.specs.declared.instruction.InstructionValue.TheVariants as kinds
 use Rattle.rc_doc.specs.Kinds.{instruction_value_of}
-use Rattle.rc_doc.specs.Kinds.Expressions.{await_of, binary_expression_of, get_iterator_of, iterator_next_of, jsx_text_of, meta_property_of, next_property_of_of, primitive_of, regexp_literal_of, tagged_template_expression_of, template_literal_of, type_cast_expression_of, unary_expression_of}
+use Rattle.rc_doc.specs.Kinds.Expressions.{await_of, binary_expression_of, get_iterator_of, iterator_next_of}
+use Rattle.rc_doc.specs.Kinds.Expressions.{jsx_text_of, meta_property_of, next_property_of_of, primitive_of}
+use Rattle.rc_doc.specs.Kinds.Expressions.{regexp_literal_of, tagged_template_expression_of, template_literal_of}
+use Rattle.rc_doc.specs.Kinds.Expressions.{type_cast_expression_of, unary_expression_of}
 use Rattle.rc_doc.specs.Parts.{primitive_value_of}
 use Rattle.rc_doc.specs.Places.{place_of, span_of}
 use Rattle.rc_doc.specs.Reading.{list_of, text_of}

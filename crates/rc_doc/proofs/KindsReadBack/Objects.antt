@@ -10,14 +10,17 @@ use Rattle.rc_hir.specs.declared.pattern.PropertyLiteral.{PropertyLiteral}
 use Rattle.rc_hir.specs.declared.place.Place.{Place}
 use Rattle.rc_hir.specs.declared.instruction.InstructionValue.TheVariants as kinds
 use Rattle.rc_doc.specs.Kinds.{instruction_value_of}
-use Rattle.rc_doc.specs.Kinds.Objects.{array_expression_of, computed_delete_of, computed_load_of, computed_store_of, jsx_expression_of, jsx_fragment_of, object_expression_of, property_delete_of, property_load_of, property_store_of}
+use Rattle.rc_doc.specs.Kinds.Objects.{array_expression_of, computed_delete_of, computed_load_of, computed_store_of}
+use Rattle.rc_doc.specs.Kinds.Objects.{jsx_expression_of, jsx_fragment_of, object_expression_of, property_delete_of}
+use Rattle.rc_doc.specs.Kinds.Objects.{property_load_of, property_store_of}
 use Rattle.rc_doc.specs.Parts.{jsx_attribute_of, jsx_tag_of}
 use Rattle.rc_doc.specs.Patterns.{element_of, property_literal_of, property_of}
 use Rattle.rc_doc.specs.Places.{place_of, span_of}
 use Rattle.rc_doc.specs.Reading.{list_of}
 use Rattle.rc_doc.specs.Showing.{SomeAgain, list_data}
 use Rattle.rc_doc.specs.ShownKinds.{ReadsBack}
-use Rattle.rc_doc.specs.ShownParts.{element_data, jsx_attribute_data, jsx_tag_data, place_data, property_data, property_literal_data, span_data}
+use Rattle.rc_doc.specs.ShownParts.{element_data, jsx_attribute_data, jsx_tag_data, place_data, property_data}
+use Rattle.rc_doc.specs.ShownParts.{property_literal_data, span_data}
 
 pub object_expression_again : (properties : List ObjectPropertyOrSpread) (span : Option Span)
     → list_of property_of (list_data property_data properties) ≡ Some properties → SomeAgain span_of span_data span

@@ -8,7 +8,9 @@ use Rattle.rc_hir.specs.declared.pattern.LValuePattern.{LValuePattern}
 use Rattle.rc_hir.specs.declared.place.Place.{Place}
 use Rattle.rc_hir.specs.declared.instruction.InstructionValue.TheVariants as kinds
 use Rattle.rc_doc.specs.Kinds.{instruction_value_of}
-use Rattle.rc_doc.specs.Kinds.Variables.{declare_context_of, declare_local_of, destructure_of, load_context_of, load_global_of, load_local_of, postfix_update_of, prefix_update_of, store_context_of, store_global_of, store_local_of}
+use Rattle.rc_doc.specs.Kinds.Variables.{declare_context_of, declare_local_of, destructure_of, load_context_of}
+use Rattle.rc_doc.specs.Kinds.Variables.{load_global_of, load_local_of, postfix_update_of, prefix_update_of}
+use Rattle.rc_doc.specs.Kinds.Variables.{store_context_of, store_global_of, store_local_of}
 use Rattle.rc_doc.specs.Parts.{binding_of}
 use Rattle.rc_doc.specs.Patterns.{lvalue_of, lvalue_pattern_of}
 use Rattle.rc_doc.specs.Places.{place_of, span_of}

@@ -2,7 +2,8 @@
 
 ghost use Rattle.std.specs.Prelude.{◌≡◌, option_and_then};
 ghost use Rattle.serde_json.specs.View.{view, items_view};
-ghost use Rattle.rc_doc.specs.Graph.{block_of, blocks_of, function_of, hir_of, if_distinct, instruction_of, keyed_block_of};
+ghost use Rattle.rc_doc.specs.Graph.{block_of, blocks_of, function_of, hir_of, if_distinct, instruction_of};
+ghost use Rattle.rc_doc.specs.Graph.{keyed_block_of};
 ghost use Rattle.rc_doc.specs.Reading.{Gives, all_items};
 
 use crate::fields::{Read, flag, list_or_empty, optional, or_refuse, required};

@@ -1,6 +1,7 @@
 //! Readers of the typed numbers.
 
-ghost use Rattle.rc_doc.specs.Numbers.{block_id_of, declaration_id_of, evaluation_order_of, function_id_of, identifier_id_of, instruction_id_of, scope_id_of, type_id_of};
+ghost use Rattle.rc_doc.specs.Numbers.{block_id_of, declaration_id_of, evaluation_order_of, function_id_of};
+ghost use Rattle.rc_doc.specs.Numbers.{identifier_id_of, instruction_id_of, scope_id_of, type_id_of};
 
 use crate::fields::Read;
 use crate::refusal::Refusal;

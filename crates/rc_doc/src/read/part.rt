@@ -1,7 +1,9 @@
 //! Readers of what instruction values are made of besides places, patterns and texts.
 
 ghost use Rattle.serde_json.specs.View.{view};
-ghost use Rattle.rc_doc.specs.Parts.{binding_of, global_of, jsx_attribute_of, jsx_tag_of, lowered_function_of, module_name_of, named_attribute_of, primitive_content_of, primitive_value_of, spread_attribute_of};
+ghost use Rattle.rc_doc.specs.Parts.{binding_of, global_of, jsx_attribute_of, jsx_tag_of, lowered_function_of};
+ghost use Rattle.rc_doc.specs.Parts.{module_name_of, named_attribute_of, primitive_content_of, primitive_value_of};
+ghost use Rattle.rc_doc.specs.Parts.{spread_attribute_of};
 ghost use Rattle.rc_doc.specs.Reading.{Gives};
 
 use crate::fields::{Read, flag, required, tag};

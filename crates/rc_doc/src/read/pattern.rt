@@ -2,7 +2,10 @@
 
 ghost use Rattle.std.specs.Prelude.{◌≡◌};
 ghost use Rattle.serde_json.specs.View.{view};
-ghost use Rattle.rc_doc.specs.Patterns.{array_pattern_of, element_of, pattern_element_of, filled_element_of, filled_pattern_element_of, kind_named, kind_of, lvalue_of, lvalue_pattern_of, object_pattern_of, object_property_of, pattern_of, property_key_of, property_literal_of, property_of};
+ghost use Rattle.rc_doc.specs.Patterns.{array_pattern_of, element_of, pattern_element_of, filled_element_of};
+ghost use Rattle.rc_doc.specs.Patterns.{filled_pattern_element_of, kind_named, kind_of, lvalue_of, lvalue_pattern_of};
+ghost use Rattle.rc_doc.specs.Patterns.{object_pattern_of, object_property_of, pattern_of, property_key_of};
+ghost use Rattle.rc_doc.specs.Patterns.{property_literal_of, property_of};
 ghost use Rattle.rc_doc.specs.Reading.{Gives};
 
 use crate::fields::{Read, list_or_empty, or_refuse, required, tag};

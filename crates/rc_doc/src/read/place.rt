@@ -2,7 +2,8 @@
 
 ghost use Rattle.std.specs.Prelude.{◌≡◌, option_map, option_and_then};
 ghost use Rattle.serde_json.specs.View.{view};
-ghost use Rattle.rc_doc.specs.Places.{argument_of, effect_named, effect_of, long_place, param_of, place_of, short_place, span_of, spanned_place, spread_of};
+ghost use Rattle.rc_doc.specs.Places.{argument_of, effect_named, effect_of, long_place, param_of, place_of};
+ghost use Rattle.rc_doc.specs.Places.{short_place, span_of, spanned_place, spread_of};
 
 use crate::fields::{Read, array_len, number, or_refuse, required, tag};
 use crate::known::known_names;

@@ -1,6 +1,7 @@
 //! Readers of reactive scopes.
 
-ghost use Rattle.rc_doc.specs.Environment.{declaration_entry_of, declaration_of, dependency_of, early_return_of, path_entry_of, range_of, scope_of};
+ghost use Rattle.rc_doc.specs.Environment.{declaration_entry_of, declaration_of, dependency_of, early_return_of};
+ghost use Rattle.rc_doc.specs.Environment.{path_entry_of, range_of, scope_of};
 
 use crate::fields::{Read, flag, list_or_empty, optional, required};
 use crate::known::known_names;

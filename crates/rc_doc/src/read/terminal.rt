@@ -3,7 +3,11 @@
 ghost use Rattle.std.specs.Prelude.{◌≡◌};
 ghost use Rattle.serde_json.specs.View.{view};
 ghost use Rattle.rc_doc.specs.Reading.{Gives};
-ghost use Rattle.rc_doc.specs.Terminals.{branch_of, case_of, do_while_of, for_in_of, for_of, for_of_of, goto_named, goto_of, goto_variant_of, if_of, label_of, logical_of, logical_operator_of, maybe_throw_of, operator_named, optional_of, pruned_scope_of, return_of, scope_of, sequence_of, switch_of, terminal_of, ternary_of, throw_of, try_of, unreachable_of, while_of};
+ghost use Rattle.rc_doc.specs.Terminals.{branch_of, case_of, do_while_of, for_in_of, for_of, for_of_of, goto_named};
+ghost use Rattle.rc_doc.specs.Terminals.{goto_of, goto_variant_of, if_of, label_of, logical_of, logical_operator_of};
+ghost use Rattle.rc_doc.specs.Terminals.{maybe_throw_of, operator_named, optional_of, pruned_scope_of, return_of};
+ghost use Rattle.rc_doc.specs.Terminals.{scope_of, sequence_of, switch_of, terminal_of, ternary_of, throw_of, try_of};
+ghost use Rattle.rc_doc.specs.Terminals.{unreachable_of, while_of};
 
 use super::terminal_name::{TerminalName, terminal_name};
 use crate::fields::{Read, flag, list_or_empty, optional, or_refuse, required};

@@ -2,7 +2,8 @@
 
 ghost use Rattle.std.specs.Prelude.{◌≡◌};
 ghost use Rattle.serde_json.specs.View.{view};
-ghost use Rattle.rc_doc.specs.Environment.{shape_named, shape_of, shape_row_number_of, shape_row_of, shaped_type_of, type_of};
+ghost use Rattle.rc_doc.specs.Environment.{shape_named, shape_of, shape_row_number_of, shape_row_of, shaped_type_of};
+ghost use Rattle.rc_doc.specs.Environment.{type_of};
 ghost use Rattle.rc_doc.specs.Reading.{Gives};
 
 use crate::fields::{Read, flag, optional, or_refuse, required, tag};

@@ -3,7 +3,8 @@
 ghost use Rattle.std.specs.Prelude.{◌≡◌, IfOk, OnOk, Some};
 ghost use Rattle.serde_json.specs.Data.{Data, boolean, no_members, object, put, string};
 ghost use Rattle.serde_json.specs.View.{view};
-ghost use Rattle.rc_doc.specs.Showing.{list_data, members_so_far, number_data, put_some, SomeAgain, tagged, variant_data};
+ghost use Rattle.rc_doc.specs.Showing.{list_data, members_so_far, number_data, put_some, SomeAgain, tagged};
+ghost use Rattle.rc_doc.specs.Showing.{variant_data};
 
 use crate::fields::Read;
 use rc_names::{List, Text};

@@ -1,6 +1,7 @@
 //! The printing form of what instruction values are made of besides places, patterns and texts.
 
-ghost use Rattle.rc_doc.specs.ShownParts.{binding_data, jsx_attribute_data, jsx_tag_data, lowered_function_data, primitive_value_data};
+ghost use Rattle.rc_doc.specs.ShownParts.{binding_data, jsx_attribute_data, jsx_tag_data, lowered_function_data};
+ghost use Rattle.rc_doc.specs.ShownParts.{primitive_value_data};
 
 use super::fields::{Fields, Show, variant};
 use rc_hir::{JsxAttribute, JsxTag, LoweredFunction, NonLocalBinding, PrimitiveValue};

@@ -1,7 +1,9 @@
 //! The printing form of patterns, and of the parts that they share with literals.
 
 ghost use Rattle.std.specs.Prelude.{◌≡◌};
-ghost use Rattle.rc_doc.specs.ShownParts.{element_data, kind_data, kind_name, lvalue_data, lvalue_pattern_data, object_property_data, pattern_data, pattern_element_data, property_data, property_key_data, property_literal_data};
+ghost use Rattle.rc_doc.specs.ShownParts.{element_data, kind_data, kind_name, lvalue_data, lvalue_pattern_data};
+ghost use Rattle.rc_doc.specs.ShownParts.{object_property_data, pattern_data, pattern_element_data, property_data};
+ghost use Rattle.rc_doc.specs.ShownParts.{property_key_data, property_literal_data};
 
 use super::fields::{Fields, Show, variant};
 use rc_hir::{

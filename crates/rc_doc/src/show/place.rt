@@ -6,7 +6,8 @@ ghost use Rattle.serde_json.specs.View.{view};
 ghost use Rattle.serde_json.specs.Written.{has_float};
 ghost use Rattle.rc_doc.specs.Places.{place_of, span_of};
 ghost use Rattle.rc_doc.specs.Showing.{SomeAgain, number_data};
-ghost use Rattle.rc_doc.specs.ShownParts.{argument_data, effect_name, is_short, long_form, place_data, span_data, spread_data};
+ghost use Rattle.rc_doc.specs.ShownParts.{argument_data, effect_name, is_short, long_form, place_data, span_data};
+ghost use Rattle.rc_doc.specs.ShownParts.{spread_data};
 
 use super::fields::{Fields, Show, variant};
 use rc_hir::{Effect, Place, PlaceOrSpread, SpreadPattern};

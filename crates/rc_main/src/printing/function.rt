@@ -1,7 +1,8 @@
 //! A whole function: its header, its body, and what became of its scopes.
 
 ghost use Rattle.std.specs.Prelude.{◌≡◌, ◌++◌, IfOk, OnOk};
-ghost use Rattle.rc_main.specs.FunctionLines.{marks_text, name_text, param_text, param_lines, directive_lines, header_lines, lines_of};
+ghost use Rattle.rc_main.specs.FunctionLines.{marks_text, name_text, param_text, param_lines, directive_lines};
+ghost use Rattle.rc_main.specs.FunctionLines.{header_lines, lines_of};
 
 use crate::printing::fates::write_fates;
 use crate::printing::page::Page;

@@ -3,7 +3,8 @@
 //! A step down is a number of spaces more, and lists are loops, so the call stack grows with nesting alone.
 
 ghost use Rattle.std.specs.Prelude.{◌≡◌, ◌++◌, OnOk, map};
-ghost use Rattle.rc_main.specs.Lines.{all_lines, part, catch_text, statement_lines, terminal_lines, case_lines, block_lines};
+ghost use Rattle.rc_main.specs.Lines.{all_lines, part, catch_text, statement_lines, terminal_lines, case_lines};
+ghost use Rattle.rc_main.specs.Lines.{block_lines};
 
 use crate::printing::page::{Page, deeper};
 use crate::printing::terminal::{

@@ -1,7 +1,8 @@
 //! The words that lines are made of.
 
 ghost use Rattle.std.specs.Prelude.{◌≡◌, ◌++◌, OnOk};
-ghost use Rattle.rc_main.specs.LineText.{bool_text, quoted_text, json_text, span_text, implicit_text, label_text, id_text, kind_text};
+ghost use Rattle.rc_main.specs.LineText.{bool_text, quoted_text, json_text, span_text, implicit_text, label_text};
+ghost use Rattle.rc_main.specs.LineText.{id_text, kind_text};
 
 use crate::printing::page::Page;
 use rc_names::{EvaluationOrder, Span, Text};

@@ -3,7 +3,8 @@
 ghost use Rattle.std.specs.Prelude.{◌≡◌, ◌++◌, OnOk, false, map};
 ghost use Rattle.serde_json.specs.Written.{compact_text};
 ghost use Rattle.rc_doc.specs.ShownKinds.{value_data};
-ghost use Rattle.rc_main.specs.ValueLines.{operator_text, next_text, joined, rows_text, target_text, value_text, row_text};
+ghost use Rattle.rc_main.specs.ValueLines.{operator_text, next_text, joined, rows_text, target_text, value_text};
+ghost use Rattle.rc_main.specs.ValueLines.{row_text};
 
 use crate::printing::page::Page;
 use crate::printing::place::write_place;

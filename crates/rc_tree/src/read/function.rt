@@ -11,7 +11,8 @@ ghost use Rattle.rc_hir.specs.Terminal.{evaluation_order};
 ghost use Rattle.rc_hir.specs.TerminalOperands.{terminal_operands};
 ghost use Rattle.rc_names.specs.declared.numbers.FunctionId.{FunctionId as Number};
 ghost use Rattle.rc_tree.specs.Nested.{CycleAt, HookGives, NoCycle};
-ghost use Rattle.rc_tree.specs.ReadFunction.{as_row, basic_block_at, function_at, held_function, numbered_at, param_place, read_function, row_at};
+ghost use Rattle.rc_tree.specs.ReadFunction.{as_row, basic_block_at, function_at, held_function, numbered_at};
+ghost use Rattle.rc_tree.specs.ReadFunction.{param_place, read_function, row_at};
 
 use crate::function::ReactiveFunction;
 use crate::read::statement::walk_block;

@@ -2,7 +2,9 @@
 #![tactic(auto, using(crate::proofs::ReadStatementLemmas::reading_statements))]
 
 ghost use Rattle.rc_tree.specs.Outcome.{Gives, each, perhaps};
-ghost use Rattle.rc_tree.specs.Read.{inside_block, inside_pruned_scope, inside_scope, inside_terminal, read_block, read_case, read_parts, read_pruned_scope, read_scope, read_statement, read_terminal, read_value};
+ghost use Rattle.rc_tree.specs.Read.{inside_block, inside_pruned_scope, inside_scope, inside_terminal, read_block};
+ghost use Rattle.rc_tree.specs.Read.{read_case, read_parts, read_pruned_scope, read_scope, read_statement};
+ghost use Rattle.rc_tree.specs.Read.{read_terminal, read_value};
 
 use crate::read::value::{walk_instruction, walk_value};
 use crate::scope::{PrunedReactiveScopeBlock, ReactiveScopeBlock};

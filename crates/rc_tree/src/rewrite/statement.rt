@@ -4,7 +4,11 @@
 ghost use Rattle.std.specs.Prelude.{◌≡◌, ◌++◌, ◌∷◌, ℕ, [], IsOk, List as Entries, OnOk};
 ghost use Rattle.rc_tree.specs.Outcome.{Gives};
 ghost use Rattle.rc_tree.specs.Run.{Meets, perhaps_hook, perhaps_part};
-ghost use Rattle.rc_tree.specs.Rewrite.{block_inside, block_to, case_at, cases_at, in_place, inside_block, inside_pruned_scope, inside_scope, inside_terminal, into_at, parts_at, pruned_scope_at, pruned_scope_inside, rewrite_block, rewrite_statement, rewrite_value, scope_at, scope_inside, statements_at, terminal_at, terminal_inside};
+ghost use Rattle.rc_tree.specs.Rewrite.{block_inside, block_to, case_at, cases_at, in_place, inside_block};
+ghost use Rattle.rc_tree.specs.Rewrite.{inside_pruned_scope, inside_scope, inside_terminal, into_at, parts_at};
+ghost use Rattle.rc_tree.specs.Rewrite.{pruned_scope_at, pruned_scope_inside, rewrite_block, rewrite_statement};
+ghost use Rattle.rc_tree.specs.Rewrite.{rewrite_value, scope_at, scope_inside, statements_at, terminal_at};
+ghost use Rattle.rc_tree.specs.Rewrite.{terminal_inside};
 ghost use Rattle.rc_tree.specs.RewriteInPlace.{answer_at, held_at, put_at};
 
 use crate::rewrite::value::{walk_instruction, walk_value};

@@ -4,7 +4,8 @@
 ghost use Rattle.std.specs.Prelude.{ℕ};
 ghost use Rattle.rc_tree.specs.Outcome.{Gives};
 ghost use Rattle.rc_tree.specs.Run.{Meets, kept_into};
-ghost use Rattle.rc_tree.specs.Rewrite.{inside_instruction, inside_value, instruction_at, instruction_inside, rewrite_instruction, rewrite_value, rows_at, value_inside, value_to};
+ghost use Rattle.rc_tree.specs.Rewrite.{inside_instruction, inside_value, instruction_at, instruction_inside};
+ghost use Rattle.rc_tree.specs.Rewrite.{rewrite_instruction, rewrite_value, rows_at, value_inside, value_to};
 
 use crate::rewrite::visits::{visit_operands, visit_target, visit_value_targets};
 use crate::transform::ReactiveFunctionTransform;

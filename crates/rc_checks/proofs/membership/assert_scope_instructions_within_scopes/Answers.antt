@@ -1,7 +1,8 @@
 -- Each answer is that of the walk, which starts with no scope around.
 use Rattle.std.proofs.Common.{◌∙◌, ap, Err}
 use Rattle.std.proofs.lemmas.Result.{err_from_is_err_and}
-use Rattle.rc_checks.proofs.MembershipLemmas.{failed_bad_name, failed_completed, failed_only, found_completed, none_outside}
+use Rattle.rc_checks.proofs.MembershipLemmas.{failed_bad_name, failed_completed, failed_only, found_completed}
+use Rattle.rc_checks.proofs.MembershipLemmas.{none_outside}
 use Rattle.rc_checks.proofs.membership.assert_scope_instructions_within_scopes.Goals as goal
 
 pub returns-in_err-visit_reactive_function-clause-scope_completed :

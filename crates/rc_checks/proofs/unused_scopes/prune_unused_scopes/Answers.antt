@@ -1,6 +1,7 @@
 use Rattle.std.proofs.Common.{refl}
 use Rattle.rc_checks.proofs.NamesStay.{known_without_scopes}
-use Rattle.rc_checks.proofs.UnusedScopesLemmas.{left_without_unused, left_staying, left_erased, left_first_outside, left_outside}
+use Rattle.rc_checks.proofs.UnusedScopesLemmas.{left_without_unused, left_staying, left_erased, left_first_outside}
+use Rattle.rc_checks.proofs.UnusedScopesLemmas.{left_outside}
 use Rattle.rc_checks.proofs.unused_scopes.prune_unused_scopes.Goals as goal
 
 -- the environment that the pass looks into is the caller's

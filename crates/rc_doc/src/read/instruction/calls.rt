@@ -1,7 +1,8 @@
 //! Readers of the kinds that call, that make functions, and that mark a place in the source.
 
 ghost use Rattle.serde_json.specs.View.{view};
-ghost use Rattle.rc_doc.specs.Kinds.Calls.{call_expression_of, debugger_of, finish_memoize_of, function_expression_of, method_call_of, new_expression_of, object_method_of, start_memoize_of};
+ghost use Rattle.rc_doc.specs.Kinds.Calls.{call_expression_of, debugger_of, finish_memoize_of, function_expression_of};
+ghost use Rattle.rc_doc.specs.Kinds.Calls.{method_call_of, new_expression_of, object_method_of, start_memoize_of};
 ghost use Rattle.rc_doc.specs.Reading.{Gives};
 
 use crate::fields::{flag, list_or_empty, optional, required};

@@ -1,7 +1,10 @@
 //! Readers of the kinds that compute a value from texts and operands.
 
 ghost use Rattle.serde_json.specs.View.{view};
-ghost use Rattle.rc_doc.specs.Kinds.Expressions.{await_of, binary_expression_of, get_iterator_of, iterator_next_of, jsx_text_of, meta_property_of, next_property_of_of, primitive_of, regexp_literal_of, tagged_template_expression_of, template_literal_of, type_cast_expression_of, unary_expression_of};
+ghost use Rattle.rc_doc.specs.Kinds.Expressions.{await_of, binary_expression_of, get_iterator_of, iterator_next_of};
+ghost use Rattle.rc_doc.specs.Kinds.Expressions.{jsx_text_of, meta_property_of, next_property_of_of, primitive_of};
+ghost use Rattle.rc_doc.specs.Kinds.Expressions.{regexp_literal_of, tagged_template_expression_of, template_literal_of};
+ghost use Rattle.rc_doc.specs.Kinds.Expressions.{type_cast_expression_of, unary_expression_of};
 ghost use Rattle.rc_doc.specs.Reading.{Gives};
 
 use crate::fields::{list_or_empty, optional, required};

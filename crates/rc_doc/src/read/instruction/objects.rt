@@ -1,7 +1,10 @@
 //! Readers of the kinds that make objects, arrays and JSX, and that reach into them.
 
 ghost use Rattle.serde_json.specs.View.{view};
-ghost use Rattle.rc_doc.specs.Kinds.Objects.{array_expression_of, computed_delete_of, computed_load_of, computed_store_of, jsx_expression_of, jsx_fragment_of, object_expression_of, property_delete_of, property_load_of, property_store_of};
+ghost use Rattle.rc_doc.specs.Kinds.Objects.{array_expression_of, computed_delete_of, computed_load_of};
+ghost use Rattle.rc_doc.specs.Kinds.Objects.{computed_store_of, jsx_expression_of, jsx_fragment_of};
+ghost use Rattle.rc_doc.specs.Kinds.Objects.{object_expression_of, property_delete_of, property_load_of};
+ghost use Rattle.rc_doc.specs.Kinds.Objects.{property_store_of};
 ghost use Rattle.rc_doc.specs.Reading.{Gives};
 
 use crate::fields::{list_or_empty, optional, required};

@@ -1,7 +1,9 @@
 //! Readers of the kinds that read, declare and write variables.
 
 ghost use Rattle.serde_json.specs.View.{view};
-ghost use Rattle.rc_doc.specs.Kinds.Variables.{declare_context_of, declare_local_of, destructure_of, load_context_of, load_global_of, load_local_of, postfix_update_of, prefix_update_of, store_context_of, store_global_of, store_local_of};
+ghost use Rattle.rc_doc.specs.Kinds.Variables.{declare_context_of, declare_local_of, destructure_of, load_context_of};
+ghost use Rattle.rc_doc.specs.Kinds.Variables.{load_global_of, load_local_of, postfix_update_of, prefix_update_of};
+ghost use Rattle.rc_doc.specs.Kinds.Variables.{store_context_of, store_global_of, store_local_of};
 ghost use Rattle.rc_doc.specs.Reading.{Gives};
 
 use crate::fields::{optional, required};

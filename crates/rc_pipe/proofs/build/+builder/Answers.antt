@@ -1,4 +1,5 @@
-use Rattle.std.proofs.Common.{◌≡◌, true, false, [], ◌∷◌, ◌++◌, None, Err, refl, sym, ap, ◌∙◌, subst, arith, length, length-append}
+use Rattle.std.proofs.Common.{◌≡◌, true, false, [], ◌∷◌, ◌++◌, None, Err, refl, sym, ap, ◌∙◌, subst, arith, length}
+use Rattle.std.proofs.Common.{length-append}
 use Rattle.std.specs.Prelude.{not}
 use Rattle.std.proofs.lemmas.List.{append-nil}
 use Rattle.std.proofs.lemmas.Result.{err_from_is_err_and, IfOk-weaker}
@@ -7,16 +8,22 @@ use Rattle.rc_hir.specs.declared.terminal.Terminal.TheVariants as terminals
 use Rattle.rc_runs.specs.declared.frames.Frame.{Frame}
 use Rattle.rc_runs.specs.declared.frames.Frame.TheVariants as kinds
 use Rattle.rc_runs.specs.PlainTree.{Nil, Return}
-use Rattle.rc_runs.specs.Grammar.{SpellsList, SpellsTerminal, returns, unreachable, unlabeled, frames_inside, next_inside}
+use Rattle.rc_runs.specs.Grammar.{SpellsList, SpellsTerminal, returns, unreachable, unlabeled, frames_inside}
+use Rattle.rc_runs.specs.Grammar.{next_inside}
 use Rattle.rc_pipe.specs.Namings.{listed, named_blocks, is_among}
 use Rattle.rc_pipe.specs.RuleFacts.{FaultFact}
 use Rattle.rc_pipe.specs.Arms.{if_of}
-use Rattle.rc_pipe.specs.Built.{AreNamed, AreOwned, AtList, IsUsed, IsUsedApart, Partly, Rest, Refused, GoesOn, MadeList, live_blocks}
+use Rattle.rc_pipe.specs.Built.{AreNamed, AreOwned, AtList, IsUsed, IsUsedApart, Partly, Rest, Refused, GoesOn}
+use Rattle.rc_pipe.specs.Built.{MadeList, live_blocks}
 use Rattle.rc_pipe.proofs.MarksLemmas.{room, among_push}
 use Rattle.rc_pipe.proofs.OwnersLemmas.{owned_weaker}
 use Rattle.rc_pipe.proofs.TakenLemmas.{used_apart}
-use Rattle.rc_pipe.proofs.BuiltLemmas.{partly_none, partly_then, partly_refused, partly_done, block_partly, block_refused, leaf_partly}
-use Rattle.rc_pipe.proofs.TerminalLemmas.{at_part, used_more, named_part, if_frame, scope_frame, framed_alone, falls_badly, falls_shut, label_made, label_refused, scope_made, scope_refused, pruned_scope_made, pruned_scope_refused, if_only_made, if_only_refused, if_else_made, if_else_first_refused, if_else_second_refused}
+use Rattle.rc_pipe.proofs.BuiltLemmas.{partly_none, partly_then, partly_refused, partly_done, block_partly}
+use Rattle.rc_pipe.proofs.BuiltLemmas.{block_refused, leaf_partly}
+use Rattle.rc_pipe.proofs.TerminalLemmas.{at_part, used_more, named_part, if_frame, scope_frame, framed_alone}
+use Rattle.rc_pipe.proofs.TerminalLemmas.{falls_badly, falls_shut, label_made, label_refused, scope_made, scope_refused}
+use Rattle.rc_pipe.proofs.TerminalLemmas.{pruned_scope_made, pruned_scope_refused, if_only_made, if_only_refused}
+use Rattle.rc_pipe.proofs.TerminalLemmas.{if_else_made, if_else_first_refused, if_else_second_refused}
 use Rattle.rc_pipe.proofs.build.+builder.Goals as goal
 
 -- the loop over the blocks of a list

@@ -9,7 +9,8 @@ use Rattle.rc_pipe.specs.Built.{live_blocks, listed_scope, is_fresh_scope}
 use Rattle.rc_pipe.proofs.StepsLemmas.{not_true, not_false}
 use Rattle.rc_pipe.proofs.MarksLemmas.{named_once}
 use Rattle.rc_pipe.proofs.UsableLemmas.{usable_made, usable_ids}
-use Rattle.rc_pipe.proofs.TakenLemmas.{marked_push, follows_push, unusable_used, unusable_dead, unusable_scope, twice_live, twice_used, shared_scope, insert_fresh}
+use Rattle.rc_pipe.proofs.TakenLemmas.{marked_push, follows_push, unusable_used, unusable_dead, unusable_scope}
+use Rattle.rc_pipe.proofs.TakenLemmas.{twice_live, twice_used, shared_scope, insert_fresh}
 use Rattle.rc_pipe.proofs.build.blocks.take_block.Goals as goal
 
 pub find_block-requires : goal.find_block-requires

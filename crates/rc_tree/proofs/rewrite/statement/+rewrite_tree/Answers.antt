@@ -1,12 +1,18 @@
-use Rattle.std.proofs.Common.{◌≡◌, ◌≤◌, ◌+◌, ◌∙◌, ◌++◌, ◌∷◌, [], List, length, slice_set, inr, Ok, Err, refl, sym, ap, subst, arith, rules}
+use Rattle.std.proofs.Common.{◌≡◌, ◌≤◌, ◌+◌, ◌∙◌, ◌++◌, ◌∷◌, [], List, length, slice_set, inr, Ok, Err, refl, sym, ap}
+use Rattle.std.proofs.Common.{subst, arith, rules}
 use denote.Param.Weighed.{most}
 use Rattle.std.proofs.lemmas.Result.{err_from_is_err_and}
-use Rattle.rc_tree.proofs.PlaceLemmas.{ends_full, last_set, last_is, last_there, taken_off, length_set, past_end, most_place, any_case}
-use Rattle.rc_tree.proofs.RewriteRunLemmas.{meets_inside, meets_inside_fault, so_next_last, so_fault_last, so_end, place_next, place_fault, place_end, most-reverse, turned_twice}
+use Rattle.rc_tree.proofs.PlaceLemmas.{ends_full, last_set, last_is, last_there, taken_off, length_set, past_end}
+use Rattle.rc_tree.proofs.PlaceLemmas.{most_place, any_case}
+use Rattle.rc_tree.proofs.RewriteRunLemmas.{meets_inside, meets_inside_fault, so_next_last, so_fault_last, so_end}
+use Rattle.rc_tree.proofs.RewriteRunLemmas.{place_next, place_fault, place_end, most-reverse, turned_twice}
 use Rattle.rc_tree.proofs.RewriteInPlaceLemmas.{meets_put, meets_put_fault}
-use Rattle.rc_tree.proofs.RewriteStatementLemmas.{meets_block_to, meets_terminal_at, meets_scope_at, meets_pruned_scope_at, meets_For, both_same, cases_at-in_turn, statements_at-in_turn}
+use Rattle.rc_tree.proofs.RewriteStatementLemmas.{meets_block_to, meets_terminal_at, meets_scope_at}
+use Rattle.rc_tree.proofs.RewriteStatementLemmas.{meets_pruned_scope_at, meets_For, both_same, cases_at-in_turn}
+use Rattle.rc_tree.proofs.RewriteStatementLemmas.{statements_at-in_turn}
 use Rattle.rc_tree.specs.Run.{Meets, perhaps_hook}
-use Rattle.rc_tree.specs.Rewrite.{block_inside, block_to, case_at, cases_at, into_at, parts_at, pruned_scope_inside, rewrite_value, scope_inside, statements_at, terminal_inside}
+use Rattle.rc_tree.specs.Rewrite.{block_inside, block_to, case_at, cases_at, into_at, parts_at, pruned_scope_inside}
+use Rattle.rc_tree.specs.Rewrite.{rewrite_value, scope_inside, statements_at, terminal_inside}
 use Rattle.rc_tree.specs.RewriteInPlace.{held_at}
 use Rattle.rc_tree.specs.declared.statement.ReactiveStatement.{ReactiveStatement}
 use Rattle.rc_tree.specs.declared.terminal.ReactiveTerminal.TheVariants as term
@@ -215,7 +221,7 @@ walk_cases-returns-in_default g t c = λ n.
     (cases_at steps functions (block_to steps functions n) c.args.id
     (c.args.transform.now, c.args.state.now) c.args.cases.now)
     (c.loop-i.transform, c.loop-i.state) c.loop-i.cases c.loop-i.i (c.loop-i.invariant.so_far n)
-    (past_end c.loop-i.cases c.loop-i.i c.in_default.ensures.value)
+    (past_end c.loop-i.cases c.loop-i.i (sym c.in_default.ensures.value))
 
 -- a case's walk fails
 pub walk_cases-returns-in_err-walk_case : goal.walk_cases-returns-in_err-walk_case

@@ -1,7 +1,8 @@
 use Rattle.std.proofs.Common.{◌≡◌, ◌∙◌, sym, ap, true, false}
 use Rattle.rc_checks.specs.Membership.{is_among}
 use Rattle.rc_checks.proofs.OpenScopesLemmas.{pushed_new, pushed_again}
-use Rattle.rc_checks.proofs.membership.open_scopes.OpenScopes.push.Goals.{then-not-contains+in_ok-insert, else-not-contains}
+use Rattle.rc_checks.proofs.membership.open_scopes.OpenScopes.push.Goals.{then-not-contains+in_ok-insert}
+use Rattle.rc_checks.proofs.membership.open_scopes.OpenScopes.push.Goals.{else-not-contains}
 use Rattle.rc_checks.proofs.membership.open_scopes.OpenScopes.push.Goals as goal
 
 pub invariant_of-self-2 : goal.invariant_of-self-2
