@@ -6,8 +6,6 @@ use Rattle.serde_json.specs.Written.{compact_text}
 use Rattle.rc_names.specs.declared.span.Span.{Span}
 use Rattle.rc_names.specs.declared.numbers.EvaluationOrder.{EvaluationOrder}
 use Rattle.rc_hir.specs.declared.place.Place.{Place}
-use Rattle.rc_tree.specs.declared.kind.ReactiveTerminalTargetKind.{ReactiveTerminalTargetKind}
-use Rattle.rc_tree.specs.declared.kind.ReactiveTerminalTargetKind.TheVariants.{Implicit, Labeled, Unlabeled}
 use Rattle.rc_tree.specs.declared.terminal.ReactiveLabel.{ReactiveLabel}
 use Rattle.rc_doc.specs.ShownParts.{place_data}
 
@@ -58,9 +56,3 @@ label_text (Some label) = codes " as bb" & decimal label.id.0 & implicit_text la
 -- where a statement stands in the order of evaluation, and its label
 abbrev pub id_text : EvaluationOrder → Option ReactiveLabel → List ℕ
 id_text id label = codes " id " & decimal id.0 & label_text label
-
--- which statement a jump leaves or goes on with
-abbrev pub kind_text : ReactiveTerminalTargetKind → List ℕ
-kind_text Implicit = codes "implicit"
-kind_text Labeled = codes "labeled"
-kind_text Unlabeled = codes "unlabeled"

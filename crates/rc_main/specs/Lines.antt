@@ -9,7 +9,8 @@ use Rattle.rc_tree.specs.declared.statement.ReactiveBlock.{ReactiveBlock, fold-R
 use Rattle.rc_tree.specs.declared.statement.ReactiveStatement.{ReactiveStatement, fold-ReactiveStatement}
 use Rattle.rc_tree.specs.declared.statement.ReactiveStatement.TheOpen as layer
 use Rattle.rc_tree.specs.declared.value.ReactiveValue.{ReactiveValue}
-use Rattle.rc_main.specs.LineText.{◌&◌, line, deeper, span_text, place_text, id_text, kind_text}
+use Rattle.rc_tree.specs.Kind.{kind_word}
+use Rattle.rc_main.specs.LineText.{◌&◌, line, deeper, span_text, place_text, id_text}
 use Rattle.rc_main.specs.ValueLines.{value_text, row_text}
 
 -- from the spaces that its first line begins with to the lines of a part of the tree
@@ -71,9 +72,9 @@ TerminalLayer = layer.ReactiveTerminal-F Lines TerminalLines Lines Lines Lines L
 -- the first line of a terminal
 abbrev pub head_layer : TerminalLayer → Option ReactiveLabel → List ℕ
 head_layer (layer.Break target kind id) label =
-    codes "break bb" & decimal target.0 & codes " " & kind_text kind & id_text id label
+    codes "break bb" & decimal target.0 & codes " " & kind_word kind & id_text id label
 head_layer (layer.Continue target kind id) label =
-    codes "continue bb" & decimal target.0 & codes " " & kind_text kind & id_text id label
+    codes "continue bb" & decimal target.0 & codes " " & kind_word kind & id_text id label
 head_layer (layer.Return value id) label = codes "return " & place_text value & id_text id label
 head_layer (layer.Throw value id) label = codes "throw " & place_text value & id_text id label
 head_layer (layer.If test consequent alternate id) label = codes "if " & place_text test & id_text id label

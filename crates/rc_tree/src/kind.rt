@@ -1,5 +1,8 @@
 //! Where a jump goes.
 
+ghost use Rattle.std.specs.Prelude.{◌≡◌};
+ghost use Rattle.rc_tree.specs.Kind.{kind_word};
+
 use std::fmt;
 
 /// Which statement a break or a continue leaves or goes on with.
@@ -13,17 +16,25 @@ pub enum ReactiveTerminalTargetKind {
     Unlabeled,
 }
 
+impl ReactiveTerminalTargetKind {
+    /// The word for it.
+    pub fn as_str(&self) -> &'static str
+        ensures { result.now ≡ kind_word self.now }
+    {
+        match self {
+            ReactiveTerminalTargetKind::Implicit => "implicit",
+            ReactiveTerminalTargetKind::Labeled => "labeled",
+            ReactiveTerminalTargetKind::Unlabeled => "unlabeled",
+        }
+    }
+}
+
 impl fmt::Display for ReactiveTerminalTargetKind {
     ghost use Rattle.std.specs.Prelude.{Some};
-    ghost use Rattle.rc_tree.specs.Kind.{kind_word};
 
     ghost output = { λ kind. Some (kind_word kind) };
 
     fn fmt<W: fmt::Write>(&self, f: &mut fmt::Formatter<W>) -> fmt::Result {
-        match self {
-            ReactiveTerminalTargetKind::Implicit => f.write_str("implicit"),
-            ReactiveTerminalTargetKind::Labeled => f.write_str("labeled"),
-            ReactiveTerminalTargetKind::Unlabeled => f.write_str("unlabeled"),
-        }
+        f.write_str(self.as_str())
     }
 }

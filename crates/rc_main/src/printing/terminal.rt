@@ -1,13 +1,14 @@
 //! The first lines of terminals and of their parts, and the values below them.
 
 ghost use Rattle.std.specs.Prelude.{◌≡◌, ◌++◌, OnOk, codes, decimal};
-ghost use Rattle.rc_main.specs.LineText.{place_text, id_text, kind_text};
+ghost use Rattle.rc_tree.specs.Kind.{kind_word};
+ghost use Rattle.rc_main.specs.LineText.{place_text, id_text};
 ghost use Rattle.rc_main.specs.ValueLines.{value_text};
 ghost use Rattle.rc_main.specs.Lines.{catch_text, case_text, value_line, terminal_lines};
 
 use crate::printing::page::Page;
 use crate::printing::place::write_place;
-use crate::printing::text::{kind_name, write_id, write_span};
+use crate::printing::text::{write_id, write_span};
 use crate::printing::value::write_value;
 use rc_hir::Place;
 use rc_names::{BlockId, EvaluationOrder, ScopeId};
@@ -94,12 +95,12 @@ fn write_jump(
     target: BlockId,
     kind: ReactiveTerminalTargetKind,
 ) -> Result<(), AllocError>
-    ensures { OnOk result (page.new ≡ page.old ++ (name.now ++ (decimal target.0 ++ (codes " " ++ kind_text kind)))) }
+    ensures { OnOk result (page.new ≡ page.old ++ (name.now ++ (decimal target.0 ++ (codes " " ++ kind_word kind)))) }
 {
     page.push(name)?;
     page.number(target.0)?;
     page.push(" ")?;
-    page.push(kind_name(kind))
+    page.push(kind.as_str())
 }
 
 /// The values of a loop, which stand above its body.

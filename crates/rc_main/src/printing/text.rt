@@ -2,11 +2,11 @@
 
 ghost use Rattle.std.specs.Prelude.{◌≡◌, ◌++◌, OnOk};
 ghost use Rattle.rc_main.specs.LineText.{bool_text, quoted_text, json_text, span_text, implicit_text, label_text};
-ghost use Rattle.rc_main.specs.LineText.{id_text, kind_text};
+ghost use Rattle.rc_main.specs.LineText.{id_text};
 
 use crate::printing::page::Page;
 use rc_names::{EvaluationOrder, Span, Text};
-use rc_tree::{ReactiveLabel, ReactiveTerminalTargetKind};
+use rc_tree::ReactiveLabel;
 use serde_json::Value;
 use std::alloc::AllocError;
 
@@ -74,14 +74,4 @@ pub fn write_id(
     page.push(" id ")?;
     page.number(id.0)?;
     write_label(page, label)
-}
-
-pub fn kind_name(kind: ReactiveTerminalTargetKind) -> &'static str
-    ensures { result.now ≡ kind_text kind }
-{
-    match kind {
-        ReactiveTerminalTargetKind::Implicit => "implicit",
-        ReactiveTerminalTargetKind::Labeled => "labeled",
-        ReactiveTerminalTargetKind::Unlabeled => "unlabeled",
-    }
 }
