@@ -1,8 +1,7 @@
 -- How the results of steps join: a first step that answers, and one that fails. What equal results hold is equal.
-use Rattle.std.proofs.Common.{◌≡◌, ◌⊎◌, inl, inr, List, [], ◌∷◌, map, Option, Result, Ok, Err, refl, sym, ap, subst}
+use Rattle.std.proofs.Common.{◌≡◌, inl, inr, List, [], ◌∷◌, map, Result, Ok, Err, refl, sym, ap, subst}
 use Rattle.rc_hir.specs.declared.fault.Fault.{Fault}
-use Rattle.rc_hir.specs.declared.fault.Fault.TheVariants.{NoMemory}
-use Rattle.rc_tree.specs.Outcome.{Gives, Walk, bind, each, perhaps}
+use Rattle.rc_tree.specs.Outcome.{Gives, Walk, bind, each}
 
 -- what follows a step that answers
 pub gives_next : {A B S T : Type 0} (first : Result (A × S) Fault) (next : A × S → Result (B × T) Fault) (a : A) (s : S)

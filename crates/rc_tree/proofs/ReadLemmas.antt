@@ -1,5 +1,5 @@
 -- The equations of the read walk of rows and values: one for each form.
-use Rattle.std.proofs.Common.{◌≡◌, Bool, List, map, refl, sym, ap, ◌∙◌}
+use Rattle.std.proofs.Common.{◌≡◌, Bool, List, refl, sym, ap, ◌∙◌}
 use Rattle.rc_hir.specs.declared.function.HirFunction.{HirFunction}
 use Rattle.rc_hir.specs.declared.instruction.InstructionValue.{InstructionValue}
 use Rattle.rc_hir.specs.declared.instruction.LogicalOperator.{LogicalOperator}

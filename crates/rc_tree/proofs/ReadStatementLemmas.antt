@@ -6,7 +6,7 @@ use Rattle.rc_names.specs.declared.numbers.BlockId.{BlockId}
 use Rattle.rc_names.specs.declared.numbers.EvaluationOrder.{EvaluationOrder}
 use Rattle.rc_names.specs.declared.span.Span.{Span}
 use Rattle.rc_tree.proofs.OutcomeLemmas.{gives_next, gives_fault, each-map, same_rest}
-use Rattle.rc_tree.specs.Outcome.{Walk, bind, next_to, each, perhaps}
+use Rattle.rc_tree.specs.Outcome.{Walk, next_to, each, perhaps}
 use Rattle.rc_tree.specs.Steps.{ReadSteps}
 use Rattle.rc_tree.specs.Read.{WalkAt, around, OfStatement, OfParts, OfPruned, OfScope, OfBlock, OfCase, OfTerminal}
 use Rattle.rc_tree.specs.Read.{around_block, statement_step, parts_step, pruned_step, scope_step, block_step, case_step}

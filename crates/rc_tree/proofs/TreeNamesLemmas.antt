@@ -1,7 +1,6 @@
 -- What the numbers of a tree are, form by form; what keeps them part by part keeps them for the whole.
 use Rattle.std.proofs.Common.{◌≡◌, ◌∙◌, Bool, List, [], ◌∷◌, ◌++◌, append_assoc, Option, None, Some, option_map, map}
 use Rattle.std.proofs.Common.{refl, sym, ap}
-use Rattle.std.specs.List.{flat_map}
 use Rattle.rc_hir.specs.PartNames.{perhaps, place_names, scope_name}
 use Rattle.rc_hir.specs.ValueNames.{value_names}
 use Rattle.rc_hir.specs.declared.instruction.InstructionValue.{InstructionValue}
@@ -16,9 +15,6 @@ use Rattle.rc_tree.specs.declared.scope.PrunedReactiveScopeBlock.{PrunedReactive
 use Rattle.rc_tree.specs.declared.scope.ReactiveScopeBlock.{ReactiveScopeBlock}
 use Rattle.rc_tree.specs.declared.statement.ReactiveBlock.{ReactiveBlock}
 use Rattle.rc_tree.specs.declared.statement.ReactiveStatement.{ReactiveStatement}
-use Rattle.rc_tree.specs.declared.statement.ReactiveStatement.TheFolds.{fold-PrunedReactiveScopeBlock}
-use Rattle.rc_tree.specs.declared.statement.ReactiveStatement.TheFolds.{fold-ReactiveScopeBlock}
-use Rattle.rc_tree.specs.declared.statement.ReactiveStatement.TheFolds.{fold-ReactiveTerminalStatement}
 use Rattle.rc_tree.specs.declared.statement.ReactiveStatement.TheFolds.{fold-roll-ReactiveStatement}
 use Rattle.rc_tree.specs.declared.statement.ReactiveStatement.TheFolds.{fold-roll-ReactiveTerminal}
 use Rattle.rc_tree.specs.declared.statement.ReactiveStatement.TheFolds.{fold-roll-PrunedReactiveScopeBlock}
@@ -28,9 +24,7 @@ use Rattle.rc_tree.specs.declared.statement.ReactiveStatement.TheFolds.{fold-rol
 use Rattle.rc_tree.specs.declared.statement.ReactiveStatement.TheFolds.{fold-roll-ReactiveTerminalStatement}
 use Rattle.rc_tree.specs.declared.statement.ReactiveStatement.TheOpen as layer
 use Rattle.rc_tree.specs.declared.statement.ReactiveStatement.TheVariants as stmt
-use Rattle.rc_tree.specs.declared.terminal.ReactiveLabel.{ReactiveLabel}
 use Rattle.rc_tree.specs.declared.terminal.ReactiveSwitchCase.{ReactiveSwitchCase, roll-ReactiveSwitchCase}
-use Rattle.rc_tree.specs.declared.terminal.ReactiveTerminal.{ReactiveTerminal}
 use Rattle.rc_tree.specs.declared.terminal.ReactiveTerminal.TheVariants as term
 use Rattle.rc_tree.specs.declared.terminal.ReactiveTerminalStatement.{ReactiveTerminalStatement}
 use Rattle.rc_tree.specs.declared.value.ReactiveInstruction.{ReactiveInstruction}

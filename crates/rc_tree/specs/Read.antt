@@ -7,7 +7,6 @@ use Rattle.std.specs.Prelude.{List, Ok}
 use Rattle.rc_hir.specs.Operands.{operands}
 use Rattle.rc_hir.specs.declared.function.HirFunction.{HirFunction}
 use Rattle.rc_hir.specs.declared.instruction.InstructionValue.{InstructionValue}
-use Rattle.rc_hir.specs.declared.place.Place.{Place}
 use Rattle.rc_names.specs.declared.numbers.EvaluationOrder.{EvaluationOrder}
 use Rattle.rc_tree.specs.Outcome.{Step, Walk, bind, next_to, each, perhaps}
 use Rattle.rc_tree.specs.Steps.{ReadSteps, targets_of}

@@ -5,7 +5,7 @@
 -- `entered` tells of each function of the table whether the walk stands inside it: one that is met there again is a
 -- cycle,
 -- and one outside the table is a bad name.
-use Rattle.std.specs.Prelude.{ℕ, zero, suc, Bool, true, false, List, [], ◌∷◌, Option, None, Some, Ok, Err, map}
+use Rattle.std.specs.Prelude.{ℕ, zero, suc, Bool, true, false, List, [], ◌∷◌, Option, None, Some, Err, map}
 use Rattle.std.specs.Prelude.{slice_get, slice_set}
 use Rattle.rc_names.specs.declared.numbers.BlockId.{BlockId}
 use Rattle.rc_names.specs.declared.numbers.FunctionId.{FunctionId}

@@ -1,5 +1,5 @@
 -- The enter steps of a pass over statements make no part deeper.
-use Rattle.std.proofs.Common.{◌≡◌, Result, Ok, Err, refl, sym, subst, ◌≤◌}
+use Rattle.std.proofs.Common.{◌≡◌, Result, Ok, Err, ◌≤◌}
 use Rattle.rc_hir.specs.declared.fault.Fault.{Fault}
 use Rattle.rc_tree.specs.NoDeeper.{goes_inside_no_deeper, skips_no_deeper}
 use Rattle.rc_tree.specs.Outcome.{bind}

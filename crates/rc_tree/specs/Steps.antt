@@ -1,7 +1,6 @@
 -- What the hooks of a walk do, as one record of steps; and the steps that change nothing.
-use Rattle.std.specs.Prelude.{List, [], Result, Ok}
+use Rattle.std.specs.Prelude.{List, [], Ok}
 use Rattle.rc_hir.specs.Operands.{value_targets}
-use Rattle.rc_hir.specs.declared.fault.Fault.{Fault}
 use Rattle.rc_hir.specs.declared.place.Place.{Place}
 use Rattle.rc_names.specs.declared.numbers.EvaluationOrder.{EvaluationOrder}
 use Rattle.rc_tree.specs.Outcome.{Step, Walk}
@@ -13,7 +12,7 @@ use Rattle.rc_tree.specs.declared.value.ReactiveInstruction.{ReactiveInstruction
 use Rattle.rc_tree.specs.declared.value.ReactiveValue.{ReactiveValue}
 use Rattle.rc_tree.specs.declared.value.ReactiveValue.TheVariants as value
 use Rattle.rc_tree.specs.declared.visitor.Enter.{Enter}
-use Rattle.rc_tree.specs.declared.visitor.Enter.TheVariants.{Inside, Skip}
+use Rattle.rc_tree.specs.declared.visitor.Enter.TheVariants.{Inside}
 
 -- the step of each hook of a visitor
 pub record ReadSteps (S : Type 0) : Type 0 where

@@ -1,5 +1,5 @@
 -- The numbers that stand in a tree, each with the table that it stands for, and that each of them is in its table.
-use Rattle.std.specs.Prelude.{◌≡◌, ◌≤◌, List, [], ◌++◌, Option, unwrap_or, All, Any}
+use Rattle.std.specs.Prelude.{List, [], ◌++◌, Option, unwrap_or, All, Any}
 use Rattle.std.specs.List.{flat_map}
 use Rattle.rc_hir.specs.Names.{IsInTable, IsOutside, EnvironmentInTables, lengths}
 use Rattle.rc_hir.specs.PartNames.{Name, perhaps, place_names, scope_name}

@@ -3,7 +3,6 @@
 //! Most hooks of a rewriting walk do nothing in a pass that looks at no row and no value. They are written once, in
 //! `OverStatements`.
 
-ghost use Rattle.std.specs.Prelude.{◌≡◌};
 ghost use Rattle.rc_tree.specs.Outcome.{Gives};
 ghost use Rattle.rc_tree.specs.StatementSteps.{StatementSteps, over_statements};
 ghost use Rattle.rc_tree.specs.StatementsNoDeeper.{over_statements_no_deeper};

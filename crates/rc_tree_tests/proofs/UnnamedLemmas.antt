@@ -17,7 +17,6 @@ use Rattle.rc_tree.specs.declared.terminal.ReactiveTerminal.TheVariants as term
 use Rattle.rc_tree.specs.declared.terminal.ReactiveTerminalStatement.{ReactiveTerminalStatement}
 use Rattle.rc_tree.specs.declared.transform.Transformed.{Transformed}
 use Rattle.rc_tree.specs.declared.transform.Transformed.TheVariants.{ReplaceMany}
-use Rattle.rc_tree.specs.declared.visitor.Enter.TheVariants.{Inside}
 
 module _ {T S : Type 0} (v : RewriteSteps (T × S)) (functions : T → List HirFunction) where
   module _ (steps : TakesOut v) where

@@ -1,5 +1,5 @@
 -- A `Label` without a name, whose statements can stand in its place, since no jump names it.
-use Rattle.std.specs.Prelude.{◌≡◌, List, [], Option, None, Ok, Result, IfOk}
+use Rattle.std.specs.Prelude.{◌≡◌, [], Option, None, Ok, Result, IfOk}
 use Rattle.rc_hir.specs.declared.fault.Fault.{Fault}
 use Rattle.rc_names.specs.declared.numbers.EvaluationOrder.{EvaluationOrder}
 use Rattle.rc_tree.specs.RewriteSteps.{RewriteSteps}

@@ -1,9 +1,7 @@
 //! A visitor that writes its visits down, and the visits of a walk by it.
 
 ghost use Rattle.std.specs.Prelude.{◌≡◌, [], ◌∷◌, ◌++◌, Ok, IfOk};
-ghost use Rattle.rc_tree.specs.Outcome.{Gives};
 ghost use Rattle.rc_tree.specs.Read.{read_block};
-ghost use Rattle.rc_tree.specs.ReadFunction.{read_function};
 ghost use Rattle.rc_tree.specs.declared.visitor.Enter.TheVariants as enter;
 ghost use Rattle.rc_tree_tests.specs.declared.tests.recorder.Part.TheVariants as part;
 ghost use Rattle.rc_tree_tests.specs.declared.tests.recorder.Visit.TheVariants as visit;

@@ -1,4 +1,4 @@
-use Rattle.std.proofs.Common.{◌∙◌, rules, arith, Err}
+use Rattle.std.proofs.Common.{◌∙◌, rules, Err}
 use Rattle.rc_tree.proofs.ReadFunctionLemmas.{place_fault, place_next}
 use Rattle.rc_tree.specs.Outcome.{Gives, each}
 use Rattle.rc_tree.specs.ReadFunction.{basic_block_at}
