@@ -14,6 +14,7 @@ use Rattle.rc_tree.proofs.RebuiltLemmas.{rebuilt-ForOf, rebuilt-ForIn, rebuilt-I
 use Rattle.rc_tree.proofs.OutcomeLemmas.{Err-injective, Ok-injective}
 use Rattle.rc_tree.proofs.RewriteStatementKnownLemmas.{known_block_to, known_statement}
 use Rattle.rc_tree.specs.Follows.{Does, Follows, Leaves}
+use Rattle.rc_tree.specs.Opened.{OpenStatement, OpenTerminal}
 use Rattle.rc_tree.specs.Outcome.{Gives, perhaps}
 use Rattle.rc_tree.specs.Outcome as outcome
 use Rattle.rc_tree.specs.Rebuilt.{Rebuilds, Rules, in_order, joined, rebuilt_block, rebuilt_statement, rebuilt_terminal}
@@ -32,7 +33,6 @@ use Rattle.rc_tree.specs.declared.statement.ReactiveStatement.{ReactiveStatement
 use Rattle.rc_tree.specs.declared.statement.ReactiveStatement.{roll-ReactiveStatement, roll-out-ReactiveStatement}
 use Rattle.rc_tree.specs.declared.statement.ReactiveStatement.{size-ReactiveStatement}
 use Rattle.rc_tree.specs.declared.statement.ReactiveStatement.TheOpen as layer
-use Rattle.rc_tree.specs.declared.statement.ReactiveStatement.TheOpen.{ReactiveStatement-F, ReactiveTerminal-F}
 use Rattle.rc_tree.specs.declared.statement.ReactiveStatement.TheVariants as stmt
 use Rattle.rc_tree.specs.declared.terminal.ReactiveSwitchCase.{ReactiveSwitchCase, out-ReactiveSwitchCase}
 use Rattle.rc_tree.specs.declared.terminal.ReactiveSwitchCase.{roll-ReactiveSwitchCase}
@@ -277,14 +277,6 @@ module _ {S R T St : Type 0} (rules : Rules S) (v : RewriteSteps (T × St)) (fun
 
   module _ (walk : Part (T × St) ReactiveBlock) (known : (r : R) (s : S) (x : ReactiveBlock)
       → Agrees world r (walk (world r s) x) (rebuilt_block rules x s)) where
-    abbrev Terminal-F : Type 0
-    Terminal-F = ReactiveTerminal-F ReactiveStatement ReactiveTerminal PrunedReactiveScopeBlock ReactiveScopeBlock
-        ReactiveBlock ReactiveSwitchCase ReactiveTerminalStatement
-
-    abbrev Statement-F : Type 0
-    Statement-F = ReactiveStatement-F ReactiveStatement ReactiveTerminal PrunedReactiveScopeBlock ReactiveScopeBlock
-        ReactiveBlock ReactiveSwitchCase ReactiveTerminalStatement
-
     case_agrees : (id : EvaluationOrder) (r : R) (s : S) (x : ReactiveSwitchCase)
         → Agrees world r (case_at plain functions walk id (world r s) x) (rebuilt_case rules x s)
     unfolding case_at
@@ -309,10 +301,10 @@ module _ {S R T St : Type 0} (rules : Rules S) (v : RewriteSteps (T × St)) (fun
         each_agrees world r (rebuilt_case rules) (case_at plain functions walk id) (case_agrees id r) s cases
 
     -- each terminal, as its equation tells
-    abbrev TerminalAgrees : R → S → Terminal-F → Result (S × ReactiveTerminal) Fault → Type 0
+    abbrev TerminalAgrees : R → S → OpenTerminal → Result (S × ReactiveTerminal) Fault → Type 0
     TerminalAgrees r s l e = Agrees world r (parts_layer plain functions walk (world r s) l) e
 
-    parts_agree : (r : R) (s : S) (l : Terminal-F) → Agrees world r (parts_layer plain functions walk (world r s) l)
+    parts_agree : (r : R) (s : S) (l : OpenTerminal) → Agrees world r (parts_layer plain functions walk (world r s) l)
         (rebuilt_terminal rules (roll-ReactiveTerminal l) s)
     unfolding rewrite_value value_to settled
     parts_agree r s (layer.Break target kind id) =
@@ -446,10 +438,10 @@ module _ {S R T St : Type 0} (rules : Rules S) (v : RewriteSteps (T × St)) (fun
         (known (inner r s) (rules.into_scope s) x.instructions))))
 
     -- each statement, as its equation tells
-    abbrev StatementPlaced : R → S → Statement-F → Result (S × List ReactiveStatement) Fault → Type 0
+    abbrev StatementPlaced : R → S → OpenStatement → Result (S × List ReactiveStatement) Fault → Type 0
     StatementPlaced r s l e = Places world r (statement_layer plain functions walk (world r s) l) e
 
-    layer_placed : (r : R) (s : S) (l : Statement-F) → Places world r
+    layer_placed : (r : R) (s : S) (l : OpenStatement) → Places world r
         (statement_layer plain functions walk (world r s) l) (rebuilt_statement rules (roll-ReactiveStatement l) s)
     unfolding rewrite_instruction instruction_at settled
     layer_placed r s (layer.Instruction x) =

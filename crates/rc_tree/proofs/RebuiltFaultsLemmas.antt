@@ -3,10 +3,11 @@ use Rattle.std.proofs.Common.{◌≡◌, ◌⊎◌, inl, inr, List, [], ◌∷�
 use Rattle.std.proofs.Common.{sym, subst}
 use Rattle.rc_hir.specs.declared.fault.Fault.{Fault}
 use Rattle.rc_hir.specs.declared.fault.Fault.TheVariants.{NoMemory}
-use Rattle.rc_tree.proofs.RebuiltLemmas.{LayerOfTerminal, LayerOfStatement, terminal_rebuilt, statement_rebuilt}
+use Rattle.rc_tree.proofs.RebuiltLemmas.{terminal_rebuilt, statement_rebuilt}
 use Rattle.rc_tree.proofs.RebuiltLemmas.{opened_terminal, opened_statement, if_some, rebuilt-block, rebuilt-labeled}
 use Rattle.rc_tree.proofs.RebuiltLemmas.{rebuilt-scope, rebuilt-pruned_scope, opened_case}
 use Rattle.rc_tree.specs.Follows.{Leaves}
+use Rattle.rc_tree.specs.Opened.{OpenStatement, OpenTerminal}
 use Rattle.rc_tree.specs.Outcome.{bind}
 use Rattle.rc_tree.specs.Rebuilt.{Rebuilds, Rules, FaultsOnly, in_order, joined, if_there, of_terminal, of_statement}
 use Rattle.rc_tree.specs.Rebuilt.{rebuilt_block, rebuilt_statement, rebuilt_terminal, rebuilt_labeled, rebuilt_scope}
@@ -94,7 +95,7 @@ module _ (IsSuch : Fault → Type 0) where
         (joined_only xs a.0) (λ b. only_ok (b.0, a.1 ++ b.1)))
 
     abbrev terminal_parts : layer.ReactiveTerminal-F OfStatement OfTerminal OfPruned OfScope OfBlock OfCase OfLabeled
-        → LayerOfTerminal rules
+        → OpenTerminal
     terminal_parts = map-ReactiveTerminal OfStatement OfTerminal OfPruned OfScope OfBlock OfCase OfLabeled
         ReactiveStatement ReactiveTerminal PrunedReactiveScopeBlock ReactiveScopeBlock ReactiveBlock ReactiveSwitchCase
         ReactiveTerminalStatement
@@ -137,7 +138,7 @@ module _ (IsSuch : Fault → Type 0) where
         (λ b. only_ok (b.0, term.Try a.1 binding b.1 id)))
 
     abbrev statement_parts : layer.ReactiveStatement-F OfStatement OfTerminal OfPruned OfScope OfBlock OfCase OfLabeled
-        → LayerOfStatement rules
+        → OpenStatement
     statement_parts = map-ReactiveStatement OfStatement OfTerminal OfPruned OfScope OfBlock OfCase OfLabeled
         ReactiveStatement ReactiveTerminal PrunedReactiveScopeBlock ReactiveScopeBlock ReactiveBlock ReactiveSwitchCase
         ReactiveTerminalStatement

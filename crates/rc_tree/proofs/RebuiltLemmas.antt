@@ -5,6 +5,7 @@ use Rattle.rc_names.specs.declared.numbers.BlockId.{BlockId}
 use Rattle.rc_names.specs.declared.numbers.EvaluationOrder.{EvaluationOrder}
 use Rattle.rc_names.specs.declared.span.Span.{Span}
 use Rattle.rc_tree.proofs.OutcomeLemmas.{same_rest}
+use Rattle.rc_tree.specs.Opened.{OpenStatement, OpenTerminal, OpenCase}
 use Rattle.rc_tree.specs.Outcome.{bind}
 use Rattle.rc_tree.specs.Rebuilt.{Rebuilds, Rules, in_order, joined, if_there, of_terminal, of_statement, of_labeled}
 use Rattle.rc_tree.specs.Rebuilt.{of_scope, of_pruned_scope, of_block, of_case, rebuilt_block, rebuilt_statement}
@@ -48,15 +49,7 @@ module _ {S X Y : Type 0} (rebuilt : X → Rebuilds S Y) where
 
 module _ {S : Type 0} (rules : Rules S) where
   -- a layer, each part in it with what it is rebuilt to
-  abbrev pub LayerOfTerminal : Type 0
-  LayerOfTerminal = layer.ReactiveTerminal-F ReactiveStatement ReactiveTerminal PrunedReactiveScopeBlock
-      ReactiveScopeBlock ReactiveBlock ReactiveSwitchCase ReactiveTerminalStatement
-
-  abbrev pub LayerOfStatement : Type 0
-  LayerOfStatement = layer.ReactiveStatement-F ReactiveStatement ReactiveTerminal PrunedReactiveScopeBlock
-      ReactiveScopeBlock ReactiveBlock ReactiveSwitchCase ReactiveTerminalStatement
-
-  abbrev pub terminal_rebuilt : LayerOfTerminal → layer.ReactiveTerminal-F (Rebuilds S (List ReactiveStatement))
+  abbrev pub terminal_rebuilt : OpenTerminal → layer.ReactiveTerminal-F (Rebuilds S (List ReactiveStatement))
       (Rebuilds S ReactiveTerminal) (Rebuilds S PrunedReactiveScopeBlock) (Rebuilds S ReactiveScopeBlock)
       (Rebuilds S ReactiveBlock) (Rebuilds S ReactiveSwitchCase)
       (Rebuilds S ReactiveTerminalStatement)
@@ -68,7 +61,7 @@ module _ {S : Type 0} (rules : Rules S) where
       (rebuilt_statement rules) (rebuilt_terminal rules) (rebuilt_pruned_scope rules) (rebuilt_scope rules)
       (rebuilt_block rules) (rebuilt_case rules) (rebuilt_labeled rules)
 
-  abbrev pub statement_rebuilt : LayerOfStatement → layer.ReactiveStatement-F (Rebuilds S (List ReactiveStatement))
+  abbrev pub statement_rebuilt : OpenStatement → layer.ReactiveStatement-F (Rebuilds S (List ReactiveStatement))
       (Rebuilds S ReactiveTerminal) (Rebuilds S PrunedReactiveScopeBlock) (Rebuilds S ReactiveScopeBlock)
       (Rebuilds S ReactiveBlock) (Rebuilds S ReactiveSwitchCase)
       (Rebuilds S ReactiveTerminalStatement)
@@ -80,7 +73,7 @@ module _ {S : Type 0} (rules : Rules S) where
       (rebuilt_statement rules) (rebuilt_terminal rules) (rebuilt_pruned_scope rules) (rebuilt_scope rules)
       (rebuilt_block rules) (rebuilt_case rules) (rebuilt_labeled rules)
 
-  pub opened_terminal : (x : LayerOfTerminal) (s : S) → rebuilt_terminal rules (roll-ReactiveTerminal x) s
+  pub opened_terminal : (x : OpenTerminal) (s : S) → rebuilt_terminal rules (roll-ReactiveTerminal x) s
       ≡ of_terminal rules (terminal_rebuilt x) s
   unfolding rebuilt_statement rebuilt_terminal rebuilt_pruned_scope rebuilt_scope rebuilt_block rebuilt_case
       rebuilt_labeled
@@ -90,7 +83,7 @@ module _ {S : Type 0} (rules : Rules S) where
       (Rebuilds S ReactiveTerminalStatement) (of_statement rules) (of_terminal rules) (of_pruned_scope rules)
       (of_scope rules) (of_block rules) (of_case rules) (of_labeled rules) x)
 
-  pub opened_statement : (x : LayerOfStatement) (s : S) → rebuilt_statement rules (roll-ReactiveStatement x) s
+  pub opened_statement : (x : OpenStatement) (s : S) → rebuilt_statement rules (roll-ReactiveStatement x) s
       ≡ of_statement rules (statement_rebuilt x) s
   unfolding rebuilt_statement rebuilt_terminal rebuilt_pruned_scope rebuilt_scope rebuilt_block rebuilt_case
       rebuilt_labeled
@@ -145,11 +138,7 @@ module _ {S : Type 0} (rules : Rules S) where
       (of_scope rules) (of_block rules) (of_case rules) (of_labeled rules)
       (record { scope = x.scope; instructions = x.instructions }))
 
-  abbrev pub LayerOfCase : Type 0
-  LayerOfCase = layer.ReactiveSwitchCase-F ReactiveStatement ReactiveTerminal PrunedReactiveScopeBlock
-      ReactiveScopeBlock ReactiveBlock ReactiveSwitchCase ReactiveTerminalStatement
-
-  pub opened_case : (x : LayerOfCase) (s : S) → rebuilt_case rules (roll-ReactiveSwitchCase x) s
+  pub opened_case : (x : OpenCase) (s : S) → rebuilt_case rules (roll-ReactiveSwitchCase x) s
       ≡ bind (if_some (rebuilt_block rules) x.block s) (λ a. Ok
       (a.0, roll-ReactiveSwitchCase (record { test = x.test; block = a.1 })))
   unfolding rebuilt_statement rebuilt_terminal rebuilt_pruned_scope rebuilt_scope rebuilt_block rebuilt_case

@@ -3,12 +3,13 @@ use Rattle.std.proofs.Common.{◌≡◌, ◌∙◌, List, ◌++◌, Result, Ok, 
 use Rattle.rc_hir.specs.declared.fault.Fault.{Fault}
 use Rattle.rc_hir.specs.declared.function.HirFunction.{HirFunction}
 use Rattle.rc_tree.proofs.RewriteRunLemmas.{meets_next, meets_fault, meets_last}
+use Rattle.rc_tree.specs.Opened.{OpenStatement}
 use Rattle.rc_tree.specs.Outcome.{Gives}
 use Rattle.rc_tree.specs.Outcome as outcome
 use Rattle.rc_tree.specs.Run.{Run, Spent, Failed, Done, bind, after, last, Meets, Hook, Part}
 use Rattle.rc_tree.specs.Rewrite.{in_place, rewrite_instruction, terminal_at, scope_at, pruned_scope_at}
 use Rattle.rc_tree.specs.Rewrite.{statement_layer, statement_at, into_at}
-use Rattle.rc_tree.specs.RewriteInPlace.{Statement-F, answer_layer, answer_at, put_at, held_layer, held_at}
+use Rattle.rc_tree.specs.RewriteInPlace.{answer_layer, answer_at, put_at, held_layer, held_at}
 use Rattle.rc_tree.specs.RewriteSteps.{RewriteSteps}
 use Rattle.rc_tree.specs.declared.statement.ReactiveBlock.{ReactiveBlock}
 use Rattle.rc_tree.specs.declared.statement.ReactiveStatement.{ReactiveStatement, out-ReactiveStatement}
@@ -58,7 +59,7 @@ module _ {W X Y A : Type 0} (make : Y → X) (step : Hook W Y A) (answer : Hook 
 
 module _ {T S : Type 0} (v : RewriteSteps (T × S)) (functions : T → List HirFunction)
     (inner : Part (T × S) ReactiveBlock) where
-  layer_asked : (w : T × S) (l : Statement-F)
+  layer_asked : (w : T × S) (l : OpenStatement)
       → statement_layer v functions inner w l
       ≡ bind (held_layer v functions inner w l) (λ a. last (answer_at v a.1.0 a.1.1))
   layer_asked w (layer.Instruction x) =

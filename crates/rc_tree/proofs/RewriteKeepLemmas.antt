@@ -4,6 +4,7 @@ use Rattle.std.proofs.Common.{Result, Ok, Err, OnOk, refl, sym, ap, subst}
 use Rattle.rc_hir.specs.declared.fault.Fault.{Fault}
 use Rattle.rc_hir.specs.declared.function.HirFunction.{HirFunction}
 use Rattle.rc_names.specs.declared.numbers.EvaluationOrder.{EvaluationOrder}
+use Rattle.rc_tree.specs.Opened.{OpenStatement, OpenTerminal}
 use Rattle.rc_tree.specs.Outcome.{Gives, each, perhaps}
 use Rattle.rc_tree.specs.Run.{Run, Spent, Failed, Done, bind, after, last, settled, Hook, Part, in_turn, kept_into}
 use Rattle.rc_tree.specs.Run.{perhaps_part, perhaps_hook}
@@ -21,7 +22,6 @@ use Rattle.rc_tree.specs.declared.statement.ReactiveBlock.{ReactiveBlock, size-R
 use Rattle.rc_tree.specs.declared.statement.ReactiveStatement.{ReactiveStatement, out-ReactiveStatement}
 use Rattle.rc_tree.specs.declared.statement.ReactiveStatement.{roll-ReactiveStatement, roll-out-ReactiveStatement}
 use Rattle.rc_tree.specs.declared.statement.ReactiveStatement.TheOpen as layer
-use Rattle.rc_tree.specs.declared.statement.ReactiveStatement.TheOpen.{ReactiveStatement-F, ReactiveTerminal-F}
 use Rattle.rc_tree.specs.declared.statement.ReactiveStatement.TheVariants as stmt
 use Rattle.rc_tree.specs.declared.terminal.ReactiveSwitchCase.{ReactiveSwitchCase, out-ReactiveSwitchCase}
 use Rattle.rc_tree.specs.declared.terminal.ReactiveSwitchCase.{roll-ReactiveSwitchCase, roll-out-ReactiveSwitchCase}
@@ -322,15 +322,7 @@ module _ {V I L C P T S : Type 0} (m : Measure V I L C P) (laws : Compositional 
     unfolding cases_at
     cases_kept id w cases = turn_kept m.case (case_at v functions inner id) (case_kept id) w [] cases
 
-    abbrev Terminal-F : Type 0
-    Terminal-F = ReactiveTerminal-F ReactiveStatement ReactiveTerminal PrunedReactiveScopeBlock ReactiveScopeBlock
-        ReactiveBlock ReactiveSwitchCase ReactiveTerminalStatement
-
-    abbrev Statement-F : Type 0
-    Statement-F = ReactiveStatement-F ReactiveStatement ReactiveTerminal PrunedReactiveScopeBlock ReactiveScopeBlock
-        ReactiveBlock ReactiveSwitchCase ReactiveTerminalStatement
-
-    parts_kept : (w : T × S) (l : Terminal-F) → Always (parts_layer v functions inner w l)
+    parts_kept : (w : T × S) (l : OpenTerminal) → Always (parts_layer v functions inner w l)
         (λ d. m.terminal d.1.1 ≡ m.terminal (roll-ReactiveTerminal l))
     parts_kept w (layer.Break target kind id) =
         let kept = λ (d : Unit {0} × ((T × S) × ReactiveTerminal)). m.terminal d.1.1
@@ -549,7 +541,7 @@ module _ {V I L C P T S : Type 0} (m : Measure V I L C P) (laws : Compositional 
         (λ d. one m (stmt.PrunedScope d.1.1) ≡ one m (stmt.PrunedScope x)) (laws.pruned_scope x a.1.1 k))) w x
 
     -- what stands in a statement's place has its measure
-    statement_kept : (w : T × S) (l : Statement-F) → Always (statement_layer v functions inner w l)
+    statement_kept : (w : T × S) (l : OpenStatement) → Always (statement_layer v functions inner w l)
         (λ d. m.statements (in_place d.0 d.1.1) ≡ one m (roll-ReactiveStatement l))
     statement_kept w (layer.Instruction x) =
         let kept = λ (d : Transformed ReactiveStatement × ((T × S) × ReactiveStatement)). m.statements

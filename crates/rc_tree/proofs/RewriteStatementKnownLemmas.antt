@@ -6,6 +6,7 @@ use Rattle.rc_hir.specs.declared.function.HirFunction.{HirFunction}
 use Rattle.rc_names.specs.declared.numbers.EvaluationOrder.{EvaluationOrder}
 use Rattle.rc_tree.proofs.RewriteKnownLemmas.{known_bind, known_after, known_turn, known_each, known_around, done}
 use Rattle.rc_tree.proofs.RewriteKnownLemmas.{visit, hook, part}
+use Rattle.rc_tree.specs.Opened.{OpenStatement, OpenTerminal}
 use Rattle.rc_tree.specs.Run.{Done, Known, Part, perhaps_part}
 use Rattle.rc_tree.specs.Rewrite.{case_at, cases_at, parts_layer, parts_at, terminal_inside, terminal_at, scope_inside}
 use Rattle.rc_tree.specs.Rewrite.{scope_at, pruned_scope_inside, pruned_scope_at, statement_layer, statement_at}
@@ -21,11 +22,10 @@ use Rattle.rc_tree.specs.declared.statement.ReactiveStatement.{ReactiveStatement
 use Rattle.rc_tree.specs.declared.statement.ReactiveStatement.{size_is-ReactiveStatement, out-ReactiveStatement}
 use Rattle.rc_tree.specs.declared.statement.ReactiveStatement.TheBlock as tree
 use Rattle.rc_tree.specs.declared.statement.ReactiveStatement.TheOpen as layer
-use Rattle.rc_tree.specs.declared.statement.ReactiveStatement.TheOpen.{ReactiveStatement-F, ReactiveTerminal-F}
 use Rattle.rc_tree.specs.declared.statement.ReactiveStatement.TheShapes as shapes
 use Rattle.rc_tree.specs.declared.terminal.ReactiveSwitchCase.{ReactiveSwitchCase, out-ReactiveSwitchCase}
 use Rattle.rc_tree.specs.declared.terminal.ReactiveSwitchCase.{size-ReactiveSwitchCase, size_is-ReactiveSwitchCase}
-use Rattle.rc_tree.specs.declared.terminal.ReactiveTerminal.{ReactiveTerminal, out-ReactiveTerminal}
+use Rattle.rc_tree.specs.declared.terminal.ReactiveTerminal.{out-ReactiveTerminal}
 use Rattle.rc_tree.specs.declared.terminal.ReactiveTerminal.{size_is-ReactiveTerminal}
 use Rattle.rc_tree.specs.declared.terminal.ReactiveTerminalStatement.{ReactiveTerminalStatement}
 use Rattle.rc_tree.specs.declared.terminal.ReactiveTerminalStatement.{size-ReactiveTerminalStatement}
@@ -34,19 +34,11 @@ use Rattle.rc_tree.specs.declared.terminal.ReactiveTerminalStatement.{size_is-Re
 module _ {T S : Type 0} (v : RewriteSteps (T × S)) (functions : T → List HirFunction) where
   module _ (n : ℕ) (inner : Part (T × S) ReactiveBlock) (known : (w : T × S) (b : ReactiveBlock)
       → size-ReactiveBlock b < n → Known (inner w b)) where
-    abbrev Statement-F : Type 0
-    Statement-F = ReactiveStatement-F ReactiveStatement ReactiveTerminal PrunedReactiveScopeBlock ReactiveScopeBlock
-        ReactiveBlock ReactiveSwitchCase ReactiveTerminalStatement
-
-    abbrev Terminal-F : Type 0
-    Terminal-F = ReactiveTerminal-F ReactiveStatement ReactiveTerminal PrunedReactiveScopeBlock ReactiveScopeBlock
-        ReactiveBlock ReactiveSwitchCase ReactiveTerminalStatement
-
-    abbrev weigh_terminal : Terminal-F → ℕ
+    abbrev weigh_terminal : OpenTerminal → ℕ
     weigh_terminal l = tree.weighs-ReactiveTerminal.weight (Values tree.the_members tree.the_sigs tree.the_carrier)
         tree.the_depth l
 
-    abbrev weigh_statement : Statement-F → ℕ
+    abbrev weigh_statement : OpenStatement → ℕ
     weigh_statement l = tree.weighs-ReactiveStatement.weight (Values tree.the_members tree.the_sigs tree.the_carrier)
         tree.the_depth l
 
@@ -70,7 +62,7 @@ module _ {T S : Type 0} (v : RewriteSteps (T × S)) (functions : T → List HirF
     known_cases id cases h w =
         known_each size-ReactiveSwitchCase n (case_at v functions inner id) (known_case id) cases h w
 
-    known_parts : (w : T × S) (l : Terminal-F) → weigh_terminal l < n → Known (parts_layer v functions inner w l)
+    known_parts : (w : T × S) (l : OpenTerminal) → weigh_terminal l < n → Known (parts_layer v functions inner w l)
     known_parts w (layer.Break target kind id) h = search (visit, hook, part, done)
     known_parts w (layer.Continue target kind id) h = search (visit, hook, part, done)
     known_parts w (layer.Return place id) h = search (visit, hook, part, done)
@@ -150,7 +142,7 @@ module _ {T S : Type 0} (v : RewriteSteps (T × S)) (functions : T → List HirF
           known_around v.enter_pruned_scope (pruned_scope_inside v functions inner) v.leave_pruned_scope w x
           (λ w1 x1 a e. known_pruned_scope_inside w1 x1 (omega (arith, h, enters.pruned_scope w w1 x x1 a e)))
 
-      known_layer : (w : T × S) (l : Statement-F) → weigh_statement l ≤ n
+      known_layer : (w : T × S) (l : OpenStatement) → weigh_statement l ≤ n
           → Known (statement_layer v functions inner w l)
       known_layer w (layer.Instruction x) h = search (known_bind, known_after, done)
       known_layer w (layer.Terminal x) h =

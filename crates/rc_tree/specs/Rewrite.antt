@@ -13,6 +13,7 @@ use Rattle.rc_hir.specs.Operands.{operands}
 use Rattle.rc_hir.specs.declared.function.HirFunction.{HirFunction}
 use Rattle.rc_hir.specs.declared.instruction.InstructionValue.{InstructionValue}
 use Rattle.rc_names.specs.declared.numbers.EvaluationOrder.{EvaluationOrder}
+use Rattle.rc_tree.specs.Opened.{OpenStatement, OpenTerminal}
 use Rattle.rc_tree.specs.Outcome.{Walk, each, perhaps}
 use Rattle.rc_tree.specs.Outcome as outcome
 use Rattle.rc_tree.specs.Run.{Run, Spent, Done, bind, after, last, settled, Hook, Part, Into, in_turn, each_part}
@@ -26,7 +27,6 @@ use Rattle.rc_tree.specs.declared.statement.ReactiveBlock.{ReactiveBlock, size-R
 use Rattle.rc_tree.specs.declared.statement.ReactiveStatement.{ReactiveStatement, out-ReactiveStatement}
 use Rattle.rc_tree.specs.declared.statement.ReactiveStatement.{size-ReactiveStatement}
 use Rattle.rc_tree.specs.declared.statement.ReactiveStatement.TheOpen as layer
-use Rattle.rc_tree.specs.declared.statement.ReactiveStatement.TheOpen.{ReactiveStatement-F, ReactiveTerminal-F}
 use Rattle.rc_tree.specs.declared.statement.ReactiveStatement.TheVariants as stmt
 use Rattle.rc_tree.specs.declared.terminal.ReactiveSwitchCase.{ReactiveSwitchCase, out-ReactiveSwitchCase}
 use Rattle.rc_tree.specs.declared.terminal.ReactiveSwitchCase.{roll-ReactiveSwitchCase}
@@ -134,10 +134,7 @@ module _ {T S : Type 0} (v : RewriteSteps (T × S)) (functions : T → List HirF
     cases_at id w cases = each_part (case_at id) w cases
 
     -- the parts of each terminal, behind its id; the update of a `For` comes before the loop block
-    abbrev pub parts_layer : (T × S)
-        → ReactiveTerminal-F ReactiveStatement ReactiveTerminal PrunedReactiveScopeBlock ReactiveScopeBlock
-        ReactiveBlock ReactiveSwitchCase ReactiveTerminalStatement
-        → Run (Unit {0} × ((T × S) × ReactiveTerminal))
+    abbrev pub parts_layer : (T × S) → OpenTerminal → Run (Unit {0} × ((T × S) × ReactiveTerminal))
     parts_layer w (layer.Break target kind id) =
         after (v.visit_id id w) (λ a. Done (tt, (a.1, term.Break target kind id)))
     parts_layer w (layer.Continue target kind id) =
@@ -203,9 +200,7 @@ module _ {T S : Type 0} (v : RewriteSteps (T × S)) (functions : T → List HirF
     pruned_scope_at w x = around v.enter_pruned_scope pruned_scope_inside v.leave_pruned_scope w x
 
     -- a statement: the walk of what it holds, and then its `transform_` step
-    abbrev pub statement_layer : (T × S)
-        → ReactiveStatement-F ReactiveStatement ReactiveTerminal PrunedReactiveScopeBlock ReactiveScopeBlock
-        ReactiveBlock ReactiveSwitchCase ReactiveTerminalStatement
+    abbrev pub statement_layer : (T × S) → OpenStatement
         → Run (Transformed ReactiveStatement × ((T × S) × ReactiveStatement))
     statement_layer w (layer.Instruction x) =
         after (rewrite_instruction w x) (λ a. after (v.transform_instruction a.1.0 a.1.1)

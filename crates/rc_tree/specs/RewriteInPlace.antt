@@ -3,30 +3,20 @@
 use Rattle.std.specs.Prelude.{List, ◌++◌, Result, Ok}
 use Rattle.rc_hir.specs.declared.fault.Fault.{Fault}
 use Rattle.rc_hir.specs.declared.function.HirFunction.{HirFunction}
+use Rattle.rc_tree.specs.Opened.{OpenStatement}
 use Rattle.rc_tree.specs.Outcome as outcome
 use Rattle.rc_tree.specs.Run.{Run, Done, bind, after, Hook, Part}
 use Rattle.rc_tree.specs.Rewrite.{in_place, rewrite_instruction, terminal_at, scope_at, pruned_scope_at}
 use Rattle.rc_tree.specs.RewriteSteps.{RewriteSteps}
-use Rattle.rc_tree.specs.declared.scope.PrunedReactiveScopeBlock.{PrunedReactiveScopeBlock}
-use Rattle.rc_tree.specs.declared.scope.ReactiveScopeBlock.{ReactiveScopeBlock}
 use Rattle.rc_tree.specs.declared.statement.ReactiveBlock.{ReactiveBlock}
 use Rattle.rc_tree.specs.declared.statement.ReactiveStatement.{ReactiveStatement, out-ReactiveStatement}
 use Rattle.rc_tree.specs.declared.statement.ReactiveStatement.TheOpen as layer
-use Rattle.rc_tree.specs.declared.statement.ReactiveStatement.TheOpen.{ReactiveStatement-F}
 use Rattle.rc_tree.specs.declared.statement.ReactiveStatement.TheVariants as stmt
-use Rattle.rc_tree.specs.declared.terminal.ReactiveSwitchCase.{ReactiveSwitchCase}
-use Rattle.rc_tree.specs.declared.terminal.ReactiveTerminal.{ReactiveTerminal}
-use Rattle.rc_tree.specs.declared.terminal.ReactiveTerminalStatement.{ReactiveTerminalStatement}
 use Rattle.rc_tree.specs.declared.transform.Transformed.{Transformed}
-
--- the forms of a statement
-abbrev pub Statement-F : Type 0
-Statement-F = ReactiveStatement-F ReactiveStatement ReactiveTerminal PrunedReactiveScopeBlock ReactiveScopeBlock
-    ReactiveBlock ReactiveSwitchCase ReactiveTerminalStatement
 
 module _ {W : Type 0} (v : RewriteSteps W) where
   -- the `transform_` step of each form
-  abbrev pub answer_layer : W → Statement-F → Result (Transformed ReactiveStatement × (W × ReactiveStatement)) Fault
+  abbrev pub answer_layer : W → OpenStatement → Result (Transformed ReactiveStatement × (W × ReactiveStatement)) Fault
   answer_layer w (layer.Instruction x) =
       outcome.bind (v.transform_instruction w x) (λ a. Ok (a.0, (a.1.0, stmt.Instruction a.1.1)))
   answer_layer w (layer.Terminal x) =
@@ -46,7 +36,7 @@ module _ {W : Type 0} (v : RewriteSteps W) where
 module _ {T S : Type 0} (v : RewriteSteps (T × S)) (functions : T → List HirFunction)
     (inner : Part (T × S) ReactiveBlock) where
   -- the walk of what each form holds
-  abbrev pub held_layer : (T × S) → Statement-F → Run (Unit {0} × ((T × S) × ReactiveStatement))
+  abbrev pub held_layer : (T × S) → OpenStatement → Run (Unit {0} × ((T × S) × ReactiveStatement))
   held_layer w (layer.Instruction x) =
       after (rewrite_instruction v functions w x) (λ a. Done (tt, (a.1.0, stmt.Instruction a.1.1)))
   held_layer w (layer.Terminal x) =

@@ -2,17 +2,14 @@
 use Rattle.std.specs.Prelude.{◌≡◌, [], Option, None, Ok, Result, IfOk}
 use Rattle.rc_hir.specs.declared.fault.Fault.{Fault}
 use Rattle.rc_names.specs.declared.numbers.EvaluationOrder.{EvaluationOrder}
+use Rattle.rc_tree.specs.Opened.{OpenTerminal}
 use Rattle.rc_tree.specs.RewriteSteps.{RewriteSteps}
-use Rattle.rc_tree.specs.declared.scope.PrunedReactiveScopeBlock.{PrunedReactiveScopeBlock}
-use Rattle.rc_tree.specs.declared.scope.ReactiveScopeBlock.{ReactiveScopeBlock}
 use Rattle.rc_tree.specs.declared.statement.ReactiveBlock.{ReactiveBlock}
 use Rattle.rc_tree.specs.declared.statement.ReactiveStatement.{ReactiveStatement}
 use Rattle.rc_tree.specs.declared.statement.ReactiveStatement.TheOpen as layer
-use Rattle.rc_tree.specs.declared.statement.ReactiveStatement.TheOpen.{ReactiveTerminal-F}
 use Rattle.rc_tree.specs.declared.statement.ReactiveStatement.TheVariants as stmt
 use Rattle.rc_tree.specs.declared.terminal.ReactiveLabel.{ReactiveLabel}
-use Rattle.rc_tree.specs.declared.terminal.ReactiveSwitchCase.{ReactiveSwitchCase}
-use Rattle.rc_tree.specs.declared.terminal.ReactiveTerminal.{ReactiveTerminal, out-ReactiveTerminal}
+use Rattle.rc_tree.specs.declared.terminal.ReactiveTerminal.{out-ReactiveTerminal}
 use Rattle.rc_tree.specs.declared.terminal.ReactiveTerminal.TheVariants as term
 use Rattle.rc_tree.specs.declared.terminal.ReactiveTerminalStatement.{ReactiveTerminalStatement}
 use Rattle.rc_tree.specs.declared.transform.Transformed.{Transformed}
@@ -24,9 +21,7 @@ abbrev pub unnamed : ReactiveBlock → EvaluationOrder → ReactiveTerminalState
 unnamed body id = record { terminal = term.Label body id; label = None }
 
 -- what stands in place of a terminal, with the terminal as it is left
-abbrev pub taken_out : ReactiveTerminalStatement → Option ReactiveLabel
-    → ReactiveTerminal-F ReactiveStatement ReactiveTerminal PrunedReactiveScopeBlock ReactiveScopeBlock ReactiveBlock
-    ReactiveSwitchCase ReactiveTerminalStatement
+abbrev pub taken_out : ReactiveTerminalStatement → Option ReactiveLabel → OpenTerminal
     → Transformed ReactiveStatement × ReactiveTerminalStatement
 taken_out x None (layer.Label body id) =
     (ReplaceMany body.statements, record { terminal = term.Label (record { statements = [] }) id; label = None })
