@@ -3,7 +3,8 @@ use Rattle.std.proofs.Common.{◌≡◌, ◌≤◌, ℕ, Result, Ok, arith, ap, 
 use Rattle.rc_hir.specs.declared.fault.Fault.{Fault}
 use Rattle.rc_tree.specs.RewriteSteps.{NoDeeper, EntersNoDeeper, goes_inside, skips, still}
 
-same_part : {A W X : Type 0} (a b : A) (w w1 : W) (x x1 : X)
+-- equal answers of a step hold equal parts
+pub same_part : {A W X : Type 0} (a b : A) (w w1 : W) (x x1 : X)
     → ◌≡◌ {A = Result (A × (W × X)) Fault} (Ok (a, (w, x))) (Ok (b, (w1, x1))) → x ≡ x1
 same_part {A = A} {W = W} {X = X} a b w w1 x x1 e =
     let p : ◌≡◌ {A = A × (W × X)} (a, (w, x)) (b, (w1, x1)) = cc in ap (λ q. q.1.1) p

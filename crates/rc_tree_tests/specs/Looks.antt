@@ -1,6 +1,6 @@
 -- An enter step that leaves its part as it is, whatever it makes of the world: it makes no part deeper.
-use Rattle.std.proofs.Common.{◌≡◌, ◌∙◌, ◌≤◌, ℕ, Result, Ok, arith, ap, subst, sym}
-use Rattle.rc_hir.specs.declared.fault.Fault.{Fault}
+use Rattle.std.proofs.Common.{◌≡◌, ◌∙◌, ◌≤◌, ℕ, Ok, arith, subst, sym}
+use Rattle.rc_tree.specs.NoDeeper.{same_part}
 use Rattle.rc_tree.specs.Run.{Hook}
 use Rattle.rc_tree.specs.RewriteSteps.{NoDeeper}
 use Rattle.rc_tree.specs.declared.visitor.Enter.{Enter}
@@ -9,10 +9,6 @@ module _ {W X : Type 0} where
   -- the step answers, and hands its part on
   abbrev pub Looks : Hook W X Enter → Type 0
   Looks step = (w : W) (x : X) → (answer : Enter) × (w1 : W) × (step w x ≡ Ok (answer, (w1, x)))
-
-  same_part : (a b : Enter) (w w1 : W) (x x1 : X) → ◌≡◌ {A = Result (Enter × (W × X)) Fault} (Ok (a, (w, x)))
-      (Ok (b, (w1, x1))) → x ≡ x1
-  same_part a b w w1 x x1 e = let p : ◌≡◌ {A = Enter × (W × X)} (a, (w, x)) (b, (w1, x1)) = cc in ap (λ q. q.1.1) p
 
   pub looks_no_deeper : (size : X → ℕ) (step : Hook W X Enter) → Looks step → NoDeeper size step
   looks_no_deeper size step looks w w1 x x1 answer e =
