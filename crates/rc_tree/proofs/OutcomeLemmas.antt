@@ -1,5 +1,5 @@
 -- How the results of steps join: a first step that answers, and one that fails. What equal results hold is equal.
-use Rattle.std.proofs.Common.{◌≡◌, inl, inr, List, [], ◌∷◌, map, Result, Ok, Err, refl, sym, ap, subst}
+use Rattle.std.proofs.Common.{◌≡◌, inl, inr, List, [], ◌∷◌, map, Result, Ok, Err, OnOk, refl, sym, ap, subst}
 use Rattle.rc_hir.specs.declared.fault.Fault.{Fault}
 use Rattle.rc_tree.specs.Outcome.{Gives, Walk, bind, each}
 
@@ -35,3 +35,12 @@ Ok-injective a b e = cc
 -- equal refusals hold equal faults
 pub Err-injective : {A : Type 0} (a b : Fault) → ◌≡◌ {A = Result A Fault} (Err a) (Err b) → a ≡ b
 Err-injective a b e = cc
+
+-- an answer is no refusal
+pub not_err : {A E : Type 0} (a : A) (e : E) → Ok a ≡ Err e → ⊥
+not_err a e h = cc
+
+-- what holds in any case holds on an answer
+pub any_case : {A E P : Type 0} (r : Result A E) → P → OnOk r P
+any_case (Ok a) p = p
+any_case (Err e) p = tt

@@ -1,7 +1,7 @@
 -- The entries of a list at a place and at the end, changed there, and what is left behind them.
-use Rattle.std.proofs.Common.{◌≡◌, ◌∙◌, ◌+◌, ◌<◌, ◌≤◌, ℕ, zero, suc, add-one, max, List, [], ◌∷◌, ◌++◌, length, take}
-use Rattle.std.proofs.Common.{drop, Option, None, Some, slice_get, slice_set, Result, Ok, Err, OnOk, refl, ap, arith}
-use Rattle.std.proofs.lemmas.List.{length-append}
+use Rattle.std.proofs.Common.{◌≡◌, ◌∙◌, ◌+◌, ◌<◌, ◌≤◌, ℕ, zero, suc, add-one, max, List, [], ◌∷◌, ◌++◌, length}
+use Rattle.std.proofs.Common.{drop, Option, None, Some, slice_get, slice_set, refl, sym, ap, arith}
+use Rattle.std.proofs.lemmas.List.{length-append, set_at, drop-set-lt}
 use denote.Param.Weighed.{most, most-append}
 
 -- a list that isn't empty ends with an entry
@@ -18,28 +18,11 @@ ends_full left rest x e =
     let h : length left ≡ length rest + 1 = ap length e ∙ length-append rest (x ∷ []) in
     omega (arith, h)
 
--- it ends with one entry only
-pub same_end : {X : Type 0} (xs ys : List X) (x y : X) → xs ++ x ∷ [] ≡ ys ++ y ∷ [] → (xs ≡ ys) × (x ≡ y)
-same_end [] [] x y e = (refl, cc)
-same_end [] (z ∷ []) x y e = let bad : ⊥ = cc in absurd bad
-same_end [] (z ∷ u ∷ ys) x y e = let bad : ⊥ = cc in absurd bad
-same_end (z ∷ []) [] x y e = let bad : ⊥ = cc in absurd bad
-same_end (z ∷ u ∷ xs) [] x y e = let bad : ⊥ = cc in absurd bad
-same_end (z ∷ xs) (u ∷ ys) x y e =
-    let rest : xs ++ x ∷ [] ≡ ys ++ y ∷ [] = cc in
-    let first : z ≡ u = cc in
-    let p = same_end xs ys x y rest in
-    ((λ i. first i ∷ p.0 i), p.1)
-
+-- the entry behind others is found at their length
 get_behind : {X : Type 0} (before : List X) (x : X) (behind : List X)
     → slice_get (before ++ x ∷ behind) (length before) ≡ Some x
 get_behind [] x behind = refl
 get_behind (y ∷ before) x behind = get_behind before x behind
-
-set_behind : {X : Type 0} (before : List X) (x y : X) (behind : List X)
-    → slice_set (before ++ x ∷ behind) (length before) y ≡ before ++ y ∷ behind
-set_behind [] x y behind = refl
-set_behind (z ∷ before) x y behind = ap (λ l. z ∷ l) (set_behind before x y behind)
 
 -- the place of the last entry
 last_place : {X : Type 0} (left rest : List X) (x : X) (i : ℕ) → left ≡ rest ++ x ∷ [] → i + 1 ≡ length left
@@ -55,7 +38,7 @@ last_get left rest x i e k = rw (e, last_place left rest x i e k) (get_behind re
 
 pub last_set : {X : Type 0} (left rest : List X) (x y : X) (i : ℕ) → left ≡ rest ++ x ∷ [] → i + 1 ≡ length left
     → slice_set left i y ≡ rest ++ y ∷ []
-last_set left rest x y i e k = rw (e, last_place left rest x i e k) (set_behind rest x y [])
+last_set left rest x y i e k = rw e (set_at rest x [] y i (sym (last_place left rest x i e k)))
 
 -- what is found at the last place is the last entry
 pub last_is : {X : Type 0} (left rest : List X) (x y : X) (i : ℕ) → left ≡ rest ++ x ∷ [] → i + 1 ≡ length left
@@ -96,30 +79,6 @@ at_place [] i x e = cc
 at_place (y ∷ xs) zero x e = let h : y ≡ x = cc in ap (λ z. z ∷ xs) h
 at_place (y ∷ xs) (suc i) x e = at_place xs i x e
 
-pub take_set : {X : Type 0} (xs : List X) (i : ℕ) (x y : X) → slice_get xs i ≡ Some x
-    → take (suc i) (slice_set xs i y) ≡ take i xs ++ y ∷ []
-take_set [] i x y e = cc
-take_set (z ∷ xs) zero x y e = refl
-take_set (z ∷ xs) (suc i) x y e = ap (λ l. z ∷ l) (take_set xs i x y e)
-
-pub drop_set : {X : Type 0} (xs : List X) (i : ℕ) (y : X) → drop (suc i) (slice_set xs i y) ≡ drop (suc i) xs
-drop_set [] i y = refl
-drop_set (z ∷ xs) zero y = refl
-drop_set (z ∷ xs) (suc i) y = drop_set xs i y
-
-pub length_set : {X : Type 0} (xs : List X) (i : ℕ) (y : X) → length (slice_set xs i y) ≡ length xs
-length_set [] i y = refl
-length_set (z ∷ xs) zero y = refl
-length_set (z ∷ xs) (suc i) y = ap suc (length_set xs i y)
-
-pub taken_all : {X : Type 0} (xs : List X) (n : ℕ) → length xs ≤ n → (take n xs ≡ xs) × (drop n xs ≡ [])
-taken_all [] zero h = (refl, refl)
-taken_all [] (suc n) h = (refl, refl)
-taken_all (x ∷ xs) zero h = absurd (omega (arith, h))
-taken_all (x ∷ xs) (suc n) h =
-    let p = taken_all xs n (omega (arith, h)) in
-    (ap (λ l. x ∷ l) p.0, p.1)
-
 -- a place where nothing is found is past the end
 pub past_end : {X : Type 0} (xs : List X) (i : ℕ) → slice_get xs i ≡ None → length xs ≤ i
 past_end [] i e = omega arith
@@ -131,10 +90,6 @@ pub most_place : {X : Type 0} (μ : X → ℕ) (xs : List X) (i : ℕ) (x y : X)
     → (μ x ≤ most μ (drop i xs)) × (most μ (drop (i + 1) (slice_set xs i y)) ≤ most μ (drop i xs))
 most_place μ xs i x y e =
     let k : most μ (drop i xs) ≡ max (μ x) (most μ (drop (suc i) xs)) = ap (most μ) (at_place xs i x e) in
-    let l : most μ (drop (suc i) (slice_set xs i y)) ≡ most μ (drop (suc i) xs) = ap (most μ) (drop_set xs i y) in
+    let l : most μ (drop (suc i) (slice_set xs i y)) ≡ most μ (drop (suc i) xs) =
+    ap (most μ) (drop-set-lt (suc i) xs i y (omega arith)) in
     rw add-one (omega (arith, k), omega (arith, k, l))
-
--- what holds in any case holds on an answer
-pub any_case : {A E P : Type 0} (r : Result A E) → P → OnOk r P
-any_case (Ok a) p = p
-any_case (Err e) p = tt

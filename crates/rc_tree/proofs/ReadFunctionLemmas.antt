@@ -2,10 +2,12 @@
 use Rattle.std.proofs.Common.{◌≡◌, ◌<◌, ◌+◌, ℕ, zero, suc, Bool, true, false, List, [], ◌∷◌, Option, None, Some}
 use Rattle.std.proofs.Common.{Result, Ok, Err, arith, add-one, ap, drop, length, inl, inr, refl, sym, ◌∙◌}
 use Rattle.std.specs.Prelude.{slice_get, slice_set}
+use Rattle.std.proofs.lemmas.List.{set_past}
 use Rattle.rc_hir.specs.declared.fault.Fault.{Fault}
 use Rattle.rc_hir.specs.declared.function.HirFunction.{HirFunction}
 use Rattle.rc_names.specs.declared.numbers.FunctionId.{FunctionId}
 use Rattle.rc_tree.proofs.OutcomeLemmas.{gives_next, gives_fault}
+use Rattle.rc_tree.proofs.PlaceLemmas.{past_end}
 use Rattle.rc_tree.specs.Outcome.{Walk, Gives, bind, each, perhaps}
 use Rattle.rc_tree.specs.Steps.{ReadSteps}
 use Rattle.rc_tree.specs.ReadFunction.{not_entered, by_mark, numbered_at, function_to, function_at}
@@ -28,9 +30,7 @@ marked_back (mark ∷ marks) (suc i) e = ap (λ l. mark ∷ l) (marked_back mark
 
 -- nothing is marked past the end
 pub marked_past : (marks : List Bool) (i : ℕ) (mark : Bool) → slice_get marks i ≡ None → marks ≡ slice_set marks i mark
-marked_past [] i mark e = refl
-marked_past (m ∷ marks) zero mark e = cc
-marked_past (m ∷ marks) (suc i) mark e = ap (λ l. m ∷ l) (marked_past marks i mark e)
+marked_past marks i mark e = sym (set_past marks i mark (past_end marks i e))
 
 module _ {S X : Type 0} (step : X → Walk S) where
   -- the steps that are left, at a place

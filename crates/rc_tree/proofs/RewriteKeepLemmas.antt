@@ -1,9 +1,13 @@
 -- A rewriting walk whose steps keep a measure keeps it for the whole tree.
-use Rattle.std.proofs.Common.{◌≡◌, ◌∙◌, ℕ, zero, suc, List, [], ◌∷◌, ◌++◌, append_assoc, Option, None, Some, map}
+use Rattle.std.proofs.Common.{◌≡◌, ◌∙◌, ℕ, zero, suc, List, [], ◌∷◌, ◌++◌, append-nil, append_assoc, Option, None, Some, map}
 use Rattle.std.proofs.Common.{Result, Ok, Err, OnOk, refl, sym, ap, subst}
+use Rattle.std.proofs.lemmas.List.{map-append}
 use Rattle.rc_hir.specs.declared.fault.Fault.{Fault}
+use Rattle.rc_hir.specs.declared.fault.Fault.TheVariants.{NoMemory}
 use Rattle.rc_hir.specs.declared.function.HirFunction.{HirFunction}
 use Rattle.rc_names.specs.declared.numbers.EvaluationOrder.{EvaluationOrder}
+use Rattle.rc_tree.proofs.OutcomeLemmas.{Ok-injective, not_err}
+use Rattle.rc_tree.specs.NoDeeper.{same_part}
 use Rattle.rc_tree.specs.Opened.{OpenStatement, OpenTerminal}
 use Rattle.rc_tree.specs.Outcome.{Gives, each, perhaps}
 use Rattle.rc_tree.specs.Run.{Run, Spent, Failed, Done, bind, after, last, settled, Hook, Part, in_turn, kept_into}
@@ -71,18 +75,9 @@ always_last (Err fault) holds h = tt
 always_settled : {A : Type 0} (run : Run A) (holds : A → Type 0) → Always run holds → (a : A) → settled run ≡ Ok a
     → holds a
 unfolding Always settled
-always_settled Spent holds k a e = absurd (not_ok _ a e)
-  where
-    not_ok : {A : Type 0} (fault : Fault) (a : A) → ◌≡◌ {A = Result A Fault} (Err fault) (Ok a) → ⊥
-    not_ok fault a e = cc
-always_settled (Failed fault) holds k a e = absurd (not_ok fault a e)
-  where
-    not_ok : {A : Type 0} (fault : Fault) (a : A) → ◌≡◌ {A = Result A Fault} (Err fault) (Ok a) → ⊥
-    not_ok fault a e = cc
-always_settled (Done b) holds k a e = subst holds (same b a e) k
-  where
-    same : {A : Type 0} (b a : A) → ◌≡◌ {A = Result A Fault} (Ok b) (Ok a) → b ≡ a
-    same b a e = cc
+always_settled Spent holds k a e = absurd (not_err a NoMemory (sym e))
+always_settled (Failed fault) holds k a e = absurd (not_err a fault (sym e))
+always_settled (Done b) holds k a e = subst holds (Ok-injective b a e) k
 
 always_weaker : {A : Type 0} (run : Run A) (q holds : A → Type 0) → Always run q → ((a : A) → q a → holds a)
     → Always run holds
@@ -90,16 +85,6 @@ unfolding Always
 always_weaker Spent q holds k h = tt
 always_weaker (Failed fault) q holds k h = tt
 always_weaker (Done a) q holds k h = h a k
-
--- a list from its front
-append-nil : {X : Type 0} (xs : List X) → xs ++ [] ≡ xs
-append-nil [] = refl
-append-nil (x ∷ xs) = ap (λ l. x ∷ l) (append-nil xs)
-
-map-append : {X Y : Type 0} (measure : X → Y) (xs ys : List X)
-    → map measure (xs ++ ys) ≡ map measure xs ++ map measure ys
-map-append measure [] ys = refl
-map-append measure (x ∷ xs) ys = ap (λ l. measure x ∷ l) (map-append measure xs ys)
 
 module _ {W X Y : Type 0} (measure : X → Y) where
   -- the walk of a part keeps the measure, if its steps and its inside do
@@ -183,7 +168,7 @@ module _ {V I L C P T S : Type 0} (m : Measure V I L C P) (laws : Compositional 
         subst (λ whole. Always (value_layer v functions inner w id (value.Instruction x))
         (λ d. m.value d.1.1 ≡ m.value whole)) (sym (val.rolls-Instruction x))
         (always_after (inside_base v functions id x w) (λ a. Done (tt, (a.1, val.Instruction x))) kept (λ a ea.
-        always_done (tt, (a.1, val.Instruction x)) kept (refl)))
+        always_done (tt, (a.1, val.Instruction x)) kept refl))
     layer_kept w id (value.LogicalExpression operator x y) =
         let kept = λ (d : Unit {0} × ((T × S) × ReactiveValue)). m.value d.1.1
         ≡ m.value (val.LogicalExpression operator x y) in
@@ -195,7 +180,7 @@ module _ {V I L C P T S : Type 0} (m : Measure V I L C P) (laws : Compositional 
         always_bind (inner id a.1.0 y) (λ b. Done (tt, (b.1.0, val.LogicalExpression operator a.1.1 b.1.1)))
         (λ d. m.value d.1.1 ≡ m.value y) kept (known id a.1.0 y) (λ b kb.
         always_done (tt, (b.1.0, val.LogicalExpression operator a.1.1 b.1.1)) kept
-        (laws.logical operator x a.1.1 y b.1.1 (ka) (kb)))))
+        (laws.logical operator x a.1.1 y b.1.1 ka kb))))
     layer_kept w id (value.ConditionalExpression x y z) =
         let kept = λ (d : Unit {0} × ((T × S) × ReactiveValue)). m.value d.1.1
         ≡ m.value (val.ConditionalExpression x y z) in
@@ -210,7 +195,7 @@ module _ {V I L C P T S : Type 0} (m : Measure V I L C P) (laws : Compositional 
         always_bind (inner id b.1.0 z) (λ c. Done (tt, (c.1.0, val.ConditionalExpression a.1.1 b.1.1 c.1.1)))
         (λ d. m.value d.1.1 ≡ m.value z) kept (known id b.1.0 z) (λ c kc.
         always_done (tt, (c.1.0, val.ConditionalExpression a.1.1 b.1.1 c.1.1)) kept
-        (laws.conditional x a.1.1 y b.1.1 z c.1.1 (ka) (kb) (kc))))))
+        (laws.conditional x a.1.1 y b.1.1 z c.1.1 ka kb kc)))))
     layer_kept w id (value.SequenceExpression rows own x) =
         let kept = λ (d : Unit {0} × ((T × S) × ReactiveValue)). m.value d.1.1
         ≡ m.value (val.SequenceExpression rows own x) in
@@ -222,7 +207,7 @@ module _ {V I L C P T S : Type 0} (m : Measure V I L C P) (laws : Compositional 
         always_bind (inner own a.1.0 x) (λ b. Done (tt, (b.1.0, val.SequenceExpression a.1.1 own b.1.1)))
         (λ d. m.value d.1.1 ≡ m.value x) kept (known own a.1.0 x) (λ b kb.
         always_done (tt, (b.1.0, val.SequenceExpression a.1.1 own b.1.1)) kept
-        (laws.sequence rows a.1.1 own x b.1.1 (ka) (kb)))))
+        (laws.sequence rows a.1.1 own x b.1.1 ka kb))))
     layer_kept w id (value.OptionalExpression x optional) =
         let kept = λ (d : Unit {0} × ((T × S) × ReactiveValue)). m.value d.1.1
         ≡ m.value (val.OptionalExpression x optional) in
@@ -230,7 +215,7 @@ module _ {V I L C P T S : Type 0} (m : Measure V I L C P) (laws : Compositional 
         (λ d. m.value d.1.1 ≡ m.value whole)) (sym (val.rolls-OptionalExpression x optional))
         (always_bind (inner id w x) (λ a. Done (tt, (a.1.0, val.OptionalExpression a.1.1 optional)))
         (λ d. m.value d.1.1 ≡ m.value x) kept (known id w x) (λ a ka.
-        always_done (tt, (a.1.0, val.OptionalExpression a.1.1 optional)) kept (laws.optional x a.1.1 optional (ka))))
+        always_done (tt, (a.1.0, val.OptionalExpression a.1.1 optional)) kept (laws.optional x a.1.1 optional ka)))
 
     inside_value_kept : (id : EvaluationOrder) (w : T × S) (x : ReactiveValue)
         → Always (value_inside v functions inner id w x) (λ d. m.value d.1.1 ≡ m.value x)
@@ -262,27 +247,14 @@ module _ {V I L C P T S : Type 0} (m : Measure V I L C P) (laws : Compositional 
 
   perhaps_value : (id : EvaluationOrder) (w w1 : T × S) (x x1 : Option ReactiveValue)
       → perhaps_hook (rewrite_value v functions id) w x ≡ Ok (tt, (w1, x1)) → AlikeIf m.value x1 x
-  perhaps_value id w w1 None x1 e = subst (λ y. AlikeIf m.value y None) (same_option None x1 w w1 e) tt
-    where
-      same_option : {X W : Type 0} (x x1 : Option X) (w w1 : W)
-          → ◌≡◌ {A = Result (Unit {0} × (W × Option X)) Fault} (Ok (tt, (w, x))) (Ok (tt, (w1, x1))) → x ≡ x1
-      same_option {X = X} {W = W} x x1 w w1 e =
-          let p : ◌≡◌ {A = Unit {0} × (W × Option X)} (tt, (w, x)) (tt, (w1, x1)) = cc in ap (λ q. q.1.1) p
+  perhaps_value id w w1 None x1 e = subst (λ y. AlikeIf m.value y None) (same_part tt tt w w1 None x1 e) tt
   perhaps_value id w w1 (Some y) x1 e = by (rewrite_value v functions id w y) refl e
     where
-      same_option : {X W : Type 0} (x x1 : Option X) (w w1 : W)
-          → ◌≡◌ {A = Result (Unit {0} × (W × Option X)) Fault} (Ok (tt, (w, x))) (Ok (tt, (w1, x1))) → x ≡ x1
-      same_option {X = X} {W = W} x x1 w w1 e =
-          let p : ◌≡◌ {A = Unit {0} × (W × Option X)} (tt, (w, x)) (tt, (w1, x1)) = cc in ap (λ q. q.1.1) p
-
-      not_ok : {A : Type 0} (fault : Fault) (a : A) → ◌≡◌ {A = Result A Fault} (Err fault) (Ok a) → ⊥
-      not_ok fault a e = cc
-
       by : (r : Result (Unit {0} × ((T × S) × ReactiveValue)) Fault) → rewrite_value v functions id w y ≡ r
           → perhaps_hook (λ w0 x0. r) w (Some y) ≡ Ok (tt, (w1, x1)) → AlikeIf m.value x1 (Some y)
-      by (Ok a) f e = subst (λ z. AlikeIf m.value z (Some y)) (same_option (Some a.1.1) x1 a.1.0 w1 e)
+      by (Ok a) f e = subst (λ z. AlikeIf m.value z (Some y)) (same_part tt tt a.1.0 w1 (Some a.1.1) x1 e)
           (values id w a.1.0 y a.1.1 f)
-      by (Err fault) f e = absurd (not_ok fault (tt, (w1, x1)) e)
+      by (Err fault) f e = absurd (not_err (tt, (w1, x1)) fault (sym e))
 
   -- the tree
   module _ (inner : Part (T × S) ReactiveBlock) (known : (w : T × S) (x : ReactiveBlock)
@@ -330,14 +302,14 @@ module _ {V I L C P T S : Type 0} (m : Measure V I L C P) (laws : Compositional 
         subst (λ whole. Always (parts_layer v functions inner w (layer.Break target kind id))
         (λ d. m.terminal d.1.1 ≡ m.terminal whole)) (sym (term.rolls-Break target kind id))
         (always_after (v.visit_id id w) (λ a. Done (tt, (a.1, term.Break target kind id))) kept (λ a ea.
-        always_done (tt, (a.1, term.Break target kind id)) kept (refl)))
+        always_done (tt, (a.1, term.Break target kind id)) kept refl))
     parts_kept w (layer.Continue target kind id) =
         let kept = λ (d : Unit {0} × ((T × S) × ReactiveTerminal)). m.terminal d.1.1
         ≡ m.terminal (term.Continue target kind id) in
         subst (λ whole. Always (parts_layer v functions inner w (layer.Continue target kind id))
         (λ d. m.terminal d.1.1 ≡ m.terminal whole)) (sym (term.rolls-Continue target kind id))
         (always_after (v.visit_id id w) (λ a. Done (tt, (a.1, term.Continue target kind id))) kept (λ a ea.
-        always_done (tt, (a.1, term.Continue target kind id)) kept (refl)))
+        always_done (tt, (a.1, term.Continue target kind id)) kept refl))
     parts_kept w (layer.Return place id) =
         let kept = λ (d : Unit {0} × ((T × S) × ReactiveTerminal)). m.terminal d.1.1
         ≡ m.terminal (term.Return place id) in
@@ -346,7 +318,7 @@ module _ {V I L C P T S : Type 0} (m : Measure V I L C P) (laws : Compositional 
         (always_after (v.visit_id id w) (λ a. after (v.visit_place id place a.1)
         (λ b. Done (tt, (b.1, term.Return place id)))) kept (λ a ea.
         always_after (v.visit_place id place a.1) (λ b. Done (tt, (b.1, term.Return place id))) kept (λ b eb.
-        always_done (tt, (b.1, term.Return place id)) kept (refl))))
+        always_done (tt, (b.1, term.Return place id)) kept refl)))
     parts_kept w (layer.Throw place id) =
         let kept = λ (d : Unit {0} × ((T × S) × ReactiveTerminal)). m.terminal d.1.1
         ≡ m.terminal (term.Throw place id) in
@@ -355,7 +327,7 @@ module _ {V I L C P T S : Type 0} (m : Measure V I L C P) (laws : Compositional 
         (always_after (v.visit_id id w) (λ a. after (v.visit_place id place a.1)
         (λ b. Done (tt, (b.1, term.Throw place id)))) kept (λ a ea.
         always_after (v.visit_place id place a.1) (λ b. Done (tt, (b.1, term.Throw place id))) kept (λ b eb.
-        always_done (tt, (b.1, term.Throw place id)) kept (refl))))
+        always_done (tt, (b.1, term.Throw place id)) kept refl)))
     parts_kept w (layer.Switch test cases id) =
         let kept = λ (d : Unit {0} × ((T × S) × ReactiveTerminal)). m.terminal d.1.1
         ≡ m.terminal (term.Switch test cases id) in
@@ -368,7 +340,7 @@ module _ {V I L C P T S : Type 0} (m : Measure V I L C P) (laws : Compositional 
         (λ c. Done (tt, (c.1.0, term.Switch test c.1.1 id)))) kept (λ b eb.
         always_bind (cases_at v functions inner id b.1 cases) (λ c. Done (tt, (c.1.0, term.Switch test c.1.1 id)))
         (λ d. map m.case d.1.1 ≡ map m.case cases) kept (cases_kept id b.1 cases) (λ c kc.
-        always_done (tt, (c.1.0, term.Switch test c.1.1 id)) kept (laws.switch test cases c.1.1 id (kc))))))
+        always_done (tt, (c.1.0, term.Switch test c.1.1 id)) kept (laws.switch test cases c.1.1 id kc)))))
     parts_kept w (layer.DoWhile body test id) =
         let kept = λ (d : Unit {0} × ((T × S) × ReactiveTerminal)). m.terminal d.1.1
         ≡ m.terminal (term.DoWhile body test id) in
@@ -383,7 +355,7 @@ module _ {V I L C P T S : Type 0} (m : Measure V I L C P) (laws : Compositional 
         always_after (rewrite_value v functions id b.1.0 test) (λ c. Done (tt, (c.1.0, term.DoWhile b.1.1 c.1.1 id)))
         kept (λ c ec.
         always_done (tt, (c.1.0, term.DoWhile b.1.1 c.1.1 id)) kept
-        (laws.do_while body b.1.1 test c.1.1 id (kb) (values id b.1.0 c.1.0 test c.1.1 ec))))))
+        (laws.do_while body b.1.1 test c.1.1 id kb (values id b.1.0 c.1.0 test c.1.1 ec))))))
     parts_kept w (layer.While test body id) =
         let kept = λ (d : Unit {0} × ((T × S) × ReactiveTerminal)). m.terminal d.1.1
         ≡ m.terminal (term.While test body id) in
@@ -396,7 +368,7 @@ module _ {V I L C P T S : Type 0} (m : Measure V I L C P) (laws : Compositional 
         always_bind (inner b.1.0 body) (λ c. Done (tt, (c.1.0, term.While b.1.1 c.1.1 id)))
         (λ d. block m d.1.1 ≡ block m body) kept (known b.1.0 body) (λ c kc.
         always_done (tt, (c.1.0, term.While b.1.1 c.1.1 id)) kept
-        (laws.while test b.1.1 body c.1.1 id (values id a.1 b.1.0 test b.1.1 eb) (kc))))))
+        (laws.while test b.1.1 body c.1.1 id (values id a.1 b.1.0 test b.1.1 eb) kc)))))
     parts_kept w (layer.For init test update body id) =
         let kept = λ (d : Unit {0} × ((T × S) × ReactiveTerminal)). m.terminal d.1.1
         ≡ m.terminal (term.For init test update body id) in
@@ -421,7 +393,7 @@ module _ {V I L C P T S : Type 0} (m : Measure V I L C P) (laws : Compositional 
         (λ d. block m d.1.1 ≡ block m body) kept (known d.1.0 body) (λ e ke.
         always_done (tt, (e.1.0, term.For b.1.1 c.1.1 d.1.1 e.1.1 id)) kept
         (laws.for init b.1.1 test c.1.1 update d.1.1 body e.1.1 id (values id a.1 b.1.0 init b.1.1 eb)
-        (values id b.1.0 c.1.0 test c.1.1 ec) (perhaps_value id c.1.0 d.1.0 update d.1.1 ed) (ke))))))))
+        (values id b.1.0 c.1.0 test c.1.1 ec) (perhaps_value id c.1.0 d.1.0 update d.1.1 ed) ke)))))))
     parts_kept w (layer.ForOf init test body span id) =
         let kept = λ (d : Unit {0} × ((T × S) × ReactiveTerminal)). m.terminal d.1.1
         ≡ m.terminal (term.ForOf init test body span id) in
@@ -441,7 +413,7 @@ module _ {V I L C P T S : Type 0} (m : Measure V I L C P) (laws : Compositional 
         (λ d. block m d.1.1 ≡ block m body) kept (known c.1.0 body) (λ d kd.
         always_done (tt, (d.1.0, term.ForOf b.1.1 c.1.1 d.1.1 span id)) kept
         (laws.for_of init b.1.1 test c.1.1 body d.1.1 span id (values id a.1 b.1.0 init b.1.1 eb)
-        (values id b.1.0 c.1.0 test c.1.1 ec) (kd)))))))
+        (values id b.1.0 c.1.0 test c.1.1 ec) kd))))))
     parts_kept w (layer.ForIn init body span id) =
         let kept = λ (d : Unit {0} × ((T × S) × ReactiveTerminal)). m.terminal d.1.1
         ≡ m.terminal (term.ForIn init body span id) in
@@ -454,7 +426,7 @@ module _ {V I L C P T S : Type 0} (m : Measure V I L C P) (laws : Compositional 
         always_bind (inner b.1.0 body) (λ c. Done (tt, (c.1.0, term.ForIn b.1.1 c.1.1 span id)))
         (λ d. block m d.1.1 ≡ block m body) kept (known b.1.0 body) (λ c kc.
         always_done (tt, (c.1.0, term.ForIn b.1.1 c.1.1 span id)) kept
-        (laws.for_in init b.1.1 body c.1.1 span id (values id a.1 b.1.0 init b.1.1 eb) (kc))))))
+        (laws.for_in init b.1.1 body c.1.1 span id (values id a.1 b.1.0 init b.1.1 eb) kc)))))
     parts_kept w (layer.If test consequent alternate id) =
         let kept = λ (d : Unit {0} × ((T × S) × ReactiveTerminal)). m.terminal d.1.1
         ≡ m.terminal (term.If test consequent alternate id) in
@@ -472,7 +444,7 @@ module _ {V I L C P T S : Type 0} (m : Measure V I L C P) (laws : Compositional 
         always_bind (perhaps_part inner c.1.0 alternate) (λ d. Done (tt, (d.1.0, term.If test c.1.1 d.1.1 id)))
         (λ d. AlikeIf (block m) d.1.1 alternate) kept (perhaps_kept c.1.0 alternate) (λ d kd.
         always_done (tt, (d.1.0, term.If test c.1.1 d.1.1 id)) kept
-        (laws.if test consequent c.1.1 alternate d.1.1 id (kc) (kd)))))))
+        (laws.if test consequent c.1.1 alternate d.1.1 id kc kd))))))
     parts_kept w (layer.Label body id) =
         let kept = λ (d : Unit {0} × ((T × S) × ReactiveTerminal)). m.terminal d.1.1
         ≡ m.terminal (term.Label body id) in
@@ -482,7 +454,7 @@ module _ {V I L C P T S : Type 0} (m : Measure V I L C P) (laws : Compositional 
         (λ a ea.
         always_bind (inner a.1 body) (λ b. Done (tt, (b.1.0, term.Label b.1.1 id))) (λ d. block m d.1.1 ≡ block m body)
         kept (known a.1 body) (λ b kb.
-        always_done (tt, (b.1.0, term.Label b.1.1 id)) kept (laws.label body b.1.1 id (kb)))))
+        always_done (tt, (b.1.0, term.Label b.1.1 id)) kept (laws.label body b.1.1 id kb))))
     parts_kept w (layer.Try body binding handler id) =
         let kept = λ (d : Unit {0} × ((T × S) × ReactiveTerminal)). m.terminal d.1.1
         ≡ m.terminal (term.Try body binding handler id) in
@@ -499,7 +471,7 @@ module _ {V I L C P T S : Type 0} (m : Measure V I L C P) (laws : Compositional 
         always_bind (inner c.1 handler) (λ d. Done (tt, (d.1.0, term.Try b.1.1 binding d.1.1 id)))
         (λ d. block m d.1.1 ≡ block m handler) kept (known c.1 handler) (λ d kd.
         always_done (tt, (d.1.0, term.Try b.1.1 binding d.1.1 id)) kept
-        (laws.try body b.1.1 binding handler d.1.1 id (kb) (kd)))))))
+        (laws.try body b.1.1 binding handler d.1.1 id kb kd))))))
 
     terminal_kept : (w : T × S) (x : ReactiveTerminalStatement)
         → Always (terminal_at v functions inner w x) (λ d. one m (stmt.Terminal d.1.1) ≡ one m (stmt.Terminal x))

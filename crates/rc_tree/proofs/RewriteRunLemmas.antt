@@ -3,20 +3,19 @@ use Rattle.std.proofs.Common.{◌≡◌, ◌⊎◌, ◌≤◌, inl, inr, ℕ, ma
 use Rattle.std.proofs.Common.{slice_set, length, Some, ◌+◌, suc, add-one, Result, Ok, Err, refl, sym, ap, ◌∙◌, subst}
 use Rattle.std.proofs.Common.{arith}
 use denote.Param.Weighed.{most, most-append}
-use Rattle.std.proofs.lemmas.List.{reverse-append}
+use Rattle.std.proofs.Math.Seq.{take-suc-set}
+use Rattle.std.proofs.lemmas.List.{reverse-append, take_all, drop_all, drop-set-lt}
+use Rattle.std.proofs.lemmas.Option.{slice_get_within}
 use Rattle.rc_hir.specs.declared.fault.Fault.{Fault}
 use Rattle.rc_hir.specs.declared.fault.Fault.TheVariants.{NoMemory}
-use Rattle.rc_tree.proofs.OutcomeLemmas.{Err-injective, Ok-injective, gives_next, gives_fault}
-use Rattle.rc_tree.proofs.PlaceLemmas.{ends_with, at_place, take_set, drop_set, taken_all}
+use Rattle.rc_tree.proofs.OutcomeLemmas.{Err-injective, Ok-injective, not_err, gives_next, gives_fault}
+use Rattle.rc_tree.proofs.PlaceLemmas.{ends_with, at_place}
 use Rattle.rc_tree.specs.Outcome.{Gives}
 use Rattle.rc_tree.specs.Run.{Run, Spent, Failed, Done, bind, after, last, Meets, Known, settled, Hook, Part, Into}
 use Rattle.rc_tree.specs.Run.{in_turn, kept_into}
 use Rattle.rc_tree.specs.Rewrite.{by_answer}
 use Rattle.rc_tree.specs.declared.visitor.Enter.{Enter}
 use Rattle.rc_tree.specs.declared.visitor.Enter.TheVariants.{Inside}
-
-not_err : {A E : Type 0} (a : A) (e : E) → Ok a ≡ Err e → ⊥
-not_err a e h = cc
 
 -- what follows a computation that answers
 pub meets_next : {A B S T : Type 0} (first : Run (A × S)) (next : A × S → Run (B × T)) (a : A) (s : S)
@@ -158,16 +157,12 @@ module _ {W X : Type 0} (into : Into W X) (whole : Run (Unit {0} × (W × List X
       by (inl e) = subst (λ f. Meets f (Ok tt) (w, done)) (sym e) tt
       by (inr e) = subst (λ f. Meets f (Ok tt) (w, done)) (sym e) (inr (refl, refl))
 
+-- a list backwards is as deep
 pub most-reverse : {X : Type 0} (μ : X → ℕ) (xs : List X) → most μ (reverse xs) ≡ most μ xs
 most-reverse μ [] = refl
 most-reverse μ (x ∷ xs) =
     let k : most μ (reverse (x ∷ xs)) ≡ max (most μ (reverse xs)) (max (μ x) 0) = ap (most μ)
     (reverse-append (x ∷ []) xs) ∙ most-append μ (reverse xs) (x ∷ []) in omega (arith, k, most-reverse μ xs)
-
-pub turned_twice : {X : Type 0} (xs : List X) → reverse (reverse xs) ≡ xs
-turned_twice [] = refl
-turned_twice (x ∷ xs) =
-    ap reverse (reverse-append (x ∷ []) xs) ∙ reverse-append (reverse xs) (x ∷ []) ∙ ap (λ l. x ∷ l) (turned_twice xs)
 
 -- the loop over a list whose last entry is walked first, and taken off then
 module _ {W X : Type 0} (into : Into W X) (whole : Run (Unit {0} × (W × List X))) (w : W) (done left : List X)
@@ -204,7 +199,7 @@ module _ {W X : Type 0} (part : Part W X) (whole : Run (Unit {0} × (W × List X
   pub place_next : (w : W) (xs : List X) (i : ℕ) (x : X) (w1 : W) (y : X) → So_at w xs i → slice_get xs i ≡ Some x
       → Meets (part w x) (Ok tt) (w1, y) → So_at w1 (slice_set xs i y) (i + 1)
   place_next w xs i x w1 y so e h =
-      rw (add-one, take_set xs i x y e, drop_set xs i y)
+      rw (add-one, take-suc-set xs i y (slice_get_within xs i x e), drop-set-lt (suc i) xs i y (omega arith))
       (so_step (kept_into part) whole w (take i xs) x (drop (suc i) xs) w1 (take i xs ++ y ∷ []) (opened w xs i x so e)
       (meets_made (part w x) (λ z. take i xs ++ z ∷ []) (Ok tt) w1 y h))
 
@@ -218,11 +213,10 @@ module _ {W X : Type 0} (part : Part W X) (whole : Run (Unit {0} × (W × List X
   -- no entry is left
   pub place_end : (w : W) (xs : List X) (n : ℕ) → So_at w xs n → length xs ≤ n → Meets whole (Ok tt) (w, xs)
   place_end w xs n so h =
-      let p = taken_all xs n h in
       let behind : So (kept_into part) whole (in_turn (kept_into part) w (take n xs) []) =
-      subst (λ l. So (kept_into part) whole (in_turn (kept_into part) w (take n xs) l)) p.1 so in
+      subst (λ l. So (kept_into part) whole (in_turn (kept_into part) w (take n xs) l)) (drop_all n xs h) so in
       so_end (kept_into part) whole w xs []
-      (subst (λ l. So (kept_into part) whole (in_turn (kept_into part) w l [])) p.0 behind) refl
+      (subst (λ l. So (kept_into part) whole (in_turn (kept_into part) w l [])) (take_all n xs h) behind) refl
 
 -- with these `search` follows visits
 pub ruleset visiting = (gives_next, gives_fault)

@@ -18,11 +18,7 @@ module _ {T S : Type 0} (steps : T → StatementSteps S) where
           (Ok (answer, (w1, x1)))
           → size-ReactiveScopeBlock x1 ≤ size-ReactiveScopeBlock x
       by (Ok a) h = goes_inside_no_deeper size-ReactiveScopeBlock (w.0, a.1) w1 x x1 answer h
-      by (Err fault) h = absurd (never fault h)
-        where
-          never : (fault : Fault) → ◌≡◌ {A = Result (Enter × ((T × S) × ReactiveScopeBlock)) Fault} (Err fault)
-              (Ok (answer, (w1, x1))) → ⊥
-          never fault h = cc
+      by (Err fault) h = let bad : ⊥ = cc in absurd bad
 
   pub over_statements_no_deeper : EntersNoDeeper (over_statements steps)
   over_statements_no_deeper = record {

@@ -4,6 +4,7 @@ use Rattle.rc_hir.specs.declared.fault.Fault.{Fault}
 use Rattle.rc_hir.specs.declared.fault.Fault.TheVariants.{NoMemory}
 use Rattle.rc_hir.specs.declared.function.HirFunction.{HirFunction}
 use Rattle.rc_names.specs.declared.numbers.EvaluationOrder.{EvaluationOrder}
+use Rattle.rc_tree.proofs.OutcomeLemmas.{Ok-injective, not_err}
 use Rattle.rc_tree.specs.Outcome.{Gives}
 use Rattle.rc_tree.specs.Run.{Run, Spent, Failed, Done, bind, after, last, settled}
 use Rattle.rc_tree.specs.Rewrite.{block_to, terminal_at, rewrite_statement}
@@ -20,9 +21,6 @@ use Rattle.rc_tree.specs.declared.transform.Transformed.TheVariants.{ReplaceMany
 
 module _ {T S : Type 0} (v : RewriteSteps (T × S)) (functions : T → List HirFunction) where
   module _ (steps : TakesOut v) where
-    abbrev Answer : Type 0
-    Answer = Result (Transformed ReactiveStatement × ((T × S) × ReactiveStatement)) Fault
-
     -- what becomes of a walked block: its label, the statement, the leave step and the answer
     abbrev as_label : EvaluationOrder → Unit {0} × ((T × S) × ReactiveBlock)
         → Run (Unit {0} × ((T × S) × ReactiveTerminal))
@@ -63,25 +61,17 @@ module _ {T S : Type 0} (v : RewriteSteps (T × S)) (functions : T → List HirF
         rw (term.outs-Label block id) refl in
         (end, first ∙ second ∙ third)
 
-    not_ok : (fault : Fault) (a : Transformed ReactiveStatement × ((T × S) × ReactiveStatement))
-        → ◌≡◌ {A = Answer} (Err fault) (Ok a) → ⊥
-    not_ok fault a e = cc
-
-    same_answer : (a b : Transformed ReactiveStatement) (p q : (T × S) × ReactiveStatement)
-        → ◌≡◌ {A = Answer} (Ok (a, p)) (Ok (b, q)) → b ≡ a
-    same_answer a b p q e =
-        let h : ◌≡◌ {A = Transformed ReactiveStatement × ((T × S) × ReactiveStatement)} (a, p) (b, q) = cc in sym
-        (ap (λ x. x.0) h)
-
     replaced : (answer : Transformed ReactiveStatement) (p : (T × S) × ReactiveStatement) (id : EvaluationOrder)
         (r : Run (Unit {0} × ((T × S) × ReactiveBlock)))
         → settled (behind id r) ≡ Ok (answer, p) → (block : ReactiveBlock) × (answer ≡ ReplaceMany block.statements)
     unfolding settled
-    replaced answer p id Spent e = absurd (not_ok NoMemory (answer, p) e)
-    replaced answer p id (Failed fault) e = absurd (not_ok fault (answer, p) e)
+    replaced answer p id Spent e = absurd (not_err (answer, p) NoMemory (sym e))
+    replaced answer p id (Failed fault) e = absurd (not_err (answer, p) fault (sym e))
     replaced answer p id (Done d) e =
         let b = behind_is id d.1.0 d.1.1 in
-        (d.1.1, same_answer (ReplaceMany d.1.1.statements) answer b.0 p (sym (ap settled b.1) ∙ e))
+        let same : (ReplaceMany d.1.1.statements, b.0) ≡ (answer, p) =
+        Ok-injective (ReplaceMany d.1.1.statements, b.0) (answer, p) (sym (ap settled b.1) ∙ e) in
+        (d.1.1, sym (ap (λ q. q.0) same))
 
     pub label_gives_way : (w : T × S) (body : ReactiveBlock) (id : EvaluationOrder)
         (answer : Transformed ReactiveStatement) (p : (T × S) × ReactiveStatement)

@@ -1,11 +1,13 @@
 use Rattle.std.proofs.Common.{◌≡◌, ◌≤◌, ◌+◌, ◌∙◌, ◌++◌, ◌∷◌, [], List, length, slice_set, inr, Ok, Err, refl, sym, ap}
 use Rattle.std.proofs.Common.{subst, arith, rules}
 use denote.Param.Weighed.{most}
+use Rattle.std.proofs.lemmas.List.{length-set, reverse-reverse}
 use Rattle.std.proofs.lemmas.Result.{err_from_is_err_and}
-use Rattle.rc_tree.proofs.PlaceLemmas.{ends_full, last_set, last_is, last_there, taken_off, length_set, past_end}
-use Rattle.rc_tree.proofs.PlaceLemmas.{most_place, any_case}
+use Rattle.rc_tree.proofs.OutcomeLemmas.{any_case}
+use Rattle.rc_tree.proofs.PlaceLemmas.{ends_full, last_set, last_is, last_there, taken_off, past_end}
+use Rattle.rc_tree.proofs.PlaceLemmas.{most_place}
 use Rattle.rc_tree.proofs.RewriteRunLemmas.{meets_inside, meets_inside_fault, so_next_last, so_fault_last, so_end}
-use Rattle.rc_tree.proofs.RewriteRunLemmas.{place_next, place_fault, place_end, most-reverse, turned_twice}
+use Rattle.rc_tree.proofs.RewriteRunLemmas.{place_next, place_fault, place_end, most-reverse}
 use Rattle.rc_tree.proofs.RewriteInPlaceLemmas.{meets_put, meets_put_fault}
 use Rattle.rc_tree.proofs.RewriteStatementLemmas.{meets_block_to, meets_terminal_at, meets_scope_at}
 use Rattle.rc_tree.proofs.RewriteStatementLemmas.{meets_pruned_scope_at, meets_For, both_same, cases_at-in_turn}
@@ -28,7 +30,7 @@ walk_list-statement-init g t c = record {
   so_far = λ n.
       let steps = g.T.ReactiveFunctionTransform.steps in
       let functions = g.T.ReactiveFunctionTransform.functions in
-      rw (c.reverse.ensures, c.take-left.ensures.list, c.take-left.ensures.left, turned_twice c.args.statements.now)
+      rw (c.reverse.ensures, c.take-left.ensures.list, c.take-left.ensures.left, reverse-reverse c.args.statements.now)
       (inr (statements_at-in_turn steps functions (block_to steps functions n)
       (c.args.transform.now, c.args.state.now) c.args.statements.now));
 }
@@ -184,7 +186,7 @@ walk_cases-walk_case-requires g t c κs =
 
 pub walk_cases-loop-i-preserved : goal.walk_cases-loop-i-preserved
 walk_cases-loop-i-preserved g t c = record {
-  as_long = length_set c.loop-i.cases c.loop-i.i c.walk_case.new.case ∙ c.loop-i.invariant.as_long;
+  as_long = length-set c.loop-i.cases c.loop-i.i c.walk_case.new.case ∙ c.loop-i.invariant.as_long;
   no_deeper = omega (
     arith,
     c.loop-i.invariant.no_deeper,

@@ -1,7 +1,8 @@
 use Rattle.std.proofs.Common.{◌∙◌, inr, Ok, Err, ap, arith}
+use Rattle.std.proofs.lemmas.List.{reverse-reverse}
 use Rattle.std.proofs.lemmas.Result.{err_from_is_err_and}
 use Rattle.rc_tree.proofs.PlaceLemmas.{most_pop}
-use Rattle.rc_tree.proofs.RewriteRunLemmas.{meets_inside_fault, so_next, most-reverse, turned_twice}
+use Rattle.rc_tree.proofs.RewriteRunLemmas.{meets_inside_fault, so_next, most-reverse}
 use Rattle.rc_tree.proofs.RewriteValueLemmas.{meets_instruction_at, meets_value_to, rows_at-in_turn}
 use Rattle.rc_tree.specs.Run.{kept_into}
 use Rattle.rc_tree.specs.Rewrite.{instruction_at, instruction_inside, rows_at, value_inside, value_to}
@@ -14,7 +15,7 @@ walk_rows-loop-row-init g t c = record {
   so_far = λ n.
       let steps = g.T.ReactiveFunctionTransform.steps in
       let functions = g.T.ReactiveFunctionTransform.functions in
-      rw (c.reverse.ensures, c.take-left.ensures.list, c.take-left.ensures.left, turned_twice c.args.rows.now)
+      rw (c.reverse.ensures, c.take-left.ensures.list, c.take-left.ensures.left, reverse-reverse c.args.rows.now)
       (inr (rows_at-in_turn steps functions (value_to steps functions n) (c.args.transform.now, c.args.state.now)
       c.args.rows.now));
 }
