@@ -118,44 +118,46 @@ module _ {S R T St : Type 0} (world : R → S → T × St) where
   placed r make (Err fault) (Ok step) h = absurd h
 
   -- what stands in the place of a statement, behind the statements that are done
-  put : (r : R) (so : List ReactiveStatement) (run : Run
+  put : (r : R) (before : List ReactiveStatement) (run : Run
       (Transformed ReactiveStatement × ((T × St) × ReactiveStatement))) (e : Result (S × List ReactiveStatement) Fault)
-      → Places r run e → Agrees r (bind run (λ a. Done (tt, (a.1.0, so ++ in_place a.0 a.1.1))))
-      (outcome.bind e (λ a. Ok (a.0, so ++ a.1)))
+      → Places r run e → Agrees r (bind run (λ a. Done (tt, (a.1.0, before ++ in_place a.0 a.1.1))))
+      (outcome.bind e (λ a. Ok (a.0, before ++ a.1)))
   unfolding Agrees Places
-  put r so Spent e h = tt
-  put r so (Failed fault) e h = ap (λ e. outcome.bind e (λ a. Ok (a.0, so ++ a.1))) h
-  put r so (Done d) e h = (h.0, ap (λ e. outcome.bind e (λ a. Ok (a.0, so ++ a.1))) h.1, h.2)
+  put r before Spent e h = tt
+  put r before (Failed fault) e h = ap (λ e. outcome.bind e (λ a. Ok (a.0, before ++ a.1))) h
+  put r before (Done d) e h = (h.0, ap (λ e. outcome.bind e (λ a. Ok (a.0, before ++ a.1))) h.1, h.2)
 
   -- a list from its front
   abbrev ahead : {X : Type 0} → List X → Result (S × List X) Fault → Result (S × List X) Fault
-  ahead so e = outcome.bind e (λ a. Ok (a.0, so ++ a.1))
+  ahead before e = outcome.bind e (λ a. Ok (a.0, before ++ a.1))
 
   ahead_none : {X : Type 0} (e : Result (S × List X) Fault) → ahead [] e ≡ e
   ahead_none (Ok a) = refl
   ahead_none (Err fault) = refl
 
-  ahead_step : {X : Type 0} (so : List X) (e : Result (S × List X) Fault) (rest : Rebuilds S (List X))
-      → outcome.bind (ahead so e) (λ a. ahead a.1 (rest a.0))
-      ≡ ahead so (outcome.bind e (λ a. outcome.bind (rest a.0) (λ b. Ok (b.0, a.1 ++ b.1))))
-  ahead_step so (Err fault) rest = refl
-  ahead_step {X} so (Ok a) rest = by (rest a.0)
+  ahead_step : {X : Type 0} (before : List X) (e : Result (S × List X) Fault) (rest : Rebuilds S (List X))
+      → outcome.bind (ahead before e) (λ a. ahead a.1 (rest a.0))
+      ≡ ahead before (outcome.bind e (λ a. outcome.bind (rest a.0) (λ b. Ok (b.0, a.1 ++ b.1))))
+  ahead_step before (Err fault) rest = refl
+  ahead_step {X} before (Ok a) rest = by (rest a.0)
     where
-      by : (q : Result (S × List X) Fault) → ahead (so ++ a.1) q ≡ ahead so (outcome.bind q (λ b. Ok (b.0, a.1 ++ b.1)))
+      by : (q : Result (S × List X) Fault) → ahead (before ++ a.1) q
+          ≡ ahead before (outcome.bind q (λ b. Ok (b.0, a.1 ++ b.1)))
       by (Err fault) = refl
-      by (Ok b) = ap (λ l. Ok (b.0, l)) (append_assoc so a.1 b.1)
+      by (Ok b) = ap (λ l. Ok (b.0, l)) (append_assoc before a.1 b.1)
 
   turn_agrees : {X : Type 0} (r : R) (rebuilt : X → Rebuilds S (List X)) (into : Into (T × St) X)
-      → ((s : S) (so : List X) (x : X) → Agrees r (into (world r s) so x) (ahead so (rebuilt x s)))
-      → (s : S) (so xs : List X) → Agrees r (in_turn into (world r s) so xs) (ahead so (joined (map rebuilt xs) s))
-  turn_agrees r rebuilt into one s so [] =
-      subst (λ l. Agrees r (Done (tt, (world r s, so))) (Ok (s, l))) (sym (append-nil so)) (agreed r s so)
-  turn_agrees r rebuilt into one s so (x ∷ xs) =
-      subst (λ e. Agrees r (in_turn into (world r s) so (x ∷ xs)) e)
-      (ahead_step so (rebuilt x s) (joined (map rebuilt xs)))
-      (part r r (into (world r s) so x) (λ a. in_turn into a.1.0 a.1.1 xs) (ahead so (rebuilt x s))
-      (λ a. ahead a.1 (joined (map rebuilt xs) a.0)) (one s so x)
-      (λ s1 so1. turn_agrees r rebuilt into one s1 so1 xs))
+      → ((s : S) (before : List X) (x : X) → Agrees r (into (world r s) before x) (ahead before (rebuilt x s)))
+      → (s : S) (before xs : List X) → Agrees r (in_turn into (world r s) before xs)
+      (ahead before (joined (map rebuilt xs) s))
+  turn_agrees r rebuilt into one s before [] =
+      subst (λ l. Agrees r (Done (tt, (world r s, before))) (Ok (s, l))) (sym (append-nil before)) (agreed r s before)
+  turn_agrees r rebuilt into one s before (x ∷ xs) =
+      subst (λ e. Agrees r (in_turn into (world r s) before (x ∷ xs)) e)
+      (ahead_step before (rebuilt x s) (joined (map rebuilt xs)))
+      (part r r (into (world r s) before x) (λ a. in_turn into a.1.0 a.1.1 xs) (ahead before (rebuilt x s))
+      (λ a. ahead a.1 (joined (map rebuilt xs) a.0)) (one s before x)
+      (λ s1 before1. turn_agrees r rebuilt into one s1 before1 xs))
 
   abbrev single : {X : Type 0} → (X → Rebuilds S X) → X → Rebuilds S (List X)
   single rebuilt x s = outcome.bind (rebuilt x s) (λ a. Ok (a.0, a.1 ∷ []))
@@ -179,14 +181,14 @@ module _ {S R T St : Type 0} (world : R → S → T × St) where
       subst (λ e. Agrees r (in_turn (kept_into walk) (world r s) [] xs) e)
       (ahead_none (joined (map (single rebuilt) xs) s) ∙ singles rebuilt xs s)
       (turn_agrees r (single rebuilt) (kept_into walk)
-      (λ s so x. subst (λ e. Agrees r (kept_into walk (world r s) so x) e) (by so (rebuilt x s))
-      (made r (walk (world r s) x) (rebuilt x s) (λ y. so ++ y ∷ []) (known s x)))
+      (λ s before x. subst (λ e. Agrees r (kept_into walk (world r s) before x) e) (by before (rebuilt x s))
+      (made r (walk (world r s) x) (rebuilt x s) (λ y. before ++ y ∷ []) (known s x)))
       s [] xs)
     where
-      by : (so : List X) (e : Result (S × X) Fault) → outcome.bind e (λ a. Ok (a.0, so ++ a.1 ∷ []))
-          ≡ ahead so (outcome.bind e (λ a. Ok (a.0, a.1 ∷ [])))
-      by so (Err fault) = refl
-      by so (Ok a) = refl
+      by : (before : List X) (e : Result (S × X) Fault) → outcome.bind e (λ a. Ok (a.0, before ++ a.1 ∷ []))
+          ≡ ahead before (outcome.bind e (λ a. Ok (a.0, a.1 ∷ [])))
+      by before (Err fault) = refl
+      by before (Ok a) = refl
 
   -- a bound that was enough
   abbrev pub told : {X : Type 0} → R → Result (S × X) Fault → Result (Unit {0} × ((T × St) × X)) Fault
@@ -481,10 +483,11 @@ module _ {S R T St : Type 0} (rules : Rules S) (v : RewriteSteps (T × St)) (fun
         subst (λ y. Places world r (statement_at plain functions walk (world r s) x) (rebuilt_statement rules y s))
         (roll-out-ReactiveStatement x) (layer_placed r s (out-ReactiveStatement x))
 
-    into_agrees : (r : R) (s : S) (so : List ReactiveStatement) (x : ReactiveStatement)
-        → Agrees world r (into_at plain functions walk (world r s) so x) (ahead world so (rebuilt_statement rules x s))
+    into_agrees : (r : R) (s : S) (before : List ReactiveStatement) (x : ReactiveStatement)
+        → Agrees world r (into_at plain functions walk (world r s) before x)
+        (ahead world before (rebuilt_statement rules x s))
     unfolding into_at
-    into_agrees r s so x = put world r so (statement_at plain functions walk (world r s) x)
+    into_agrees r s before x = put world r before (statement_at plain functions walk (world r s) x)
         (rebuilt_statement rules x s) (statement_placed r s x)
 
     inside_agrees : (r : R) (s : S) (x : ReactiveBlock) → Agrees world r

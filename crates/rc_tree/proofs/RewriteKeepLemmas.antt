@@ -1,6 +1,6 @@
 -- A rewriting walk whose steps keep a measure keeps it for the whole tree.
-use Rattle.std.proofs.Common.{◌≡◌, ◌∙◌, ℕ, zero, suc, List, [], ◌∷◌, ◌++◌, append-nil, append_assoc, Option, None, Some, map}
-use Rattle.std.proofs.Common.{Result, Ok, Err, OnOk, refl, sym, ap, subst}
+use Rattle.std.proofs.Common.{◌≡◌, ◌∙◌, ℕ, zero, suc, List, [], ◌∷◌, ◌++◌, append_assoc, Option, None, Some, map}
+use Rattle.std.proofs.Common.{Result, Ok, Err, OnOk, append-nil, refl, sym, ap, subst}
 use Rattle.std.proofs.lemmas.List.{map-append}
 use Rattle.rc_hir.specs.declared.fault.Fault.{Fault}
 use Rattle.rc_hir.specs.declared.fault.Fault.TheVariants.{NoMemory}
@@ -105,23 +105,24 @@ module _ {W X Y : Type 0} (measure : X → Y) where
       by Skip w1 x1 e = always_done (tt, (w1, x1)) (λ d. measure d.1.1 ≡ measure x) e
 
   turn_kept : (part : Part W X) → ((w : W) (x : X) → Always (part w x) (λ d. measure d.1.1 ≡ measure x))
-      → (w : W) (so xs : List X) → Always (in_turn (kept_into part) w so xs)
-      (λ d. map measure d.1.1 ≡ map measure (so ++ xs))
-  turn_kept part h w so [] = always_done (tt, (w, so)) (λ d. map measure d.1.1 ≡ map measure (so ++ []))
-      (ap (map measure) (sym (append-nil so)))
-  turn_kept part h w so (x ∷ xs) = always_bind (kept_into part w so x) (λ r. in_turn (kept_into part) r.1.0 r.1.1 xs)
-      (λ d. map measure d.1.1 ≡ map measure (so ++ x ∷ []))
-      (λ d. map measure d.1.1 ≡ map measure (so ++ x ∷ xs))
-      (always_bind (part w x) (λ r. Done (tt, (r.1.0, so ++ r.1.1 ∷ []))) (λ d. measure d.1.1 ≡ measure x)
-      (λ d. map measure d.1.1 ≡ map measure (so ++ x ∷ [])) (h w x)
-      (λ r k. always_done (tt, (r.1.0, so ++ r.1.1 ∷ [])) (λ d. map measure d.1.1 ≡ map measure (so ++ x ∷ []))
-      (map-append measure so (r.1.1 ∷ []) ∙ ap (λ y. map measure so ++ y ∷ []) k
-      ∙ sym (map-append measure so (x ∷ [])))))
+      → (w : W) (before xs : List X) → Always (in_turn (kept_into part) w before xs)
+      (λ d. map measure d.1.1 ≡ map measure (before ++ xs))
+  turn_kept part h w before [] = always_done (tt, (w, before)) (λ d. map measure d.1.1 ≡ map measure (before ++ []))
+      (ap (map measure) (sym (append-nil before)))
+  turn_kept part h w before (x ∷ xs) =
+      always_bind (kept_into part w before x) (λ r. in_turn (kept_into part) r.1.0 r.1.1 xs)
+      (λ d. map measure d.1.1 ≡ map measure (before ++ x ∷ []))
+      (λ d. map measure d.1.1 ≡ map measure (before ++ x ∷ xs))
+      (always_bind (part w x) (λ r. Done (tt, (r.1.0, before ++ r.1.1 ∷ []))) (λ d. measure d.1.1 ≡ measure x)
+      (λ d. map measure d.1.1 ≡ map measure (before ++ x ∷ [])) (h w x)
+      (λ r k. always_done (tt, (r.1.0, before ++ r.1.1 ∷ [])) (λ d. map measure d.1.1 ≡ map measure (before ++ x ∷ []))
+      (map-append measure before (r.1.1 ∷ []) ∙ ap (λ y. map measure before ++ y ∷ []) k
+      ∙ sym (map-append measure before (x ∷ [])))))
       (λ r k. always_weaker (in_turn (kept_into part) r.1.0 r.1.1 xs)
-      (λ d. map measure d.1.1 ≡ map measure (r.1.1 ++ xs)) (λ d. map measure d.1.1 ≡ map measure (so ++ x ∷ xs))
+      (λ d. map measure d.1.1 ≡ map measure (r.1.1 ++ xs)) (λ d. map measure d.1.1 ≡ map measure (before ++ x ∷ xs))
       (turn_kept part h r.1.0 r.1.1 xs)
       (λ d e. e ∙ map-append measure r.1.1 xs ∙ ap (λ l. l ++ map measure xs) k
-      ∙ sym (map-append measure (so ++ x ∷ []) xs) ∙ ap (map measure) (append_assoc so (x ∷ []) xs)))
+      ∙ sym (map-append measure (before ++ x ∷ []) xs) ∙ ap (map measure) (append_assoc before (x ∷ []) xs)))
 
 module _ {V I L C P T S : Type 0} (m : Measure V I L C P) (laws : Compositional m) (v : RewriteSteps (T × S))
     (functions : T → List HirFunction) (keeps : KeepsMeasure m v) where
@@ -562,30 +563,32 @@ module _ {V I L C P T S : Type 0} (m : Measure V I L C P) (laws : Compositional 
         always_done (b.0, (b.1.0, stmt.PrunedScope b.1.1)) kept
         (keeps.transform_pruned_scope a.1.0 b.1.0 a.1.1 b.1.1 b.0 eb ∙ ka))))
 
-    into_kept : (w : T × S) (so : List ReactiveStatement) (x : ReactiveStatement)
-        → Always (into_at v functions inner w so x) (λ d. m.statements d.1.1 ≡ m.statements (so ++ x ∷ []))
+    into_kept : (w : T × S) (before : List ReactiveStatement) (x : ReactiveStatement)
+        → Always (into_at v functions inner w before x) (λ d. m.statements d.1.1 ≡ m.statements (before ++ x ∷ []))
     unfolding into_at
-    into_kept w so x = always_bind (statement_at v functions inner w x)
-        (λ a. Done (tt, (a.1.0, so ++ in_place a.0 a.1.1))) (λ d. m.statements (in_place d.0 d.1.1) ≡ one m x)
-        (λ d. m.statements d.1.1 ≡ m.statements (so ++ x ∷ []))
+    into_kept w before x = always_bind (statement_at v functions inner w x)
+        (λ a. Done (tt, (a.1.0, before ++ in_place a.0 a.1.1))) (λ d. m.statements (in_place d.0 d.1.1) ≡ one m x)
+        (λ d. m.statements d.1.1 ≡ m.statements (before ++ x ∷ []))
         (subst (λ y. Always (statement_at v functions inner w x) (λ d. m.statements (in_place d.0 d.1.1) ≡ one m y))
         (roll-out-ReactiveStatement x) (statement_kept w (out-ReactiveStatement x)))
-        (λ a k. always_done (tt, (a.1.0, so ++ in_place a.0 a.1.1))
-        (λ d. m.statements d.1.1 ≡ m.statements (so ++ x ∷ []))
-        (laws.append so so (x ∷ []) (in_place a.0 a.1.1) refl k))
+        (λ a k. always_done (tt, (a.1.0, before ++ in_place a.0 a.1.1))
+        (λ d. m.statements d.1.1 ≡ m.statements (before ++ x ∷ []))
+        (laws.append before before (x ∷ []) (in_place a.0 a.1.1) refl k))
 
-    list_kept : (w : T × S) (so xs : List ReactiveStatement)
-        → Always (in_turn (into_at v functions inner) w so xs) (λ d. m.statements d.1.1 ≡ m.statements (so ++ xs))
-    list_kept w so [] = always_done (tt, (w, so)) (λ d. m.statements d.1.1 ≡ m.statements (so ++ []))
-        (ap m.statements (sym (append-nil so)))
-    list_kept w so (x ∷ xs) = always_bind (into_at v functions inner w so x)
+    list_kept : (w : T × S) (before xs : List ReactiveStatement)
+        → Always (in_turn (into_at v functions inner) w before xs)
+        (λ d. m.statements d.1.1 ≡ m.statements (before ++ xs))
+    list_kept w before [] = always_done (tt, (w, before)) (λ d. m.statements d.1.1 ≡ m.statements (before ++ []))
+        (ap m.statements (sym (append-nil before)))
+    list_kept w before (x ∷ xs) = always_bind (into_at v functions inner w before x)
         (λ r. in_turn (into_at v functions inner) r.1.0 r.1.1 xs)
-        (λ d. m.statements d.1.1 ≡ m.statements (so ++ x ∷ []))
-        (λ d. m.statements d.1.1 ≡ m.statements (so ++ x ∷ xs)) (into_kept w so x)
+        (λ d. m.statements d.1.1 ≡ m.statements (before ++ x ∷ []))
+        (λ d. m.statements d.1.1 ≡ m.statements (before ++ x ∷ xs)) (into_kept w before x)
         (λ r k. always_weaker (in_turn (into_at v functions inner) r.1.0 r.1.1 xs)
         (λ d. m.statements d.1.1 ≡ m.statements (r.1.1 ++ xs))
-        (λ d. m.statements d.1.1 ≡ m.statements (so ++ x ∷ xs)) (list_kept r.1.0 r.1.1 xs)
-        (λ d e. e ∙ laws.append (so ++ x ∷ []) r.1.1 xs xs k refl ∙ ap m.statements (append_assoc so (x ∷ []) xs)))
+        (λ d. m.statements d.1.1 ≡ m.statements (before ++ x ∷ xs)) (list_kept r.1.0 r.1.1 xs)
+        (λ d e. e ∙ laws.append (before ++ x ∷ []) r.1.1 xs xs k refl
+        ∙ ap m.statements (append_assoc before (x ∷ []) xs)))
 
     statements_kept : (w : T × S) (xs : List ReactiveStatement)
         → Always (statements_at v functions inner w xs) (λ d. m.statements d.1.1 ≡ m.statements xs)

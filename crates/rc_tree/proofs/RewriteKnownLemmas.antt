@@ -46,17 +46,18 @@ done a = tt
 module _ {W X : Type 0} where
   -- a list in turn, whose entries are all within the bound
   pub known_turn : (size : X → ℕ) (k : ℕ) (into : Into W X)
-      → ((w : W) (so : List X) (x : X) → size x ≤ k → Known (into w so x))
-      → (w : W) (so xs : List X) → most size xs ≤ k → Known (in_turn into w so xs)
-  known_turn size k into h w so [] e = done _
-  known_turn size k into h w so (x ∷ xs) e =
-      known_bind (into w so x) (λ r. in_turn into r.1.0 r.1.1 xs) (h w so x (omega (arith, e)))
+      → ((w : W) (before : List X) (x : X) → size x ≤ k → Known (into w before x))
+      → (w : W) (before xs : List X) → most size xs ≤ k → Known (in_turn into w before xs)
+  known_turn size k into h w before [] e = done _
+  known_turn size k into h w before (x ∷ xs) e =
+      known_bind (into w before x) (λ r. in_turn into r.1.0 r.1.1 xs) (h w before x (omega (arith, e)))
       (λ r q. known_turn size k into h r.1.0 r.1.1 xs (omega (arith, e)))
 
   pub known_each : (size : X → ℕ) (k : ℕ) (part : Part W X) → ((w : W) (x : X) → size x ≤ k → Known (part w x))
       → (xs : List X) → most size xs ≤ k → (w : W) → Known (each_part part w xs)
   known_each size k part h xs e w = known_turn size k (kept_into part)
-      (λ w0 so y q. known_bind (part w0 y) (λ r. Done (tt, (r.1.0, so ++ r.1.1 ∷ []))) (h w0 y q) (λ r p. done _)) w []
+      (λ w0 before y q. known_bind (part w0 y) (λ r. Done (tt, (r.1.0, before ++ r.1.1 ∷ []))) (h w0 y q)
+      (λ r p. done _)) w []
       xs e
 
   pub known_around : (enter : Hook W X Enter) (inside : Part W X) (leave : Hook W X (Unit {0})) (w : W) (x : X)

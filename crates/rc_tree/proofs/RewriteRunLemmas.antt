@@ -109,51 +109,54 @@ gives_settled (Done d) (Err fault) t k (inr e) = absurd (not_err d.0 fault (sym 
 
 -- the loop over a list: so far the whole is spent, or what is left of it
 module _ {W X : Type 0} (into : Into W X) (whole : Run (Unit {0} × (W × List X))) where
-  abbrev pub So : Run (Unit {0} × (W × List X)) → Type 0
-  So left = (whole ≡ Spent) ⊎ (whole ≡ left)
+  abbrev pub SoFar : Run (Unit {0} × (W × List X)) → Type 0
+  SoFar left = (whole ≡ Spent) ⊎ (whole ≡ left)
 
-  so_step : (w : W) (done : List X) (x : X) (xs : List X) (w1 : W) (done1 : List X)
-      → So (in_turn into w done (x ∷ xs)) → Meets (into w done x) (Ok tt) (w1, done1) → So (in_turn into w1 done1 xs)
-  so_step w done x xs w1 done1 (inl e) h = inl e
-  so_step w done x xs w1 done1 (inr e) h = by (into w done x) e h
+  so_far_step : (w : W) (done : List X) (x : X) (xs : List X) (w1 : W) (done1 : List X)
+      → SoFar (in_turn into w done (x ∷ xs)) → Meets (into w done x) (Ok tt) (w1, done1)
+      → SoFar (in_turn into w1 done1 xs)
+  so_far_step w done x xs w1 done1 (inl e) h = inl e
+  so_far_step w done x xs w1 done1 (inr e) h = by (into w done x) e h
     where
       by : (first : Run (Unit {0} × (W × List X))) → whole ≡ bind first (λ r. in_turn into r.1.0 r.1.1 xs)
-          → Meets first (Ok tt) (w1, done1) → So (in_turn into w1 done1 xs)
+          → Meets first (Ok tt) (w1, done1) → SoFar (in_turn into w1 done1 xs)
       by Spent e h = inl e
       by (Failed fault) e (inl k) = absurd (not_err tt NoMemory k)
       by (Failed fault) e (inr k) = absurd (not_err tt fault k)
       by (Done d) e (inl k) = absurd (not_err tt NoMemory k)
       by (Done d) e (inr k) = inr (e ∙ ap (λ r. in_turn into r.0 r.1 xs) (sym k.1))
 
-  so_stop : (w : W) (done : List X) (x : X) (xs : List X) (fault : Fault) (s t : W × List X)
-      → So (in_turn into w done (x ∷ xs)) → Meets (into w done x) (Err fault) s → Meets whole (Err fault) t
-  so_stop w done x xs fault s t (inl e) h = subst (λ f. Meets f (Err fault) t) (sym e) tt
-  so_stop w done x xs fault s t (inr e) h = subst (λ f. Meets f (Err fault) t) (sym e)
+  so_far_stop : (w : W) (done : List X) (x : X) (xs : List X) (fault : Fault) (s t : W × List X)
+      → SoFar (in_turn into w done (x ∷ xs)) → Meets (into w done x) (Err fault) s → Meets whole (Err fault) t
+  so_far_stop w done x xs fault s t (inl e) h = subst (λ f. Meets f (Err fault) t) (sym e) tt
+  so_far_stop w done x xs fault s t (inr e) h = subst (λ f. Meets f (Err fault) t) (sym e)
       (meets_fault (into w done x) (λ r. in_turn into r.1.0 r.1.1 xs) fault s t h)
 
   turned : (left rest : List X) (x : X) → left ≡ rest ++ x ∷ [] → reverse left ≡ x ∷ reverse rest
   turned left rest x e = ap reverse e ∙ reverse-append rest (x ∷ [])
 
   -- an entry was walked
-  pub so_next : (w : W) (done left rest : List X) (x : X) (w1 : W) (done1 : List X)
-      → So (in_turn into w done (reverse left)) → left ≡ rest ++ x ∷ [] → Meets (into w done x) (Ok tt) (w1, done1)
-      → So (in_turn into w1 done1 (reverse rest))
-  so_next w done left rest x w1 done1 so e h =
-      so_step w done x (reverse rest) w1 done1 (subst (λ l. So (in_turn into w done l)) (turned left rest x e) so) h
+  pub so_far_next : (w : W) (done left rest : List X) (x : X) (w1 : W) (done1 : List X)
+      → SoFar (in_turn into w done (reverse left)) → left ≡ rest ++ x ∷ [] → Meets (into w done x) (Ok tt) (w1, done1)
+      → SoFar (in_turn into w1 done1 (reverse rest))
+  so_far_next w done left rest x w1 done1 so_far e h =
+      so_far_step w done x (reverse rest) w1 done1 (subst (λ l. SoFar (in_turn into w done l)) (turned left rest x e)
+      so_far) h
 
   -- an entry's walk failed
-  pub so_fault : (w : W) (done left rest : List X) (x : X) (fault : Fault) (s t : W × List X)
-      → So (in_turn into w done (reverse left)) → left ≡ rest ++ x ∷ [] → Meets (into w done x) (Err fault) s
+  pub so_far_fault : (w : W) (done left rest : List X) (x : X) (fault : Fault) (s t : W × List X)
+      → SoFar (in_turn into w done (reverse left)) → left ≡ rest ++ x ∷ [] → Meets (into w done x) (Err fault) s
       → Meets whole (Err fault) t
-  so_fault w done left rest x fault s t so e h =
-      so_stop w done x (reverse rest) fault s t (subst (λ l. So (in_turn into w done l)) (turned left rest x e) so) h
+  so_far_fault w done left rest x fault s t so_far e h =
+      so_far_stop w done x (reverse rest) fault s t (subst (λ l. SoFar (in_turn into w done l)) (turned left rest x e)
+      so_far) h
 
   -- no entry is left
-  pub so_end : (w : W) (done left : List X) → So (in_turn into w done (reverse left)) → left ≡ []
+  pub so_far_end : (w : W) (done left : List X) → SoFar (in_turn into w done (reverse left)) → left ≡ []
       → Meets whole (Ok tt) (w, done)
-  so_end w done left so e = by (subst (λ l. So (in_turn into w done (reverse l))) e so)
+  so_far_end w done left so_far e = by (subst (λ l. SoFar (in_turn into w done (reverse l))) e so_far)
     where
-      by : So (Done (tt, (w, done))) → Meets whole (Ok tt) (w, done)
+      by : SoFar (Done (tt, (w, done))) → Meets whole (Ok tt) (w, done)
       by (inl e) = subst (λ f. Meets f (Ok tt) (w, done)) (sym e) tt
       by (inr e) = subst (λ f. Meets f (Ok tt) (w, done)) (sym e) (inr (refl, refl))
 
@@ -166,57 +169,60 @@ most-reverse μ (x ∷ xs) =
 
 -- the loop over a list whose last entry is walked first, and taken off then
 module _ {W X : Type 0} (into : Into W X) (whole : Run (Unit {0} × (W × List X))) (w : W) (done left : List X)
-    (so : So into whole (in_turn into w done (reverse left))) (full : left ≡ [] → ⊥) where
+    (so_far : SoFar into whole (in_turn into w done (reverse left))) (full : left ≡ [] → ⊥) where
   -- the last entry was walked
-  pub so_next_last : (w1 : W) (done1 left1 : List X) → ((rest : List X) (x : X) → left ≡ rest ++ x ∷ [] → left1 ≡ rest)
+  pub so_far_next_last : (w1 : W) (done1 left1 : List X)
+      → ((rest : List X) (x : X) → left ≡ rest ++ x ∷ [] → left1 ≡ rest)
       → ((rest : List X) (x : X) → left ≡ rest ++ x ∷ [] → Meets (into w done x) (Ok tt) (w1, done1))
-      → So into whole (in_turn into w1 done1 (reverse left1))
-  so_next_last w1 done1 left1 off walked =
+      → SoFar into whole (in_turn into w1 done1 (reverse left1))
+  so_far_next_last w1 done1 left1 off walked =
       let p = ends_with left full in
-      subst (λ l. So into whole (in_turn into w1 done1 (reverse l))) (sym (off p.0 p.1 p.2))
-      (so_next into whole w done left p.0 p.1 w1 done1 so p.2 (walked p.0 p.1 p.2))
+      subst (λ l. SoFar into whole (in_turn into w1 done1 (reverse l))) (sym (off p.0 p.1 p.2))
+      (so_far_next into whole w done left p.0 p.1 w1 done1 so_far p.2 (walked p.0 p.1 p.2))
 
   -- its walk failed
-  pub so_fault_last : (fault : Fault) (s t : W × List X)
+  pub so_far_fault_last : (fault : Fault) (s t : W × List X)
       → ((rest : List X) (x : X) → left ≡ rest ++ x ∷ [] → Meets (into w done x) (Err fault) s)
       → Meets whole (Err fault) t
-  so_fault_last fault s t walked =
+  so_far_fault_last fault s t walked =
       let p = ends_with left full in
-      so_fault into whole w done left p.0 p.1 fault s t so p.2 (walked p.0 p.1 p.2)
+      so_far_fault into whole w done left p.0 p.1 fault s t so_far p.2 (walked p.0 p.1 p.2)
 
 -- the loop over a list whose entries are walked in their places
 module _ {W X : Type 0} (part : Part W X) (whole : Run (Unit {0} × (W × List X))) where
-  abbrev So_at : W → List X → ℕ → Type 0
-  So_at w xs i = So (kept_into part) whole (in_turn (kept_into part) w (take i xs) (drop i xs))
+  abbrev SoFarAt : W → List X → ℕ → Type 0
+  SoFarAt w xs i = SoFar (kept_into part) whole (in_turn (kept_into part) w (take i xs) (drop i xs))
 
   -- what is left at a place is the entry there, and what is left behind it
-  opened : (w : W) (xs : List X) (i : ℕ) (x : X) → So_at w xs i → slice_get xs i ≡ Some x
-      → So (kept_into part) whole (in_turn (kept_into part) w (take i xs) (x ∷ drop (suc i) xs))
-  opened w xs i x so e =
-      subst (λ l. So (kept_into part) whole (in_turn (kept_into part) w (take i xs) l)) (at_place xs i x e) so
+  opened : (w : W) (xs : List X) (i : ℕ) (x : X) → SoFarAt w xs i → slice_get xs i ≡ Some x
+      → SoFar (kept_into part) whole (in_turn (kept_into part) w (take i xs) (x ∷ drop (suc i) xs))
+  opened w xs i x so_far e =
+      subst (λ l. SoFar (kept_into part) whole (in_turn (kept_into part) w (take i xs) l)) (at_place xs i x e) so_far
 
   -- an entry was walked
-  pub place_next : (w : W) (xs : List X) (i : ℕ) (x : X) (w1 : W) (y : X) → So_at w xs i → slice_get xs i ≡ Some x
-      → Meets (part w x) (Ok tt) (w1, y) → So_at w1 (slice_set xs i y) (i + 1)
-  place_next w xs i x w1 y so e h =
+  pub place_next : (w : W) (xs : List X) (i : ℕ) (x : X) (w1 : W) (y : X) → SoFarAt w xs i → slice_get xs i ≡ Some x
+      → Meets (part w x) (Ok tt) (w1, y) → SoFarAt w1 (slice_set xs i y) (i + 1)
+  place_next w xs i x w1 y so_far e h =
       rw (add-one, take-suc-set xs i y (slice_get_within xs i x e), drop-set-lt (suc i) xs i y (omega arith))
-      (so_step (kept_into part) whole w (take i xs) x (drop (suc i) xs) w1 (take i xs ++ y ∷ []) (opened w xs i x so e)
+      (so_far_step (kept_into part) whole w (take i xs) x (drop (suc i) xs) w1 (take i xs ++ y ∷ [])
+      (opened w xs i x so_far e)
       (meets_made (part w x) (λ z. take i xs ++ z ∷ []) (Ok tt) w1 y h))
 
   -- an entry's walk failed
-  pub place_fault : (w : W) (xs : List X) (i : ℕ) (x : X) (fault : Fault) (s : W × X) (t : W × List X) → So_at w xs i
+  pub place_fault : (w : W) (xs : List X) (i : ℕ) (x : X) (fault : Fault) (s : W × X) (t : W × List X) → SoFarAt w xs i
       → slice_get xs i ≡ Some x → Meets (part w x) (Err fault) s → Meets whole (Err fault) t
-  place_fault w xs i x fault s t so e h =
-      so_stop (kept_into part) whole w (take i xs) x (drop (suc i) xs) fault (s.0, take i xs) t (opened w xs i x so e)
+  place_fault w xs i x fault s t so_far e h =
+      so_far_stop (kept_into part) whole w (take i xs) x (drop (suc i) xs) fault (s.0, take i xs) t
+      (opened w xs i x so_far e)
       (meets_fault (part w x) (λ r. Done (tt, (r.1.0, take i xs ++ r.1.1 ∷ []))) fault s (s.0, take i xs) h)
 
   -- no entry is left
-  pub place_end : (w : W) (xs : List X) (n : ℕ) → So_at w xs n → length xs ≤ n → Meets whole (Ok tt) (w, xs)
-  place_end w xs n so h =
-      let behind : So (kept_into part) whole (in_turn (kept_into part) w (take n xs) []) =
-      subst (λ l. So (kept_into part) whole (in_turn (kept_into part) w (take n xs) l)) (drop_all n xs h) so in
-      so_end (kept_into part) whole w xs []
-      (subst (λ l. So (kept_into part) whole (in_turn (kept_into part) w l [])) (take_all n xs h) behind) refl
+  pub place_end : (w : W) (xs : List X) (n : ℕ) → SoFarAt w xs n → length xs ≤ n → Meets whole (Ok tt) (w, xs)
+  place_end w xs n so_far h =
+      let behind : SoFar (kept_into part) whole (in_turn (kept_into part) w (take n xs) []) =
+      subst (λ l. SoFar (kept_into part) whole (in_turn (kept_into part) w (take n xs) l)) (drop_all n xs h) so_far in
+      so_far_end (kept_into part) whole w xs []
+      (subst (λ l. SoFar (kept_into part) whole (in_turn (kept_into part) w l [])) (take_all n xs h) behind) refl
 
 -- with these `search` follows visits
 pub ruleset visiting = (gives_next, gives_fault)
@@ -225,4 +231,4 @@ pub ruleset visiting = (gives_next, gives_fault)
 pub ruleset rewriting =
     (meets_next, meets_fault, meets_after, meets_after_fault, meets_last, meets_inside, meets_inside_fault)
 
-pub ruleset rewriting_lists = (so_fault, so_end)
+pub ruleset rewriting_lists = (so_far_fault, so_far_end)

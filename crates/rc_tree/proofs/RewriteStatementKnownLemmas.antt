@@ -159,12 +159,12 @@ module _ {T S : Type 0} (v : RewriteSteps (T × S)) (functions : T → List HirF
           → Known (statement_at v functions inner w x)
       known_statement w x h = known_layer w (out-ReactiveStatement x) (omega (arith, h, size_is-ReactiveStatement x))
 
-      known_into : (w : T × S) (so : List ReactiveStatement) (x : ReactiveStatement) → size-ReactiveStatement x ≤ n
-          → Known (into_at v functions inner w so x)
+      known_into : (w : T × S) (before : List ReactiveStatement) (x : ReactiveStatement) → size-ReactiveStatement x ≤ n
+          → Known (into_at v functions inner w before x)
       unfolding into_at
-      known_into w so x h =
-          known_bind (statement_at v functions inner w x) (λ a. Done (tt, (a.1.0, so ++ in_place a.0 a.1.1)))
-          (known_statement w x (omega (arith, h))) (λ a e. done (tt, (a.1.0, so ++ in_place a.0 a.1.1)))
+      known_into w before x h =
+          known_bind (statement_at v functions inner w x) (λ a. Done (tt, (a.1.0, before ++ in_place a.0 a.1.1)))
+          (known_statement w x (omega (arith, h))) (λ a e. done (tt, (a.1.0, before ++ in_place a.0 a.1.1)))
 
       known_statements : (xs : List ReactiveStatement) → most size-ReactiveStatement xs ≤ n → (w : T × S)
           → Known (statements_at v functions inner w xs)

@@ -151,7 +151,6 @@ terminal-Try body binding handler id = ap names_in_terminal (sym (term.rolls-Try
     ∙ fold-roll-ReactiveTerminal Names Names Names Names Names Names Names of_statement of_terminal of_pruned_scope
     of_scope of_block of_case of_labeled (layer.Try body binding handler id)
 
--- statements
 -- the numbers of statements
 abbrev pub of_list : List ReactiveStatement → Names
 of_list xs = one_by_one (map names_in_statement xs)

@@ -6,7 +6,7 @@ use Rattle.std.proofs.lemmas.Result.{err_from_is_err_and}
 use Rattle.rc_tree.proofs.OutcomeLemmas.{any_case}
 use Rattle.rc_tree.proofs.PlaceLemmas.{ends_full, last_set, last_is, last_there, taken_off, past_end}
 use Rattle.rc_tree.proofs.PlaceLemmas.{most_place}
-use Rattle.rc_tree.proofs.RewriteRunLemmas.{meets_inside, meets_inside_fault, so_next_last, so_fault_last, so_end}
+use Rattle.rc_tree.proofs.RewriteRunLemmas.{meets_inside, meets_inside_fault, so_far_next_last, so_far_fault_last, so_far_end}
 use Rattle.rc_tree.proofs.RewriteRunLemmas.{place_next, place_fault, place_end, most-reverse}
 use Rattle.rc_tree.proofs.RewriteInPlaceLemmas.{meets_put, meets_put_fault}
 use Rattle.rc_tree.proofs.RewriteStatementLemmas.{meets_block_to, meets_terminal_at, meets_scope_at}
@@ -54,7 +54,7 @@ walk_list-statement-preserved g t c =
       so_far = λ n.
           let steps = g.T.ReactiveFunctionTransform.steps in
           let functions = g.T.ReactiveFunctionTransform.functions in
-          so_next_last (into_at steps functions (block_to steps functions n))
+          so_far_next_last (into_at steps functions (block_to steps functions n))
           (statements_at steps functions (block_to steps functions n)
           (c.args.transform.now, c.args.state.now) c.args.statements.now)
           (c.statement.transform, c.statement.state) c.statement.statements c.statement.left
@@ -71,7 +71,7 @@ walk_list-returns g t c =
     λ n.
     let steps = g.T.ReactiveFunctionTransform.steps in
     let functions = g.T.ReactiveFunctionTransform.functions in
-    so_end (into_at steps functions (block_to steps functions n))
+    so_far_end (into_at steps functions (block_to steps functions n))
     (statements_at steps functions (block_to steps functions n)
     (c.args.transform.now, c.args.state.now) c.args.statements.now)
     (c.statement.transform, c.statement.state) c.statement.statements c.statement.left
@@ -85,7 +85,7 @@ walk_list-returns-in_err-walk_last_into g t c =
     let steps = g.T.ReactiveFunctionTransform.steps in
     let functions = g.T.ReactiveFunctionTransform.functions in
     let p = err_from_is_err_and c.from_residual.result c.from_residual.ensures.1 in
-    rw (p.1, p.2) (so_fault_last (into_at steps functions (block_to steps functions n))
+    rw (p.1, p.2) (so_far_fault_last (into_at steps functions (block_to steps functions n))
     (statements_at steps functions (block_to steps functions n)
     (c.args.transform.now, c.args.state.now) c.args.statements.now)
     (c.statement.transform, c.statement.state) c.statement.statements c.statement.left

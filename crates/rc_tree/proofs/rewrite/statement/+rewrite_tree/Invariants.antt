@@ -1,7 +1,7 @@
 -- What is left is no deeper than all, and so far the walk of all is that of what is left.
 use Rattle.std.proofs.Common.{◌≡◌, ◌≤◌, ℕ, reverse, length, take, drop}
 use denote.Param.Weighed.{most}
-use Rattle.rc_tree.proofs.RewriteRunLemmas.{So}
+use Rattle.rc_tree.proofs.RewriteRunLemmas.{SoFar}
 use Rattle.rc_tree.specs.Run.{in_turn, kept_into}
 use Rattle.rc_tree.specs.Rewrite.{block_to, case_at, cases_at, into_at, statements_at}
 use Rattle.rc_tree.proofs.statement.ReactiveStatement.TheLaws as statement
@@ -14,7 +14,7 @@ invariant-walk_list-statement g l =
     let functions = g.T.ReactiveFunctionTransform.functions in
     record {
       no_deeper : most statement.the_size l.left ≤ most statement.the_size l.fn.statements;
-      so_far : (n : ℕ) → So (into_at steps functions (block_to steps functions n))
+      so_far : (n : ℕ) → SoFar (into_at steps functions (block_to steps functions n))
           (statements_at steps functions (block_to steps functions n) (l.initial.transform, l.initial.state)
           l.fn.statements)
           (in_turn (into_at steps functions (block_to steps functions n)) (l.transform, l.state) l.statements
@@ -31,7 +31,7 @@ invariant-walk_cases-loop-i g l =
     record {
       as_long : length l.cases ≡ length l.fn.cases;
       no_deeper : most switch_case.the_size (drop l.i l.cases) ≤ most switch_case.the_size l.fn.cases;
-      so_far : (n : ℕ) → So (kept_into (case_at steps functions (block_to steps functions n) l.fn.id))
+      so_far : (n : ℕ) → SoFar (kept_into (case_at steps functions (block_to steps functions n) l.fn.id))
           (cases_at steps functions (block_to steps functions n) l.fn.id (l.initial.transform, l.initial.state)
           l.fn.cases)
           (in_turn (kept_into (case_at steps functions (block_to steps functions n) l.fn.id)) (l.transform, l.state)

@@ -2,7 +2,7 @@ use Rattle.std.proofs.Common.{◌∙◌, inr, Ok, Err, ap, arith}
 use Rattle.std.proofs.lemmas.List.{reverse-reverse}
 use Rattle.std.proofs.lemmas.Result.{err_from_is_err_and}
 use Rattle.rc_tree.proofs.PlaceLemmas.{most_pop}
-use Rattle.rc_tree.proofs.RewriteRunLemmas.{meets_inside_fault, so_next, most-reverse}
+use Rattle.rc_tree.proofs.RewriteRunLemmas.{meets_inside_fault, so_far_next, most-reverse}
 use Rattle.rc_tree.proofs.RewriteValueLemmas.{meets_instruction_at, meets_value_to, rows_at-in_turn}
 use Rattle.rc_tree.specs.Run.{kept_into}
 use Rattle.rc_tree.specs.Rewrite.{instruction_at, instruction_inside, rows_at, value_inside, value_to}
@@ -30,7 +30,7 @@ walk_rows-loop-row-preserved g t c = record {
   so_far = λ n.
       let steps = g.T.ReactiveFunctionTransform.steps in
       let functions = g.T.ReactiveFunctionTransform.functions in
-      so_next (kept_into (instruction_at steps functions (value_to steps functions n)))
+      so_far_next (kept_into (instruction_at steps functions (value_to steps functions n)))
       (rows_at steps functions (value_to steps functions n) (c.args.transform.now, c.args.state.now)
       c.args.rows.now)
       (c.loop-row.transform, c.loop-row.state) c.loop-row.rows c.loop-row.left c.pop.new.self c.in-Some.row

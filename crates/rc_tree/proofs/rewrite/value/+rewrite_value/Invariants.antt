@@ -1,7 +1,7 @@
 -- What is left is no deeper than all rows, and so far the walk of all is that of what is left.
 use Rattle.std.proofs.Common.{◌≤◌, ℕ, reverse, length}
 use denote.Param.Weighed.{most}
-use Rattle.rc_tree.proofs.RewriteRunLemmas.{So}
+use Rattle.rc_tree.proofs.RewriteRunLemmas.{SoFar}
 use Rattle.rc_tree.specs.Run.{in_turn, kept_into}
 use Rattle.rc_tree.specs.Rewrite.{instruction_at, rows_at, value_to}
 use Rattle.rc_tree.proofs.value.ReactiveInstruction.TheLaws.{the_size}
@@ -13,7 +13,7 @@ invariant-walk_rows-loop-row g l =
     let functions = g.T.ReactiveFunctionTransform.functions in
     record {
       no_deeper : most the_size l.left ≤ most the_size l.fn.rows;
-      so_far : (n : ℕ) → So (kept_into (instruction_at steps functions (value_to steps functions n)))
+      so_far : (n : ℕ) → SoFar (kept_into (instruction_at steps functions (value_to steps functions n)))
           (rows_at steps functions (value_to steps functions n) (l.initial.transform, l.initial.state) l.fn.rows)
           (in_turn (kept_into (instruction_at steps functions (value_to steps functions n))) (l.transform, l.state)
           l.rows (reverse l.left));
