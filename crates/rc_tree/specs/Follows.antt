@@ -1,8 +1,7 @@
 -- When the steps of a transform follow the rules of a pass.
 --
 -- The pass has a state, `S`, and the walk a world of its own. While a scope block is walked, the walk may keep
--- something for
--- the scope blocks around, as a stack does; `R` is what is kept.
+-- something for the scope blocks around, as a stack does; `R` is what is kept.
 use Rattle.std.specs.Prelude.{◌≡◌, ◌⊎◌, List, Result, Ok, Err, OnOk, IfErr}
 use Rattle.rc_hir.specs.declared.fault.Fault.{Fault}
 use Rattle.rc_hir.specs.declared.fault.Fault.TheVariants.{NoMemory}
@@ -29,8 +28,7 @@ Does world made (Ok rule) (Err given) = ⊥
 Does world made (Err fault) (Ok step) = ⊥
 
 -- `world r s` is the walk's world at the state `s`, with `r` kept for the scope blocks around; `inner r s` is what is
--- kept
--- inside a scope block that is met there
+-- kept inside a scope block that is met there
 pub record Follows {S R T St : Type 0} (rules : Rules S) (v : RewriteSteps (T × St)) (world : R → S → T × St)
     (inner : R → S → R) : Type 0 where
   -- visits change nothing, and neither rows nor values are entered
@@ -61,8 +59,7 @@ pub record Follows {S R T St : Type 0} (rules : Rules S) (v : RewriteSteps (T ×
       → Does (world r) stmt.Scope (rules.scope met x s) (v.transform_scope (world (inner r met) s) x)
 
 -- what a call leaves that rebuilds a block by the rules, from the state `start`: the block rebuilt, or want of memory
--- or the
--- fault of a rule
+-- or the fault of a rule
 abbrev pub Leaves : {S : Type 0} → Rules S → ReactiveBlock → S → ReactiveBlock → Result (Unit {0}) Fault → Type 0
 Leaves {S = S} rules before start after result =
     OnOk result ((s : S) × (rebuilt_block rules before start ≡ Ok (s, after)))

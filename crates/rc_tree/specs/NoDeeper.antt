@@ -12,6 +12,7 @@ same_part {A = A} {W = W} {X = X} a b w w1 x x1 e =
 same_size : {X : Type 0} (size : X → ℕ) (x x1 : X) → x ≡ x1 → size x1 ≤ size x
 same_size size x x1 e = subst (λ y. size y ≤ size x) e (omega arith)
 
+-- a step that goes inside, and one that doesn't
 pub goes_inside_no_deeper : {W X : Type 0} (size : X → ℕ) → NoDeeper size (goes_inside {W = W} {X = X})
 goes_inside_no_deeper size w w1 x x1 answer e = same_size size x x1 (same_part _ answer w w1 x x1 e)
 

@@ -1,8 +1,7 @@
 -- What the read walk of a part gives: the steps of its hooks, in the order of the parts' table.
 --
 -- A part's enter step comes first. At `Inside` the steps of the inside follow and then the leave step, at `Skip`
--- neither.
--- Each inside is one equation here; operands are looked up in the table of functions, which no step changes.
+-- neither. Each inside is one equation here; operands are looked up in the table of functions, which no step changes.
 use Rattle.std.specs.Prelude.{List, Ok}
 use Rattle.rc_hir.specs.Operands.{operands}
 use Rattle.rc_hir.specs.declared.function.HirFunction.{HirFunction}

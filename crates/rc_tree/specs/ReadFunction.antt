@@ -1,10 +1,8 @@
 -- What the walk of a graph's function gives: its parameters, then its blocks in graph order.
 --
 -- Each row is walked as a row of the tree, and then the function that it holds; a block ends with its terminal's
--- operands.
--- `entered` tells of each function of the table whether the walk stands inside it: one that is met there again is a
--- cycle,
--- and one outside the table is a bad name.
+-- operands. `entered` tells of each function of the table whether the walk stands inside it: one that is met there
+-- again is a cycle, and one outside the table is a bad name.
 use Rattle.std.specs.Prelude.{ℕ, zero, suc, Bool, true, false, List, [], ◌∷◌, Option, None, Some, Err, map}
 use Rattle.std.specs.Prelude.{slice_get, slice_set}
 use Rattle.rc_names.specs.declared.numbers.BlockId.{BlockId}
@@ -100,7 +98,7 @@ module _ {S : Type 0} (v : ReadSteps S) (functions : List HirFunction) where
   abbrev pub read_function : FunctionId → Walk S
   read_function = function_at (map (λ x. false) functions)
 
-  -- its parts
+  -- the walk of a function's inside, of one of its blocks and of one of its rows, where these are entered
   abbrev pub numbered_at : List Bool → FunctionId → Walk S
   numbered_at entered func = numbered_function (function_at entered) func (slice_get functions func.0)
 

@@ -90,6 +90,7 @@ module _ {S : Type 0} (rules : Rules S) where
   of_statement (layer.Scope x) s = bind (x (rules.into_scope s)) (λ a. rules.scope s a.1 a.0)
   of_statement (layer.PrunedScope x) s = bind (x s) (λ a. rules.pruned_scope a.1 a.0)
 
+  -- the other parts, from what is inside them
   abbrev pub of_labeled : ReactiveTerminalStatement-F (Rebuilds S (List ReactiveStatement))
       (Rebuilds S ReactiveTerminal) (Rebuilds S PrunedReactiveScopeBlock) (Rebuilds S ReactiveScopeBlock)
       (Rebuilds S ReactiveBlock) (Rebuilds S ReactiveSwitchCase) (Rebuilds S ReactiveTerminalStatement)

@@ -2,12 +2,9 @@
 -- after them.
 --
 -- A part's enter step comes first. At `Inside` the steps of the inside follow and then the leave step, at `Skip`
--- neither; a
--- statement's `transform_` step comes after that in both cases. An enter step may change its part, so the walk is
--- defined to
--- a depth; no enter step makes its part deeper, so that a depth above the part's own is enough. Operands are looked up
--- in
--- the transform's table of functions, which no step changes.
+-- neither; a statement's `transform_` step comes after that in both cases. An enter step may change its part, so the
+-- walk is defined to a depth; no enter step makes its part deeper, so that a depth above the part's own is enough.
+-- Operands are looked up in the transform's table of functions, which no step changes.
 use Rattle.std.specs.Prelude.{ℕ, zero, suc, List, [], ◌∷◌, ◌++◌}
 use Rattle.rc_hir.specs.Operands.{operands}
 use Rattle.rc_hir.specs.declared.function.HirFunction.{HirFunction}
@@ -76,6 +73,7 @@ module _ {T S : Type 0} (v : RewriteSteps (T × S)) (functions : T → List HirF
         bind (inner x.id c.1 x.value)
         (λ d. Done (tt, (d.1.0, record { id = x.id; lvalue = x.lvalue; value = d.1.1; span = x.span }))))))
 
+    -- the walk of a row
     unfoldable pub instruction_at : Part (T × S) ReactiveInstruction
     instruction_at w x = around v.enter_instruction instruction_inside v.leave_instruction w x
 
@@ -99,6 +97,7 @@ module _ {T S : Type 0} (v : RewriteSteps (T × S)) (functions : T → List HirF
     value_layer w id (value.OptionalExpression x optional) =
         bind (inner id w x) (λ a. Done (tt, (a.1.0, val.OptionalExpression a.1.1 optional)))
 
+    -- the inside of a value, by its form
     abbrev pub value_inside : EvaluationOrder → Part (T × S) ReactiveValue
     value_inside id w x = value_layer w id (out-ReactiveValue x)
 
@@ -174,6 +173,7 @@ module _ {T S : Type 0} (v : RewriteSteps (T × S)) (functions : T → List HirF
         (λ b. after (perhaps (v.visit_place id) binding b.1.0) (λ c. bind (inner c.1 handler) (λ d.
         Done (tt, (d.1.0, term.Try b.1.1 binding d.1.1 id))))))
 
+    -- the parts of a terminal, by its form
     abbrev pub parts_at : Part (T × S) ReactiveTerminal
     parts_at w x = parts_layer w (out-ReactiveTerminal x)
 
@@ -190,6 +190,7 @@ module _ {T S : Type 0} (v : RewriteSteps (T × S)) (functions : T → List HirF
     pruned_scope_inside w x =
         bind (inner w x.instructions) (λ a. Done (tt, (a.1.0, record { scope = x.scope; instructions = a.1.1 })))
 
+    -- the walk of a terminal, of a scope, of a pruned scope
     unfoldable pub terminal_at : Part (T × S) ReactiveTerminalStatement
     terminal_at w x = around v.enter_terminal terminal_inside v.leave_terminal w x
 
@@ -199,7 +200,7 @@ module _ {T S : Type 0} (v : RewriteSteps (T × S)) (functions : T → List HirF
     unfoldable pub pruned_scope_at : Part (T × S) PrunedReactiveScopeBlock
     pruned_scope_at w x = around v.enter_pruned_scope pruned_scope_inside v.leave_pruned_scope w x
 
-    -- a statement: the walk of what it holds, and then its `transform_` step
+    -- each form of statement: the walk of what it holds, and then its `transform_` step
     abbrev pub statement_layer : (T × S) → OpenStatement
         → Run (Transformed ReactiveStatement × ((T × S) × ReactiveStatement))
     statement_layer w (layer.Instruction x) =
@@ -213,6 +214,7 @@ module _ {T S : Type 0} (v : RewriteSteps (T × S)) (functions : T → List HirF
         bind (pruned_scope_at w x) (λ a. after (v.transform_pruned_scope a.1.0 a.1.1)
         (λ b. Done (b.0, (b.1.0, stmt.PrunedScope b.1.1))))
 
+    -- a statement, by its form
     abbrev pub statement_at : (T × S) → ReactiveStatement
         → Run (Transformed ReactiveStatement × ((T × S) × ReactiveStatement))
     statement_at w x = statement_layer w (out-ReactiveStatement x)

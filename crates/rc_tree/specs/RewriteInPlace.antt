@@ -25,6 +25,7 @@ module _ {W : Type 0} (v : RewriteSteps W) where
   answer_layer w (layer.PrunedScope x) =
       outcome.bind (v.transform_pruned_scope w x) (λ a. Ok (a.0, (a.1.0, stmt.PrunedScope a.1.1)))
 
+  -- the `transform_` step of a statement, by its form
   abbrev pub answer_at : Hook W ReactiveStatement (Transformed ReactiveStatement)
   answer_at w x = answer_layer w (out-ReactiveStatement x)
 
@@ -45,5 +46,6 @@ module _ {T S : Type 0} (v : RewriteSteps (T × S)) (functions : T → List HirF
   held_layer w (layer.PrunedScope x) =
       bind (pruned_scope_at v functions inner w x) (λ a. Done (tt, (a.1.0, stmt.PrunedScope a.1.1)))
 
+  -- the walk of what a statement holds, by its form
   abbrev pub held_at : Part (T × S) ReactiveStatement
   held_at w x = held_layer w (out-ReactiveStatement x)

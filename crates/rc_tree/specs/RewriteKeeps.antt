@@ -1,8 +1,7 @@
 -- A measure of parts that goes by their own parts, and what is asked of the steps of a transform that keeps it.
 --
 -- What stays of a tree where each scope is replaced by its contents is such a measure: what a list of statements gives
--- is then
--- again a list, and a scope gives what its statements give.
+-- is then again a list, and a scope gives what its statements give.
 use Rattle.std.specs.Prelude.{◌≡◌, Bool, List, [], ◌∷◌, ◌++◌, Option, None, Some, map, Ok}
 use Rattle.rc_hir.specs.declared.instruction.LogicalOperator.{LogicalOperator}
 use Rattle.rc_hir.specs.declared.place.Place.{Place}

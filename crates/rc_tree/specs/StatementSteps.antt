@@ -19,8 +19,8 @@ pub record StatementSteps (S : Type 0) : Type 0 where
   pub transform_terminal : Hook S ReactiveTerminalStatement (Transformed ReactiveStatement)
   pub transform_scope : Hook S ReactiveScopeBlock (Transformed ReactiveStatement)
 
--- the steps of the walk; no step changes the transform
 module _ {T S : Type 0} (steps : T → StatementSteps S) where
+  -- the steps of the walk that do something; no step changes the transform
   abbrev pub enters_scope : Hook (T × S) ReactiveScopeBlock Enter
   enters_scope w x = bind ((steps w.0).enter_scope x w.1) (λ r. Ok (Inside, ((w.0, r.1), x)))
 
@@ -30,6 +30,7 @@ module _ {T S : Type 0} (steps : T → StatementSteps S) where
   abbrev pub transforms_scope : Hook (T × S) ReactiveScopeBlock (Transformed ReactiveStatement)
   transforms_scope w x = bind ((steps w.0).transform_scope w.1 x) (λ r. Ok (r.0, ((w.0, r.1.0), r.1.1)))
 
+  -- all steps of the walk: rows and values are skipped, and the other parts are entered
   abbrev pub over_statements : RewriteSteps (T × S)
   over_statements = record still {
     enter_instruction = skips;

@@ -10,8 +10,7 @@ use Rattle.rc_tree.specs.declared.terminal.ReactiveTerminalStatement.{ReactiveTe
 use Rattle.rc_tree.specs.declared.value.ReactiveInstruction.{ReactiveInstruction}
 
 -- `at r s` is the walk's state at the pass's state `s`, with `r` kept for the scope blocks around; `inner r s` is what
--- is
--- kept inside a scope block that is met there
+-- is kept inside a scope block that is met there
 pub record StatementsFollow {S R St : Type 0} (rules : Rules S) (steps : StatementSteps St) (at : R → S → St)
     (inner : R → S → R) : Type 0 where
   -- rows and pruned scope blocks stay

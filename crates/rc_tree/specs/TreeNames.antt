@@ -45,6 +45,7 @@ of_value (value.OptionalExpression x optional) = x
 abbrev pub of_row : ReactiveInstruction-F Names Names → Names
 of_row row = perhaps place_names row.lvalue ++ row.value
 
+-- the numbers in a value, and in a row
 abbrev pub names_in_value : ReactiveValue → Names
 names_in_value = fold-ReactiveValue Names Names of_value of_row
 
@@ -82,6 +83,7 @@ of_scope block = scope_name block.scope ++ block.instructions
 abbrev pub of_pruned_scope : PrunedReactiveScopeBlock-F Names Names Names Names Names Names Names → Names
 of_pruned_scope block = scope_name block.scope ++ block.instructions
 
+-- the numbers in a block, one statement after the other
 abbrev pub of_block : ReactiveBlock-F Names Names Names Names Names Names Names → Names
 of_block block = one_by_one block.statements
 
@@ -89,6 +91,7 @@ of_block block = one_by_one block.statements
 abbrev pub of_case : ReactiveSwitchCase-F Names Names Names Names Names Names Names → Names
 of_case case = perhaps place_names case.test ++ if_there case.block
 
+-- a label's number stands for no table
 abbrev pub of_labeled : ReactiveTerminalStatement-F Names Names Names Names Names Names Names → Names
 of_labeled statement = statement.terminal
 

@@ -27,6 +27,7 @@ taken_out x None (layer.Label body id) =
     (ReplaceMany body.statements, record { terminal = term.Label (record { statements = [] }) id; label = None })
 taken_out x label _ = (Keep, x)
 
+-- the same, by the label and the form of the terminal
 abbrev pub without_name : ReactiveTerminalStatement → Transformed ReactiveStatement × ReactiveTerminalStatement
 without_name x = taken_out x x.label (out-ReactiveTerminal x.terminal)
 
