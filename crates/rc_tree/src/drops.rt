@@ -1,7 +1,8 @@
 //! Emptying the blocks of a level of statements, before the level is let go.
 //!
-//! Each call moves what stands in the blocks of its part to the end of the list `inside`, as far as there is memory. The
-//! part is then no deeper than it was, and what was taken is less deep than the part: so letting go comes to an end.
+//! Each call moves what stands in the blocks of its part to the end of the list `inside`, as far as there is memory.
+//! The part is then no deeper than it was, and what was taken is less deep than the part: so letting go comes to an
+//! end.
 
 ghost use Rattle.std.specs.Prelude.{◌≤◌, ◌<◌, ℕ};
 ghost use denote.Param.Weighed.{most};

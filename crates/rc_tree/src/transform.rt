@@ -107,7 +107,8 @@ pub trait ReactiveFunctionTransform {
         value: &mut ReactiveValue,
         state: &mut Self::State,
     ) -> Result<Enter, Fault>
-        ensures step { Gives (steps.enter_value id (self.old, state.old) value.old) result ((self.new, state.new), value.new) }
+        ensures step { Gives (steps.enter_value id (self.old, state.old) value.old) result
+            ((self.new, state.new), value.new) }
         ensures functions { functions self.new ≡ functions self.old }
         ensures no_deeper { size-ReactiveValue value.new ≤ size-ReactiveValue value.old };
 
@@ -118,7 +119,8 @@ pub trait ReactiveFunctionTransform {
         value: &mut ReactiveValue,
         state: &mut Self::State,
     ) -> Result<(), Fault>
-        ensures step { Gives (steps.leave_value id (self.old, state.old) value.old) result ((self.new, state.new), value.new) }
+        ensures step { Gives (steps.leave_value id (self.old, state.old) value.old) result
+            ((self.new, state.new), value.new) }
         ensures functions { functions self.new ≡ functions self.old };
 
     /// Called before a terminal, which it may change, but not make deeper.
@@ -127,7 +129,8 @@ pub trait ReactiveFunctionTransform {
         stmt: &mut ReactiveTerminalStatement,
         state: &mut Self::State,
     ) -> Result<Enter, Fault>
-        ensures step { Gives (steps.enter_terminal (self.old, state.old) stmt.old) result ((self.new, state.new), stmt.new) }
+        ensures step { Gives (steps.enter_terminal (self.old, state.old) stmt.old) result
+            ((self.new, state.new), stmt.new) }
         ensures functions { functions self.new ≡ functions self.old }
         ensures no_deeper { size-ReactiveTerminalStatement stmt.new ≤ size-ReactiveTerminalStatement stmt.old };
 
@@ -137,7 +140,8 @@ pub trait ReactiveFunctionTransform {
         stmt: &mut ReactiveTerminalStatement,
         state: &mut Self::State,
     ) -> Result<(), Fault>
-        ensures step { Gives (steps.leave_terminal (self.old, state.old) stmt.old) result ((self.new, state.new), stmt.new) }
+        ensures step { Gives (steps.leave_terminal (self.old, state.old) stmt.old) result
+            ((self.new, state.new), stmt.new) }
         ensures functions { functions self.new ≡ functions self.old };
 
     /// Called before a scope block, which it may change, but not make deeper.
@@ -146,7 +150,8 @@ pub trait ReactiveFunctionTransform {
         scope: &mut ReactiveScopeBlock,
         state: &mut Self::State,
     ) -> Result<Enter, Fault>
-        ensures step { Gives (steps.enter_scope (self.old, state.old) scope.old) result ((self.new, state.new), scope.new) }
+        ensures step { Gives (steps.enter_scope (self.old, state.old) scope.old) result
+            ((self.new, state.new), scope.new) }
         ensures functions { functions self.new ≡ functions self.old }
         ensures no_deeper { size-ReactiveScopeBlock scope.new ≤ size-ReactiveScopeBlock scope.old };
 
@@ -156,7 +161,8 @@ pub trait ReactiveFunctionTransform {
         scope: &mut ReactiveScopeBlock,
         state: &mut Self::State,
     ) -> Result<(), Fault>
-        ensures step { Gives (steps.leave_scope (self.old, state.old) scope.old) result ((self.new, state.new), scope.new) }
+        ensures step { Gives (steps.leave_scope (self.old, state.old) scope.old) result
+            ((self.new, state.new), scope.new) }
         ensures functions { functions self.new ≡ functions self.old };
 
     /// Called before a pruned scope block, which it may change, but not make deeper.
@@ -165,7 +171,8 @@ pub trait ReactiveFunctionTransform {
         scope: &mut PrunedReactiveScopeBlock,
         state: &mut Self::State,
     ) -> Result<Enter, Fault>
-        ensures step { Gives (steps.enter_pruned_scope (self.old, state.old) scope.old) result ((self.new, state.new), scope.new) }
+        ensures step { Gives (steps.enter_pruned_scope (self.old, state.old) scope.old) result
+            ((self.new, state.new), scope.new) }
         ensures functions { functions self.new ≡ functions self.old }
         ensures no_deeper { size-PrunedReactiveScopeBlock scope.new ≤ size-PrunedReactiveScopeBlock scope.old };
 
@@ -175,7 +182,8 @@ pub trait ReactiveFunctionTransform {
         scope: &mut PrunedReactiveScopeBlock,
         state: &mut Self::State,
     ) -> Result<(), Fault>
-        ensures step { Gives (steps.leave_pruned_scope (self.old, state.old) scope.old) result ((self.new, state.new), scope.new) }
+        ensures step { Gives (steps.leave_pruned_scope (self.old, state.old) scope.old) result
+            ((self.new, state.new), scope.new) }
         ensures functions { functions self.new ≡ functions self.old };
 
     /// Called before a block, which it may change, but not make deeper.
@@ -184,7 +192,8 @@ pub trait ReactiveFunctionTransform {
         block: &mut ReactiveBlock,
         state: &mut Self::State,
     ) -> Result<Enter, Fault>
-        ensures step { Gives (steps.enter_block (self.old, state.old) block.old) result ((self.new, state.new), block.new) }
+        ensures step { Gives (steps.enter_block (self.old, state.old) block.old) result
+            ((self.new, state.new), block.new) }
         ensures functions { functions self.new ≡ functions self.old }
         ensures no_deeper { size-ReactiveBlock block.new ≤ size-ReactiveBlock block.old };
 
@@ -194,7 +203,8 @@ pub trait ReactiveFunctionTransform {
         block: &mut ReactiveBlock,
         state: &mut Self::State,
     ) -> Result<(), Fault>
-        ensures step { Gives (steps.leave_block (self.old, state.old) block.old) result ((self.new, state.new), block.new) }
+        ensures step { Gives (steps.leave_block (self.old, state.old) block.old) result
+            ((self.new, state.new), block.new) }
         ensures functions { functions self.new ≡ functions self.old };
 
     /// Called last at a row that is a statement, entered or not: what stands in its place.
@@ -213,7 +223,8 @@ pub trait ReactiveFunctionTransform {
         stmt: &mut ReactiveTerminalStatement,
         state: &mut Self::State,
     ) -> Result<Transformed<ReactiveStatement>, Fault>
-        ensures step { Gives (steps.transform_terminal (self.old, state.old) stmt.old) result ((self.new, state.new), stmt.new) }
+        ensures step { Gives (steps.transform_terminal (self.old, state.old) stmt.old) result
+            ((self.new, state.new), stmt.new) }
         ensures functions { functions self.new ≡ functions self.old };
 
     /// Called last at a scope block that is a statement, entered or not: what stands in its place.
@@ -222,7 +233,8 @@ pub trait ReactiveFunctionTransform {
         scope: &mut ReactiveScopeBlock,
         state: &mut Self::State,
     ) -> Result<Transformed<ReactiveStatement>, Fault>
-        ensures step { Gives (steps.transform_scope (self.old, state.old) scope.old) result ((self.new, state.new), scope.new) }
+        ensures step { Gives (steps.transform_scope (self.old, state.old) scope.old) result
+            ((self.new, state.new), scope.new) }
         ensures functions { functions self.new ≡ functions self.old };
 
     /// Called last at a pruned scope block that is a statement, entered or not: what stands in its place.

@@ -1,7 +1,8 @@
 //! The hooks of a read walk.
 //!
-//! An implementation states what its hooks do as one record of steps, and each hook's contract is its step. The walks in
-//! `read` are proved once, for whatever the steps are: what a walk gives is `specs/Read.antt` at the visitor's steps.
+//! An implementation states what its hooks do as one record of steps, and each hook's contract is its step. The walks
+//! in `read` are proved once, for whatever the steps are: what a walk gives is `specs/Read.antt` at the visitor's
+//! steps.
 
 ghost use Rattle.std.specs.Prelude.{◌≡◌, List as Entries};
 ghost use Rattle.rc_hir.specs.declared.function.HirFunction.{HirFunction};

@@ -49,9 +49,11 @@ pub fn visit_hir_function<V: ReactiveFunctionVisitor>(
     func: FunctionId,
     state: &mut V::State,
 ) -> Result<(), Fault>
-    ensures walk { Gives (read_function (V.steps visitor.now) (V.functions visitor.now) func state.old) result state.new }
+    ensures walk { Gives (read_function (V.steps visitor.now) (V.functions visitor.now) func state.old) result
+        state.new }
     ensures no_cycle { OnOk result (NoCycle (V.functions visitor.now) func) }
-    ensures cycle { (g : Number) → result ≡ Err (Fault.FunctionCycle g) → HookGives (V.steps visitor.now) (Fault.FunctionCycle g)
+    ensures cycle { (g : Number) → result ≡ Err (Fault.FunctionCycle g)
+        → HookGives (V.steps visitor.now) (Fault.FunctionCycle g)
         ⊎ CycleAt (V.functions visitor.now) func g }
 {
     let mut entered = none_entered(alloc, visitor.env().functions.as_slice())?;
@@ -122,8 +124,8 @@ fn walk_blocks<V: ReactiveFunctionVisitor>(
     blocks: &Keyed<BlockId, BasicBlock>,
     state: &mut V::State,
 ) -> Result<(), Fault>
-    ensures walk { Gives (each (basic_block_at (V.steps visitor.now) (V.functions visitor.now) entered.old rows.now) blocks.now
-        state.old) result state.new }
+    ensures walk { Gives (each (basic_block_at (V.steps visitor.now) (V.functions visitor.now) entered.old rows.now)
+        blocks.now state.old) result state.new }
     ensures kept { OnOk result (entered.new ≡ entered.old) }
 {
     for i in 0..blocks.len() {
@@ -166,8 +168,8 @@ fn walk_rows<V: ReactiveFunctionVisitor>(
     ids: &List<InstructionId>,
     state: &mut V::State,
 ) -> Result<(), Fault>
-    ensures walk { Gives (each (row_at (V.steps visitor.now) (V.functions visitor.now) entered.old rows.now) ids.now state.old)
-        result state.new }
+    ensures walk { Gives (each (row_at (V.steps visitor.now) (V.functions visitor.now) entered.old rows.now) ids.now
+        state.old) result state.new }
     ensures kept { OnOk result (entered.new ≡ entered.old) }
 {
     for id in ids.as_slice() {
@@ -186,8 +188,8 @@ fn walk_row<V: ReactiveFunctionVisitor>(
     id: InstructionId,
     state: &mut V::State,
 ) -> Result<(), Fault>
-    ensures walk { Gives (row_at (V.steps visitor.now) (V.functions visitor.now) entered.old rows.now id state.old) result
-        state.new }
+    ensures walk { Gives (row_at (V.steps visitor.now) (V.functions visitor.now) entered.old rows.now id state.old)
+        result state.new }
     ensures kept { OnOk result (entered.new ≡ entered.old) }
 {
     match rows.get(id.index()) {
@@ -209,8 +211,8 @@ fn walk_held<V: ReactiveFunctionVisitor>(
     held: Option<FunctionId>,
     state: &mut V::State,
 ) -> Result<(), Fault>
-    ensures walk { Gives (perhaps (function_at (V.steps visitor.now) (V.functions visitor.now) entered.old) held state.old)
-        result state.new }
+    ensures walk { Gives (perhaps (function_at (V.steps visitor.now) (V.functions visitor.now) entered.old) held
+        state.old) result state.new }
     ensures kept { OnOk result (entered.new ≡ entered.old) }
 {
     match held {

@@ -38,7 +38,8 @@ pub fn traverse_scope<V: ReactiveFunctionVisitor>(
     scope: &ReactiveScopeBlock,
     state: &mut V::State,
 ) -> Result<(), Fault>
-    ensures { Gives (inside_scope (V.steps visitor.now) (V.functions visitor.now) scope.now state.old) result state.new }
+    ensures { Gives (inside_scope (V.steps visitor.now) (V.functions visitor.now) scope.now state.old) result
+        state.new }
 {
     walk_block(alloc, visitor, &scope.instructions, state)
 }
@@ -66,7 +67,8 @@ pub fn traverse_block<V: ReactiveFunctionVisitor>(
     block: &ReactiveBlock,
     state: &mut V::State,
 ) -> Result<(), Fault>
-    ensures { Gives (inside_block (V.steps visitor.now) (V.functions visitor.now) block.now state.old) result state.new }
+    ensures { Gives (inside_block (V.steps visitor.now) (V.functions visitor.now) block.now state.old) result
+        state.new }
 {
     for statement in block.statements.as_slice() {
         walk_statement(alloc, visitor, statement, state)?;
@@ -159,7 +161,8 @@ fn walk_terminal<V: ReactiveFunctionVisitor>(
     stmt: &ReactiveTerminalStatement,
     state: &mut V::State,
 ) -> Result<(), Fault>
-    ensures { Gives (read_terminal (V.steps visitor.now) (V.functions visitor.now) stmt.now state.old) result state.new }
+    ensures { Gives (read_terminal (V.steps visitor.now) (V.functions visitor.now) stmt.now state.old) result
+        state.new }
 {
     match visitor.enter_terminal(stmt, state)? {
         Enter::Inside => {
@@ -178,7 +181,8 @@ fn walk_parts<V: ReactiveFunctionVisitor>(
     terminal: &ReactiveTerminal,
     state: &mut V::State,
 ) -> Result<(), Fault>
-    ensures { Gives (read_parts (V.steps visitor.now) (V.functions visitor.now) terminal.now state.old) result state.new }
+    ensures { Gives (read_parts (V.steps visitor.now) (V.functions visitor.now) terminal.now state.old) result
+        state.new }
 {
     match terminal {
         ReactiveTerminal::Break { id, .. } | ReactiveTerminal::Continue { id, .. } => {

@@ -86,7 +86,8 @@ pub(crate) fn walk_value<V: ReactiveFunctionVisitor>(
     value: &ReactiveValue,
     state: &mut V::State,
 ) -> Result<(), Fault>
-    ensures { Gives (read_value (V.steps visitor.now) (V.functions visitor.now) value.now id state.old) result state.new }
+    ensures { Gives (read_value (V.steps visitor.now) (V.functions visitor.now) value.now id state.old) result
+        state.new }
 {
     match visitor.enter_value(id, value, state)? {
         Enter::Inside => {

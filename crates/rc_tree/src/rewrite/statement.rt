@@ -511,7 +511,8 @@ fn put_last<T: ReactiveFunctionTransform>(
     done: &mut List<ReactiveStatement>,
     state: &mut T::State,
 ) -> Result<(), Fault>
-    ensures left { (rest : Entries ReactiveStatement) → (x : ReactiveStatement) → left.old ≡ rest ++ x ∷ [] → left.new ≡ rest }
+    ensures left { (rest : Entries ReactiveStatement) → (x : ReactiveStatement) → left.old ≡ rest ++ x ∷ []
+        → left.new ≡ rest }
     ensures done { (rest : Entries ReactiveStatement) → (x : ReactiveStatement) → left.old ≡ rest ++ x ∷ []
         → Gives (put_at T.steps (transform.old, state.old) done.old x) result ((transform.new, state.new), done.new) }
 {
@@ -555,7 +556,8 @@ fn ask<T: ReactiveFunctionTransform>(
     }
 }
 
-/// Puts what stands in a statement's place at the end. Each arm hands both on, so that none has to let a part go itself.
+/// Puts what stands in a statement's place at the end. Each arm hands both on, so that none has to let a part go
+/// itself.
 fn put(
     done: &mut List<ReactiveStatement>,
     statement: ReactiveStatement,

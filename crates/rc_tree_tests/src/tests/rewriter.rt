@@ -40,7 +40,9 @@ impl ReactiveFunctionTransform for Rewriter {
 
     ghost steps = { record {
       visit_id = λ id w. Ok (tt, (w.0, w.1 ++ visit.Id id.0 ∷ []));
-      visit_place = λ id place w. if place.identifier.0 == w.0.refused then Err (faults.BadName tables.Identifiers place.identifier.0) else Ok (tt, (w.0, w.1 ++ visit.Operand id.0 place.identifier.0 ∷ []));
+      visit_place = λ id place w. if place.identifier.0 == w.0.refused
+          then Err (faults.BadName tables.Identifiers place.identifier.0)
+          else Ok (tt, (w.0, w.1 ++ visit.Operand id.0 place.identifier.0 ∷ []));
       visit_lvalue = λ id place w. Ok (tt, (w.0, w.1 ++ visit.Target id.0 place.identifier.0 ∷ []));
       enter_instruction = λ w x. Ok (enter.Inside, ((w.0, w.1 ++ visit.Enter (part.Row x.id.0) ∷ []), x));
       leave_instruction = λ w x. Ok (tt, ((w.0, w.1 ++ visit.Leave (part.Row x.id.0) ∷ []), x));
@@ -48,7 +50,10 @@ impl ReactiveFunctionTransform for Rewriter {
       leave_value = λ id w x. Ok (tt, ((w.0, w.1 ++ visit.Leave (part.Value id.0) ∷ []), x));
       enter_terminal = λ w x. Ok (enter.Inside, ((w.0, w.1 ++ visit.Enter part.Terminal ∷ []), x));
       leave_terminal = λ w x. Ok (tt, ((w.0, w.1 ++ visit.Leave part.Terminal ∷ []), x));
-      enter_scope = λ w x. Ok (if x.scope.0 == w.0.skipped then enter.Skip else enter.Inside, ((w.0, w.1 ++ visit.Enter (part.Scope x.scope.0) ∷ []), x));
+      enter_scope = λ w x. Ok (
+        if x.scope.0 == w.0.skipped then enter.Skip else enter.Inside,
+        ((w.0, w.1 ++ visit.Enter (part.Scope x.scope.0) ∷ []), x),
+      );
       leave_scope = λ w x. Ok (tt, ((w.0, w.1 ++ visit.Leave (part.Scope x.scope.0) ∷ []), x));
       enter_pruned_scope = λ w x. Ok (enter.Inside, ((w.0, w.1 ++ visit.Enter (part.PrunedScope x.scope.0) ∷ []), x));
       leave_pruned_scope = λ w x. Ok (tt, ((w.0, w.1 ++ visit.Leave (part.PrunedScope x.scope.0) ∷ []), x));
@@ -56,7 +61,10 @@ impl ReactiveFunctionTransform for Rewriter {
       leave_block = λ w x. Ok (tt, ((w.0, w.1 ++ visit.Leave part.Block ∷ []), x));
       transform_instruction = λ w x. Ok (if is_none x.lvalue then answer.Remove else answer.Keep, (w, x));
       transform_terminal = λ w x. Ok ((without_name x).0, (w, (without_name x).1));
-      transform_scope = λ w x. Ok (answer.Replace (stmt.PrunedScope (record { scope = x.scope; instructions = x.instructions })), (w, record { scope = x.scope; instructions = record { statements = [] } }));
+      transform_scope = λ w x. Ok (
+        answer.Replace (stmt.PrunedScope (record { scope = x.scope; instructions = x.instructions })),
+        (w, record { scope = x.scope; instructions = record { statements = [] } }),
+      );
       transform_pruned_scope = keeps_it;
     } };
 
@@ -284,7 +292,8 @@ pub fn rewritten(
     func: &mut ReactiveFunction,
 ) -> Result<List<Visit>, Fault>
     ensures { IfOk result
-        (λ visits. rewrite_block ⟦<Rewriter as ReactiveFunctionTransform>⟧.steps ⟦<Rewriter as ReactiveFunctionTransform>⟧.functions (rewriter.old, []) func.old.body
+        (λ visits. rewrite_block ⟦<Rewriter as ReactiveFunctionTransform>⟧.steps
+        ⟦<Rewriter as ReactiveFunctionTransform>⟧.functions (rewriter.old, []) func.old.body
         ≡ Ok (tt, ((rewriter.new, visits), func.new.body))) }
 {
     let mut visits = List::new(alloc);
