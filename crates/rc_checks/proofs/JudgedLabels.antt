@@ -6,10 +6,11 @@ use Rattle.std.proofs.lemmas.List.{append-nil, drop_at, take_at}
 use Rattle.rc_tree.proofs.OutcomeLemmas.{Ok-injective}
 use Rattle.rc_checks.specs.LabelPruning.{OpenLabel, as_label, behind, done_before, emptied, label_in, moved}
 use Rattle.rc_checks.specs.LabelPruning.{opened, refilled}
-use Rattle.rc_checks.specs.Labels.{OpenTerminal, Targets, flattened, in_place_of, is_named, label_after, label_rules}
+use Rattle.rc_checks.specs.Labels.{Targets, flattened, in_place_of, is_named, label_after, label_rules}
 use Rattle.rc_checks.specs.Labels.{targets_behind}
 use Rattle.rc_hir.specs.declared.fault.Fault.{Fault}
 use Rattle.rc_tree.proofs.RebuiltLemmas.{rebuilt-labeled, rebuilt-Terminal}
+use Rattle.rc_tree.specs.Opened.{OpenTerminal}
 use Rattle.rc_tree.specs.Outcome.{bind}
 use Rattle.rc_tree.specs.Rebuilt.{rebuilt_statement, rebuilt_terminal}
 use Rattle.rc_tree.specs.declared.statement.ReactiveStatement.{ReactiveStatement}

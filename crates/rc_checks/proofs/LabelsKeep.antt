@@ -4,20 +4,21 @@ use Rattle.std.proofs.Common.{refl, sym, ap}
 use Rattle.std.proofs.lemmas.List.{append-nil}
 use Rattle.rc_hir.specs.declared.fault.Fault.{Fault}
 use Rattle.rc_names.specs.declared.numbers.EvaluationOrder.{EvaluationOrder}
+use Rattle.rc_tree.specs.Opened.{OpenTerminal}
 use Rattle.rc_tree.specs.RewriteKeeps.{Measure, block, one, Compositional}
 use Rattle.rc_tree.specs.TreeNames.{names_in, names_in_statement, names_in_terminal}
 use Rattle.rc_tree.specs.declared.statement.ReactiveBlock.{ReactiveBlock}
 use Rattle.rc_tree.specs.declared.statement.ReactiveStatement.TheOpen as layer
 use Rattle.rc_tree.specs.declared.statement.ReactiveStatement.TheVariants as stmt
 use Rattle.rc_tree.specs.declared.terminal.ReactiveLabel.{ReactiveLabel}
-use Rattle.rc_tree.specs.declared.terminal.ReactiveTerminal.{ReactiveTerminal, out-ReactiveTerminal}
+use Rattle.rc_tree.specs.declared.terminal.ReactiveTerminal.{out-ReactiveTerminal}
 use Rattle.rc_tree.specs.declared.terminal.ReactiveTerminal.{roll-ReactiveTerminal, roll-out-ReactiveTerminal}
 use Rattle.rc_tree.specs.declared.terminal.ReactiveTerminal.TheVariants as term
 use Rattle.rc_tree.specs.declared.terminal.ReactiveTerminalStatement.{ReactiveTerminalStatement}
 use Rattle.rc_tree.proofs.TreeNamesLemmas.{of_list, block-names, names_laws, names_measure, statement-Terminal}
 use Rattle.rc_tree.proofs.TreeNamesLemmas.{terminal-Label}
 use Rattle.rc_runs.proofs.RebuiltKeeps.{only_answer, rebuilt_keeps}
-use Rattle.rc_checks.specs.Labels.{IsWithoutUnusedLabels, OpenTerminal, Targets, flattened, in_place_of, is_named}
+use Rattle.rc_checks.specs.Labels.{IsWithoutUnusedLabels, Targets, flattened, in_place_of, is_named}
 use Rattle.rc_checks.specs.Labels.{label_after, label_rules, targets_behind}
 
 -- a block has one form without its unused labels

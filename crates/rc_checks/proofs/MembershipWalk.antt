@@ -16,6 +16,7 @@ use Rattle.rc_hir.specs.declared.place.Place.{Place}
 use Rattle.rc_names.specs.declared.numbers.EvaluationOrder.{EvaluationOrder}
 use Rattle.rc_names.specs.declared.numbers.FunctionId.{FunctionId}
 use Rattle.rc_names.specs.declared.numbers.ScopeId.{ScopeId}
+use Rattle.rc_tree.specs.Opened.{OpenStatement, OpenTerminal}
 use Rattle.rc_tree.specs.Outcome.{Walk, bind, next_to, each, perhaps}
 use Rattle.rc_tree.specs.Read.{WalkAt, OfStatement, OfParts, OfPruned, OfScope, OfBlock, OfCase, OfTerminal}
 use Rattle.rc_tree.specs.Read.{around_value, around_instruction, around_scope, around_block, inside_base, value_step}
@@ -30,9 +31,6 @@ use Rattle.rc_tree.specs.declared.statement.ReactiveBlock.{ReactiveBlock}
 use Rattle.rc_tree.specs.declared.statement.ReactiveStatement.{ReactiveStatement}
 use Rattle.rc_tree.specs.declared.statement.ReactiveStatement.TheOpen as layer
 use Rattle.rc_tree.specs.declared.statement.ReactiveStatement.TheOpen.{ReactiveStatement-F, ReactiveTerminal-F}
-use Rattle.rc_tree.specs.declared.statement.ReactiveStatement.TheOpen.{PrunedReactiveScopeBlock-F, ReactiveScopeBlock-F}
-use Rattle.rc_tree.specs.declared.statement.ReactiveStatement.TheOpen.{ReactiveBlock-F, ReactiveSwitchCase-F}
-use Rattle.rc_tree.specs.declared.statement.ReactiveStatement.TheOpen.{ReactiveTerminalStatement-F}
 use Rattle.rc_tree.specs.declared.statement.ReactiveStatement.TheShapes.{former-ReactiveTerminal-If-2}
 use Rattle.rc_tree.specs.declared.statement.ReactiveStatement.TheViews.{roll-ReactiveTerminal, roll-ReactiveStatement}
 use Rattle.rc_tree.specs.declared.statement.ReactiveStatement.TheViews.{roll-ReactiveSwitchCase}
@@ -388,12 +386,7 @@ module _ (env : Environment) (blocks : List ScopeId) where
   abbrev LayerStatement : Type 0
   LayerStatement = ReactiveStatement-F AStatement AParts APruned AScope ABlock ACase ATerminal
 
-  abbrev PlainStatement : Type 0
-  PlainStatement =
-      ReactiveStatement-F ReactiveStatement ReactiveTerminal PrunedReactiveScopeBlock ReactiveScopeBlock
-      ReactiveBlock ReactiveSwitchCase ReactiveTerminalStatement
-
-  abbrev plain_statement : LayerStatement → PlainStatement
+  abbrev plain_statement : LayerStatement → OpenStatement
   plain_statement y =
       map-ReactiveStatement AStatement AParts APruned AScope ABlock ACase ATerminal
       ReactiveStatement ReactiveTerminal PrunedReactiveScopeBlock ReactiveScopeBlock
@@ -430,12 +423,7 @@ module _ (env : Environment) (blocks : List ScopeId) where
   abbrev LayerParts : Type 0
   LayerParts = ReactiveTerminal-F AStatement AParts APruned AScope ABlock ACase ATerminal
 
-  abbrev PlainParts : Type 0
-  PlainParts =
-      ReactiveTerminal-F ReactiveStatement ReactiveTerminal PrunedReactiveScopeBlock ReactiveScopeBlock
-      ReactiveBlock ReactiveSwitchCase ReactiveTerminalStatement
-
-  abbrev plain_parts : LayerParts → PlainParts
+  abbrev plain_parts : LayerParts → OpenTerminal
   plain_parts y =
       map-ReactiveTerminal AStatement AParts APruned AScope ABlock ACase ATerminal
       ReactiveStatement ReactiveTerminal PrunedReactiveScopeBlock ReactiveScopeBlock

@@ -2,13 +2,11 @@
 use Rattle.std.proofs.Common.{◌≡◌, List, ◌∷◌, ◌++◌, Bool, true, false, Option, Some, None, Result, Ok, if◌then◌else◌}
 use Rattle.std.proofs.Common.{map, option_map, refl, ap}
 use Rattle.rc_hir.specs.declared.fault.Fault.{Fault}
+use Rattle.rc_tree.specs.Opened.{OpenCase}
 use Rattle.rc_tree.specs.declared.scope.ReactiveScopeBlock.{ReactiveScopeBlock}
 use Rattle.rc_tree.specs.declared.scope.PrunedReactiveScopeBlock.{PrunedReactiveScopeBlock}
 use Rattle.rc_tree.specs.declared.statement.ReactiveStatement.{ReactiveStatement}
-use Rattle.rc_tree.specs.declared.statement.ReactiveBlock.{ReactiveBlock}
-use Rattle.rc_tree.specs.declared.statement.ReactiveStatement.TheOpen.{ReactiveSwitchCase-F}
-use Rattle.rc_tree.specs.declared.terminal.ReactiveTerminal.{ReactiveTerminal}
-use Rattle.rc_tree.specs.declared.terminal.ReactiveSwitchCase.{ReactiveSwitchCase, roll-ReactiveSwitchCase}
+use Rattle.rc_tree.specs.declared.terminal.ReactiveSwitchCase.{roll-ReactiveSwitchCase}
 use Rattle.rc_tree.specs.declared.terminal.ReactiveSwitchCase.{out-roll-ReactiveSwitchCase}
 use Rattle.rc_tree.specs.declared.terminal.ReactiveTerminalStatement.{ReactiveTerminalStatement}
 use Rattle.rc_tree.specs.Rebuilt.{in_order, joined, rebuilt_block, rebuilt_statement, rebuilt_terminal, rebuilt_case}
@@ -71,12 +69,6 @@ settles (Label body id) label targets =
     go false = refl
 settles (Try body binding handler id) label targets =
     rw (terminals.outs-Try (block_of body) binding (block_of handler) id) refl
-
--- a case with its parts
-abbrev CaseLayer : Type 0
-CaseLayer =
-    ReactiveSwitchCase-F ReactiveStatement ReactiveTerminal PrunedReactiveScopeBlock ReactiveScopeBlock ReactiveBlock
-    ReactiveSwitchCase ReactiveTerminalStatement
 
 -- plain statements, as a list and as a block
 abbrev ListRebuilt : Statements → Targets → Type 0
@@ -196,7 +188,7 @@ mutual
       ≡ Ok ((pruned_cases cases targets).0, cases_of (pruned_cases cases targets).1)
   rebuilt-cases_of NoCases targets = refl
   rebuilt-cases_of (Case test body rest) targets =
-      let layer : CaseLayer = record { test = test; block = alternate_of body } in
+      let layer : OpenCase = record { test = test; block = alternate_of body } in
       rw (
         rebuilt-case label_rules (roll-ReactiveSwitchCase layer) targets,
         out-roll-ReactiveSwitchCase layer,

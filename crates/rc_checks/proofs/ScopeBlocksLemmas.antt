@@ -1,14 +1,15 @@
 -- What each form of a tree holds: one equation for each form.
-use Rattle.std.proofs.Common.{◌≡◌, ◌∙◌, Bool, true, false, List, [], ◌∷◌, ◌++◌, Option, None, Some, map, refl, sym, ap}
+use Rattle.std.proofs.Common.{◌≡◌, ◌∙◌, true, List, [], ◌∷◌, ◌++◌, Option, None, Some, map, refl, sym, ap}
 use Rattle.std.proofs.Common.{append_assoc}
 use Rattle.std.proofs.Math.Bool.{or-false, or_assoc}
 use Rattle.std.proofs.lemmas.List.{append-nil}
-use Rattle.rc_checks.specs.ScopeBlocks.{ScopeBlock, Held, nothing, both, all_of, if_there, of_statement, of_terminal}
+use Rattle.rc_checks.specs.ScopeBlocks.{Held, nothing, both, all_of, if_there, of_statement, of_terminal}
 use Rattle.rc_checks.specs.ScopeBlocks.{of_pruned_scope, of_scope, of_block, of_case, of_labeled, held}
 use Rattle.rc_hir.specs.declared.place.Place.{Place}
 use Rattle.rc_names.specs.declared.numbers.BlockId.{BlockId}
 use Rattle.rc_names.specs.declared.numbers.EvaluationOrder.{EvaluationOrder}
 use Rattle.rc_names.specs.declared.span.Span.{Span}
+use Rattle.rc_tree.specs.Opened.{OpenStatement, OpenTerminal}
 use Rattle.rc_tree.specs.declared.kind.ReactiveTerminalTargetKind.{ReactiveTerminalTargetKind}
 use Rattle.rc_tree.specs.declared.scope.PrunedReactiveScopeBlock.{PrunedReactiveScopeBlock}
 use Rattle.rc_tree.specs.declared.scope.ReactiveScopeBlock.{ReactiveScopeBlock}
@@ -90,9 +91,7 @@ held_list-append [] ys = refl
 held_list-append (x ∷ xs) ys = ap (both (held_statement x)) (held_list-append xs ys)
     ∙ sym (both_assoc (held_statement x) (held_list xs) (held_list ys))
 
-opened_terminal : (x : layer.ReactiveTerminal-F ReactiveStatement ReactiveTerminal PrunedReactiveScopeBlock
-    ReactiveScopeBlock ReactiveBlock ReactiveSwitchCase ReactiveTerminalStatement)
-    → held_terminal (roll-ReactiveTerminal x)
+opened_terminal : (x : OpenTerminal) → held_terminal (roll-ReactiveTerminal x)
     ≡ of_terminal (map-ReactiveTerminal ReactiveStatement ReactiveTerminal PrunedReactiveScopeBlock
     ReactiveScopeBlock ReactiveBlock ReactiveSwitchCase ReactiveTerminalStatement Held Held Held Held Held Held Held
     held_statement held_terminal held_pruned_scope held_scope held held_case held_labeled x)
@@ -100,9 +99,7 @@ unfolding held held_statement held_terminal held_pruned_scope held_scope held_ca
 opened_terminal = fold-roll-ReactiveTerminal Held Held Held Held Held Held Held of_statement of_terminal of_pruned_scope
     of_scope of_block of_case of_labeled
 
-opened_statement : (x : layer.ReactiveStatement-F ReactiveStatement ReactiveTerminal PrunedReactiveScopeBlock
-    ReactiveScopeBlock ReactiveBlock ReactiveSwitchCase ReactiveTerminalStatement)
-    → held_statement (roll-ReactiveStatement x)
+opened_statement : (x : OpenStatement) → held_statement (roll-ReactiveStatement x)
     ≡ of_statement (map-ReactiveStatement ReactiveStatement ReactiveTerminal PrunedReactiveScopeBlock
     ReactiveScopeBlock ReactiveBlock ReactiveSwitchCase ReactiveTerminalStatement Held Held Held Held Held Held Held
     held_statement held_terminal held_pruned_scope held_scope held held_case held_labeled x)

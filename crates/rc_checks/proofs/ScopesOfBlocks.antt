@@ -10,8 +10,7 @@ use Rattle.rc_checks.specs.ScopeBlocks as blocks
 use Rattle.rc_checks.specs.ScopesIn.{Scopes, one_by_one, scopes_in, scopes_in_statement, scopes_in_terminal}
 use Rattle.rc_checks.specs.ScopesIn.{scopes_in_case}
 use Rattle.rc_checks.specs.ScopesIn as scopes
-use Rattle.rc_hir.specs.declared.place.Place.{Place}
-use Rattle.rc_names.specs.declared.numbers.ScopeId.{ScopeId}
+use Rattle.rc_tree.specs.Opened.{OpenStatement, OpenTerminal}
 use Rattle.rc_tree.specs.declared.scope.PrunedReactiveScopeBlock.{PrunedReactiveScopeBlock}
 use Rattle.rc_tree.specs.declared.scope.ReactiveScopeBlock.{ReactiveScopeBlock}
 use Rattle.rc_tree.specs.declared.statement.ReactiveBlock.{ReactiveBlock, roll-ReactiveBlock}
@@ -105,50 +104,40 @@ if_scopes None = refl
 if_scopes (Some x) = x.1
 
 abbrev bare_statement : layer.ReactiveStatement-F OfStatement OfTerminal OfPrunedScope OfScope OfBlock OfCase OfLabeled
-    → layer.ReactiveStatement-F ReactiveStatement ReactiveTerminal PrunedReactiveScopeBlock ReactiveScopeBlock
-    ReactiveBlock ReactiveSwitchCase ReactiveTerminalStatement
+    → OpenStatement
 bare_statement = map-ReactiveStatement OfStatement OfTerminal OfPrunedScope OfScope OfBlock OfCase OfLabeled
     ReactiveStatement ReactiveTerminal PrunedReactiveScopeBlock ReactiveScopeBlock ReactiveBlock ReactiveSwitchCase
     ReactiveTerminalStatement
     (λ e. e.0) (λ e. e.0) (λ e. e.0) (λ e. e.0) (λ e. e.0) (λ e. e.0) (λ e. e.0)
 
 abbrev bare_terminal : layer.ReactiveTerminal-F OfStatement OfTerminal OfPrunedScope OfScope OfBlock OfCase OfLabeled
-    → layer.ReactiveTerminal-F ReactiveStatement ReactiveTerminal PrunedReactiveScopeBlock ReactiveScopeBlock
-    ReactiveBlock ReactiveSwitchCase ReactiveTerminalStatement
+    → OpenTerminal
 bare_terminal = map-ReactiveTerminal OfStatement OfTerminal OfPrunedScope OfScope OfBlock OfCase OfLabeled
     ReactiveStatement ReactiveTerminal PrunedReactiveScopeBlock ReactiveScopeBlock ReactiveBlock ReactiveSwitchCase
     ReactiveTerminalStatement
     (λ e. e.0) (λ e. e.0) (λ e. e.0) (λ e. e.0) (λ e. e.0) (λ e. e.0) (λ e. e.0)
 
-abbrev with_scopes_statement : layer.ReactiveStatement-F ReactiveStatement ReactiveTerminal PrunedReactiveScopeBlock
-    ReactiveScopeBlock ReactiveBlock ReactiveSwitchCase ReactiveTerminalStatement
-    → layer.ReactiveStatement-F Scopes Scopes Scopes Scopes Scopes Scopes Scopes
+abbrev with_scopes_statement : OpenStatement → layer.ReactiveStatement-F Scopes Scopes Scopes Scopes Scopes Scopes Scopes
 with_scopes_statement = map-ReactiveStatement ReactiveStatement ReactiveTerminal PrunedReactiveScopeBlock
     ReactiveScopeBlock ReactiveBlock ReactiveSwitchCase ReactiveTerminalStatement
     Scopes Scopes Scopes Scopes Scopes Scopes Scopes
     scopes_in_statement scopes_in_terminal scopes_in_pruned_scope scopes_in_scope scopes_in scopes_in_case
     scopes_in_labeled
 
-abbrev with_held_statement : layer.ReactiveStatement-F ReactiveStatement ReactiveTerminal PrunedReactiveScopeBlock
-    ReactiveScopeBlock ReactiveBlock ReactiveSwitchCase ReactiveTerminalStatement
-    → layer.ReactiveStatement-F Held Held Held Held Held Held Held
+abbrev with_held_statement : OpenStatement → layer.ReactiveStatement-F Held Held Held Held Held Held Held
 with_held_statement = map-ReactiveStatement ReactiveStatement ReactiveTerminal PrunedReactiveScopeBlock
     ReactiveScopeBlock ReactiveBlock ReactiveSwitchCase ReactiveTerminalStatement
     Held Held Held Held Held Held Held held_statement held_terminal held_pruned_scope held_scope held held_case
     held_labeled
 
-abbrev with_scopes_terminal : layer.ReactiveTerminal-F ReactiveStatement ReactiveTerminal PrunedReactiveScopeBlock
-    ReactiveScopeBlock ReactiveBlock ReactiveSwitchCase ReactiveTerminalStatement
-    → layer.ReactiveTerminal-F Scopes Scopes Scopes Scopes Scopes Scopes Scopes
+abbrev with_scopes_terminal : OpenTerminal → layer.ReactiveTerminal-F Scopes Scopes Scopes Scopes Scopes Scopes Scopes
 with_scopes_terminal = map-ReactiveTerminal ReactiveStatement ReactiveTerminal PrunedReactiveScopeBlock
     ReactiveScopeBlock ReactiveBlock ReactiveSwitchCase ReactiveTerminalStatement
     Scopes Scopes Scopes Scopes Scopes Scopes Scopes
     scopes_in_statement scopes_in_terminal scopes_in_pruned_scope scopes_in_scope scopes_in scopes_in_case
     scopes_in_labeled
 
-abbrev with_held_terminal : layer.ReactiveTerminal-F ReactiveStatement ReactiveTerminal PrunedReactiveScopeBlock
-    ReactiveScopeBlock ReactiveBlock ReactiveSwitchCase ReactiveTerminalStatement
-    → layer.ReactiveTerminal-F Held Held Held Held Held Held Held
+abbrev with_held_terminal : OpenTerminal → layer.ReactiveTerminal-F Held Held Held Held Held Held Held
 with_held_terminal = map-ReactiveTerminal ReactiveStatement ReactiveTerminal PrunedReactiveScopeBlock ReactiveScopeBlock
     ReactiveBlock ReactiveSwitchCase ReactiveTerminalStatement
     Held Held Held Held Held Held Held held_statement held_terminal held_pruned_scope held_scope held held_case

@@ -1,6 +1,6 @@
 -- Where every number of a tree is in its table, unused scopes are pruned without a fault.
-use Rattle.std.proofs.Common.{◌≡◌, ◌⊎◌, inl, inr, ℕ, ◌<◌, ◌≤◌, Bool, false, List, [], ◌∷◌, length, get_or, Option, None}
-use Rattle.std.proofs.Common.{Some, Result, Ok, Err, All, Any, slice_get, arith, refl, sym, ap, subst}
+use Rattle.std.proofs.Common.{◌≡◌, ℕ, Bool, false, List, [], ◌∷◌, Option, None}
+use Rattle.std.proofs.Common.{Some, Result, Ok, Err, All, Any, slice_get, arith, refl, subst}
 use Rattle.rc_tree.proofs.PlaceLemmas.{past_end}
 use Rattle.rc_hir.specs.Names.{IsInTable, IsOutside, lengths}
 use Rattle.rc_hir.specs.PartNames.{Name, scope_name}

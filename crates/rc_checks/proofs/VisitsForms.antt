@@ -9,6 +9,7 @@ use Rattle.rc_names.specs.declared.numbers.BlockId.{BlockId}
 use Rattle.rc_names.specs.declared.numbers.EvaluationOrder.{EvaluationOrder}
 use Rattle.rc_names.specs.declared.numbers.ScopeId.{ScopeId}
 use Rattle.rc_names.specs.declared.span.Span.{Span}
+use Rattle.rc_tree.specs.Opened.{OpenStatement, OpenTerminal}
 use Rattle.rc_tree.specs.declared.kind.ReactiveTerminalTargetKind.{ReactiveTerminalTargetKind}
 use Rattle.rc_tree.specs.declared.scope.PrunedReactiveScopeBlock.{PrunedReactiveScopeBlock}
 use Rattle.rc_tree.specs.declared.scope.ReactiveScopeBlock.{ReactiveScopeBlock}
@@ -23,7 +24,6 @@ use Rattle.rc_tree.specs.declared.statement.ReactiveStatement.TheFolds.{fold-rol
 use Rattle.rc_tree.specs.declared.statement.ReactiveStatement.TheFolds.{fold-roll-ReactiveTerminalStatement}
 use Rattle.rc_tree.specs.declared.statement.ReactiveStatement.TheFolds.{map-ReactiveStatement, map-ReactiveTerminal}
 use Rattle.rc_tree.specs.declared.statement.ReactiveStatement.TheOpen as layer
-use Rattle.rc_tree.specs.declared.statement.ReactiveStatement.TheOpen.{ReactiveStatement-F, ReactiveTerminal-F}
 use Rattle.rc_tree.specs.declared.statement.ReactiveStatement.TheVariants as stmt
 use Rattle.rc_tree.specs.declared.terminal.ReactiveSwitchCase.{ReactiveSwitchCase, roll-ReactiveSwitchCase}
 use Rattle.rc_tree.specs.declared.terminal.ReactiveTerminal.{ReactiveTerminal, roll-ReactiveTerminal}
@@ -101,8 +101,7 @@ module _ (functions : List HirFunction) (around : List ScopeId) where
       (record { id = x.id; lvalue = x.lvalue; value = x.value; span = x.span }))
 
   -- a terminal by the visits of its parts
-  terminal_form : (y : ReactiveTerminal-F ReactiveStatement ReactiveTerminal PrunedReactiveScopeBlock ReactiveScopeBlock
-      ReactiveBlock ReactiveSwitchCase ReactiveTerminalStatement) →
+  terminal_form : (y : OpenTerminal) →
       parts_visits functions (roll-ReactiveTerminal y) around
       ≡ of_parts functions
       (map-ReactiveTerminal ReactiveStatement ReactiveTerminal PrunedReactiveScopeBlock ReactiveScopeBlock
@@ -246,8 +245,7 @@ module _ (functions : List HirFunction) (around : List ScopeId) where
       (of_terminal functions) (record { test = test; block = Some body }))
 
   -- a statement by the visits of its parts
-  statement_form : (y : ReactiveStatement-F ReactiveStatement ReactiveTerminal PrunedReactiveScopeBlock
-      ReactiveScopeBlock ReactiveBlock ReactiveSwitchCase ReactiveTerminalStatement) →
+  statement_form : (y : OpenStatement) →
       statement_visits functions (roll-ReactiveStatement y) around
       ≡ of_statement functions
       (map-ReactiveStatement ReactiveStatement ReactiveTerminal PrunedReactiveScopeBlock ReactiveScopeBlock

@@ -5,6 +5,7 @@
 use Rattle.std.specs.Prelude.{◌≡◌, ℕ, suc, List, [], ◌∷◌, Option, None, Some, Contains, flat_map, slice_get, take}
 use Rattle.std.specs.Prelude.{option_and_then}
 use Rattle.rc_names.specs.declared.numbers.BlockId.{BlockId}
+use Rattle.rc_tree.specs.Opened.{OpenTerminal}
 use Rattle.rc_tree.specs.declared.scope.PrunedReactiveScopeBlock.{PrunedReactiveScopeBlock}
 use Rattle.rc_tree.specs.declared.scope.ReactiveScopeBlock.{ReactiveScopeBlock}
 use Rattle.rc_tree.specs.declared.statement.ReactiveBlock.{ReactiveBlock}
@@ -94,12 +95,6 @@ label_block (Some label) = label.id ∷ []
 -- the labels of these terminals
 abbrev pub labels_of : Terminals → List BlockId
 labels_of terminals = flat_map (λ x. label_block x.label) terminals
-
--- a terminal with its blocks
-abbrev pub OpenTerminal : Type 0
-OpenTerminal =
-    ReactiveTerminal-F ReactiveStatement ReactiveTerminal PrunedReactiveScopeBlock ReactiveScopeBlock ReactiveBlock
-    ReactiveSwitchCase ReactiveTerminalStatement
 
 -- the block that a break or continue names
 abbrev pub target_of : OpenTerminal → Option BlockId

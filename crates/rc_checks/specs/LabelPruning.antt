@@ -4,9 +4,10 @@
 -- before it is judged. One that stays takes them back.
 use Rattle.std.specs.Prelude.{◌≡◌, ℕ, Bool, true, false, List, [], ◌∷◌, ◌++◌, Option, None, Some, Result, Ok}
 use Rattle.std.specs.Prelude.{drop, reverse, take}
-use Rattle.rc_checks.specs.Labels.{OpenTerminal, Targets, label_rules}
+use Rattle.rc_checks.specs.Labels.{Targets, label_rules}
 use Rattle.rc_hir.specs.declared.fault.Fault.{Fault}
 use Rattle.rc_names.specs.declared.numbers.EvaluationOrder.{EvaluationOrder}
+use Rattle.rc_tree.specs.Opened.{OpenTerminal}
 use Rattle.rc_tree.specs.Outcome.{bind}
 use Rattle.rc_tree.specs.Rebuilt.{rebuilt_statement}
 use Rattle.rc_tree.specs.declared.statement.ReactiveBlock.{ReactiveBlock}

@@ -4,9 +4,8 @@
 -- nested scope blocks. Blocks are judged from the inside. A `Return` in a nested scope block doesn't count, also where
 -- that block becomes a pruned one; one in a block that was pruned before does.
 use Rattle.std.specs.Prelude.{◌≡◌, Bool, true, false, List, [], ◌∷◌, Option, None, Some, Result, Ok, Err, nat_eq}
-use Rattle.std.specs.Prelude.{slice_get, not, ◌||◌, if◌then◌else◌}
+use Rattle.std.specs.Prelude.{slice_get, ◌||◌, if◌then◌else◌}
 use Rattle.std.specs.List.{list_any}
-use Rattle.rc_checks.specs.Labels.{OpenTerminal}
 use Rattle.rc_hir.specs.declared.environment.Environment.{Environment}
 use Rattle.rc_hir.specs.declared.fault.Fault.{Fault}
 use Rattle.rc_hir.specs.declared.fault.Fault.TheVariants.{BadName}
@@ -14,6 +13,7 @@ use Rattle.rc_hir.specs.declared.fault.TableName.TheVariants.{Scopes}
 use Rattle.rc_hir.specs.declared.scope.DeclarationEntry.{DeclarationEntry}
 use Rattle.rc_hir.specs.declared.scope.ReactiveScope.{ReactiveScope}
 use Rattle.rc_names.specs.declared.numbers.ScopeId.{ScopeId}
+use Rattle.rc_tree.specs.Opened.{OpenTerminal}
 use Rattle.rc_tree.specs.Outcome.{bind}
 use Rattle.rc_tree.specs.Rebuilt.{Rules, rebuilt_block}
 use Rattle.rc_tree.specs.declared.scope.PrunedReactiveScopeBlock.{PrunedReactiveScopeBlock}

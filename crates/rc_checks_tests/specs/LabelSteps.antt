@@ -1,6 +1,7 @@
 -- The steps of label pruning as a transform: its answers, and what it leaves in a terminal.
 use Rattle.std.specs.Prelude.{Option, None, Some, List, [], Ok}
-use Rattle.rc_checks.specs.Labels.{OpenTerminal, Targets, flattened, label_after, targets_behind}
+use Rattle.rc_checks.specs.Labels.{Targets, flattened, label_after, targets_behind}
+use Rattle.rc_tree.specs.Opened.{OpenTerminal}
 use Rattle.rc_tree.specs.StatementSteps.{StatementSteps}
 use Rattle.rc_tree.specs.declared.statement.ReactiveStatement.{ReactiveStatement}
 use Rattle.rc_tree.specs.declared.statement.ReactiveStatement.TheOpen as layer

@@ -2,14 +2,14 @@
 --
 -- First the laws that the walk's lemma asks for, and then what a pass cites.
 use Rattle.std.proofs.Common.{◌≡◌, List, [], ◌∷◌, ◌++◌, append-nil, Option, None, Some, option_map, Result, Ok, Err}
-use Rattle.std.proofs.Common.{OnOk, refl, sym, ap, ◌∙◌, subst}
+use Rattle.std.proofs.Common.{OnOk, refl, sym, ap, ◌∙◌}
 use Rattle.std.proofs.lemmas.List.Concat.{flat_map-append}
 use Rattle.rc_hir.specs.declared.fault.Fault.{Fault}
 use Rattle.rc_hir.specs.declared.function.HirFunction.{HirFunction}
 use Rattle.rc_hir.specs.declared.instruction.InstructionValue.{InstructionValue}
 use Rattle.rc_tree.specs.Outcome.{Gives}
 use Rattle.rc_tree.specs.Rewrite.{rewrite_block}
-use Rattle.rc_tree.specs.RewriteKeeps.{AlikeIf, Measure, block, one, Compositional, KeepsMeasure}
+use Rattle.rc_tree.specs.RewriteKeeps.{AlikeIf, Measure, block, Compositional, KeepsMeasure}
 use Rattle.rc_tree.specs.RewriteSteps.{RewriteSteps}
 use Rattle.rc_tree.specs.declared.function.ReactiveFunction.{ReactiveFunction}
 use Rattle.rc_tree.specs.declared.value.ReactiveInstruction.{ReactiveInstruction}

@@ -7,6 +7,7 @@ use Rattle.rc_names.specs.declared.span.Span.{Span}
 use Rattle.rc_hir.specs.declared.instruction.InstructionValue.{InstructionValue}
 use Rattle.rc_hir.specs.declared.instruction.LogicalOperator.{LogicalOperator}
 use Rattle.rc_hir.specs.declared.place.Place.{Place}
+use Rattle.rc_tree.specs.Opened.{OpenStatement, OpenTerminal}
 use Rattle.rc_tree.specs.RewriteKeeps.{block}
 use Rattle.rc_tree.specs.declared.kind.ReactiveTerminalTargetKind.{ReactiveTerminalTargetKind}
 use Rattle.rc_tree.specs.declared.value.ReactiveInstruction.{ReactiveInstruction}
@@ -113,35 +114,27 @@ erased_labeled = fold-ReactiveTerminalStatement (List ReactiveStatement) Reactiv
     of_statement of_terminal of_pruned_scope of_scope of_block of_case of_labeled
 
 -- statements, cases and terminals, by their first layers
-abbrev left_statement :
-    ReactiveStatement-F ReactiveStatement ReactiveTerminal PrunedReactiveScopeBlock ReactiveScopeBlock ReactiveBlock
-    ReactiveSwitchCase ReactiveTerminalStatement → Erased ReactiveStatement-F
+abbrev left_statement : OpenStatement → Erased ReactiveStatement-F
 left_statement = map-ReactiveStatement ReactiveStatement ReactiveTerminal PrunedReactiveScopeBlock ReactiveScopeBlock
     ReactiveBlock ReactiveSwitchCase ReactiveTerminalStatement
     (List ReactiveStatement) ReactiveTerminal (List ReactiveStatement) (List ReactiveStatement) ReactiveBlock
     ReactiveSwitchCase ReactiveTerminalStatement
     erased_statement erased_terminal erased_pruned_scope erased_scope erased_block erased_case erased_labeled
 
-abbrev left_terminal :
-    ReactiveTerminal-F ReactiveStatement ReactiveTerminal PrunedReactiveScopeBlock ReactiveScopeBlock ReactiveBlock
-    ReactiveSwitchCase ReactiveTerminalStatement → Erased ReactiveTerminal-F
+abbrev left_terminal : OpenTerminal → Erased ReactiveTerminal-F
 left_terminal = map-ReactiveTerminal ReactiveStatement ReactiveTerminal PrunedReactiveScopeBlock ReactiveScopeBlock
     ReactiveBlock ReactiveSwitchCase ReactiveTerminalStatement
     (List ReactiveStatement) ReactiveTerminal (List ReactiveStatement) (List ReactiveStatement) ReactiveBlock
     ReactiveSwitchCase ReactiveTerminalStatement
     erased_statement erased_terminal erased_pruned_scope erased_scope erased_block erased_case erased_labeled
 
-rolled_statement : (l : ReactiveStatement-F ReactiveStatement ReactiveTerminal PrunedReactiveScopeBlock
-    ReactiveScopeBlock ReactiveBlock ReactiveSwitchCase ReactiveTerminalStatement)
-    → erased_statement (roll-ReactiveStatement l) ≡ of_statement (left_statement l)
+rolled_statement : (l : OpenStatement) → erased_statement (roll-ReactiveStatement l) ≡ of_statement (left_statement l)
 unfolding erased_block erased_statement erased_case erased_terminal
 rolled_statement l = fold-roll-ReactiveStatement (List ReactiveStatement) ReactiveTerminal (List ReactiveStatement)
     (List ReactiveStatement) ReactiveBlock ReactiveSwitchCase ReactiveTerminalStatement
     of_statement of_terminal of_pruned_scope of_scope of_block of_case of_labeled l
 
-rolled_terminal : (l : ReactiveTerminal-F ReactiveStatement ReactiveTerminal PrunedReactiveScopeBlock ReactiveScopeBlock
-    ReactiveBlock ReactiveSwitchCase ReactiveTerminalStatement)
-    → erased_terminal (roll-ReactiveTerminal l) ≡ of_terminal (left_terminal l)
+rolled_terminal : (l : OpenTerminal) → erased_terminal (roll-ReactiveTerminal l) ≡ of_terminal (left_terminal l)
 unfolding erased_block erased_statement erased_case erased_terminal
 rolled_terminal l = fold-roll-ReactiveTerminal (List ReactiveStatement) ReactiveTerminal (List ReactiveStatement)
     (List ReactiveStatement) ReactiveBlock ReactiveSwitchCase ReactiveTerminalStatement

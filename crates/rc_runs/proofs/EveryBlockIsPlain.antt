@@ -3,6 +3,7 @@
 -- By induction over the tree, where each part comes with the plain part that it is the tree of.
 use Rattle.std.proofs.Common.{◌≡◌, List, [], ◌∷◌, Option, Some, None, map, option_map, refl, sym, ap, ◌∙◌, subst}
 use Rattle.rc_hir.specs.declared.place.Place.{Place}
+use Rattle.rc_tree.specs.Opened.{OpenStatement, OpenTerminal}
 use Rattle.rc_tree.specs.declared.value.ReactiveInstruction.{ReactiveInstruction}
 use Rattle.rc_tree.specs.declared.value.ReactiveValue.{ReactiveValue, ReactiveValue-F, roll-ReactiveValue}
 use Rattle.rc_tree.specs.declared.value.ReactiveValue.TheVariants as values
@@ -136,24 +137,14 @@ PlainTerminalLayer = ReactiveTerminal-F PlainStatement PlainTerminal PlainPruned
     PlainLabeled
 
 -- the same layers over the parts alone
-abbrev StatementLayer : Type 0
-StatementLayer =
-    ReactiveStatement-F ReactiveStatement ReactiveTerminal PrunedReactiveScopeBlock ReactiveScopeBlock ReactiveBlock
-    ReactiveSwitchCase ReactiveTerminalStatement
-
-abbrev TerminalLayer : Type 0
-TerminalLayer =
-    ReactiveTerminal-F ReactiveStatement ReactiveTerminal PrunedReactiveScopeBlock ReactiveScopeBlock ReactiveBlock
-    ReactiveSwitchCase ReactiveTerminalStatement
-
-abbrev bare_statement : PlainStatementLayer → StatementLayer
+abbrev bare_statement : PlainStatementLayer → OpenStatement
 bare_statement = map-ReactiveStatement PlainStatement PlainTerminal PlainPrunedScope PlainScope PlainBlock PlainCase
     PlainLabeled
     ReactiveStatement ReactiveTerminal PrunedReactiveScopeBlock ReactiveScopeBlock ReactiveBlock ReactiveSwitchCase
     ReactiveTerminalStatement
     (λ e. e.0) (λ e. e.0) (λ e. e.0) (λ e. e.0) (λ e. e.0) (λ e. e.0) (λ e. e.0)
 
-abbrev bare_terminal : PlainTerminalLayer → TerminalLayer
+abbrev bare_terminal : PlainTerminalLayer → OpenTerminal
 bare_terminal = map-ReactiveTerminal PlainStatement PlainTerminal PlainPrunedScope PlainScope PlainBlock PlainCase
     PlainLabeled
     ReactiveStatement ReactiveTerminal PrunedReactiveScopeBlock ReactiveScopeBlock ReactiveBlock ReactiveSwitchCase

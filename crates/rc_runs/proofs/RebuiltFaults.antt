@@ -1,13 +1,12 @@
 -- Where rules fault at the scope blocks alone, the fault of a rebuilt tree is one of a number that stands in the tree.
-use Rattle.std.proofs.Common.{◌≡◌, ◌∙◌, ◌⊎◌, inl, inr, ◌+◌, List, [], ◌∷◌, ◌++◌, length, length-append, Option, None}
-use Rattle.std.proofs.Common.{Some, option_map, map, Result, Ok, Err, arith, refl, sym, ap, subst}
+use Rattle.std.proofs.Common.{◌≡◌, ◌∙◌, ◌⊎◌, inl, inr, ◌+◌, List, ◌++◌, length, length-append}
+use Rattle.std.proofs.Common.{option_map, map, Result, Ok, Err, arith, refl, sym, ap, subst}
 use Rattle.std.specs.List.{Any}
 use Rattle.std.proofs.Math.ListN.{get_or-append}
 use Rattle.std.proofs.lemmas.List.{get_or-append-add}
 use Rattle.rc_hir.specs.PartNames.{Name, perhaps, place_names, scope_name}
 use Rattle.rc_names.specs.declared.numbers.ScopeId.{ScopeId}
 use Rattle.rc_hir.specs.declared.fault.Fault.{Fault}
-use Rattle.rc_hir.specs.declared.place.Place.{Place}
 use Rattle.rc_tree.specs.Outcome.{bind}
 use Rattle.rc_tree.specs.Rebuilt.{Rules, joined, in_order, rebuilt_block, rebuilt_case, rebuilt_labeled}
 use Rattle.rc_tree.specs.Rebuilt.{rebuilt_pruned_scope, rebuilt_scope, rebuilt_statement, rebuilt_terminal}
@@ -19,7 +18,7 @@ use Rattle.rc_tree.specs.declared.statement.ReactiveBlock.{ReactiveBlock}
 use Rattle.rc_tree.specs.declared.statement.ReactiveStatement.{ReactiveStatement}
 use Rattle.rc_tree.specs.declared.statement.ReactiveStatement.TheVariants as stmt
 use Rattle.rc_tree.specs.declared.terminal.ReactiveSwitchCase.{ReactiveSwitchCase, roll-ReactiveSwitchCase}
-use Rattle.rc_tree.specs.declared.terminal.ReactiveSwitchCase.{out-ReactiveSwitchCase, out-roll-ReactiveSwitchCase}
+use Rattle.rc_tree.specs.declared.terminal.ReactiveSwitchCase.{out-roll-ReactiveSwitchCase}
 use Rattle.rc_tree.specs.declared.terminal.ReactiveTerminalStatement.{ReactiveTerminalStatement}
 use Rattle.rc_tree.specs.declared.value.ReactiveInstruction.{ReactiveInstruction}
 use Rattle.rc_tree.proofs.RebuiltLemmas.{if_some, rebuilt-block, rebuilt-labeled, rebuilt-scope, rebuilt-pruned_scope}

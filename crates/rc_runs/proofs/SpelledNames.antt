@@ -9,7 +9,7 @@ use Rattle.rc_names.specs.declared.numbers.BlockId.{BlockId}
 use Rattle.rc_names.specs.declared.numbers.EvaluationOrder.{EvaluationOrder}
 use Rattle.rc_names.specs.declared.numbers.InstructionId.{InstructionId}
 use Rattle.rc_names.specs.declared.numbers.ScopeId.{ScopeId}
-use Rattle.rc_hir.specs.GraphNames.{Name, block_names, function_names, instruction_names, parameter_names, place_names}
+use Rattle.rc_hir.specs.GraphNames.{Name, block_names, instruction_names, parameter_names, place_names}
 use Rattle.rc_hir.specs.GraphNames.{row_name, terminal_names, under_key}
 use Rattle.rc_hir.specs.PartNames.{scope_name}
 use Rattle.rc_hir.specs.ValueNames.{value_names}
@@ -28,7 +28,7 @@ use Rattle.rc_tree.specs.declared.terminal.ReactiveLabel.{ReactiveLabel}
 use Rattle.rc_tree.specs.declared.terminal.ReactiveTerminalStatement.{ReactiveTerminalStatement}
 use Rattle.rc_tree.specs.declared.value.ReactiveInstruction.{ReactiveInstruction}
 use Rattle.rc_tree.specs.declared.value.ReactiveValue.TheVariants as val
-use Rattle.rc_runs.specs.Graph.{Block, basic_block, block_at, rows_of, usable_block, with_rows}
+use Rattle.rc_runs.specs.Graph.{Block, basic_block, block_at, rows_of, with_rows}
 use Rattle.rc_runs.specs.Grammar.{SpellsList, SpellsRest, SpellsStatement, SpellsTerminal, break_statements}
 use Rattle.rc_runs.specs.Grammar.{rows_before, unlabeled}
 use Rattle.rc_runs.specs.Grammar.{block, returns, unreachable, breaks, and_rest, if_only, if_else, label, scope}

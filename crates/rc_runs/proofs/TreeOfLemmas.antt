@@ -3,21 +3,20 @@
 -- The first layer of the program's tree is plain data, whose variants are distinct and give back their parts; so two
 -- plain trees with one tree have equal first layers, and their parts again have one tree.
 use Rattle.std.proofs.Common.{◌≡◌, List, ◌∷◌, Option, Some, None, refl, sym, ap, ◌∙◌, option_map}
+use Rattle.rc_tree.specs.Opened.{OpenStatement, OpenTerminal, OpenCase}
 use Rattle.rc_tree.specs.declared.value.ReactiveInstruction.{ReactiveInstruction}
 use Rattle.rc_tree.specs.declared.value.ReactiveValue.{ReactiveValue, ReactiveValue-F, out-ReactiveValue}
 use Rattle.rc_tree.specs.declared.value.ReactiveValue.TheVariants as values
 use Rattle.rc_tree.specs.declared.value.ReactiveValue.TheOpen as value_layers
 use Rattle.rc_tree.specs.declared.statement.ReactiveBlock.{ReactiveBlock}
-use Rattle.rc_tree.specs.declared.statement.ReactiveStatement.{ReactiveStatement, ReactiveStatement-F}
 use Rattle.rc_tree.specs.declared.statement.ReactiveStatement.{out-ReactiveStatement}
 use Rattle.rc_tree.specs.declared.statement.ReactiveStatement.TheVariants as statements
 use Rattle.rc_tree.specs.declared.statement.ReactiveStatement.TheOpen as layers
 use Rattle.rc_tree.specs.declared.scope.ReactiveScopeBlock.{ReactiveScopeBlock}
 use Rattle.rc_tree.specs.declared.scope.PrunedReactiveScopeBlock.{PrunedReactiveScopeBlock}
-use Rattle.rc_tree.specs.declared.terminal.ReactiveTerminal.{ReactiveTerminal, ReactiveTerminal-F, out-ReactiveTerminal}
+use Rattle.rc_tree.specs.declared.terminal.ReactiveTerminal.{out-ReactiveTerminal}
 use Rattle.rc_tree.specs.declared.terminal.ReactiveTerminal.TheVariants as terminals
 use Rattle.rc_tree.specs.declared.terminal.ReactiveTerminalStatement.{ReactiveTerminalStatement}
-use Rattle.rc_tree.specs.declared.terminal.ReactiveSwitchCase.{ReactiveSwitchCase, ReactiveSwitchCase-F}
 use Rattle.rc_tree.specs.declared.terminal.ReactiveSwitchCase.{out-ReactiveSwitchCase, roll-ReactiveSwitchCase}
 use Rattle.rc_tree.specs.declared.terminal.ReactiveSwitchCase.{out-roll-ReactiveSwitchCase}
 use Rattle.rc_hir.specs.declared.place.Place.{Place}
@@ -103,25 +102,7 @@ option_value-injective (Some a) (Some b) e = ap Some (value_of-injective a b (cc
 option_value-injective a b e = absurd (let bad : ⊥ = cc in bad)
 
 -- the first layers of a statement's tree and of a terminal's
-abbrev StatementLayer : Type 0
-StatementLayer =
-    ReactiveStatement-F ReactiveStatement ReactiveTerminal PrunedReactiveScopeBlock ReactiveScopeBlock ReactiveBlock
-    ReactiveSwitchCase
-    ReactiveTerminalStatement
-
-abbrev TerminalLayer : Type 0
-TerminalLayer =
-    ReactiveTerminal-F ReactiveStatement ReactiveTerminal PrunedReactiveScopeBlock ReactiveScopeBlock ReactiveBlock
-    ReactiveSwitchCase
-    ReactiveTerminalStatement
-
-abbrev CaseLayer : Type 0
-CaseLayer =
-    ReactiveSwitchCase-F ReactiveStatement ReactiveTerminal PrunedReactiveScopeBlock ReactiveScopeBlock ReactiveBlock
-    ReactiveSwitchCase
-    ReactiveTerminalStatement
-
-abbrev statement_layer : Statement → StatementLayer
+abbrev statement_layer : Statement → OpenStatement
 statement_layer (RowStatement id target value span) =
     layers.Instruction (record { id = id; lvalue = target; value = value_of value; span = span })
 statement_layer (TerminalStatement terminal label) =
@@ -130,7 +111,7 @@ statement_layer (ScopeStatement scope body) = layers.Scope (record { scope = sco
 statement_layer (PrunedScopeStatement scope body) =
     layers.PrunedScope (record { scope = scope; instructions = block_of body })
 
-abbrev terminal_layer : TreeTerminal → TerminalLayer
+abbrev terminal_layer : TreeTerminal → OpenTerminal
 terminal_layer (Break target kind id) = layers.Break target kind id
 terminal_layer (Continue target kind id) = layers.Continue target kind id
 terminal_layer (Return value id) = layers.Return value id
@@ -186,19 +167,19 @@ case_parts : (test test' : Option Place) (body body' : Option ReactiveBlock) →
     (test ≡ test') × (body ≡ body')
 case_parts test test' body body' e =
     let same = sym (out-roll-ReactiveSwitchCase _) ∙ (ap out-ReactiveSwitchCase e ∙ out-roll-ReactiveSwitchCase _) in
-    (ap (λ (c : CaseLayer). c.test) same, ap (λ (c : CaseLayer). c.block) same)
+    (ap (λ (c : OpenCase). c.test) same, ap (λ (c : OpenCase). c.block) same)
 
 -- the parts of statements with equal first layers
-abbrev row_of : ReactiveInstruction → StatementLayer
+abbrev row_of : ReactiveInstruction → OpenStatement
 row_of row = layers.Instruction row
 
-abbrev terminal_statement_of : ReactiveTerminalStatement → StatementLayer
+abbrev terminal_statement_of : ReactiveTerminalStatement → OpenStatement
 terminal_statement_of statement = layers.Terminal statement
 
-abbrev scope_of : ReactiveScopeBlock → StatementLayer
+abbrev scope_of : ReactiveScopeBlock → OpenStatement
 scope_of scope = layers.Scope scope
 
-abbrev pruned_scope_of : PrunedReactiveScopeBlock → StatementLayer
+abbrev pruned_scope_of : PrunedReactiveScopeBlock → OpenStatement
 pruned_scope_of scope = layers.PrunedScope scope
 
 row_statement_parts : (a b : ReactiveInstruction) → row_of a ≡ row_of b → RowParts a b

@@ -1,5 +1,5 @@
 -- what the pruned block is, from the empty set of targets
-use Rattle.std.proofs.Common.{Result, Ok, refl}
+use Rattle.std.proofs.Common.{Ok, refl}
 use Rattle.rc_checks.proofs.LabelLemmas.{without_labels}
 use Rattle.rc_checks.proofs.LabelsKeepRuns.{labels_keep_runs}
 use Rattle.rc_checks.proofs.NamesStay.{known_without_labels}
