@@ -1,33 +1,19 @@
 -- A kept place finds an open scope, and no other; and what opening and closing leave of the places.
 use Rattle.std.proofs.Common.{◌≡◌, ℕ, suc, zero, Bool, true, false, cond, ◌||◌, List, [], ◌∷◌, ◌++◌, reverse, length}
 use Rattle.std.proofs.Common.{slice_get, Option, None, Some, Result, Ok, Err, refl, sym, ap, subst, ◌∙◌, true≢false}
-use Rattle.std.proofs.Common.{if◌then◌else◌, eqb-true, arith}
+use Rattle.std.proofs.Common.{if◌then◌else◌, arith}
 use Rattle.std.specs.Prelude.{OnOk, OnErr, IfSome, IfNone}
-use Rattle.std.specs.Cmp.{IsEquivalence}
 use Rattle.std.specs.Map.{lookup}
-use Rattle.std.proofs.lemmas.Cmp.{nat_eq_equiv}
 use Rattle.std.proofs.lemmas.List.{length-reverse, reverse-append, reverse-reverse}
 use Rattle.std.proofs.lemmas.List.Folds.{list_any-append}
 use Rattle.std.proofs.lemmas.Map.Keys.{any_passes_from_place}
 use Rattle.std.proofs.lemmas.Option.{slice_get_past}
 use Rattle.indexmap.specs.IndexMap.{insert_entry}
 use Rattle.rc_names.specs.declared.numbers.ScopeId.{ScopeId}
-use Rattle.rc_checks.specs.Membership.{same_scope, is_among}
+use Rattle.rc_runs.specs.Spelled.{same_scope}
+use Rattle.rc_runs.proofs.GraphLemmas.{same_scope-eq, scopes_equivalence}
+use Rattle.rc_checks.specs.Membership.{is_among}
 use Rattle.rc_checks.specs.OpenScopes.{outer_or, outermost_place, ArePlaces}
-
--- scopes with one number are the same
-
-pub same_scope-eq : (a b : ScopeId) → same_scope a b ≡ true → a ≡ b
-same_scope-eq a b same =
-    let of_number : ℕ → ScopeId = λ number. record { 0 = number } in
-    ap of_number (eqb-true a.0 b.0 same)
-
-pub scopes_equivalence : IsEquivalence same_scope
-scopes_equivalence = record {
-  refl = λ x. nat_eq_equiv.refl x.0;
-  symm = λ x y. nat_eq_equiv.symm x.0 y.0;
-  congr = λ x y z. nat_eq_equiv.congr x.0 y.0 z.0;
-}
 
 -- lists turned round
 

@@ -35,7 +35,7 @@ use Rattle.rc_runs.specs.PlainTree.{Statements, Nil, Cons, Statement, RowStateme
 use Rattle.rc_runs.specs.PlainTree.{PrunedScopeStatement, TreeTerminal, Break, Continue, Return, Throw, Switch, DoWhile}
 use Rattle.rc_runs.specs.PlainTree.{While, For, ForOf, ForIn, If, Label, Try, Alternate, Absent, Present, Cases}
 use Rattle.rc_runs.specs.PlainTree.{NoCases, Case}
-use Rattle.rc_runs.specs.TreeOf.{alternate_of, block_of, cases_of, rows_of, statement_of, statements_of, terminal_of}
+use Rattle.rc_runs.specs.TreeOf.{alternate_of, block_of, cases_of, instructions_of, statement_of, statements_of, terminal_of}
 use Rattle.rc_runs.specs.TreeOf.{value_of}
 use Rattle.rc_runs.proofs.AllLemmas.{All-left, All-right, All-flat_map}
 use Rattle.rc_runs.proofs.EveryBlockIsPlain.{every_block_is_plain}
@@ -194,16 +194,16 @@ module _ (env : Environment) (rows : ℕ) (blocks : List ScopeId) (functions : A
         (both (value_covers test id around)
         (both (value_covers consequent id around) (value_covers alternate id around)))
     value_covers (Sequence inner own x) id around =
-        by_form (names.value-SequenceExpression (rows_of inner) own (value_of x))
-        (visits.value-SequenceExpression env.functions around (rows_of inner) own (value_of x) id)
+        by_form (names.value-SequenceExpression (instructions_of inner) own (value_of x))
+        (visits.value-SequenceExpression env.functions around (instructions_of inner) own (value_of x) id)
         (both (rows_cover inner around) (value_covers x own around))
     value_covers (Optional x optional) id around =
         by_form (names.value-OptionalExpression (value_of x) optional)
         (visits.value-OptionalExpression env.functions around (value_of x) optional id) (value_covers x id around)
 
     rows_cover : (inner : Rows) (around : List ScopeId) →
-        Covers (one_by_one (map names_in_row (rows_of inner)))
-        (flat_map (λ row. row around) (map (row_visits env.functions) (rows_of inner)))
+        Covers (one_by_one (map names_in_row (instructions_of inner)))
+        (flat_map (λ row. row around) (map (row_visits env.functions) (instructions_of inner)))
     rows_cover NoRows around = none
     rows_cover (Row id target x span rest) around =
         let row : ReactiveInstruction = record { id = id; lvalue = target; value = value_of x; span = span } in

@@ -3,7 +3,7 @@
 -- An operand is outside where its identifier has a scope, the operand is visited inside that scope's range, the scope
 -- has
 -- a scope block in the tree, and no block of it is around the operand.
-use Rattle.std.specs.Prelude.{◌≡◌, Bool, ◌&&◌, not, nat_eq, nat_le, nat_lt, List, ◌∷◌, ◌++◌, Option, None, Some, Result}
+use Rattle.std.specs.Prelude.{◌≡◌, Bool, ◌&&◌, not, nat_le, nat_lt, List, ◌∷◌, ◌++◌, Option, None, Some, Result}
 use Rattle.std.specs.Prelude.{Ok, Err, All, slice_get, if◌then◌else◌}
 use Rattle.std.specs.List.{list_any}
 use Rattle.rc_hir.specs.declared.environment.Environment.{Environment}
@@ -16,12 +16,9 @@ use Rattle.rc_hir.specs.declared.scope.ReactiveScope.{ReactiveScope}
 use Rattle.rc_names.specs.declared.numbers.EvaluationOrder.{EvaluationOrder}
 use Rattle.rc_names.specs.declared.numbers.IdentifierId.{IdentifierId}
 use Rattle.rc_names.specs.declared.numbers.ScopeId.{ScopeId}
+use Rattle.rc_runs.specs.Spelled.{same_scope}
 use Rattle.rc_tree.specs.Outcome.{bind}
 use Rattle.rc_checks.specs.Visits.{PlacedOperand, Visit}
-
--- two scopes have one number
-abbrev pub same_scope : ScopeId → ScopeId → Bool
-same_scope a b = nat_eq a.0 b.0
 
 -- one of the scopes is that one
 abbrev pub is_among : List ScopeId → ScopeId → Bool

@@ -3,7 +3,7 @@
 use Rattle.std.specs.Prelude.{◌≡◌, ℕ, Bool, List, [], ◌∷◌, Option, None, Some, length, if◌then◌else◌}
 use Rattle.std.specs.Map.{lookup}
 use Rattle.rc_names.specs.declared.numbers.ScopeId.{ScopeId}
-use Rattle.rc_checks.specs.Membership.{same_scope}
+use Rattle.rc_runs.specs.Spelled.{same_scope}
 
 -- a place further out, or this one where the scope stands here
 abbrev pub outer_or : Option ℕ → Bool → ℕ → Option ℕ

@@ -9,7 +9,7 @@ use Rattle.rc_runs.specs.PlainTree.{Statements, Nil, Cons, Statement, RowStateme
 use Rattle.rc_runs.specs.PlainTree.{PrunedScopeStatement, TreeTerminal, Break, Continue, Return, Throw, Switch, DoWhile}
 use Rattle.rc_runs.specs.PlainTree.{While, For, ForOf, ForIn, If, Label, Try, Alternate, Absent, Present, Cases}
 use Rattle.rc_runs.specs.PlainTree.{NoCases, Case}
-use Rattle.rc_runs.specs.TreeOf.{value_of, rows_of, statements_of, statement_of, terminal_of, alternate_of, cases_of}
+use Rattle.rc_runs.specs.TreeOf.{value_of, instructions_of, statements_of, statement_of, terminal_of, alternate_of, cases_of}
 use Rattle.rc_runs.specs.TreeOf.{block_of}
 use Rattle.rc_runs.specs.Erase.{without_flag, erased_value, erased_row, erased_block, erased_statement, erased_case}
 use Rattle.rc_runs.specs.Erase.{erased_terminal, erased_statements}
@@ -84,16 +84,16 @@ mutual
       ∙ sym (erased-ConditionalExpression (value_of test) (value_of consequent) (value_of alternate))
   value-erased (Sequence rows id value) =
       (λ i. values.SequenceExpression (rows-erased rows i) id (value-erased value i))
-      ∙ sym (erased-SequenceExpression (rows_of rows) id (value_of value))
+      ∙ sym (erased-SequenceExpression (instructions_of rows) id (value_of value))
   value-erased (Optional value optional) =
       (λ i. values.OptionalExpression (value-erased value i) optional)
       ∙ sym (erased-OptionalExpression (value_of value) optional)
 
-  rows-erased : (rows : Rows) → rows_of (plain_rows rows) ≡ map erased_row (rows_of rows)
+  rows-erased : (rows : Rows) → instructions_of (plain_rows rows) ≡ map erased_row (instructions_of rows)
   rows-erased NoRows = refl
   rows-erased (Row id target value span rest) =
       (λ i. record { id = id; lvalue = target; value = value-erased value i; span = span } ∷ rows-erased rest i)
-      ∙ ap (λ row. row ∷ map erased_row (rows_of rest)) (sym
+      ∙ ap (λ row. row ∷ map erased_row (instructions_of rest)) (sym
       (erased-row (record { id = id; lvalue = target; value = value_of value; span = span })))
 
 option_value-erased : (value : Option Value) → option_map value_of (option_map plain_value value)

@@ -27,7 +27,7 @@ use Rattle.rc_runs.specs.PlainTree.{Base, Logical, Conditional, Sequence, Option
 use Rattle.rc_runs.specs.PlainTree.{RowStatement, TerminalStatement, ScopeStatement, PrunedScopeStatement, Break}
 use Rattle.rc_runs.specs.PlainTree.{Continue, Return, Throw, Switch, DoWhile, While, For, ForOf, ForIn, If, Label, Try}
 use Rattle.rc_runs.specs.PlainTree.{Alternate, Absent, Present, NoCases, Case}
-use Rattle.rc_runs.specs.TreeOf.{value_of, rows_of, statements_of, statement_of, terminal_of, alternate_of, cases_of}
+use Rattle.rc_runs.specs.TreeOf.{value_of, instructions_of, statements_of, statement_of, terminal_of, alternate_of, cases_of}
 use Rattle.rc_runs.specs.TreeOf.{block_of}
 
 -- the part is the tree of a plain one
@@ -41,7 +41,7 @@ PlainValue = (x : ReactiveValue) × IsPlain value_of x
 abbrev PlainRow : Type 0
 PlainRow = (x : ReactiveInstruction) × IsPlain value_of x.value
 
-rows_plain : (rows : List PlainRow) → IsPlain rows_of (map (λ e. e.0) rows)
+rows_plain : (rows : List PlainRow) → IsPlain instructions_of (map (λ e. e.0) rows)
 rows_plain [] = (NoRows, refl)
 rows_plain (x ∷ xs) =
     let rest = rows_plain xs in (

@@ -1,15 +1,18 @@
--- What the look-ups of blocks say of each other.
+-- Blocks and scopes by their numbers, and what the look-ups of blocks say of each other.
 use Rattle.std.proofs.Common.{◌≡◌, ℕ, List, Bool, true, false, Option, Some, None, ap, eqb-true, option_and_then}
 use Rattle.std.proofs.Common.{option_map, if◌then◌else◌}
 use Rattle.std.specs.Cmp.{IsEquivalence}
 use Rattle.std.proofs.lemmas.Cmp.{nat_eq_equiv}
 use Rattle.rc_names.specs.declared.numbers.BlockId.{BlockId}
+use Rattle.rc_names.specs.declared.numbers.ScopeId.{ScopeId}
 use Rattle.rc_hir.specs.declared.function.Instruction.{Instruction}
 use Rattle.rc_hir.specs.declared.function.BasicBlock.{BasicBlock}
 use Rattle.rc_hir.specs.declared.function.HirFunction.{HirFunction}
 use Rattle.rc_runs.specs.Graph.{Block, same_block, basic_block, rows_of, with_rows, block_at, has_all_ids, with_ids}
 use Rattle.rc_runs.specs.Graph.{under_own_number, usable_block, is_unreachable, ends_unreachable, is_dead}
+use Rattle.rc_runs.specs.Spelled.{same_scope}
 
+-- blocks with one number are the same, and so are scopes
 pub same_block-eq : (a b : BlockId) → same_block a b ≡ true → a ≡ b
 same_block-eq a b same =
     let of_number : ℕ → BlockId = λ number. record { 0 = number } in
@@ -17,6 +20,18 @@ same_block-eq a b same =
 
 pub blocks_equivalence : IsEquivalence same_block
 blocks_equivalence = record {
+  refl = λ x. nat_eq_equiv.refl x.0;
+  symm = λ x y. nat_eq_equiv.symm x.0 y.0;
+  congr = λ x y z. nat_eq_equiv.congr x.0 y.0 z.0;
+}
+
+pub same_scope-eq : (a b : ScopeId) → same_scope a b ≡ true → a ≡ b
+same_scope-eq a b same =
+    let of_number : ℕ → ScopeId = λ number. record { 0 = number } in
+    ap of_number (eqb-true a.0 b.0 same)
+
+pub scopes_equivalence : IsEquivalence same_scope
+scopes_equivalence = record {
   refl = λ x. nat_eq_equiv.refl x.0;
   symm = λ x y. nat_eq_equiv.symm x.0 y.0;
   congr = λ x y z. nat_eq_equiv.congr x.0 y.0 z.0;

@@ -25,7 +25,7 @@ use Rattle.rc_runs.specs.PlainTree.{Statements, Nil, Cons, Statement, RowStateme
 use Rattle.rc_runs.specs.PlainTree.{PrunedScopeStatement, TreeTerminal, Break, Continue, Return, Throw, Switch, DoWhile}
 use Rattle.rc_runs.specs.PlainTree.{While, For, ForOf, ForIn, If, Label, Try, Alternate, Absent, Present, Cases}
 use Rattle.rc_runs.specs.PlainTree.{NoCases, Case}
-use Rattle.rc_runs.specs.TreeOf.{value_of, rows_of, statements_of, statement_of, terminal_of, alternate_of, cases_of}
+use Rattle.rc_runs.specs.TreeOf.{value_of, instructions_of, statements_of, statement_of, terminal_of, alternate_of, cases_of}
 use Rattle.rc_runs.specs.TreeOf.{block_of}
 
 -- the first layer of a value's tree
@@ -34,7 +34,7 @@ value_layer (Base value) = value_layers.Instruction value
 value_layer (Logical operator left right) = value_layers.LogicalExpression operator (value_of left) (value_of right)
 value_layer (Conditional test consequent alternate) =
     value_layers.ConditionalExpression (value_of test) (value_of consequent) (value_of alternate)
-value_layer (Sequence rows id value) = value_layers.SequenceExpression (rows_of rows) id (value_of value)
+value_layer (Sequence rows id value) = value_layers.SequenceExpression (instructions_of rows) id (value_of value)
 value_layer (Optional value optional) = value_layers.OptionalExpression (value_of value) optional
 
 out-value_of : (value : Value) → out-ReactiveValue (value_of value) ≡ value_layer value
@@ -42,7 +42,7 @@ out-value_of (Base value) = values.outs-Instruction value
 out-value_of (Logical operator left right) = values.outs-LogicalExpression operator (value_of left) (value_of right)
 out-value_of (Conditional test consequent alternate) =
     values.outs-ConditionalExpression (value_of test) (value_of consequent) (value_of alternate)
-out-value_of (Sequence rows id value) = values.outs-SequenceExpression (rows_of rows) id (value_of value)
+out-value_of (Sequence rows id value) = values.outs-SequenceExpression (instructions_of rows) id (value_of value)
 out-value_of (Optional value optional) = values.outs-OptionalExpression (value_of value) optional
 
 same_value_layer : (a b : Value) → value_of a ≡ value_of b → value_layer a ≡ value_layer b
@@ -76,7 +76,7 @@ mutual
       let alternate : a ≡ a' = value_layer-injective a a' (same_value_layer a a' (cc)) in
       cc
   value_layer-injective (Sequence rows id value) (Sequence rows' id' value') e =
-      let before : rows ≡ rows' = rows_of-injective rows rows' (cc) in
+      let before : rows ≡ rows' = instructions_of-injective rows rows' (cc) in
       let last : value ≡ value' = value_layer-injective value value' (same_value_layer value value' (cc)) in
       cc
   value_layer-injective (Optional value optional) (Optional value' optional') e =
@@ -84,14 +84,14 @@ mutual
       cc
   value_layer-injective a b e = absurd (let bad : ⊥ = cc in bad)
 
-  rows_of-injective : (a b : Rows) → rows_of a ≡ rows_of b → a ≡ b
-  rows_of-injective NoRows NoRows e = refl
-  rows_of-injective (Row id target value span rest) (Row id' target' value' span' rest') e =
+  instructions_of-injective : (a b : Rows) → instructions_of a ≡ instructions_of b → a ≡ b
+  instructions_of-injective NoRows NoRows e = refl
+  instructions_of-injective (Row id target value span rest) (Row id' target' value' span' rest') e =
       let parts = row_parts _ _ (first_same _ _ _ _ e) in
       let computed : value ≡ value' = value_layer-injective value value' (same_value_layer value value' parts.2) in
-      let more : rest ≡ rest' = rows_of-injective rest rest' (cc) in
+      let more : rest ≡ rest' = instructions_of-injective rest rest' (cc) in
       cc
-  rows_of-injective a b e = absurd (let bad : ⊥ = cc in bad)
+  instructions_of-injective a b e = absurd (let bad : ⊥ = cc in bad)
 
 pub value_of-injective : (a b : Value) → value_of a ≡ value_of b → a ≡ b
 value_of-injective a b e = value_layer-injective a b (same_value_layer a b e)

@@ -21,13 +21,13 @@ abbrev mutual
   value_of (Logical operator left right) = values.LogicalExpression operator (value_of left) (value_of right)
   value_of (Conditional test consequent alternate) =
       values.ConditionalExpression (value_of test) (value_of consequent) (value_of alternate)
-  value_of (Sequence rows id value) = values.SequenceExpression (rows_of rows) id (value_of value)
+  value_of (Sequence rows id value) = values.SequenceExpression (instructions_of rows) id (value_of value)
   value_of (Optional value optional) = values.OptionalExpression (value_of value) optional
 
-  pub rows_of : Rows → List ReactiveInstruction
-  rows_of NoRows = []
-  rows_of (Row id target value span rest) =
-      record { id = id; lvalue = target; value = value_of value; span = span } ∷ rows_of rest
+  pub instructions_of : Rows → List ReactiveInstruction
+  instructions_of NoRows = []
+  instructions_of (Row id target value span rest) =
+      record { id = id; lvalue = target; value = value_of value; span = span } ∷ instructions_of rest
 
 abbrev mutual
   pub statements_of : Statements → List ReactiveStatement
