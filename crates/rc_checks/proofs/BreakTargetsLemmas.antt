@@ -1,11 +1,12 @@
 -- The check of break targets, terminal by terminal: where it ends is the first jump that names no label met by then.
-use Rattle.std.proofs.Common.{◌≡◌, ◌⊎◌, inl, inr, ℕ, zero, suc, Bool, true, false, List, [], ◌∷◌, ◌++◌, map, flat_map}
+use Rattle.std.proofs.Common.{◌≡◌, ◌⊎◌, inl, inr, ℕ, zero, suc, Bool, true, false, List, [], ◌∷◌, ◌++◌, flat_map}
 use Rattle.std.proofs.Common.{take, Option, None, Some, Result, Ok, Err, Contains, refl, sym, ap, subst, ◌∙◌}
 use Rattle.std.proofs.Common.{if◌then◌else◌, append_assoc, true≢false, arith}
 use Rattle.std.specs.Prelude.{option_and_then, IfErr, OnOk}
 use Rattle.std.specs.List.{list_any}
 use Rattle.std.proofs.lemmas.List.{append-nil}
 use Rattle.std.proofs.lemmas.List.Elements.{Contains-append_left, Contains-push, Contains-push_cases}
+use Rattle.std.proofs.lemmas.List.Folds.{flat_map-map}
 use Rattle.std.proofs.lemmas.Map.Views.{list_any-from_Contains, Contains-from_any}
 use Rattle.std.proofs.lemmas.Option.{slice_get_past}
 use Rattle.rc_hir.specs.declared.fault.Fault.{Fault}
@@ -33,11 +34,6 @@ use Rattle.rc_checks.specs.BreakTargets.{labels_of, jump_target, JumpsTo, AllTar
 use Rattle.rc_checks.specs.TargetSteps.{Labels, with_label, target_step, terminal_step}
 
 -- what is met in a block, and at each form of statement
-
-flat_map-map : {X Y A : Type 0} (f : Y → List A) (g : X → Y) (xs : List X)
-    → flat_map f (map g xs) ≡ flat_map (λ x. f (g x)) xs
-flat_map-map f g [] = refl
-flat_map-map f g (x ∷ xs) = ap (λ l. f (g x) ++ l) (flat_map-map f g xs)
 
 pub met_in-statements : (x : ReactiveBlock) → met_in x ≡ flat_map met_at x.statements
 unfolding met_in met_at

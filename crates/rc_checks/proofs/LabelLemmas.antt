@@ -1,15 +1,15 @@
 -- Label pruning follows its rules: what each call on lists, blocks and statements leaves, over plain variables.
-use Rattle.std.proofs.Common.{◌≡◌, ◌∙◌, ◌≤◌, ◌<◌, ◌+◌, ◌-◌, ◌⊎◌, inl, inr, ℕ, Bool, List, [], ◌∷◌, ◌++◌}
-use Rattle.std.proofs.Common.{Option, None, Some, Result, Ok, Err, OnOk, append_assoc, drop, get_or, length, map}
-use Rattle.std.proofs.Common.{option_map, reverse, set, slice_get, slice_set, take, refl, sym, ap, arith}
-use Rattle.std.proofs.lemmas.List.{drop_all, drop_more, length-append, reverse-append, take-append-drop}
-use Rattle.std.proofs.lemmas.Option.{get_or_from_slice_get, slice_get_cases, slice_get_within}
+use Rattle.std.proofs.Common.{◌≡◌, ◌∙◌, ◌≤◌, ◌<◌, ◌+◌, ◌-◌, ℕ, Bool, List, [], ◌∷◌, ◌++◌}
+use Rattle.std.proofs.Common.{Option, None, Some, Result, Ok, Err, OnOk, append_assoc, drop, length, map}
+use Rattle.std.proofs.Common.{option_map, reverse, slice_get, slice_set, take, refl, sym, ap, arith}
+use Rattle.std.proofs.lemmas.List.{drop_all, drop_more, reverse-append, take-append-drop}
+use Rattle.std.proofs.lemmas.Option.{get_or_from_slice_get, slice_get_within}
 use Rattle.std.proofs.lemmas.Result.{on_ok_weaker}
-use Rattle.std.proofs.Math.Seq.{set-append_seam}
 use Rattle.rc_checks.specs.LabelPruning.{PutsLast, added_if, behind}
 use Rattle.rc_checks.specs.Labels.{IsWithoutUnusedLabels, Targets, label_rules}
 use Rattle.rc_hir.specs.declared.fault.Fault.{Fault}
 use Rattle.rc_tree.proofs.OutcomeLemmas.{Ok-injective}
+use Rattle.rc_tree.proofs.PlaceLemmas.{last_set, past_end}
 use Rattle.rc_tree.proofs.RebuiltLemmas.{if_some, rebuilt-block, rebuilt-case, rebuilt-scope, rebuilt-pruned_scope}
 use Rattle.rc_tree.proofs.RebuiltLemmas.{rebuilt-Instruction, rebuilt-Scope, rebuilt-PrunedScope}
 use Rattle.rc_tree.specs.Outcome.{bind}
@@ -96,24 +96,14 @@ module _ {X : Type 0} (left : List X) (x : X) (is : slice_get left (length left 
 
   last_changed : (y : X) → slice_set left (length left - 1) y ≡ rest_of ++ y ∷ []
   last_changed y =
-      let whole : length (rest_of ++ x ∷ []) ≡ length rest_of + 1 = length-append rest_of (x ∷ []) in
-      let count : length (rest_of ++ x ∷ []) - 1 ≡ length rest_of = omega (arith, whole) in
-      ap (λ l. set l (length l - 1) y) last_splits ∙ ap (λ n. set (rest_of ++ x ∷ []) n y) count
-      ∙ set-append_seam rest_of x [] y
+      let within : length left - 1 < length left = slice_get_within left (length left - 1) x is in
+      last_set left rest_of x y (length left - 1) last_splits (omega (arith, within))
 
 -- a list that isn't empty has a last entry
 pub no_last : {X : Type 0} (left : List X) (count : ℕ) → count ≡ length left → 0 < length left
     → None ≡ slice_get left (count - 1) → ⊥
-no_last {X = X} left count is more none = by (slice_get_cases left (length left - 1)).1
-  where
-    missing : slice_get left (length left - 1) ≡ None
-    missing = ap (λ n. slice_get left (n - 1)) (sym is) ∙ sym none
-
-    by : ((x : X) × (length left - 1 < length left) × (slice_get left (length left - 1) ≡ Some x)
-        × (get_or left (length left - 1) x ≡ x))
-        ⊎ ((length left ≤ length left - 1) × (slice_get left (length left - 1) ≡ None)) → ⊥
-    by (inl h) = cc
-    by (inr h) = omega (arith, h.0, more)
+no_last left count is more none =
+    let h : length left ≤ count - 1 = past_end left (count - 1) (sym none) in omega (arith, is, more, h)
 
 -- the last statement, pruned in its place and put
 module _ {E : Type 0} (r : Result (Unit {0}) E) (left left1 left2 done done1 done2 : List ReactiveStatement)

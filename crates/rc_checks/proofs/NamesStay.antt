@@ -13,9 +13,10 @@ use Rattle.rc_tree.specs.declared.scope.ReactiveScopeBlock.{ReactiveScopeBlock}
 use Rattle.rc_tree.specs.declared.statement.ReactiveBlock.{ReactiveBlock}
 use Rattle.rc_tree.specs.declared.statement.ReactiveStatement.{ReactiveStatement}
 use Rattle.rc_tree.specs.declared.statement.ReactiveStatement.TheVariants as stmt
+use Rattle.rc_tree.proofs.OutcomeLemmas.{Ok-injective}
 use Rattle.rc_tree.proofs.TreeNamesLemmas.{of_list, block-names, names_laws, names_measure, statement-PrunedScope}
 use Rattle.rc_tree.proofs.TreeNamesLemmas.{statement-Scope}
-use Rattle.rc_runs.proofs.RebuiltKeeps.{made_answer, only_answer, rebuilt_keeps, same_answer}
+use Rattle.rc_runs.proofs.RebuiltKeeps.{made_answer, only_answer, rebuilt_keeps}
 use Rattle.rc_checks.specs.Labels.{IsWithoutUnusedLabels}
 use Rattle.rc_checks.proofs.LabelsKeep.{labels_keep_names}
 use Rattle.rc_checks.specs.UnusedScopes.{IsWithoutUnusedScopes, as_pruned, is_used, judged, kept_if, unused_scope_rules}
@@ -30,7 +31,7 @@ by_judgement : (found : Option ReactiveScope) (returns : Bool) (x : ReactiveScop
 by_judgement None returns x after e = absurd (let no : ⊥ = cc in no)
 by_judgement (Some scope) returns x after e =
     let used = is_used scope x.scope returns in
-    ap (one names_measure) (same_answer (kept_if used x) after e) ∙ by_use used x
+    ap (one names_measure) (sym (Ok-injective (kept_if used x) after e)) ∙ by_use used x
 
 -- the numbers of a tree stay
 pub unused_scopes_keep_names : (env : Environment) (before after : ReactiveBlock)

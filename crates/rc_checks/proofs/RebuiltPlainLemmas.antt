@@ -1,6 +1,6 @@
 -- The tree of a plain tree, rebuilt by `label_rules`, is the tree of the plain tree without its unused labels.
-use Rattle.std.proofs.Common.{◌≡◌, List, ◌∷◌, ◌++◌, Bool, true, false, Option, Some, None, Result, Ok, if◌then◌else◌}
-use Rattle.std.proofs.Common.{map, option_map, refl, ap}
+use Rattle.std.proofs.Common.{◌≡◌, List, Bool, true, false, Option, Some, None, Result, Ok, if◌then◌else◌}
+use Rattle.std.proofs.Common.{map, option_map, refl}
 use Rattle.rc_hir.specs.declared.fault.Fault.{Fault}
 use Rattle.rc_tree.specs.Opened.{OpenCase}
 use Rattle.rc_tree.specs.declared.scope.ReactiveScopeBlock.{ReactiveScopeBlock}
@@ -23,15 +23,9 @@ use Rattle.rc_runs.specs.PlainTree.{While, For, ForOf, ForIn, If, Label, Try, Al
 use Rattle.rc_runs.specs.PlainTree.{NoCases, Case}
 use Rattle.rc_runs.specs.TreeOf.{value_of, statements_of, statement_of, terminal_of, alternate_of, cases_of, block_of}
 use Rattle.rc_checks.specs.Labels.{Targets, is_named, label_after, in_place_of, label_rules}
-use Rattle.rc_runs.proofs.PlainLists.{labeled, append}
+use Rattle.rc_runs.proofs.PlainLists.{labeled, statements_of-append}
 use Rattle.rc_checks.proofs.PlainLabels.{settled, pruned_list, pruned_statement, pruned_terminal, pruned_alternate}
 use Rattle.rc_checks.proofs.PlainLabels.{pruned_cases}
-
-statements_of-append : (front behind : Statements) →
-    statements_of (append front behind) ≡ statements_of front ++ statements_of behind
-statements_of-append Nil behind = refl
-statements_of-append (Cons statement rest) behind =
-    ap (λ more. statement_of statement ∷ more) (statements_of-append rest behind)
 
 -- a terminal whose inside is done
 abbrev Settles : TreeTerminal → Type 0

@@ -14,13 +14,10 @@ use Rattle.rc_tree.specs.TreeNames.{names_in}
 use Rattle.rc_tree.specs.declared.scope.ReactiveScopeBlock.{ReactiveScopeBlock}
 use Rattle.rc_tree.specs.declared.statement.ReactiveBlock.{ReactiveBlock}
 use Rattle.rc_tree.specs.declared.statement.ReactiveStatement.{ReactiveStatement}
-use Rattle.rc_runs.proofs.RebuiltFaults.{rebuilt_faults}
+use Rattle.rc_runs.proofs.RebuiltFaults.{answered, rebuilt_faults}
 use Rattle.rc_checks.specs.UnusedScopes.{NamesFirstScopeOutside, judged, unused_scope_rules}
 
 module _ (env : Environment) (rows : ℕ) (fault : Fault) where
-  answered : {A : Type 0} (a : A) → ◌≡◌ {A = Result A Fault} (Ok a) (Err fault) → ⊥
-  answered a e = cc
-
   -- the rule for a scope block faults where its scope is outside the table
   scope_fault : (around : Bool) (x : ReactiveScopeBlock) (returns : Bool)
       → ◌≡◌ {A = Result (Bool × List ReactiveStatement) Fault}
@@ -36,13 +33,13 @@ module _ (env : Environment) (rows : ℕ) (fault : Fault) where
           let same : fault ≡ BadName Scopes x.scope.0 = cc in
           let name : Name = (Scopes, x.scope.0) in
           (0, name, omega arith, refl, (same, past_end env.scopes x.scope.0 is))
-      by (Some scope) is h = absurd (answered _ h)
+      by (Some scope) is h = absurd (answered _ fault h)
 
   pub scopes_are_there : (body : ReactiveBlock) → All (IsInTable (lengths env rows)) (names_in body)
       → NamesFirstScopeOutside env body fault → ⊥
   scopes_are_there body all missing =
       contrary (rebuilt_faults (unused_scope_rules env) fault (IsOutside (lengths env rows) fault)
-      (λ x s e. answered _ e) (λ x s e. answered _ e) (λ x s e. answered _ e) scope_fault body false missing)
+      (λ x s e. answered _ fault e) (λ x s e. answered _ fault e) (λ x s e. answered _ fault e) scope_fault body false missing)
     where
       contrary : Any (IsOutside (lengths env rows) fault) (names_in body) → ⊥
       contrary some =

@@ -5,12 +5,11 @@
 -- By induction over the tree. Of each part it is shown what it holds once it is rebuilt, and that the state behind it
 -- tells
 -- whether a `Return` was met before it or stands in it.
-use Rattle.std.proofs.Common.{◌≡◌, ◌∙◌, ◌≤◌, ◌<◌, ◌⊎◌, inl, inr, ℕ, Bool, true, false, List, [], ◌∷◌, ◌++◌, Option}
-use Rattle.std.proofs.Common.{None, Some, Result, Ok, Err, map, refl, sym, ap, subst, slice_get, get_or, length, arith}
+use Rattle.std.proofs.Common.{◌≡◌, ◌∙◌, Bool, true, false, List, [], ◌∷◌, ◌++◌, Option}
+use Rattle.std.proofs.Common.{None, Some, Result, Ok, Err, map, refl, sym, ap, subst, slice_get, arith}
 use Rattle.std.proofs.Common.{◌||◌}
 use Rattle.std.proofs.Math.Bool.{or-false, or_assoc}
 use Rattle.std.proofs.lemmas.Bool.{or_parts}
-use Rattle.std.proofs.lemmas.Option.{slice_get_cases}
 use Rattle.std.proofs.lemmas.List.Elements.{filter-append, Contains-append_left, Contains-append_right}
 use Rattle.std.specs.List.{filter, Contains}
 use Rattle.std.specs.Option.{option_map_or}
@@ -28,6 +27,7 @@ use Rattle.rc_hir.specs.declared.fault.Fault.{Fault}
 use Rattle.rc_hir.specs.declared.scope.ReactiveScope.{ReactiveScope}
 use Rattle.rc_hir.specs.declared.place.Place.{Place}
 use Rattle.rc_names.specs.declared.numbers.ScopeId.{ScopeId}
+use Rattle.rc_tree.proofs.PlaceLemmas.{past_end}
 use Rattle.rc_tree.proofs.RebuiltLemmas.{if_some, rebuilt-block, rebuilt-labeled, rebuilt-scope, rebuilt-pruned_scope}
 use Rattle.rc_tree.proofs.RebuiltLemmas.{rebuilt-case, rebuilt-Instruction, rebuilt-Terminal, rebuilt-Scope}
 use Rattle.rc_tree.proofs.RebuiltLemmas.{rebuilt-PrunedScope, rebuilt-Break, rebuilt-Continue, rebuilt-Return}
@@ -54,14 +54,6 @@ use Rattle.rc_tree.specs.declared.terminal.ReactiveTerminalStatement.{ReactiveTe
 
 first_of_all : {X : Type 0} (x : X) (xs : List X) → Contains (x ∷ xs) x
 first_of_all x xs = (0, omega arith, refl)
-
-past : {X : Type 0} (xs : List X) (i : ℕ) → slice_get xs i ≡ None → length xs ≤ i
-past {X = X} xs i e = by (slice_get_cases xs i).1
-  where
-    by : ((x : X) × (i < length xs) × (slice_get xs i ≡ Some x) × (get_or xs i x ≡ x)) ⊎
-        ((length xs ≤ i) × (slice_get xs i ≡ None)) → length xs ≤ i
-    by (inl h) = let bad : ⊥ = cc in absurd bad
-    by (inr h) = h.0
 
 module _ (env : Environment) where
   abbrev rules : Rules Bool
@@ -272,7 +264,7 @@ module _ (env : Environment) where
         → Stays held_list (of_scope (record { scope = id; instructions = before })) met
         (bind (judged found a.0 rebuilt_scope_block) (λ statement. Ok (met, statement ∷ [])))
     unfolding Stays
-    judged_stays None e = (block_before, first_of_all block_before before.blocks, (refl, past env.scopes id.0 e))
+    judged_stays None e = (block_before, first_of_all block_before before.blocks, (refl, past_end env.scopes id.0 e))
     judged_stays (Some scope) e = (
       sym (or-false met),
       held_by (is_used scope id a.0)

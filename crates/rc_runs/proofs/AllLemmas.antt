@@ -6,9 +6,6 @@ use Rattle.std.proofs.lemmas.List.{get_or-append-add}
 use Rattle.std.specs.List.{All, flat_map}
 
 module _ {X : Type 0} (P : X → Type 0) where
-  pub All-none : All P []
-  All-none = λ k d below. absurd (let no : ⊥ = omega (arith, below) in no)
-
   pub All-left : (xs ys : List X) → All P (xs ++ ys) → All P xs
   All-left xs ys all = λ k d below. subst P (get_or-append xs ys d k below)
       (all k d (omega (arith, length-append xs ys)))

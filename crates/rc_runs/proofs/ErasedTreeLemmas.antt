@@ -13,7 +13,7 @@ use Rattle.rc_runs.specs.TreeOf.{value_of, instructions_of, statements_of, state
 use Rattle.rc_runs.specs.TreeOf.{block_of}
 use Rattle.rc_runs.specs.Erase.{without_flag, erased_value, erased_row, erased_block, erased_statement, erased_case}
 use Rattle.rc_runs.specs.Erase.{erased_terminal, erased_statements}
-use Rattle.rc_runs.proofs.PlainLists.{alone, labeled, append}
+use Rattle.rc_runs.proofs.PlainLists.{alone, labeled, append, statements_of-append}
 use Rattle.rc_runs.proofs.ErasedPartLemmas.{erased-Instruction, erased-LogicalExpression, erased-ConditionalExpression}
 use Rattle.rc_runs.proofs.ErasedPartLemmas.{erased-SequenceExpression, erased-OptionalExpression, erased-row}
 use Rattle.rc_runs.proofs.ErasedPartLemmas.{erased-block, erased-row_statement, erased-labeled, erased-scope}
@@ -100,12 +100,6 @@ option_value-erased : (value : Option Value) → option_map value_of (option_map
     ≡ option_map erased_value (option_map value_of value)
 option_value-erased None = refl
 option_value-erased (Some value) = ap Some (value-erased value)
-
-statements_of-append : (before after : Statements) → statements_of (append before after) ≡ statements_of before
-    ++ statements_of after
-statements_of-append Nil after = refl
-statements_of-append (Cons statement rest) after =
-    ap (λ more. statement_of statement ∷ more) (statements_of-append rest after)
 
 left_block : (body : Statements) → statements_of (erased_plain body) ≡ erased_statements (statements_of body) →
     block_of (erased_plain body) ≡ erased_block (block_of body)

@@ -4,6 +4,7 @@
 -- `break_jumps` what the statements of a jump do. Both directions between runs rest on these.
 use Rattle.std.proofs.Common.{◌≡◌, List, [], ◌∷◌, Bool, true, false, ◌||◌, if◌then◌else◌, Option, Some, None, refl, sym}
 use Rattle.std.proofs.Common.{ap, ◌∙◌, subst}
+use Rattle.std.proofs.lemmas.Bool.{or_parts}
 use Rattle.rc_names.specs.declared.numbers.BlockId.{BlockId}
 use Rattle.rc_names.specs.declared.numbers.EvaluationOrder.{EvaluationOrder}
 use Rattle.rc_hir.specs.declared.function.HirFunction.{HirFunction}
@@ -224,10 +225,6 @@ says_out_of true (frame.Loop block continue_block) frames key q =
     target_here (frame.Loop block continue_block) frames key q refl
 says_out_of false (frame.Loop block continue_block) frames key q = (refl, ap Some (same_block-eq block key q))
 
-neither : (a b : Bool) → (a || b) ≡ false → (a ≡ false) × (b ≡ false)
-neither true b h = absurd (let bad : ⊥ = cc in bad)
-neither false b h = (refl, h)
-
 -- a loop further out
 loop_behind : (frame : Frame) (frames : List Frame) (key : BlockId) → is_loop frame ≡ false
     → loop_break frames ≡ Some key →
@@ -244,7 +241,7 @@ says_further in_loop frame frames key FallsOff q h = h
 says_further in_loop frame frames key (Breaks Implicit) q h = h
 says_further in_loop frame frames key (Breaks Labeled) q h = target_behind frame frames key q h
 says_further in_loop frame frames key (Breaks Unlabeled) q h =
-    let n = neither in_loop (is_loop frame) h.0 in (n.0, loop_behind frame frames key n.1 h.1)
+    let n = or_parts in_loop (is_loop frame) h.0 in (n.0, loop_behind frame frames key n.1 h.1)
 
 says_behind : (in_loop : Bool) (frames : List Frame) (key : BlockId)
     → SaysBehind in_loop frames key (way_from false in_loop frames key)

@@ -59,6 +59,10 @@ module _ {X : Type 0} (P : X → Type 0) where
     some.4,
   )
 
+-- no answer is a fault
+pub answered : {A : Type 0} (a : A) (fault : Fault) → ◌≡◌ {A = Result A Fault} (Ok a) (Err fault) → ⊥
+answered a fault e = cc
+
 -- a fault of two steps is one of either, and what is made of an answer adds none
 fault_of : {A B : Type 0} (fault : Fault) (first : Result A Fault) (next : A → Result B Fault)
     → bind first next ≡ Err fault
@@ -77,11 +81,7 @@ made_of {A = A} {B = B} fault first make e = by (fault_of fault first (λ a. Ok 
     by : (first ≡ Err fault) ⊎ ((a : A) × (first ≡ Ok a) × (◌≡◌ {A = Result B Fault} (Ok (make a)) (Err fault)))
         → first ≡ Err fault
     by (inl is) = is
-    by (inr some) = absurd (let no : ◌≡◌ {A = Result B Fault} (Ok (make some.0)) (Err fault) = some.2 in never
-        (make some.0) fault no)
-      where
-        never : (b : B) (fault : Fault) → ◌≡◌ {A = Result B Fault} (Ok b) (Err fault) → ⊥
-        never b fault e = cc
+    by (inr some) = absurd (answered (make some.0) fault some.2)
 
 module _ {S : Type 0} (rules : Rules S) (fault : Fault) (Q : Name → Type 0)
     (row : (x : ReactiveInstruction) (s : S) → rules.row x s ≡ Err fault → ⊥)
@@ -92,10 +92,6 @@ module _ {S : Type 0} (rules : Rules S) (fault : Fault) (Q : Name → Type 0)
     -- these numbers, which are those, have it
     by_same : (names others : List Name) → names ≡ others → Any Q others → Any Q names
     by_same names others e some = subst (Any Q) (sym e) some
-
-    -- no answer is a fault
-    answered : {A : Type 0} (a : A) → ◌≡◌ {A = Result A Fault} (Ok a) (Err fault) → ⊥
-    answered a e = cc
 
     -- what a block's statements have, the block has
     within : (p : Statements) → ((s : S) → joined (map (rebuilt_statement rules) (statements_of p)) s ≡ Err fault
@@ -146,7 +142,7 @@ module _ {S : Type 0} (rules : Rules S) (fault : Fault) (Q : Name → Type 0)
     mutual
       list_faults : (p : Statements) (s : S) → joined (map (rebuilt_statement rules) (statements_of p)) s ≡ Err fault
           → Any Q (of_list (statements_of p))
-      list_faults Nil s e = absurd (answered _ e)
+      list_faults Nil s e = absurd (answered _ fault e)
       list_faults (Cons x rest) s e =
           either (rebuilt_statement rules (statement_of x) s) _ (names_in_statement (statement_of x))
           (of_list (statements_of rest)) e (statement_faults x s)
@@ -196,13 +192,13 @@ module _ {S : Type 0} (rules : Rules S) (fault : Fault) (Q : Name → Type 0)
 
       alternate_faults : (x : Alternate) (s : S) → if_some (rebuilt_block rules) (alternate_of x) s ≡ Err fault
           → Any Q (if_there (option_map names_in (alternate_of x)))
-      alternate_faults Absent s e = absurd (answered _ e)
+      alternate_faults Absent s e = absurd (answered _ fault e)
       alternate_faults (Present body) s e =
           within body (list_faults body) s (made_of fault (rebuilt_block rules (block_of body) s) _ e)
 
       cases_faults : (x : Cases) (s : S) → in_order (map (rebuilt_case rules) (cases_of x)) s ≡ Err fault
           → Any Q (one_by_one (map names_in_case (cases_of x)))
-      cases_faults NoCases s e = absurd (answered _ e)
+      cases_faults NoCases s e = absurd (answered _ fault e)
       cases_faults (Case test body rest) s e =
           let x : ReactiveSwitchCase = roll-ReactiveSwitchCase (record { test = test; block = alternate_of body }) in
           either (rebuilt_case rules x s) _ (names_in_case x) (one_by_one (map names_in_case (cases_of rest))) e
@@ -220,11 +216,11 @@ module _ {S : Type 0} (rules : Rules S) (fault : Fault) (Q : Name → Type 0)
 
       terminal_faults : (t : TreeTerminal) (s : S) → rebuilt_terminal rules (terminal_of t) s ≡ Err fault
           → Any Q (names_in_terminal (terminal_of t))
-      terminal_faults (Break target kind id) s e = absurd (answered _ (sym (rebuilt-Break rules target kind id s) ∙ e))
+      terminal_faults (Break target kind id) s e = absurd (answered _ fault (sym (rebuilt-Break rules target kind id s) ∙ e))
       terminal_faults (Continue target kind id) s e =
-          absurd (answered _ (sym (rebuilt-Continue rules target kind id s) ∙ e))
-      terminal_faults (Return value id) s e = absurd (answered _ (sym (rebuilt-Return rules value id s) ∙ e))
-      terminal_faults (Throw value id) s e = absurd (answered _ (sym (rebuilt-Throw rules value id s) ∙ e))
+          absurd (answered _ fault (sym (rebuilt-Continue rules target kind id s) ∙ e))
+      terminal_faults (Return value id) s e = absurd (answered _ fault (sym (rebuilt-Return rules value id s) ∙ e))
+      terminal_faults (Throw value id) s e = absurd (answered _ fault (sym (rebuilt-Throw rules value id s) ∙ e))
       terminal_faults (Switch test cases id) s e =
           by_same (names_in_terminal (terminal_of (Switch test cases id))) _ (terminal-Switch test (cases_of cases) id)
           (Any-right Q (place_names test) _ (cases_faults cases s

@@ -17,6 +17,7 @@ use Rattle.rc_tree.specs.declared.terminal.ReactiveTerminal.{ReactiveTerminal}
 use Rattle.rc_tree.specs.declared.terminal.ReactiveTerminalStatement.{ReactiveTerminalStatement}
 use Rattle.rc_tree.specs.declared.value.ReactiveInstruction.{ReactiveInstruction}
 use Rattle.rc_tree.specs.declared.value.ReactiveValue.{ReactiveValue}
+use Rattle.rc_tree.proofs.OutcomeLemmas.{Ok-injective}
 use Rattle.rc_tree.proofs.RebuiltLemmas.{if_some, rebuilt-block, rebuilt-labeled, rebuilt-scope, rebuilt-pruned_scope}
 use Rattle.rc_tree.proofs.RebuiltLemmas.{rebuilt-case, rebuilt-Instruction, rebuilt-Terminal, rebuilt-Scope}
 use Rattle.rc_tree.proofs.RebuiltLemmas.{rebuilt-PrunedScope, rebuilt-Break, rebuilt-Continue, rebuilt-Return}
@@ -38,19 +39,16 @@ answer_of {B = B} (Err fault) next b e = absurd (never fault b e)
     never : (fault : Fault) (b : B) → ◌≡◌ {A = Result B Fault} (Err fault) (Ok b) → ⊥
     never fault b e = cc
 
-pub same_answer : {A : Type 0} (a b : A) → ◌≡◌ {A = Result A Fault} (Ok a) (Ok b) → b ≡ a
-same_answer a b e = cc
-
 pub made_answer : {A B : Type 0} (first : Result A Fault) (make : A → B) (b : B) → bind first (λ a. Ok (make a)) ≡ Ok b
     → (a : A) × (first ≡ Ok a) × (b ≡ make a)
 made_answer first make b e =
-    let found = answer_of first (λ a. Ok (make a)) b e in (found.0, found.1, same_answer (make found.0) b found.2)
+    let found = answer_of first (λ a. Ok (make a)) b e in (found.0, found.1, sym (Ok-injective (make found.0) b found.2))
 
 -- a rule that always answers with that list
 pub only_answer : {S L : Type 0} (measure : List ReactiveStatement → L) (s : S) (xs : List ReactiveStatement)
     (a : S × List ReactiveStatement)
     → ◌≡◌ {A = Result (S × List ReactiveStatement) Fault} (Ok (s, xs)) (Ok a) → measure a.1 ≡ measure xs
-only_answer measure s xs a e = ap (λ b. measure b.1) (same_answer (s, xs) a e)
+only_answer measure s xs a e = ap (λ b. measure b.1) (sym (Ok-injective (s, xs) a e))
 
 module _ {S V I L C P : Type 0} (m : Measure V I L C P) (laws : Compositional m) (rules : Rules S)
     (row : (x : ReactiveInstruction) (s : S) (a : S × List ReactiveStatement) → rules.row x s ≡ Ok a
@@ -79,13 +77,13 @@ module _ {S V I L C P : Type 0} (m : Measure V I L C P) (laws : Compositional m)
   -- the same terminal
   left_as_is : (t : ReactiveTerminal) (s : S) (a : S × ReactiveTerminal)
       → ◌≡◌ {A = Result (S × ReactiveTerminal) Fault} (Ok (s, t)) (Ok a) → m.terminal a.1 ≡ m.terminal t
-  left_as_is t s a e = by_law t a (s, t) (same_answer (s, t) a e) refl
+  left_as_is t s a e = by_law t a (s, t) (sym (Ok-injective (s, t) a e)) refl
 
   mutual
     list_kept : (p : Statements) (s : S) (a : S × List ReactiveStatement)
         → joined (map (rebuilt_statement rules) (statements_of p)) s ≡ Ok a
         → m.statements a.1 ≡ m.statements (statements_of p)
-    list_kept Nil s a e = ap (λ b. m.statements b.1) (same_answer (s, []) a e)
+    list_kept Nil s a e = ap (λ b. m.statements b.1) (sym (Ok-injective (s, []) a e))
     list_kept (Cons x rest) s a e =
         let first = answer_of (rebuilt_statement rules (statement_of x) s)
         (λ b. bind (joined (map (rebuilt_statement rules) (statements_of rest)) b.0)
@@ -131,7 +129,7 @@ module _ {S V I L C P : Type 0} (m : Measure V I L C P) (laws : Compositional m)
 
     alternate_kept : (x : Alternate) (s : S) (a : S × Option ReactiveBlock)
         → if_some (rebuilt_block rules) (alternate_of x) s ≡ Ok a → AlikeIf (block m) a.1 (alternate_of x)
-    alternate_kept Absent s a e = subst (λ b. AlikeIf (block m) b.1 None) (sym (same_answer (s, None) a e)) tt
+    alternate_kept Absent s a e = subst (λ b. AlikeIf (block m) b.1 None) (Ok-injective (s, None) a e) tt
     alternate_kept (Present body) s a e =
         let made = made_answer (rebuilt_block rules (block_of body) s) (λ b. (b.0, Some b.1)) a e in
         subst (λ b. AlikeIf (block m) b.1 (Some (block_of body))) (sym made.2)
@@ -139,7 +137,7 @@ module _ {S V I L C P : Type 0} (m : Measure V I L C P) (laws : Compositional m)
 
     cases_kept : (x : Cases) (s : S) (a : S × List ReactiveSwitchCase)
         → in_order (map (rebuilt_case rules) (cases_of x)) s ≡ Ok a → map m.case a.1 ≡ map m.case (cases_of x)
-    cases_kept NoCases s a e = ap (λ b. map m.case b.1) (same_answer (s, []) a e)
+    cases_kept NoCases s a e = ap (λ b. map m.case b.1) (sym (Ok-injective (s, []) a e))
     cases_kept (Case test body rest) s a e =
         let x : ReactiveSwitchCase = roll-ReactiveSwitchCase (record { test = test; block = alternate_of body }) in
         let first = answer_of (rebuilt_case rules x s) (λ b. bind

@@ -2,7 +2,7 @@
 use Rattle.std.proofs.Common.{◌≡◌, ◌∙◌, ◌⊎◌, inl, inr, ℕ, ◌<◌, ◌≤◌, List, [], ◌∷◌, ◌++◌, length, get_or, Bool, Option}
 use Rattle.std.proofs.Common.{None, Some, option_and_then, option_map, slice_get, refl, sym, ap, subst}
 use Rattle.std.specs.List.{All, flat_map}
-use Rattle.std.proofs.lemmas.List.Elements.{All-append}
+use Rattle.std.proofs.lemmas.List.Elements.{All-append, All-nil}
 use Rattle.std.proofs.lemmas.Map.Views.{Contains-from_lookup}
 use Rattle.std.proofs.lemmas.Option.{slice_get_cases}
 use Rattle.rc_names.specs.declared.numbers.BlockId.{BlockId}
@@ -43,7 +43,7 @@ use Rattle.rc_runs.specs.declared.frames.Way.{Way}
 use Rattle.rc_runs.specs.declared.frames.Way.TheVariants.{NoFrame, LeavesScope, LeavesCase, FallsOff, Breaks}
 use Rattle.rc_runs.proofs.GraphLemmas.{same_block-eq, usable_block-at}
 use Rattle.rc_tree.specs.TreeNames.{names_in, names_in_statement, names_in_terminal}
-use Rattle.rc_runs.proofs.AllLemmas.{All-none, All-left, All-right, All-flat_map}
+use Rattle.rc_runs.proofs.AllLemmas.{All-left, All-right, All-flat_map}
 use Rattle.rc_runs.proofs.NoRowNamed.{IsNoRow, NoRows, all_in_environment, place_no_row, scope_no_row, value_no_row}
 use Rattle.rc_tree.proofs.TreeNamesLemmas.{of_list, block-names, row-names, value-Instruction, statement-Instruction}
 use Rattle.rc_tree.proofs.TreeNamesLemmas.{statement-Terminal, statement-Scope, statement-PrunedScope, terminal-Break}
@@ -194,13 +194,13 @@ module _ (hir : HirFunction) (env : Environment) (named : FunctionInTables env h
   break_held LeavesScope target id statements e = absurd (let no : ⊥ = cc in no)
   break_held LeavesCase target id statements e = absurd (let no : ⊥ = cc in no)
   break_held FallsOff target id statements e =
-      subst (λ s. Held (of_list (statements_of s))) (let same : Nil ≡ statements = cc in same) (All-none InTable)
+      subst (λ s. Held (of_list (statements_of s))) (let same : Nil ≡ statements = cc in same) (All-nil InTable)
   break_held (Breaks kind) target id statements e =
       subst (λ s. Held (of_list (statements_of s))) (let same : unlabeled (Break target kind id) ≡ statements = cc in
       same)
       (one_statement (TerminalStatement (Break target kind id) None) Nil
-      (terminal_first (Break target kind id) None [] (terminal-Break target kind id) (All-none InTable))
-      (All-none InTable))
+      (terminal_first (Break target kind id) None [] (terminal-Break target kind id) (All-nil InTable))
+      (All-nil InTable))
 
   -- a block has the numbers of its statements
   block_first : (part : Statements) → Held (of_list (statements_of part)) → Held (names_in (block_of part))
@@ -222,8 +222,8 @@ module _ (hir : HirFunction) (env : Environment) (named : FunctionInTables env h
     held_terminal held (returns {value = value} {id = id}) =
         one_statement (TerminalStatement (Return value id) None) Nil
         (terminal_first (Return value id) None (place_names value) (terminal-Return value id) (place_held value held))
-        (All-none InTable)
-    held_terminal held unreachable = All-none InTable
+        (All-nil InTable)
+    held_terminal held unreachable = All-nil InTable
     held_terminal held (breaks {target = target} {id = id} {frames = frames} {statements = statements} e) =
         break_held (break_way frames target) target id statements e
     held_terminal held (and_rest {statement = statement} {rest = rest} d r w) =
@@ -238,7 +238,7 @@ module _ (hir : HirFunction) (env : Environment) (named : FunctionInTables env h
         terminal_first (If test part Absent id) own (place_names test ++ (names_in (block_of part) ++ []))
         (terminal-If test (block_of part) None id)
         (All-append InTable (place_names test) _ (place_held test held)
-        (All-append InTable (names_in (block_of part)) [] (block_first part (held_list d)) (All-none InTable)))
+        (All-append InTable (names_in (block_of part)) [] (block_first part (held_list d)) (All-nil InTable)))
     held_statement held (if_else {test = test} {id = id} {label = own} {part = part} {other = other} i l s d e w) =
         terminal_first (If test part (Present other) id) own
         (place_names test ++ (names_in (block_of part) ++ names_in (block_of other)))
@@ -264,7 +264,7 @@ module _ (hir : HirFunction) (env : Environment) (named : FunctionInTables env h
     held_rest : {o : Bool} {f : BlockId} {next handler : Option BlockId} {frames : List Frame} {statements : Statements}
         {used : List BlockId} →
         SpellsRest hir env o f next frames handler statements used → Held (of_list (statements_of statements))
-    held_rest closed = All-none InTable
+    held_rest closed = All-nil InTable
     held_rest (opened d) = held_list d
 
   -- the numbers of a spelled function's body are in their tables
