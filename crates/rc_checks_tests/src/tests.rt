@@ -5,6 +5,5 @@ mod labels;
 mod membership;
 mod outline;
 mod pruning;
-mod small_trees;
 mod trees;
 mod unused_scopes;

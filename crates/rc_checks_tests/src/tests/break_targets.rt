@@ -1,17 +1,18 @@
 //! The check of jumps: which jumps are looked at, and which labels are met by then.
 
-use crate::tests::small_trees::{
-    break_to, continue_to, empty, function, if_taken, label_around, labeled, only, pruned_scope,
-    scope,
+use crate::tests::trees::{
+    both, break_to, continue_to, function, if_then, label_around, only, pruned_scope_around,
+    scope_around, statement,
 };
 use rc_checks::assert_well_formed_break_targets;
 use rc_hir::{Environment, Fault};
-use rc_names::BlockId;
-use rc_tree::{ReactiveBlock, ReactiveTerminal};
+use rc_names::{BlockId, EvaluationOrder, List};
+use rc_tree::ReactiveTerminalTargetKind::Labeled;
+use rc_tree::{ReactiveStatement, ReactiveTerminal};
 use std::alloc::{AllocError, Global};
 
 /// What the check answers for a body.
-fn check(alloc: Global, body: ReactiveBlock) -> Result<(), Fault> {
+fn check(alloc: Global, body: List<ReactiveStatement>) -> Result<(), Fault> {
     let env = Environment::empty(alloc);
     assert_well_formed_break_targets(alloc, &function(alloc, body), &env)
 }
@@ -22,70 +23,79 @@ fn bad(target: u32) -> Result<(), Fault> {
     })
 }
 
-/// A block that breaks to a block.
-fn breaking(alloc: Global, target: u32) -> Result<ReactiveBlock, AllocError> {
-    only(alloc, labeled(alloc, None, break_to(target))?)
+/// A labeled break without a label of its own.
+fn breaking(alloc: Global, target: u32) -> Result<ReactiveStatement, AllocError> {
+    break_to(alloc, 1, target, Labeled)
 }
 
-/// A block with an empty `Label` of that label.
-fn labeling(alloc: Global, label: u32) -> Result<ReactiveBlock, AllocError> {
-    only(
-        alloc,
-        labeled(alloc, Some(label), label_around(empty(alloc)))?,
-    )
+/// An empty `Label` of that label.
+fn labeling(alloc: Global, label: u32) -> Result<ReactiveStatement, AllocError> {
+    label_around(alloc, 1, Some(label), List::new(alloc))
 }
 
-/// A terminal alone.
-fn check_one(alloc: Global, label: Option<u32>, terminal: ReactiveTerminal) -> Result<(), Fault> {
-    check(alloc, only(alloc, labeled(alloc, label, terminal)?)?)
+/// A break alone.
+fn check_break(alloc: Global) -> Result<(), Fault> {
+    check(alloc, only(alloc, breaking(alloc, 7)?)?)
+}
+
+/// A continue alone.
+fn check_continue(alloc: Global) -> Result<(), Fault> {
+    check(alloc, only(alloc, continue_to(alloc, 1, 8)?)?)
+}
+
+/// A break that has the label that it names.
+fn check_own_label(alloc: Global) -> Result<(), Fault> {
+    let terminal = ReactiveTerminal::Break {
+        target: BlockId(7),
+        target_kind: Labeled,
+        id: EvaluationOrder(1),
+    };
+    check(alloc, only(alloc, statement(alloc, terminal, Some(7))?)?)
 }
 
 /// A break in an `If`.
 fn check_in_if(alloc: Global) -> Result<(), Fault> {
-    check_one(alloc, None, if_taken(breaking(alloc, 7)?))
-}
-
-/// A block, and then a break.
-fn check_before_break(alloc: Global, mut body: ReactiveBlock, target: u32) -> Result<(), Fault> {
-    body.statements
-        .push(labeled(alloc, None, break_to(target))?)?;
-    check(alloc, body)
+    let inside = only(alloc, breaking(alloc, 7)?)?;
+    check(alloc, only(alloc, if_then(alloc, 1, None, inside)?)?)
 }
 
 /// A break behind the label that it names.
 fn check_behind_label(alloc: Global) -> Result<(), Fault> {
-    check_before_break(alloc, labeling(alloc, 7)?, 7)
+    let body = both(alloc, labeling(alloc, 7)?, breaking(alloc, 7)?)?;
+    check(alloc, body)
 }
 
 /// A break before the label that it names.
 fn check_before_label(alloc: Global) -> Result<(), Fault> {
-    let mut body = breaking(alloc, 7)?;
-    body.statements
-        .push(labeled(alloc, Some(7), label_around(empty(alloc)))?)?;
+    let body = both(alloc, breaking(alloc, 7)?, labeling(alloc, 7)?)?;
     check(alloc, body)
 }
 
 /// A break in a scope block in a pruned one.
 fn check_in_scopes(alloc: Global) -> Result<(), Fault> {
-    let inner = only(alloc, scope(1, breaking(alloc, 8)?))?;
-    check(alloc, only(alloc, pruned_scope(0, inner))?)
+    let inner = scope_around(1, only(alloc, breaking(alloc, 8)?)?);
+    let outer = pruned_scope_around(0, only(alloc, inner)?);
+    check(alloc, only(alloc, outer)?)
 }
 
 /// A break behind the scope block that has its label.
 fn check_behind_scope(alloc: Global) -> Result<(), Fault> {
-    let body = only(alloc, scope(0, labeling(alloc, 7)?))?;
-    check_before_break(alloc, body, 7)
+    let scope = scope_around(0, only(alloc, labeling(alloc, 7)?)?);
+    check(alloc, both(alloc, scope, breaking(alloc, 7)?)?)
 }
 
 /// Two breaks to no label.
 fn check_two(alloc: Global) -> Result<(), Fault> {
-    check_before_break(alloc, breaking(alloc, 7)?, 8)
+    check(
+        alloc,
+        both(alloc, breaking(alloc, 7)?, breaking(alloc, 8)?)?,
+    )
 }
 
 #[test]
 fn a_jump_to_no_label_is_refused(rt: HostRuntime) {
-    assert_eq!(rt; check_one(rt.alloc(), None, break_to(7)), bad(7));
-    assert_eq!(rt; check_one(rt.alloc(), None, continue_to(8)), bad(8));
+    assert_eq!(rt; check_break(rt.alloc()), bad(7));
+    assert_eq!(rt; check_continue(rt.alloc()), bad(8));
 }
 
 #[test]
@@ -101,7 +111,7 @@ fn a_label_is_met_before_what_follows_it(rt: HostRuntime) {
 
 #[test]
 fn the_own_label_of_a_jump_is_met(rt: HostRuntime) {
-    assert_eq!(rt; check_one(rt.alloc(), Some(7), break_to(7)), Ok(()));
+    assert_eq!(rt; check_own_label(rt.alloc()), Ok(()));
 }
 
 #[test]

@@ -23,7 +23,7 @@ fn pruned(alloc: Global, statements: List<ReactiveStatement>) -> Result<List<Lin
 /// A `Label` whose inside is an if with a labeled break to it, a row and an implicit break.
 fn labeled_break(alloc: Global) -> Result<List<ReactiveStatement>, AllocError> {
     let inside = only(alloc, break_to(alloc, 3, 2, Labeled)?)?;
-    let mut labeled = both(alloc, if_then(alloc, 2, 4, inside)?, row(4))?;
+    let mut labeled = both(alloc, if_then(alloc, 2, Some(4), inside)?, row(4))?;
     labeled.push(break_to(alloc, 5, 2, Implicit)?)?;
     both(
         alloc,
@@ -92,7 +92,11 @@ fn a_label_statement_without_a_label_gives_way_too(rt: HostRuntime) -> Result<()
 /// An if that only an implicit break leaves.
 fn unnamed_if(alloc: Global) -> Result<List<ReactiveStatement>, AllocError> {
     let inside = both(alloc, row(2), break_to(alloc, 3, 2, Implicit)?)?;
-    both(alloc, if_then(alloc, 1, 2, inside)?, return_at(alloc, 4)?)
+    both(
+        alloc,
+        if_then(alloc, 1, Some(2), inside)?,
+        return_at(alloc, 4)?,
+    )
 }
 
 #[test]

@@ -1,12 +1,12 @@
 //! The check of membership: which operands are outside, and which of them is named.
 
-use crate::tests::small_trees::{
-    empty, function, if_taken, labeled, load, only, pruned_scope, return_of, scope,
+use crate::tests::trees::{
+    both, function, if_then, load, only, pruned_scope_around, return_of, scope_around,
 };
 use rc_checks::assert_scope_instructions_within_scopes;
 use rc_hir::{Environment, Fault, Identifier, MutableRange, ReactiveScope, TableName};
 use rc_names::{DeclarationId, EvaluationOrder, List, ScopeId, TypeId};
-use rc_tree::{ReactiveBlock, ReactiveStatement};
+use rc_tree::ReactiveStatement;
 use std::alloc::{AllocError, Global};
 
 /// An identifier in that scope, where it is in one.
@@ -46,7 +46,7 @@ fn environment(alloc: Global) -> Result<Environment, Fault> {
 }
 
 /// What the check answers for a body.
-fn check(alloc: Global, body: ReactiveBlock) -> Result<(), Fault> {
+fn check(alloc: Global, body: List<ReactiveStatement>) -> Result<(), Fault> {
     let env = environment(alloc)?;
     assert_scope_instructions_within_scopes(alloc, &function(alloc, body), &env)
 }
@@ -63,10 +63,12 @@ fn bad(table: TableName, index: u32) -> Result<(), Fault> {
 }
 
 /// A scope block of scope 0 that reads `$0`, and then a statement.
-fn after_scope(alloc: Global, statement: ReactiveStatement) -> Result<ReactiveBlock, AllocError> {
-    let mut body = only(alloc, scope(0, only(alloc, load(2, 0))?))?;
-    body.statements.push(statement)?;
-    Ok(body)
+fn after_scope(
+    alloc: Global,
+    statement: ReactiveStatement,
+) -> Result<List<ReactiveStatement>, AllocError> {
+    let block = scope_around(0, only(alloc, load(2, 0))?);
+    both(alloc, block, statement)
 }
 
 /// What the check answers for that.
@@ -77,36 +79,33 @@ fn check_after_scope(alloc: Global, statement: ReactiveStatement) -> Result<(), 
 /// Two operands outside, and one that is in no scope.
 fn check_two_outside(alloc: Global) -> Result<(), Fault> {
     let mut body = after_scope(alloc, load(4, 1))?;
-    body.statements
-        .push(labeled(alloc, None, return_of(5, 1))?)?;
-    body.statements.push(load(5, 0))?;
+    body.push(return_of(alloc, 5, 1)?)?;
+    body.push(load(5, 0))?;
     check(alloc, body)
 }
 
 /// An operand in another scope block in an `If` in its scope block.
 fn check_deep_inside(alloc: Global) -> Result<(), Fault> {
-    let inner = only(alloc, scope(3, only(alloc, load(4, 1))?))?;
-    let taken = only(alloc, labeled(alloc, None, if_taken(inner))?)?;
-    check(alloc, only(alloc, scope(0, taken))?)
+    let inner = scope_around(3, only(alloc, load(4, 1))?);
+    let taken = if_then(alloc, 1, None, only(alloc, inner)?)?;
+    check(alloc, only(alloc, scope_around(0, only(alloc, taken)?))?)
 }
 
 /// An operand behind a block of its scope, in another block of it.
 fn check_in_outer_block(alloc: Global) -> Result<(), Fault> {
-    let mut block = only(alloc, scope(0, empty(alloc)))?;
-    block.statements.push(load(4, 1))?;
-    check(alloc, only(alloc, scope(0, block))?)
+    let inside = both(alloc, scope_around(0, List::new(alloc)), load(4, 1))?;
+    check(alloc, only(alloc, scope_around(0, inside))?)
 }
 
 /// An operand in a pruned scope block of its scope.
 fn check_in_pruned(alloc: Global) -> Result<(), Fault> {
-    check_after_scope(alloc, pruned_scope(0, only(alloc, load(4, 1))?))
+    check_after_scope(alloc, pruned_scope_around(0, only(alloc, load(4, 1))?))
 }
 
 /// An operand whose scope has a pruned scope block and no other.
 fn check_behind_pruned(alloc: Global) -> Result<(), Fault> {
-    let mut body = only(alloc, pruned_scope(0, empty(alloc)))?;
-    body.statements.push(load(4, 1))?;
-    check(alloc, body)
+    let block = pruned_scope_around(0, List::new(alloc));
+    check(alloc, both(alloc, block, load(4, 1))?)
 }
 
 /// A row alone.

@@ -69,36 +69,27 @@ fn put_terminal(
         ReactiveTerminal::Break {
             target,
             target_kind,
-            id: _,
+            ..
         } => lines.push(Line::Break(target.0, *target_kind)),
         ReactiveTerminal::Continue {
             target,
             target_kind,
-            id: _,
+            ..
         } => lines.push(Line::Continue(target.0, *target_kind)),
-        ReactiveTerminal::Return { value: _, id } => lines.push(Line::Return(id.0)),
+        ReactiveTerminal::Return { id, .. } => lines.push(Line::Return(id.0)),
         ReactiveTerminal::Label { block, id } => {
             lines.push(Line::Label(id.0, label))?;
             put_inside(block, lines)
         }
-        ReactiveTerminal::If {
-            test: _,
-            consequent,
-            alternate: _,
-            id,
-        } => {
+        ReactiveTerminal::If { consequent, id, .. } => {
             lines.push(Line::If(id.0, label))?;
             put_inside(consequent, lines)
         }
-        ReactiveTerminal::While {
-            test: _,
-            loop_block,
-            id,
-        } => {
+        ReactiveTerminal::While { loop_block, id, .. } => {
             lines.push(Line::While(id.0, label))?;
             put_inside(loop_block, lines)
         }
-        ReactiveTerminal::Switch { test: _, cases, id } => {
+        ReactiveTerminal::Switch { cases, id, .. } => {
             lines.push(Line::Switch(id.0, label))?;
             put_cases(cases, lines)
         }

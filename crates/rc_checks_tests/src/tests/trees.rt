@@ -1,4 +1,4 @@
-//! Parts of small trees.
+//! Parts of small trees: rows, terminals that are statements, scope blocks, lists of statements, functions.
 
 use rc_hir::{Effect, InstructionValue, Place};
 use rc_names::{BlockId, Boxed, EvaluationOrder, IdentifierId, List, ScopeId};
@@ -10,26 +10,45 @@ use rc_tree::{
 use std::alloc::{AllocError, Global};
 
 /// A place that is read.
-fn place() -> Place {
+fn place(number: u32) -> Place {
     Place {
-        identifier: IdentifierId(0),
+        identifier: IdentifierId(number),
         effect: Effect::Read,
         reactive: false,
         span: None,
     }
 }
 
-/// A row that does nothing.
-pub fn row(id: u32) -> ReactiveStatement {
-    ReactiveStatement::Instruction(ReactiveInstruction {
-        id: EvaluationOrder(id),
-        lvalue: None,
-        value: ReactiveValue::Instruction(InstructionValue::Debugger { span: None }),
+/// A value that loads a place.
+fn loaded(number: u32) -> ReactiveValue {
+    ReactiveValue::Instruction(InstructionValue::LoadLocal {
+        place: place(number),
         span: None,
     })
 }
 
-/// The statement of a terminal, with the label that such a statement has at first.
+/// A row without a target.
+fn row_of(id: u32, value: ReactiveValue) -> ReactiveStatement {
+    ReactiveStatement::Instruction(ReactiveInstruction {
+        id: EvaluationOrder(id),
+        lvalue: None,
+        value,
+        span: None,
+    })
+}
+
+/// A row that does nothing.
+pub fn row(id: u32) -> ReactiveStatement {
+    let value = InstructionValue::Debugger { span: None };
+    row_of(id, ReactiveValue::Instruction(value))
+}
+
+/// A row that loads a place.
+pub fn load(id: u32, number: u32) -> ReactiveStatement {
+    row_of(id, loaded(number))
+}
+
+/// The statement of a terminal, with a label of that number where there is one, which isn't implicit.
 pub fn statement(
     alloc: Global,
     terminal: ReactiveTerminal,
@@ -75,13 +94,18 @@ pub fn continue_to(alloc: Global, id: u32, target: u32) -> Result<ReactiveStatem
     statement(alloc, terminal, None)
 }
 
-/// A return.
-pub fn return_at(alloc: Global, id: u32) -> Result<ReactiveStatement, AllocError> {
+/// A return of a place.
+pub fn return_of(alloc: Global, id: u32, number: u32) -> Result<ReactiveStatement, AllocError> {
     let terminal = ReactiveTerminal::Return {
-        value: place(),
+        value: place(number),
         id: EvaluationOrder(id),
     };
     statement(alloc, terminal, None)
+}
+
+/// A return of `$0`.
+pub fn return_at(alloc: Global, id: u32) -> Result<ReactiveStatement, AllocError> {
+    return_of(alloc, id, 0)
 }
 
 /// A `Label` around statements.
@@ -102,16 +126,16 @@ pub fn label_around(
 pub fn if_then(
     alloc: Global,
     id: u32,
-    label: u32,
+    label: Option<u32>,
     statements: List<ReactiveStatement>,
 ) -> Result<ReactiveStatement, AllocError> {
     let terminal = ReactiveTerminal::If {
-        test: place(),
+        test: place(0),
         consequent: block(statements),
         alternate: None,
         id: EvaluationOrder(id),
     };
-    statement(alloc, terminal, Some(label))
+    statement(alloc, terminal, label)
 }
 
 /// A while around statements.
@@ -122,10 +146,7 @@ pub fn while_around(
     statements: List<ReactiveStatement>,
 ) -> Result<ReactiveStatement, AllocError> {
     let terminal = ReactiveTerminal::While {
-        test: ReactiveValue::Instruction(InstructionValue::LoadLocal {
-            place: place(),
-            span: None,
-        }),
+        test: loaded(0),
         loop_block: block(statements),
         id: EvaluationOrder(id),
     };
@@ -145,7 +166,7 @@ pub fn switch_around(
         block: Some(block(statements)),
     })?;
     let terminal = ReactiveTerminal::Switch {
-        test: place(),
+        test: place(0),
         cases,
         id: EvaluationOrder(id),
     };
