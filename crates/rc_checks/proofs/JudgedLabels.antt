@@ -151,7 +151,8 @@ module _ (x : ReactiveTerminalStatement) (t t1 t2 : Targets) (done done1 : List 
 
   whole_left : (a : Targets × ReactiveTerminal) → opened done (Ok a) ≡ Ok (t1, (left, done1))
       → ◌≡◌ {A = Left} (t1, (left, done1)) (a.0, (emptied (label_in a.1) a.1, done ++ moved (label_in a.1)))
-  whole_left a e = sym (Ok-injective (a.0, (emptied (label_in a.1) a.1, done ++ moved (label_in a.1))) (t1, (left, done1)) e)
+  whole_left a e =
+      sym (Ok-injective (a.0, (emptied (label_in a.1) a.1, done ++ moved (label_in a.1))) (t1, (left, done1)) e)
 
   pub given_way : gives_way t2 x.label left ≡ true
       → behind done (rebuilt_statement label_rules (stmt.Terminal x) t) ≡ Ok (t2, done1 ++ [])

@@ -1,6 +1,5 @@
 -- What the membership check answers is what its visits give: where none is outside, the last one that is, or the first
--- number
--- outside its table.
+-- number outside its table.
 use Rattle.std.proofs.Common.{◌≡◌, ◌⊎◌, inl, inr, ℕ, Bool, ◌&&◌, not, List, [], ◌∷◌, ◌++◌, Option, None, Some, Result}
 use Rattle.std.proofs.Common.{Ok, Err, All, refl, sym, ap, subst, ◌∙◌, slice_get, if◌then◌else◌}
 use Rattle.std.specs.Prelude.{IfErr}

@@ -379,9 +379,8 @@ module _ (env : Environment) (blocks : List ScopeId) where
   abbrev ATerminal : Type 0
   ATerminal = (x : ReactiveTerminalStatement) × TerminalFollows x
 
-  -- a statement's and a terminal's layer: with a claim beside each part; without the claims; with each part's walk;
-  -- and with
-  -- its visits
+  -- a statement's and a terminal's layer: with a claim beside each part; without the claims; with each part's walk; and
+  -- with its visits
 
   abbrev LayerStatement : Type 0
   LayerStatement = ReactiveStatement-F AStatement AParts APruned AScope ABlock ACase ATerminal

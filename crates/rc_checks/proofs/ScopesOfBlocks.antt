@@ -41,19 +41,19 @@ scopes_of it = map (λ (block : ScopeBlock). block.scope) it.blocks
 abbrev scopes_in_scope : ReactiveScopeBlock → Scopes
 scopes_in_scope =
     fold-ReactiveScopeBlock Scopes Scopes Scopes Scopes Scopes Scopes Scopes scopes.of_statement scopes.of_terminal
-    scopes.of_pruned_scope scopes.of_scope scopes.of_block scopes.of_case scopes.of_labelled
+    scopes.of_pruned_scope scopes.of_scope scopes.of_block scopes.of_case scopes.of_labeled
 
 abbrev scopes_in_pruned_scope : PrunedReactiveScopeBlock → Scopes
 scopes_in_pruned_scope =
     fold-PrunedReactiveScopeBlock Scopes Scopes Scopes Scopes Scopes Scopes Scopes scopes.of_statement
     scopes.of_terminal
-    scopes.of_pruned_scope scopes.of_scope scopes.of_block scopes.of_case scopes.of_labelled
+    scopes.of_pruned_scope scopes.of_scope scopes.of_block scopes.of_case scopes.of_labeled
 
 abbrev scopes_in_labeled : ReactiveTerminalStatement → Scopes
 scopes_in_labeled =
     fold-ReactiveTerminalStatement Scopes Scopes Scopes Scopes Scopes Scopes Scopes scopes.of_statement
     scopes.of_terminal
-    scopes.of_pruned_scope scopes.of_scope scopes.of_block scopes.of_case scopes.of_labelled
+    scopes.of_pruned_scope scopes.of_scope scopes.of_block scopes.of_case scopes.of_labeled
 
 -- each part, with what is claimed of it
 abbrev OfStatement : Type 0
@@ -117,7 +117,8 @@ bare_terminal = map-ReactiveTerminal OfStatement OfTerminal OfPrunedScope OfScop
     ReactiveTerminalStatement
     (λ e. e.0) (λ e. e.0) (λ e. e.0) (λ e. e.0) (λ e. e.0) (λ e. e.0) (λ e. e.0)
 
-abbrev with_scopes_statement : OpenStatement → layer.ReactiveStatement-F Scopes Scopes Scopes Scopes Scopes Scopes Scopes
+abbrev with_scopes_statement : OpenStatement
+    → layer.ReactiveStatement-F Scopes Scopes Scopes Scopes Scopes Scopes Scopes
 with_scopes_statement = map-ReactiveStatement ReactiveStatement ReactiveTerminal PrunedReactiveScopeBlock
     ReactiveScopeBlock ReactiveBlock ReactiveSwitchCase ReactiveTerminalStatement
     Scopes Scopes Scopes Scopes Scopes Scopes Scopes
@@ -189,14 +190,14 @@ scopes_in-blocks =
     ≡ scopes_of (held_statement (roll-ReactiveStatement z))) is
     (opened _ _ _ _ (fold-roll-ReactiveStatement Scopes Scopes Scopes Scopes Scopes Scopes Scopes
     scopes.of_statement scopes.of_terminal scopes.of_pruned_scope scopes.of_scope scopes.of_block scopes.of_case
-    scopes.of_labelled (bare_statement y))
+    scopes.of_labeled (bare_statement y))
     (fold-roll-ReactiveStatement Held Held Held Held Held Held Held blocks.of_statement blocks.of_terminal
     blocks.of_pruned_scope blocks.of_scope blocks.of_block blocks.of_case blocks.of_labeled (bare_statement y))
     (statement_layer y)))
     (λ x y is. subst (λ z. scopes_in_terminal (roll-ReactiveTerminal z)
     ≡ scopes_of (held_terminal (roll-ReactiveTerminal z))) is
     (opened _ _ _ _ (fold-roll-ReactiveTerminal Scopes Scopes Scopes Scopes Scopes Scopes Scopes scopes.of_statement
-    scopes.of_terminal scopes.of_pruned_scope scopes.of_scope scopes.of_block scopes.of_case scopes.of_labelled
+    scopes.of_terminal scopes.of_pruned_scope scopes.of_scope scopes.of_block scopes.of_case scopes.of_labeled
     (bare_terminal y)) (fold-roll-ReactiveTerminal Held Held Held Held Held Held Held blocks.of_statement
     blocks.of_terminal blocks.of_pruned_scope blocks.of_scope blocks.of_block blocks.of_case blocks.of_labeled
     (bare_terminal y)) (terminal_layer y)))
@@ -204,7 +205,7 @@ scopes_in-blocks =
     ≡ scopes_of (held_pruned_scope (record { scope = z.scope; instructions = z.instructions }))) is
     (opened _ _ _ _ (fold-roll-PrunedReactiveScopeBlock Scopes Scopes Scopes Scopes Scopes Scopes Scopes
     scopes.of_statement scopes.of_terminal scopes.of_pruned_scope scopes.of_scope scopes.of_block scopes.of_case
-    scopes.of_labelled (record { scope = y.scope; instructions = y.instructions.0 }))
+    scopes.of_labeled (record { scope = y.scope; instructions = y.instructions.0 }))
     (fold-roll-PrunedReactiveScopeBlock Held Held Held Held Held Held Held blocks.of_statement blocks.of_terminal
     blocks.of_pruned_scope blocks.of_scope blocks.of_block blocks.of_case blocks.of_labeled
     (record { scope = y.scope; instructions = y.instructions.0 })) y.instructions.1))
@@ -212,14 +213,14 @@ scopes_in-blocks =
     ≡ scopes_of (held_scope (record { scope = z.scope; instructions = z.instructions }))) is
     (opened _ _ _ _ (fold-roll-ReactiveScopeBlock Scopes Scopes Scopes Scopes Scopes Scopes Scopes
     scopes.of_statement scopes.of_terminal scopes.of_pruned_scope scopes.of_scope scopes.of_block scopes.of_case
-    scopes.of_labelled (record { scope = y.scope; instructions = y.instructions.0 }))
+    scopes.of_labeled (record { scope = y.scope; instructions = y.instructions.0 }))
     (fold-roll-ReactiveScopeBlock Held Held Held Held Held Held Held blocks.of_statement blocks.of_terminal
     blocks.of_pruned_scope blocks.of_scope blocks.of_block blocks.of_case blocks.of_labeled
     (record { scope = y.scope; instructions = y.instructions.0 }))
     (ap (λ found. y.scope ∷ found) y.instructions.1)))
     (λ x y is. subst (λ z. scopes_in (roll-ReactiveBlock z) ≡ scopes_of (held (roll-ReactiveBlock z))) is
     (opened _ _ _ _ (fold-roll-ReactiveBlock Scopes Scopes Scopes Scopes Scopes Scopes Scopes scopes.of_statement
-    scopes.of_terminal scopes.of_pruned_scope scopes.of_scope scopes.of_block scopes.of_case scopes.of_labelled
+    scopes.of_terminal scopes.of_pruned_scope scopes.of_scope scopes.of_block scopes.of_case scopes.of_labeled
     (record { statements = map (λ e. e.0) y.statements }))
     (fold-roll-ReactiveBlock Held Held Held Held Held Held Held blocks.of_statement blocks.of_terminal
     blocks.of_pruned_scope blocks.of_scope blocks.of_block blocks.of_case blocks.of_labeled
@@ -229,7 +230,7 @@ scopes_in-blocks =
     ≡ scopes_of (held_case (roll-ReactiveSwitchCase z))) is
     (opened _ _ _ _ (fold-roll-ReactiveSwitchCase Scopes Scopes Scopes Scopes Scopes Scopes Scopes
     scopes.of_statement scopes.of_terminal scopes.of_pruned_scope scopes.of_scope scopes.of_block scopes.of_case
-    scopes.of_labelled (record { test = y.test; block = bare_if y.block }))
+    scopes.of_labeled (record { test = y.test; block = bare_if y.block }))
     (fold-roll-ReactiveSwitchCase Held Held Held Held Held Held Held blocks.of_statement blocks.of_terminal
     blocks.of_pruned_scope blocks.of_scope blocks.of_block blocks.of_case blocks.of_labeled
     (record { test = y.test; block = bare_if y.block })) (if_scopes y.block)))
@@ -237,7 +238,7 @@ scopes_in-blocks =
     ≡ scopes_of (held_labeled (record { terminal = z.terminal; label = z.label }))) is
     (opened _ _ _ _ (fold-roll-ReactiveTerminalStatement Scopes Scopes Scopes Scopes Scopes Scopes Scopes
     scopes.of_statement scopes.of_terminal scopes.of_pruned_scope scopes.of_scope scopes.of_block scopes.of_case
-    scopes.of_labelled (record { terminal = y.terminal.0; label = y.label }))
+    scopes.of_labeled (record { terminal = y.terminal.0; label = y.label }))
     (fold-roll-ReactiveTerminalStatement Held Held Held Held Held Held Held blocks.of_statement blocks.of_terminal
     blocks.of_pruned_scope blocks.of_scope blocks.of_block blocks.of_case blocks.of_labeled
     (record { terminal = y.terminal.0; label = y.label })) y.terminal.1))

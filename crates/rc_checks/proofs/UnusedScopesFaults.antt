@@ -39,7 +39,8 @@ module _ (env : Environment) (rows : ℕ) (fault : Fault) where
       → NamesFirstScopeOutside env body fault → ⊥
   scopes_are_there body all missing =
       contrary (rebuilt_faults (unused_scope_rules env) fault (IsOutside (lengths env rows) fault)
-      (λ x s e. answered _ fault e) (λ x s e. answered _ fault e) (λ x s e. answered _ fault e) scope_fault body false missing)
+      (λ x s e. answered _ fault e) (λ x s e. answered _ fault e) (λ x s e. answered _ fault e) scope_fault body false
+      missing)
     where
       contrary : Any (IsOutside (lengths env rows) fault) (names_in body) → ⊥
       contrary some =

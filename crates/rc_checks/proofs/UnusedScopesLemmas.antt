@@ -107,9 +107,8 @@ scopes_follow env = record {
   scope = λ around met returns block. judges around met returns block (slice_get env.scopes block.scope.0);
 }
 
--- a call that gives what the walk gives, with any flags around, leaves the body without its unused scopes, or ends
--- with want
--- of memory or the rules' fault
+-- a call that gives what the walk gives, with any flags around, leaves the body without its unused scopes, or ends with
+-- want of memory or the rules' fault
 module _ {T : Type 0} (env_of : T → Environment) (functions : T → List HirFunction) (t : T) (w : T × Returns)
     (around : List Bool) (env : Environment) where
   abbrev steps : RewriteSteps (T × Returns)

@@ -1,10 +1,8 @@
 -- Where unused scopes are pruned, exactly those scope blocks stay whose scopes give something; and a fault names the
--- scope
--- of a scope block that is outside the table.
+-- scope of a scope block that is outside the table.
 --
 -- By induction over the tree. Of each part it is shown what it holds once it is rebuilt, and that the state behind it
--- tells
--- whether a `Return` was met before it or stands in it.
+-- tells whether a `Return` was met before it or stands in it.
 use Rattle.std.proofs.Common.{◌≡◌, ◌∙◌, Bool, true, false, List, [], ◌∷◌, ◌++◌, Option}
 use Rattle.std.proofs.Common.{None, Some, Result, Ok, Err, map, refl, sym, ap, subst, slice_get, arith}
 use Rattle.std.proofs.Common.{◌||◌}

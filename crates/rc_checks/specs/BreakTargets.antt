@@ -29,6 +29,7 @@ Terminals = List ReactiveTerminalStatement
 abbrev pub OfStatement : Type 0
 OfStatement = ReactiveStatement × Terminals
 
+-- a terminal without its label
 abbrev pub OfParts : Type 0
 OfParts = ReactiveTerminal × Terminals
 
@@ -44,6 +45,7 @@ OfBlock = ReactiveBlock × Terminals
 abbrev pub OfCase : Type 0
 OfCase = ReactiveSwitchCase × Terminals
 
+-- a terminal with its label
 abbrev pub OfTerminal : Type 0
 OfTerminal = ReactiveTerminalStatement × Terminals
 
@@ -59,20 +61,25 @@ met_by_statement (layer.PrunedScope x) = x.1
 abbrev pub met_by_parts : ReactiveTerminal-F OfStatement OfParts OfPruned OfScope OfBlock OfCase OfTerminal → Terminals
 met_by_parts parts = []
 
+-- a pruned scope block is entered
 abbrev pub met_by_pruned_scope : PrunedReactiveScopeBlock-F OfStatement OfParts OfPruned OfScope OfBlock OfCase
     OfTerminal → Terminals
 met_by_pruned_scope x = x.instructions.1
 
+-- and so is a scope block
 abbrev pub met_by_scope : ReactiveScopeBlock-F OfStatement OfParts OfPruned OfScope OfBlock OfCase OfTerminal
     → Terminals
 met_by_scope x = x.instructions.1
 
+-- the statements of a block, in order
 abbrev pub met_by_block : ReactiveBlock-F OfStatement OfParts OfPruned OfScope OfBlock OfCase OfTerminal → Terminals
 met_by_block x = flat_map (λ statement. statement.1) x.statements
 
+-- a case stands inside a terminal
 abbrev pub met_by_case : ReactiveSwitchCase-F OfStatement OfParts OfPruned OfScope OfBlock OfCase OfTerminal → Terminals
 met_by_case case = []
 
+-- a terminal is met by its statement, and nothing in it is
 abbrev pub met_by_terminal : ReactiveTerminalStatement-F OfStatement OfParts OfPruned OfScope OfBlock OfCase OfTerminal
     → Terminals
 met_by_terminal x = []
@@ -102,6 +109,7 @@ target_of (layer.Break target kind id) = Some target
 target_of (layer.Continue target kind id) = Some target
 target_of _ = None
 
+-- the same of a terminal with its label
 abbrev pub jump_target : ReactiveTerminalStatement → Option BlockId
 jump_target x = target_of (out-ReactiveTerminal x.terminal)
 

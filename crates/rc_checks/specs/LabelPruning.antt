@@ -16,6 +16,7 @@ use Rattle.rc_tree.specs.declared.statement.ReactiveStatement.TheOpen as layer
 use Rattle.rc_tree.specs.declared.terminal.ReactiveTerminal.{ReactiveTerminal, out-ReactiveTerminal}
 use Rattle.rc_tree.specs.declared.terminal.ReactiveTerminal.TheVariants as term
 
+-- statements, one after the other
 abbrev pub Statements : Type 0
 Statements = List ReactiveStatement
 
@@ -39,6 +40,7 @@ pub record PutsLast (left : Statements) (targets : Targets) (done left1 : Statem
 abbrev pub OpenLabel : Type 0
 OpenLabel = ReactiveBlock × EvaluationOrder
 
+-- what a terminal's variant has, where it is `Label`
 abbrev pub as_label : OpenTerminal → Option OpenLabel
 as_label (layer.Label body id) = Some (body, id)
 as_label _ = None

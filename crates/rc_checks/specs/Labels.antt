@@ -1,6 +1,5 @@
 -- A tree without its unused labels: a `Label` that nothing names gives way to its statements, and every other label
--- that
--- nothing names is implicit.
+-- that nothing names is implicit.
 --
 -- A label is named by the labeled breaks and continues met so far: those before its statement in the order of the text,
 -- and those inside it.

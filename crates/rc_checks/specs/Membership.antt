@@ -1,8 +1,7 @@
 -- Operands outside the blocks of their scopes: what the membership check refuses.
 --
 -- An operand is outside where its identifier has a scope, the operand is visited inside that scope's range, the scope
--- has
--- a scope block in the tree, and no block of it is around the operand.
+-- has a scope block in the tree, and no block of it is around the operand.
 use Rattle.std.specs.Prelude.{◌≡◌, Bool, ◌&&◌, not, nat_le, nat_lt, List, ◌∷◌, ◌++◌, Option, None, Some, Result}
 use Rattle.std.specs.Prelude.{Ok, Err, All, slice_get, if◌then◌else◌}
 use Rattle.std.specs.List.{list_any}
@@ -33,6 +32,7 @@ abbrev pub scope_found : IdentifierId → Option Identifier → Result (Option S
 scope_found number None = Err (BadName Identifiers number.0)
 scope_found number (Some identifier) = Ok identifier.scope
 
+-- the scope of the identifier under that number
 abbrev pub scope_of : Environment → IdentifierId → Result (Option ScopeId) Fault
 scope_of env number = scope_found number (slice_get env.identifiers number.0)
 
@@ -41,6 +41,7 @@ abbrev pub range_found : ScopeId → Option ReactiveScope → Result MutableRang
 range_found number None = Err (BadName Scopes number.0)
 range_found number (Some scope) = Ok scope.range
 
+-- the range of the scope under that number
 abbrev pub range_of : Environment → ScopeId → Result MutableRange Fault
 range_of env number = range_found number (slice_get env.scopes number.0)
 
@@ -56,6 +57,7 @@ module _ (env : Environment) (blocks : List ScopeId) where
   if_outside operand (Some scope) =
       bind (range_of env scope) (λ range. Ok (if is_outside operand scope range then Some scope else None))
 
+  -- the same, with the scope of the operand's identifier
   abbrev pub operand_outside : PlacedOperand → Result (Option ScopeId) Fault
   operand_outside operand = bind (scope_of env operand.place.identifier) (if_outside operand)
 

@@ -18,11 +18,12 @@ noted id None last = last
 noted id (Some scope) last = Some (record { id = id; scope = scope })
 
 module _ (env : Environment) (blocks : List ScopeId) where
-  -- one visit, and visits one after the other
+  -- one visit
   abbrev pub visit_step : Visit → Option Outside → Result (Option Outside) Fault
   visit_step (Ok operand) last = bind (operand_outside env blocks operand) (λ scope. Ok (noted operand.id scope last))
   visit_step (Err fault) last = Err fault
 
+  -- visits, one after the other
   abbrev pub after_visits : List Visit → Option Outside → Result (Option Outside) Fault
   after_visits [] last = Ok last
   after_visits (visit ∷ visits) last = bind (visit_step visit last) (after_visits visits)

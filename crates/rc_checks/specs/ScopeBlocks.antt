@@ -1,8 +1,7 @@
 -- The scope blocks of a tree, at every depth and in the order of the text, each with whether a `Return` stands in it.
 --
 -- A `Return` stands in the innermost scope block around it alone. A pruned block isn't a scope block, so that what
--- stands
--- in it stands in the block around.
+-- stands in it stands in the block around.
 use Rattle.std.specs.Prelude.{◌≡◌, ◌≤◌, length, Bool, true, false, List, [], ◌∷◌, ◌++◌, Option, None, Some, slice_get}
 use Rattle.std.specs.Prelude.{◌||◌}
 use Rattle.std.specs.List.{filter, Contains}
@@ -30,6 +29,7 @@ pub record Held : Type 0 where
   pub returns : Bool
   pub blocks : List ScopeBlock
 
+-- no `Return`, and no scope blocks
 abbrev pub nothing : Held
 nothing = record { returns = false; blocks = [] }
 
@@ -47,12 +47,14 @@ abbrev pub if_there : Option Held → Held
 if_there None = nothing
 if_there (Some part) = part
 
+-- what a statement holds, by what its parts hold
 abbrev pub of_statement : ReactiveStatement-F Held Held Held Held Held Held Held → Held
 of_statement (layer.Instruction row) = nothing
 of_statement (layer.Terminal statement) = statement
 of_statement (layer.Scope block) = block
 of_statement (layer.PrunedScope block) = block
 
+-- what a terminal holds: a `Return` is one itself, and others hold what their blocks hold
 abbrev pub of_terminal : ReactiveTerminal-F Held Held Held Held Held Held Held → Held
 of_terminal (layer.Break target kind id) = nothing
 of_terminal (layer.Continue target kind id) = nothing
@@ -68,6 +70,7 @@ of_terminal (layer.If test consequent alternate id) = both consequent (if_there 
 of_terminal (layer.Label body id) = body
 of_terminal (layer.Try body binding handler id) = both body handler
 
+-- a pruned scope block holds what its statements hold
 abbrev pub of_pruned_scope : PrunedReactiveScopeBlock-F Held Held Held Held Held Held Held → Held
 of_pruned_scope block = block.instructions
 
@@ -78,12 +81,15 @@ of_scope block = record {
   blocks = record { scope = block.scope; returns = block.instructions.returns } ∷ block.instructions.blocks;
 }
 
+-- what the statements of a block hold
 abbrev pub of_block : ReactiveBlock-F Held Held Held Held Held Held Held → Held
 of_block block = all_of block.statements
 
+-- what the block of a case holds
 abbrev pub of_case : ReactiveSwitchCase-F Held Held Held Held Held Held Held → Held
 of_case case = if_there case.block
 
+-- what a terminal with its label holds
 abbrev pub of_labeled : ReactiveTerminalStatement-F Held Held Held Held Held Held Held → Held
 of_labeled statement = statement.terminal
 

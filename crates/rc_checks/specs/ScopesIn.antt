@@ -66,29 +66,29 @@ abbrev pub of_case : ReactiveSwitchCase-F Scopes Scopes Scopes Scopes Scopes Sco
 of_case case = if_there case.block
 
 -- the scopes in a terminal with its label
-abbrev pub of_labelled : ReactiveTerminalStatement-F Scopes Scopes Scopes Scopes Scopes Scopes Scopes → Scopes
-of_labelled statement = statement.terminal
+abbrev pub of_labeled : ReactiveTerminalStatement-F Scopes Scopes Scopes Scopes Scopes Scopes Scopes → Scopes
+of_labeled statement = statement.terminal
 
 -- the scope of each scope block of the tree
 abbrev pub scopes_in : ReactiveBlock → Scopes
 scopes_in =
     fold-ReactiveBlock Scopes Scopes Scopes Scopes Scopes Scopes Scopes of_statement of_terminal
-    of_pruned_scope of_scope of_block of_case of_labelled
+    of_pruned_scope of_scope of_block of_case of_labeled
 
 -- the scope of each scope block in the statement, its own included
 abbrev pub scopes_in_statement : ReactiveStatement → Scopes
 scopes_in_statement =
     fold-ReactiveStatement Scopes Scopes Scopes Scopes Scopes Scopes Scopes of_statement of_terminal
-    of_pruned_scope of_scope of_block of_case of_labelled
+    of_pruned_scope of_scope of_block of_case of_labeled
 
 -- the scope of each scope block in the terminal
 abbrev pub scopes_in_terminal : ReactiveTerminal → Scopes
 scopes_in_terminal =
     fold-ReactiveTerminal Scopes Scopes Scopes Scopes Scopes Scopes Scopes of_statement of_terminal
-    of_pruned_scope of_scope of_block of_case of_labelled
+    of_pruned_scope of_scope of_block of_case of_labeled
 
 -- the scope of each scope block in the case
 abbrev pub scopes_in_case : ReactiveSwitchCase → Scopes
 scopes_in_case =
     fold-ReactiveSwitchCase Scopes Scopes Scopes Scopes Scopes Scopes Scopes of_statement of_terminal
-    of_pruned_scope of_scope of_block of_case of_labelled
+    of_pruned_scope of_scope of_block of_case of_labeled

@@ -30,6 +30,7 @@ inside_scope flags = record { met = false; around = flags.around ++ flags.met �
 abbrev pub last_flag : List Bool → Bool
 last_flag flags = unwrap_or (last_or None flags) false
 
+-- the flags before the last one
 abbrev pub without_last : List Bool → List Bool
 without_last flags = take (length flags - 1) flags
 

@@ -88,13 +88,15 @@ module _ (functions : List HirFunction) where
   abbrev pub of_row : ReactiveInstruction-F VisitsAt Visits → Visits
   of_row x = x.value x.id
 
-  -- the visits of a value, and of a row
+  -- the visits of a value
   unfoldable pub value_visits : ReactiveValue → VisitsAt
   value_visits = fold-ReactiveValue VisitsAt Visits of_value of_row
 
+  -- the visits of a row
   unfoldable pub row_visits : ReactiveInstruction → Visits
   row_visits = fold-ReactiveInstruction VisitsAt Visits of_value of_row
 
+  -- each form of statement
   abbrev pub of_statement : ReactiveStatement-F Visits Visits Visits Visits Visits VisitsAt Visits → Visits
   of_statement (layer.Instruction x) = row_visits x
   of_statement (layer.Terminal x) = x
@@ -121,6 +123,7 @@ module _ (functions : List HirFunction) where
   of_parts (layer.Label body id) = body
   of_parts (layer.Try body binding handler id) = followed_by body (followed_by (if_there (one id) binding) handler)
 
+  -- a pruned scope block isn't around its statements
   abbrev pub of_pruned_scope : PrunedReactiveScopeBlock-F Visits Visits Visits Visits Visits VisitsAt Visits → Visits
   of_pruned_scope x = x.instructions
 
@@ -128,6 +131,7 @@ module _ (functions : List HirFunction) where
   abbrev pub of_scope : ReactiveScopeBlock-F Visits Visits Visits Visits Visits VisitsAt Visits → Visits
   of_scope x around = x.instructions (x.scope ∷ around)
 
+  -- the statements of a block, in order
   abbrev pub of_block : ReactiveBlock-F Visits Visits Visits Visits Visits VisitsAt Visits → Visits
   of_block x = all_of (λ statement. statement) x.statements
 
@@ -135,40 +139,47 @@ module _ (functions : List HirFunction) where
   abbrev pub of_case : ReactiveSwitchCase-F Visits Visits Visits Visits Visits VisitsAt Visits → VisitsAt
   of_case x id = followed_by (if_there (one id) x.test) (if_there (λ block. block) x.block)
 
+  -- a label has no operands
   abbrev pub of_terminal : ReactiveTerminalStatement-F Visits Visits Visits Visits Visits VisitsAt Visits → Visits
   of_terminal x = x.terminal
 
-  -- the visits of each part
+  -- the visits of a statement
   unfoldable pub statement_visits : ReactiveStatement → Visits
   statement_visits =
       fold-ReactiveStatement Visits Visits Visits Visits Visits VisitsAt Visits
       of_statement of_parts of_pruned_scope of_scope of_block of_case of_terminal
 
+  -- the visits of a terminal without its label
   unfoldable pub parts_visits : ReactiveTerminal → Visits
   parts_visits =
       fold-ReactiveTerminal Visits Visits Visits Visits Visits VisitsAt Visits
       of_statement of_parts of_pruned_scope of_scope of_block of_case of_terminal
 
+  -- the visits of a pruned scope block
   unfoldable pub pruned_scope_visits : PrunedReactiveScopeBlock → Visits
   pruned_scope_visits =
       fold-PrunedReactiveScopeBlock Visits Visits Visits Visits Visits VisitsAt Visits
       of_statement of_parts of_pruned_scope of_scope of_block of_case of_terminal
 
+  -- the visits of a scope block
   unfoldable pub scope_visits : ReactiveScopeBlock → Visits
   scope_visits =
       fold-ReactiveScopeBlock Visits Visits Visits Visits Visits VisitsAt Visits
       of_statement of_parts of_pruned_scope of_scope of_block of_case of_terminal
 
+  -- the visits of a block
   unfoldable pub block_visits : ReactiveBlock → Visits
   block_visits =
       fold-ReactiveBlock Visits Visits Visits Visits Visits VisitsAt Visits
       of_statement of_parts of_pruned_scope of_scope of_block of_case of_terminal
 
+  -- the visits of a case
   unfoldable pub case_visits : ReactiveSwitchCase → VisitsAt
   case_visits =
       fold-ReactiveSwitchCase Visits Visits Visits Visits Visits VisitsAt Visits
       of_statement of_parts of_pruned_scope of_scope of_block of_case of_terminal
 
+  -- the visits of a terminal with its label
   unfoldable pub terminal_visits : ReactiveTerminalStatement → Visits
   terminal_visits =
       fold-ReactiveTerminalStatement Visits Visits Visits Visits Visits VisitsAt Visits

@@ -30,8 +30,10 @@ pub fn assert_well_formed_break_targets(
     env: &Environment,
 ) -> Result<(), Fault>
     ensures ok { OnOk result (AllTargetsAreMet (met_in func.now.body)) }
-    ensures bad_target { (target : Block) → result ≡ Err (Fault.BadTarget target) → IsFirstUnmet (met_in func.now.body) target }
-    ensures only { IfErr result (λ fault. (fault ≡ Fault.NoMemory) ⊎ ((target : Block) × (fault ≡ Fault.BadTarget target))) }
+    ensures bad_target { (target : Block) → result ≡ Err (Fault.BadTarget target) →
+        IsFirstUnmet (met_in func.now.body) target }
+    ensures only { IfErr result (λ fault. (fault ≡ Fault.NoMemory)
+        ⊎ ((target : Block) × (fault ≡ Fault.BadTarget target))) }
 {
     let mut labels = KeySet::new(alloc);
     check_block(&func.body, &mut labels)

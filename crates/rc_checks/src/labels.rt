@@ -1,10 +1,10 @@
 //! Unused labels: a `Label` that nothing names gives way to its statements, and any other label that nothing names
 //! becomes implicit.
 //!
-//! One pass notes the targets of labeled breaks and continues. A terminal is judged behind its inside, so that the jumps
-//! to its label are noted by then. The statements of a `Label` are put where the `Label` stands before it is judged: one
-//! that gives way has nothing left to move, and one that stays takes them back. So no statement is moved once for each
-//! level around it.
+//! One pass notes the targets of labeled breaks and continues. A terminal is judged behind its inside, so that the
+//! jumps to its label are noted by then. The statements of a `Label` are put where the `Label` stands before it is
+//! judged: one that gives way has nothing left to move, and one that stays takes them back. So no statement is moved
+//! once for each level around it.
 //!
 //! After oxc's prune_unused_labels.
 
@@ -144,7 +144,8 @@ fn prune_labeled(
     Ok(true)
 }
 
-/// Prunes the inside of a terminal in its place, but for a `Label`, whose statements are put at the end of what is done.
+/// Prunes the inside of a terminal in its place, but for a `Label`, whose statements are put at the end of what is
+/// done.
 #[cycle(prune_labels)]
 fn prune_terminal(
     terminal: &mut ReactiveTerminal,

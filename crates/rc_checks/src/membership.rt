@@ -38,7 +38,8 @@ pub fn assert_scope_instructions_within_scopes(
     ensures scope_completed { (id : Order) (scope : Scope) → result ≡ Err (Fault.ScopeCompleted id scope) →
         IsLastOutside env.now (spec.scopes_in func.now.body) (visits_of env.now.functions func.now.body) id scope }
     ensures bad_name { (table : Table) (index : ℕ) → result ≡ Err (Fault.BadName table index) →
-        IsFirstUnknown env.now (spec.scopes_in func.now.body) (visits_of env.now.functions func.now.body) (Fault.BadName table index) }
+        IsFirstUnknown env.now (spec.scopes_in func.now.body) (visits_of env.now.functions func.now.body)
+        (Fault.BadName table index) }
     ensures only { IfErr result (λ fault. (fault ≡ Fault.NoMemory)
         ⊎ (((id : Order) × (scope : Scope) × (fault ≡ Fault.ScopeCompleted id scope))
         ⊎ ((table : Table) × (index : ℕ) × (fault ≡ Fault.BadName table index)))) }
@@ -64,7 +65,8 @@ pub fn assert_scope_instructions_within_scopes(
 
 /// The scopes that have a scope block in the tree. The only error is want of memory.
 fn scope_blocks(alloc: Global, body: &ReactiveBlock) -> Result<KeySet<ScopeId>, AllocError>
-    ensures { IfOk result (λ blocks. (scope : Scope) → is_among blocks scope ≡ is_among (spec.scopes_in body.now) scope) }
+    ensures { IfOk result (λ blocks. (scope : Scope)
+        → is_among blocks scope ≡ is_among (spec.scopes_in body.now) scope) }
 {
     let scopes = scopes_in(alloc, body)?;
     let mut blocks = KeySet::new(alloc);

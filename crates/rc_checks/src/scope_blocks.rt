@@ -1,7 +1,7 @@
 //! The scopes of the scope blocks of a tree, in the order of the text.
 //!
-//! One pass over the tree puts each scope at the end of one list. Statements that follow each other are a
-//! loop, so that the call stack grows with the nesting alone. Rows and values have no scope block in them.
+//! One pass over the tree puts each scope at the end of one list. Statements that follow each other are a loop, so that
+//! the call stack grows with the nesting alone. Rows and values have no scope block in them.
 
 ghost use Rattle.std.specs.Prelude.{◌≡◌, ◌++◌, map, IfOk, OnOk, option_map};
 ghost use Rattle.rc_checks.specs.ScopesIn.{scopes_in, scopes_in_statement, scopes_in_terminal};
@@ -20,6 +20,7 @@ pub fn scopes_in(alloc: Global, block: &ReactiveBlock) -> Result<List<ScopeId>, 
     Ok(found)
 }
 
+/// Adds the scopes in a block.
 #[cycle(scopes)]
 fn add_block(found: &mut List<ScopeId>, block: &ReactiveBlock) -> Result<(), AllocError>
     ensures { OnOk result (found.new ≡ found.old ++ scopes_in block.now) }
@@ -27,6 +28,7 @@ fn add_block(found: &mut List<ScopeId>, block: &ReactiveBlock) -> Result<(), All
     add_statements(found, block.statements.as_slice())
 }
 
+/// Adds the scopes in statements, one after the other.
 #[cycle(scopes)]
 fn add_statements(found: &mut List<ScopeId>, all: &[ReactiveStatement]) -> Result<(), AllocError>
     ensures { OnOk result (found.new ≡ found.old ++ one_by_one (map scopes_in_statement all.now)) }
@@ -37,6 +39,7 @@ fn add_statements(found: &mut List<ScopeId>, all: &[ReactiveStatement]) -> Resul
     Ok(())
 }
 
+/// Adds the scopes in a statement: that of a scope block, and then those in its block.
 #[cycle(scopes)]
 fn add_statement(found: &mut List<ScopeId>, statement: &ReactiveStatement) -> Result<(), AllocError>
     ensures { OnOk result (found.new ≡ found.old ++ scopes_in_statement statement.now) }
@@ -52,6 +55,7 @@ fn add_statement(found: &mut List<ScopeId>, statement: &ReactiveStatement) -> Re
     }
 }
 
+/// Adds the scopes in the blocks of a terminal.
 #[cycle(scopes)]
 fn add_terminal(found: &mut List<ScopeId>, terminal: &ReactiveTerminal) -> Result<(), AllocError>
     ensures { OnOk result (found.new ≡ found.old ++ scopes_in_terminal terminal.now) }
@@ -83,6 +87,7 @@ fn add_terminal(found: &mut List<ScopeId>, terminal: &ReactiveTerminal) -> Resul
     }
 }
 
+/// Adds the scopes in the cases of a switch.
 #[cycle(scopes)]
 fn add_cases(found: &mut List<ScopeId>, cases: &[ReactiveSwitchCase]) -> Result<(), AllocError>
     ensures { OnOk result (found.new ≡ found.old ++ one_by_one (map scopes_in_case cases.now)) }
@@ -93,6 +98,7 @@ fn add_cases(found: &mut List<ScopeId>, cases: &[ReactiveSwitchCase]) -> Result<
     Ok(())
 }
 
+/// Adds the scopes in a block that may be left out.
 #[cycle(scopes)]
 fn add_if_there(found: &mut List<ScopeId>, block: &Option<ReactiveBlock>) -> Result<(), AllocError>
     ensures { OnOk result (found.new ≡ found.old ++ if_there (option_map scopes_in block.now)) }

@@ -1,7 +1,7 @@
 //! The block of a scope that gives nothing becomes a pruned one.
 //!
-//! A block is judged when its inside is done. A flag says whether a `Return` was met in it so far; the flags of the scope
-//! blocks around are set aside until then.
+//! A block is judged when its inside is done. A flag says whether a `Return` was met in it so far; the flags of the
+//! scope blocks around are set aside until then.
 //!
 //! After oxc's prune_unused_scopes.
 
@@ -28,8 +28,8 @@ use std::alloc::{AllocError, Global};
 /// Makes the block of each scope that gives nothing a pruned one: the scope reassigns no name and declares none of its
 /// own, and no `Return` stands in its block outside nested scope blocks.
 ///
-/// `BadName` comes where the scope of a scope block is outside the table of scopes, and names the first, from the inside;
-/// the body has no stated content then. `NoMemory` is want of memory.
+/// `BadName` comes where the scope of a scope block is outside the table of scopes, and names the first, from the
+/// inside; the body has no stated content then. `NoMemory` is want of memory.
 pub fn prune_unused_scopes(
     alloc: Global,
     func: &mut ReactiveFunction,
@@ -150,6 +150,7 @@ fn has_own_output(scope: &ReactiveScope, id: ScopeId) -> bool
     reassigns(scope) || declares(scope, id)
 }
 
+/// Whether the scope reassigns a name.
 #[tactic(auto, using(crate::proofs::UnusedScopesLemmas::has_entry_unless))]
 fn reassigns(scope: &ReactiveScope) -> bool
     ensures { result ≡ spec.has_entry scope.now.reassignments }
@@ -165,6 +166,7 @@ fn declares(scope: &ReactiveScope, id: ScopeId) -> bool
     declarations.any(|entry| entry.value.scope == id)
 }
 
+/// Whether the terminal is a `Return`.
 fn is_return(terminal: &ReactiveTerminal) -> bool
     ensures { result ≡ spec.is_return (out-ReactiveTerminal terminal.now) }
 {

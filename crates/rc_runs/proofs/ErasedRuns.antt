@@ -1,8 +1,7 @@
 -- A body has the runs that it has without its scopes.
 --
 -- A scope block runs as its contents do, which stand in its place, and every other statement stays around parts that
--- keep
--- their runs. The flag that is left out plays no part, since its instruction is silent.
+-- keep their runs. The flag that is left out plays no part, since its instruction is silent.
 use Rattle.std.proofs.Common.{◌≡◌, ◌↔◌, Bool, true, false, ◌||◌, List, [], ◌∷◌, Option, refl, sym, ap, ◌∙◌, subst}
 use Rattle.rc_names.specs.declared.numbers.EvaluationOrder.{EvaluationOrder}
 use Rattle.rc_names.specs.declared.span.Span.{Span}

@@ -1,12 +1,10 @@
 -- Every run of the graph is a run of the spelled body.
 --
--- A run of the graph that begins at a part of the tree stays there to its end, or leaves the part by an outcome, to
--- the block at
--- which the outcome aims, and goes on from there: that is `Leads`. It is proved by induction on the rows and moves of
--- the run,
--- of which each terminal takes one. A terminal adds its moves to `statement_leads`, or a case to `terminal_leads`
--- where it ends
--- its list; what a terminal needs of smaller runs beside those of lists is a further field of `Below`.
+-- A run of the graph that begins at a part of the tree stays there to its end, or leaves the part by an outcome, to the
+-- block at which the outcome aims, and goes on from there: that is `Leads`. It is proved by induction on the rows and
+-- moves of the run, of which each terminal takes one. A terminal adds its moves to `statement_leads`, or a case to
+-- `terminal_leads` where it ends its list; what a terminal needs of smaller runs beside those of lists is a further
+-- field of `Below`.
 use Rattle.std.proofs.Common.{◌≡◌, ℕ, zero, suc, ◌<◌, ◌≤◌, Bool, true, false, List, [], ◌∷◌, ◌++◌, Option, Some, None}
 use Rattle.std.proofs.Common.{◌⊎◌, inl, inr}
 use Rattle.std.proofs.Common.{refl, sym, ap, ◌∙◌, subst, append_assoc, append-nil, arith}
@@ -72,8 +70,7 @@ module _ (hir : HirFunction) (env : Environment) where
   size_at run = size run.run
 
   -- where a run of the graph leads that begins at a part of the tree with the runs `R`: to its end, or out of the part
-  -- to a block,
-  -- and on from there. The handler is where a throw leads
+  -- to a block, and on from there. The handler is where a throw leads
   data Leads (next handler : Option BlockId) (frames : List Frame) (bound : ℕ) (R : Runs) (events : List Event)
       (end : End) : Type 0 where
     ends : R events (Ended end) → Leads next handler frames bound R events end

@@ -1,8 +1,7 @@
 -- A graph spells at most one tree, and the tree's blocks are used in one order.
 --
 -- Two derivations over the same graph, frames, next and handler are compared; a terminal adds one case of
--- `one_statement`,
--- or of `one_terminal` where it ends its list.
+-- `one_statement`, or of `one_terminal` where it ends its list.
 use Rattle.std.proofs.Common.{◌≡◌, List, ◌∷◌, Option, Some, Bool, refl, sym, ap, ◌∙◌, subst}
 use Rattle.rc_names.specs.declared.numbers.BlockId.{BlockId}
 use Rattle.rc_hir.specs.declared.terminal.Terminal.{Terminal}

@@ -216,7 +216,8 @@ module _ {S : Type 0} (rules : Rules S) (fault : Fault) (Q : Name → Type 0)
 
       terminal_faults : (t : TreeTerminal) (s : S) → rebuilt_terminal rules (terminal_of t) s ≡ Err fault
           → Any Q (names_in_terminal (terminal_of t))
-      terminal_faults (Break target kind id) s e = absurd (answered _ fault (sym (rebuilt-Break rules target kind id s) ∙ e))
+      terminal_faults (Break target kind id) s e =
+          absurd (answered _ fault (sym (rebuilt-Break rules target kind id s) ∙ e))
       terminal_faults (Continue target kind id) s e =
           absurd (answered _ fault (sym (rebuilt-Continue rules target kind id s) ∙ e))
       terminal_faults (Return value id) s e = absurd (answered _ fault (sym (rebuilt-Return rules value id s) ∙ e))

@@ -42,7 +42,8 @@ answer_of {B = B} (Err fault) next b e = absurd (never fault b e)
 pub made_answer : {A B : Type 0} (first : Result A Fault) (make : A → B) (b : B) → bind first (λ a. Ok (make a)) ≡ Ok b
     → (a : A) × (first ≡ Ok a) × (b ≡ make a)
 made_answer first make b e =
-    let found = answer_of first (λ a. Ok (make a)) b e in (found.0, found.1, sym (Ok-injective (make found.0) b found.2))
+    let found = answer_of first (λ a. Ok (make a)) b e in
+    (found.0, found.1, sym (Ok-injective (make found.0) b found.2))
 
 -- a rule that always answers with that list
 pub only_answer : {S L : Type 0} (measure : List ReactiveStatement → L) (s : S) (xs : List ReactiveStatement)

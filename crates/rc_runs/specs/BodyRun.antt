@@ -38,6 +38,7 @@ caught (Some label) (BreakTo target) = if same_block label.id target then Normal
 caught _ outcome = outcome
 
 mutual
+  -- a run of statements, one after the other: its events, and where it leads
   pub data RunsList (env : Environment) : Statements → List Event → Outcome → Type 0 where
     -- each prefix of a run is one
     stopped : {statements : Statements} → RunsList env statements [] (Ended Open)
@@ -55,6 +56,7 @@ mutual
     leaves_list : {outcome : Outcome} {rest : Statements} → leaves outcome ≡ true →
         RunsAfter env outcome rest [] outcome
 
+  -- a run of one statement; forms that no graph spells have none
   pub data RunsStatement (env : Environment) : Statement → List Event → Outcome → Type 0 where
     quiet_row : {id : EvaluationOrder} {target : Option Place} {value : InstructionValue}
         {span : Option Span} →
@@ -89,6 +91,7 @@ mutual
     in_pruned_scope : {scope : ScopeId} {body : Statements} {events : List Event} {outcome : Outcome} →
         RunsList env body events outcome → RunsStatement env (PrunedScopeStatement scope body) events outcome
 
+  -- a run of a block that may be left out
   pub data RunsAlternate (env : Environment) : Alternate → List Event → Outcome → Type 0 where
     absent : RunsAlternate env Absent [] Normal
     present : {body : Statements} {events : List Event} {outcome : Outcome} →

@@ -34,6 +34,7 @@ abbrev pub is_live : List Frame → BlockId → Bool
 is_live [] key = false
 is_live (frame ∷ frames) key = if is_live_at frame key then true else is_live frames key
 
+-- an unlabeled break leaves the frame
 abbrev pub is_loop : Frame → Bool
 is_loop (frame.Loop block continue_block) = true
 is_loop _ = false
