@@ -1,14 +1,14 @@
 //! The whole program over memory devices.
 
+mod answers;
 mod bad_input;
 mod broken_graphs;
+mod built_in_code;
 mod devices;
 mod graphs;
 mod lines;
 mod names;
-mod pruned;
 mod refusals;
-mod rows;
 
 use crate::memory::{MemorySink, MemorySource};
 use crate::status::Status;
@@ -18,12 +18,24 @@ use rc_names::{List, Text};
 use std::alloc::{AllocError, Global};
 
 /// A function that answers its one parameter.
-pub const DOCUMENT: &str =
-    "{\"hir\":{\"params\":[{\"k\":\"Place\",\"v\":0}],\"body\":{\"entry\":0,\"blocks\":[{\"id\":0,\"terminal\":{\"k\":\"Return\",\"value\":0,\"id\":1}}]}},\"env\":{\"identifiers\":[{\"declaration_id\":0,\"type_\":0}],\"types\":[\"Other\"],\"config\":{},\"next_block\":1}}";
+pub const DOCUMENT: &str = r#"{"hir":{"params":[{"k":"Place","v":0}],
+"body":{"entry":0,"blocks":[{"id":0,"terminal":{"k":"Return","value":0,"id":1}}]}},
+"env":{"identifiers":[{"declaration_id":0,"type_":0}],"types":["Other"],"config":{},"next_block":1}}"#;
 
 /// What is printed for it.
-pub const TEXT: &str =
-    "function null hint null generator false async false\nparam 0\nbody\n  return 0 id 1\nfates\n";
+pub const TEXT: &str = "function null hint null generator false async false
+param 0
+body
+  return 0 id 1
+fates
+";
+
+/// What is printed of a function of two parameters ahead of its statements.
+pub const HEAD: &str = "function null hint null generator false async false
+param 0
+param 1
+body
+";
 
 /// A list of these entries.
 pub fn list<T: Copy + Drop>(alloc: Global, entries: &[T]) -> Result<List<T>, AllocError> {

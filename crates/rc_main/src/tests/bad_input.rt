@@ -6,38 +6,132 @@ use std::alloc::{AllocError, Global};
 use std::test::Fail;
 
 /// A document with each field that straight code has, and one row of each kind.
-const FULL: &str = "{\"hir\":{\"span\":[0,99],\"id\":\"f\",\"name_hint\":\"g\",\
-\"params\":[{\"k\":\"Place\",\"v\":0},{\"k\":\"Spread\",\"v\":{\"place\":1}}],\
-\"generator\":true,\"is_async\":true,\"context\":[2],\
-\"body\":{\"entry\":0,\"blocks\":[{\"key\":0,\"id\":0,\"instructions\":[0,1,2,3],\
-\"terminal\":{\"k\":\"Return\",\"value\":[4,\"Freeze\",false,[90,91]],\"id\":5,\"span\":[90,92]}}]},\
-\"instructions\":[\
-{\"id\":1,\"lvalue\":3,\"value\":{\"k\":\"LoadLocal\",\"place\":[0,\"Read\",true],\"span\":[10,11]},\"span\":[10,12]},\
-{\"id\":2,\"lvalue\":5,\"value\":{\"k\":\"StoreLocal\",\"lvalue\":{\"kind\":\"Const\",\"place\":4},\"value\":3,\"span\":[20,21]}},\
-{\"id\":3,\"lvalue\":6,\"value\":{\"k\":\"Primitive\",\"value\":{\"k\":\"Number\",\"v\":\"1\"},\"span\":[30,31]}},\
-{\"id\":4,\"lvalue\":7,\"value\":{\"k\":\"Debugger\",\"span\":[40,41]}}],\
-\"directives\":[\"use memo\"]},\
-\"env\":{\"identifiers\":[\
-{\"declaration_id\":0,\"name\":{\"k\":\"Named\",\"v\":\"a\"},\"type_\":0,\"span\":[1,2]},\
-{\"declaration_id\":1,\"name\":{\"k\":\"Promoted\",\"v\":\"b\"},\"type_\":0},\
-{\"declaration_id\":2,\"scope\":null,\"type_\":0},{\"declaration_id\":3,\"type_\":0},\
-{\"declaration_id\":4,\"type_\":0},{\"declaration_id\":5,\"type_\":0},\
-{\"declaration_id\":6,\"type_\":0},{\"declaration_id\":7,\"type_\":0}],\
-\"types\":[\"Other\"],\"scopes\":[],\"functions\":[],\"shapes\":[],\
-\"config\":{\"enable_forest\":true,\"enable_preserve_existing_memoization_guarantees\":false},\"next_block\":1}}";
+const FULL: &str = r#"{"hir":{"span":[0,99],"id":"f","name_hint":"g",
+"params":[{"k":"Place","v":0},{"k":"Spread","v":{"place":1}}],
+"generator":true,"is_async":true,"context":[2],
+"body":{"entry":0,"blocks":[{"key":0,"id":0,"instructions":[0,1,2,3],
+"terminal":{"k":"Return","value":[4,"Freeze",false,[90,91]],"id":5,"span":[90,92]}}]},
+"instructions":[
+{"id":1,"lvalue":3,"value":{"k":"LoadLocal","place":[0,"Read",true],"span":[10,11]},"span":[10,12]},
+{"id":2,"lvalue":5,"value":{"k":"StoreLocal","lvalue":{"kind":"Const","place":4},"value":3,"span":[20,21]}},
+{"id":3,"lvalue":6,"value":{"k":"Primitive","value":{"k":"Number","v":"1"},"span":[30,31]}},
+{"id":4,"lvalue":7,"value":{"k":"Debugger","span":[40,41]}}],
+"directives":["use memo"]},
+"env":{"identifiers":[
+{"declaration_id":0,"name":{"k":"Named","v":"a"},"type_":0,"span":[1,2]},
+{"declaration_id":1,"name":{"k":"Promoted","v":"b"},"type_":0},
+{"declaration_id":2,"scope":null,"type_":0},{"declaration_id":3,"type_":0},
+{"declaration_id":4,"type_":0},{"declaration_id":5,"type_":0},
+{"declaration_id":6,"type_":0},{"declaration_id":7,"type_":0}],
+"types":["Other"],"scopes":[],"functions":[],"shapes":[],
+"config":{"enable_forest":true,"enable_preserve_existing_memoization_guarantees":false},"next_block":1}}"#;
 
 /// What is printed for it.
-const FULL_TEXT: &str = "function \"f\" hint \"g\" generator true async true @0..99\n\
-param 0\n\
-param ...1\n\
-directive \"use memo\"\n\
-body\n\
-\x20 1 3 = {\"k\":\"LoadLocal\",\"place\":[0,\"Read\",true],\"span\":[10,11]} @10..12\n\
-\x20 2 5 = {\"k\":\"StoreLocal\",\"lvalue\":{\"kind\":\"Const\",\"place\":4},\"span\":[20,21],\"value\":3}\n\
-\x20 3 6 = {\"k\":\"Primitive\",\"span\":[30,31],\"value\":{\"k\":\"Number\",\"v\":\"1\"}}\n\
-\x20 4 7 = {\"k\":\"Debugger\",\"span\":[40,41]}\n\
-\x20 return [4,\"Freeze\",false,[90,91]] id 5\n\
-fates\n";
+const FULL_TEXT: &str = r#"function "f" hint "g" generator true async true @0..99
+param 0
+param ...1
+directive "use memo"
+body
+  1 3 = {"k":"LoadLocal","place":[0,"Read",true],"span":[10,11]} @10..12
+  2 5 = {"k":"StoreLocal","lvalue":{"kind":"Const","place":4},"span":[20,21],"value":3}
+  3 6 = {"k":"Primitive","span":[30,31],"value":{"k":"Number","v":"1"}}
+  4 7 = {"k":"Debugger","span":[40,41]}
+  return [4,"Freeze",false,[90,91]] id 5
+fates
+"#;
+
+/// What is no whole number below 2^32.
+const NO_NUMBERS: [&str; 8] = [
+    "1.0",
+    "1e0",
+    "-0",
+    "-1",
+    "4294967296",
+    "18446744073709551616",
+    r#""1""#,
+    "null",
+];
+
+/// Fields of numbers in the small document, each with its number.
+const NUMBERS: [(&str, &str); 5] = [
+    ("v", "0"),
+    ("entry", "0"),
+    ("id", "1"),
+    ("declaration_id", "0"),
+    ("next_block", "1"),
+];
+
+/// Parts of the full document, each with what isn't of its type.
+const WRONG_PARTS: [(&str, &str); 47] = [
+    (r#""span":[0,99]"#, r#""span":[0]"#),
+    (r#""id":"f""#, r#""id":1"#),
+    (r#""name_hint":"g""#, r#""name_hint":[]"#),
+    (r#""params":["#, r#""params":[null,"#),
+    (r#"{"k":"Place","v":0}"#, "0"),
+    (
+        r#"{"k":"Spread","v":{"place":1}}"#,
+        r#"{"k":"Spread","v":1}"#,
+    ),
+    (r#""generator":true"#, r#""generator":1"#),
+    (r#""is_async":true"#, r#""is_async":"true""#),
+    (r#""context":[2]"#, r#""context":2"#),
+    (r#""entry":0"#, r#""entry":"0""#),
+    (r#""key":0"#, r#""key":false"#),
+    (r#""instructions":[0,1,2,3]"#, r#""instructions":{}"#),
+    (
+        r#""instructions":[0,1,2,3]"#,
+        r#""instructions":[0,1,2,"3"]"#,
+    ),
+    (r#""k":"Return""#, r#""k":"Answer""#),
+    (
+        r#"[4,"Freeze",false,[90,91]]"#,
+        r#"[4,"Freeze",false,[90,91],0]"#,
+    ),
+    (
+        r#"[4,"Freeze",false,[90,91]]"#,
+        r#"[4,"Frozen",false,[90,91]]"#,
+    ),
+    (r#"[4,"Freeze",false,[90,91]]"#, r#"[4,"Freeze",0,[90,91]]"#),
+    (
+        r#"[4,"Freeze",false,[90,91]]"#,
+        r#"[4,"Freeze",false,null]"#,
+    ),
+    (r#""id":5,"span":[90,92]"#, r#""id":5,"span":[90,"92"]"#),
+    (r#""id":5"#, r#""id":null"#),
+    (r#""lvalue":3"#, r#""lvalue":null"#),
+    (r#""k":"LoadLocal""#, r#""k":"LoadAll""#),
+    (r#""place":[0,"Read",true]"#, r#""place":[0,"Read"]"#),
+    (r#""span":[10,11]"#, r#""span":10"#),
+    (r#""span":[10,12]"#, r#""span":{}"#),
+    (r#""kind":"Const""#, r#""kind":0"#),
+    (r#""kind":"Const""#, r#""kind":"const""#),
+    (r#""place":4"#, r#""place":{}"#),
+    (r#""value":3"#, r#""value":"3""#),
+    (r#"{"k":"Number","v":"1"}"#, "1"),
+    (r#"{"k":"Number","v":"1"}"#, r#"{"k":"Number","v":1}"#),
+    (r#"{"k":"Number","v":"1"}"#, r#"{"k":"Null"}"#),
+    (r#"{"k":"Debugger","span":[40,41]}"#, r#""Debugger""#),
+    (r#""directives":["use memo"]"#, r#""directives":[0]"#),
+    (r#""identifiers":["#, r#""identifiers":[0,"#),
+    (r#"{"k":"Named","v":"a"}"#, r#""a""#),
+    (
+        r#"{"k":"Promoted","v":"b"}"#,
+        r#"{"k":"Promoted","v":null}"#,
+    ),
+    (r#""scope":null"#, r#""scope":[]"#),
+    (r#""declaration_id":3"#, r#""declaration_id":[3]"#),
+    (
+        r#""declaration_id":3,"type_":0"#,
+        r#""declaration_id":3,"type_":"Other""#,
+    ),
+    (r#""types":["Other"]"#, r#""types":"Other""#),
+    (r#""types":["Other"]"#, r#""types":["other"]"#),
+    (r#""scopes":[]"#, r#""scopes":[0]"#),
+    (r#""functions":[]"#, r#""functions":{}"#),
+    (r#""shapes":[]"#, r#""shapes":[[]]"#),
+    (r#""enable_forest":true"#, r#""enable_forest":null"#),
+    (r#""enable_forest":true"#, r#""enable_forest":[]"#),
+];
 
 /// How `rc tree` ends on these bytes, and how many bytes it wrote.
 fn answer(alloc: Global, bytes: &[u8]) -> Result<(Status, usize), AllocError> {
@@ -113,10 +207,10 @@ fn json_of_other_values_is_no_document(rt: HostRuntime) -> Result<(), Fail> {
         "null",
         "true",
         "0",
-        "\"tree\"",
+        r#""tree""#,
         "[]",
-        "{\"hir\":{},\"env\":{}}",
-        "{\"hir\":null,\"env\":null}",
+        r#"{"hir":{},"env":{}}"#,
+        r#"{"hir":null,"env":null}"#,
     ];
     for text in cases {
         assert_eq!(rt;
@@ -133,60 +227,41 @@ fn json_of_other_values_is_no_document(rt: HostRuntime) -> Result<(), Fail> {
 #[test]
 fn of_a_repeated_key_the_last_counts(rt: HostRuntime) -> Result<(), Fail> {
     let alloc = rt.alloc();
-    let first = replaced(alloc, DOCUMENT, "{", "{\"env\":0,")?;
+    let first = replaced(alloc, DOCUMENT, "{", r#"{"env":0,"#)?;
     let (status, sink) = tree(alloc, first.as_bytes())?;
     assert_eq!(rt; status, Status::Done);
     assert_eq!(rt; sink.bytes(), TEXT.as_bytes());
     let last = replaced(
         alloc,
         DOCUMENT,
-        "\"next_block\":1",
-        "\"next_block\":1,\"next_block\":null",
+        r#""next_block":1"#,
+        r#""next_block":1,"next_block":null"#,
     )?;
     assert_eq!(rt; answer(alloc, last.as_bytes())?, (Status::NotDoc, 0));
     Ok(())
 }
 
+/// The small document with another number in a field.
+fn with_number(alloc: Global, key: &str, number: &str, other: &str) -> Result<String, AllocError> {
+    let part = format!(in alloc; "\"{key}\":{number}")?;
+    let by = format!(in alloc; "\"{key}\":{other}")?;
+    replaced(alloc, DOCUMENT, part.as_str(), by.as_str())
+}
+
 #[test]
 fn a_number_is_whole_and_below_2_to_the_32(rt: HostRuntime) -> Result<(), Fail> {
     let alloc = rt.alloc();
-    let numbers = [
-        "1.0",
-        "1e0",
-        "-0",
-        "-1",
-        "4294967296",
-        "18446744073709551616",
-        "\"1\"",
-        "null",
-    ];
-    let fields = [
-        "\"v\":0",
-        "\"entry\":0",
-        "\"id\":1",
-        "\"declaration_id\":0",
-        "\"next_block\":1",
-    ];
-    for number in numbers {
-        for field in fields {
-            let Some((key, _)) = field.split_once(':') else {
-                continue;
-            };
-            let by = format!(in alloc; "{key}:{number}")?;
-            let text = replaced(alloc, DOCUMENT, field, by.as_str())?;
+    for (key, number) in NUMBERS {
+        for other in NO_NUMBERS {
+            let text = with_number(alloc, key, number, other)?;
             assert_eq!(rt;
                 answer(alloc, text.as_bytes())?,
                 (Status::NotDoc, 0),
-                "of {by}"
+                "of {other} as {key}"
             );
         }
     }
-    let most = replaced(
-        alloc,
-        DOCUMENT,
-        "\"next_block\":1",
-        "\"next_block\":4294967295",
-    )?;
+    let most = with_number(alloc, "next_block", "1", "4294967295")?;
     assert_eq!(rt; answer(alloc, most.as_bytes())?, (Status::Done, TEXT.len()));
     Ok(())
 }
@@ -194,77 +269,7 @@ fn a_number_is_whole_and_below_2_to_the_32(rt: HostRuntime) -> Result<(), Fail> 
 #[test]
 fn each_field_has_its_type(rt: HostRuntime) -> Result<(), Fail> {
     let alloc = rt.alloc();
-    let parts = [
-        ("\"span\":[0,99]", "\"span\":[0]"),
-        ("\"id\":\"f\"", "\"id\":1"),
-        ("\"name_hint\":\"g\"", "\"name_hint\":[]"),
-        ("\"params\":[", "\"params\":[null,"),
-        ("{\"k\":\"Place\",\"v\":0}", "0"),
-        (
-            "{\"k\":\"Spread\",\"v\":{\"place\":1}}",
-            "{\"k\":\"Spread\",\"v\":1}",
-        ),
-        ("\"generator\":true", "\"generator\":1"),
-        ("\"is_async\":true", "\"is_async\":\"true\""),
-        ("\"context\":[2]", "\"context\":2"),
-        ("\"entry\":0", "\"entry\":\"0\""),
-        ("\"key\":0", "\"key\":false"),
-        ("\"instructions\":[0,1,2,3]", "\"instructions\":{}"),
-        (
-            "\"instructions\":[0,1,2,3]",
-            "\"instructions\":[0,1,2,\"3\"]",
-        ),
-        ("\"k\":\"Return\"", "\"k\":\"Answer\""),
-        (
-            "[4,\"Freeze\",false,[90,91]]",
-            "[4,\"Freeze\",false,[90,91],0]",
-        ),
-        (
-            "[4,\"Freeze\",false,[90,91]]",
-            "[4,\"Frozen\",false,[90,91]]",
-        ),
-        ("[4,\"Freeze\",false,[90,91]]", "[4,\"Freeze\",0,[90,91]]"),
-        ("[4,\"Freeze\",false,[90,91]]", "[4,\"Freeze\",false,null]"),
-        ("\"id\":5,\"span\":[90,92]", "\"id\":5,\"span\":[90,\"92\"]"),
-        ("\"id\":5", "\"id\":null"),
-        ("\"lvalue\":3", "\"lvalue\":null"),
-        ("\"k\":\"LoadLocal\"", "\"k\":\"LoadAll\""),
-        ("\"place\":[0,\"Read\",true]", "\"place\":[0,\"Read\"]"),
-        ("\"span\":[10,11]", "\"span\":10"),
-        ("\"span\":[10,12]", "\"span\":{}"),
-        ("\"kind\":\"Const\"", "\"kind\":0"),
-        ("\"kind\":\"Const\"", "\"kind\":\"const\""),
-        ("\"place\":4", "\"place\":{}"),
-        ("\"value\":3", "\"value\":\"3\""),
-        ("{\"k\":\"Number\",\"v\":\"1\"}", "1"),
-        (
-            "{\"k\":\"Number\",\"v\":\"1\"}",
-            "{\"k\":\"Number\",\"v\":1}",
-        ),
-        ("{\"k\":\"Number\",\"v\":\"1\"}", "{\"k\":\"Null\"}"),
-        ("{\"k\":\"Debugger\",\"span\":[40,41]}", "\"Debugger\""),
-        ("\"directives\":[\"use memo\"]", "\"directives\":[0]"),
-        ("\"identifiers\":[", "\"identifiers\":[0,"),
-        ("{\"k\":\"Named\",\"v\":\"a\"}", "\"a\""),
-        (
-            "{\"k\":\"Promoted\",\"v\":\"b\"}",
-            "{\"k\":\"Promoted\",\"v\":null}",
-        ),
-        ("\"scope\":null", "\"scope\":[]"),
-        ("\"declaration_id\":3", "\"declaration_id\":[3]"),
-        (
-            "\"declaration_id\":3,\"type_\":0",
-            "\"declaration_id\":3,\"type_\":\"Other\"",
-        ),
-        ("\"types\":[\"Other\"]", "\"types\":\"Other\""),
-        ("\"types\":[\"Other\"]", "\"types\":[\"other\"]"),
-        ("\"scopes\":[]", "\"scopes\":[0]"),
-        ("\"functions\":[]", "\"functions\":{}"),
-        ("\"shapes\":[]", "\"shapes\":[[]]"),
-        ("\"enable_forest\":true", "\"enable_forest\":null"),
-        ("\"enable_forest\":true", "\"enable_forest\":[]"),
-    ];
-    for (part, by) in parts {
+    for (part, by) in WRONG_PARTS {
         let text = replaced(alloc, FULL, part, by)?;
         assert_eq!(rt;
             answer(alloc, text.as_bytes())?,

@@ -3,7 +3,7 @@
 //! In the texts a mark stands ahead of each number that is changed: `@` of a block that something names, `#` of a place
 //! in the order of evaluation, `*` of a block's key, `~` of its own number, and `%` of a scope.
 
-use super::{replaced, tree};
+use super::{HEAD, replaced, tree};
 use crate::status::Status;
 use std::alloc::{AllocError, Global};
 use std::test::Fail;
@@ -136,44 +136,57 @@ fn a_graph_with_a_number_changed_is_refused_or_spells_a_tree(rt: HostRuntime) ->
     Ok(())
 }
 
-/// What is printed ahead of the statements.
-const HEAD: &str = "function null hint null generator false async false\nparam 0\nparam 1\nbody\n";
+/// The entry is the fallthrough of the `If`: nothing leads to the other blocks.
+const RETURN_ALONE: &str = "  return 1 id 5\nfates\n";
+
+/// The alternate of the `If` is its fallthrough, so there is none.
+const NO_ALTERNATE: &str = r#"  if 0 id 1 as bb3 implicit
+    then
+      2 2 = {"k":"Debugger"}
+      break bb3 implicit id 3
+  return 1 id 5
+fates
+"#;
+
+/// The fallthrough of the `If` is that of the `Label`, which a jump can name already: it isn't opened. No labeled jump
+/// names the `Label`, whose statements stand in its place.
+const SHARED_FALLTHROUGH: &str = r#"  2 2 = {"k":"Debugger"}
+  if 0 id 3
+    then
+      break bb2 implicit id 4
+    else
+      break bb2 implicit id 5
+  return 0 id 6
+fates
+"#;
+
+/// The break goes to the fallthrough of the `If`, whose frame is the innermost.
+const BREAK_OUT_OF_IF: &str = r#"  2 2 = {"k":"Debugger"}
+  if 0 id 3 as bb4 implicit
+    then
+      break bb4 implicit id 4
+  break bb2 implicit id 5
+  return 0 id 6
+fates
+"#;
+
+/// The outer scope is empty, and nothing leads to the inner one.
+const EMPTY_SCOPE: &str = "  pruned 0
+  pruned 2
+  return 0 id 8
+fates
+  scope 0 unused
+";
 
 #[test]
 fn a_target_changed_to_another_block_can_spell_another_tree(rt: HostRuntime) -> Result<(), Fail> {
     let alloc = rt.alloc();
     let cases = [
-        // The entry is the fallthrough of the `If`: nothing leads to the other blocks.
-        (IF, 0, b'3', "  return 1 id 5\nfates\n"),
-        // The alternate is the fallthrough, so there is none.
-        (
-            IF,
-            2,
-            b'3',
-            "  if 0 id 1 as bb3 implicit\n    then\n      2 2 = {\"k\":\"Debugger\"}\n      break bb3 implicit id 3\n  return 1 id 5\nfates\n",
-        ),
-        // The fallthrough of the `If` is that of the `Label`, which a jump can name already: it isn't opened. No
-        // labeled jump names the `Label`, whose statements stand in its place.
-        (
-            LABEL,
-            5,
-            b'2',
-            "  2 2 = {\"k\":\"Debugger\"}\n  if 0 id 3\n    then\n      break bb2 implicit id 4\n    else\n      break bb2 implicit id 5\n  return 0 id 6\nfates\n",
-        ),
-        // The break goes to the fallthrough of the `If`, whose frame is the innermost.
-        (
-            LABEL,
-            6,
-            b'4',
-            "  2 2 = {\"k\":\"Debugger\"}\n  if 0 id 3 as bb4 implicit\n    then\n      break bb4 implicit id 4\n  break bb2 implicit id 5\n  return 0 id 6\nfates\n",
-        ),
-        // The outer scope is empty, and nothing leads to the inner one.
-        (
-            SCOPES,
-            1,
-            b'4',
-            "  pruned 0\n  pruned 2\n  return 0 id 8\nfates\n  scope 0 unused\n",
-        ),
+        (IF, 0, b'3', RETURN_ALONE),
+        (IF, 2, b'3', NO_ALTERNATE),
+        (LABEL, 5, b'2', SHARED_FALLTHROUGH),
+        (LABEL, 6, b'4', BREAK_OUT_OF_IF),
+        (SCOPES, 1, b'4', EMPTY_SCOPE),
     ];
     for (blocks, nth, digit, statements) in cases {
         let text = replaced(alloc, DOCUMENT, "BLOCKS", blocks)?;

@@ -30,22 +30,31 @@ const NESTED: &str = r#"{"hir":{"params":[{"k":"Place","v":0}],"body":{"entry":0
 "instructions":[{"id":1,"lvalue":1,"value":{"k":"FunctionExpression","lowered_func":{"func":0}}}]}],
 "config":{},"next_block":1}}"#;
 
+/// What is printed for it.
+const NESTED_TEXT: &str = r#"function null hint null generator false async false
+param 0
+body
+  1 1 = {"k":"FunctionExpression","lowered_func":{"func":0}}
+  return 0 id 2
+fates
+"#;
+
 #[test]
 fn a_refusal_is_the_first_of_its_order(rt: HostRuntime) -> Result<(), Fail> {
     let alloc = rt.alloc();
     let declared = replaced(
         alloc,
         REFUSED,
-        "\"declaration_id\":9",
-        "\"declaration_id\":0",
+        r#""declaration_id":9"#,
+        r#""declaration_id":0"#,
     )?;
-    let early = ",\"early_return_value\":{\"value\":0,\"label\":0}";
+    let early = r#","early_return_value":{"value":0,"label":0}"#;
     let free = replaced(alloc, declared.as_str(), early, "")?;
     let last = replaced(
         alloc,
         free.as_str(),
-        "\"next_block\":0",
-        "\"next_block\":4294967295",
+        r#""next_block":0"#,
+        r#""next_block":4294967295"#,
     )?;
     let cases = [
         (REFUSED, "fault 7 BadName Declarations 9\n"),
@@ -65,12 +74,6 @@ fn a_refusal_is_the_first_of_its_order(rt: HostRuntime) -> Result<(), Fail> {
 fn a_function_that_holds_itself_is_no_bad_name(rt: HostRuntime) -> Result<(), Fail> {
     let (status, sink) = tree(rt.alloc(), NESTED.as_bytes())?;
     assert_eq!(rt; status, Status::Done);
-    let text = "function null hint null generator false async false\n\
-param 0\n\
-body\n\
-\x20 1 1 = {\"k\":\"FunctionExpression\",\"lowered_func\":{\"func\":0}}\n\
-\x20 return 0 id 2\n\
-fates\n";
-    assert_eq!(rt; sink.bytes(), text.as_bytes());
+    assert_eq!(rt; sink.bytes(), NESTED_TEXT.as_bytes());
     Ok(())
 }

@@ -7,21 +7,20 @@ use std::test::Fail;
 #[test]
 fn a_refused_graph_has_one_line_that_says_why(rt: HostRuntime) -> Result<(), Fail> {
     let alloc = rt.alloc();
-    let answer = "{\"k\":\"Return\",\"value\":0,\"id\":1}";
     let cases = [
         (
-            "\"id\":0,",
-            "\"id\":0,\"instructions\":[7],",
+            r#""id":0,"#,
+            r#""id":0,"instructions":[7],"#,
             "fault 7 BadName Instructions 7\n",
         ),
         (
-            "\"id\":0,",
-            "\"id\":5,\"key\":0,",
+            r#""id":0,"#,
+            r#""id":5,"key":0,"#,
             "fault 1 Malformed block 0 rule KeyDiffers\n",
         ),
         (
-            answer,
-            "{\"k\":\"Goto\",\"variant\":\"Break\",\"block\":0,\"id\":1}",
+            r#"{"k":"Return","value":0,"id":1}"#,
+            r#"{"k":"Goto","variant":"Break","block":0,"id":1}"#,
             "fault 1 Malformed block 0 rule BreakTarget\n",
         ),
     ];

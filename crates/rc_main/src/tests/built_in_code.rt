@@ -1,5 +1,6 @@
 //! A small graph that is built in code, with its tree and its fates.
 
+use crate::printing::lines;
 use rc_hir::{
     BasicBlock, Effect, Environment, Fault, GotoVariant, Hir, HirFunction, HirType, Identifier,
     MutableRange, Place, ReactiveScope, Terminal,
@@ -7,10 +8,11 @@ use rc_hir::{
 use rc_names::{
     BlockId, DeclarationId, EvaluationOrder, IdentifierId, Keyed, List, ScopeId, TypeId,
 };
-use rc_pipe::{Fate, Pruned, ScopeFate, build_and_prune};
+use rc_pipe::{Pruned, build_and_prune};
 use std::alloc::Global;
 use std::test::Fail;
 
+/// A place that is read.
 fn read(number: u32) -> Place {
     Place {
         identifier: IdentifierId(number),
@@ -20,7 +22,7 @@ fn read(number: u32) -> Place {
     }
 }
 
-// The jump out of the frame of that block.
+/// The jump out of the frame of that block.
 fn leave(block: u32, id: u32) -> Terminal {
     Terminal::Goto {
         block: BlockId(block),
@@ -30,8 +32,8 @@ fn leave(block: u32, id: u32) -> Terminal {
     }
 }
 
-// Block 0 is a label until block 6, block 1 a scope until block 3, and block 3 an if that leaves the label
-// either way.
+/// Block 0 is a label until block 6, block 1 a scope until block 3, and block 3 an if that leaves the label
+/// either way.
 fn terminal(number: u32) -> Terminal {
     match number {
         0 => Terminal::Label {
@@ -66,7 +68,7 @@ fn terminal(number: u32) -> Terminal {
     }
 }
 
-// Its seven blocks, which have no rows.
+/// Its seven blocks, which have no rows.
 fn graph(alloc: Global) -> Result<HirFunction, Fault> {
     let mut blocks = Keyed::new(alloc);
     for number in 0..7 {
@@ -96,6 +98,7 @@ fn graph(alloc: Global) -> Result<HirFunction, Fault> {
     })
 }
 
+/// A scope from its `Scope` to the `If`, which declares nothing.
 fn scope(alloc: Global) -> ReactiveScope {
     ReactiveScope {
         range: MutableRange {
@@ -110,7 +113,7 @@ fn scope(alloc: Global) -> ReactiveScope {
     }
 }
 
-// One identifier, one type, one scope.
+/// One identifier, one type, one scope.
 fn environment(alloc: Global) -> Result<Environment, Fault> {
     let mut env = Environment::empty(alloc);
     env.types.push(HirType::Other)?;
@@ -126,17 +129,27 @@ fn environment(alloc: Global) -> Result<Environment, Fault> {
     Ok(env)
 }
 
+/// What is printed of it. The scope gives nothing.
+const TEXT: &str = "function null hint null generator false async false
+body
+  label id 1 as bb6
+    body
+      pruned 0
+      if 0 id 4 as bb5 implicit
+        then
+          break bb6 labeled id 5
+      break bb6 implicit id 6
+  return 0 id 7
+fates
+  scope 0 unused
+";
+
 #[test]
-fn a_label_holds_its_scope_and_its_if_and_the_return_follows(rt: HostRuntime) -> Result<(), Fail> {
+fn a_graph_built_in_code_has_its_tree_and_its_fates(rt: HostRuntime) -> Result<(), Fail> {
     let alloc = rt.alloc();
     let mut env = environment(alloc)?;
     let Pruned { func, fates } = build_and_prune(alloc, &graph(alloc)?, &mut env)?;
-    assert_eq!(rt; func.body.statements.len(), 2);
-    // The scope gives nothing.
-    let unused = ScopeFate {
-        scope: ScopeId(0),
-        fate: Fate::Unused,
-    };
-    assert_eq!(rt; fates.as_slice(), [unused].as_slice());
+    let text = lines(alloc, &func, &fates)?;
+    assert_eq!(rt; text.as_str(), TEXT);
     Ok(())
 }
