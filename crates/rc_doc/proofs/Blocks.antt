@@ -3,6 +3,7 @@ use Rattle.std.proofs.Common.{◌≡◌, ℕ, ◌+◌, ◌<◌, Bool, true, fals
 use Rattle.std.proofs.Common.{is_some, option_and_then, length, get_or, drop, refl, sym, ap, ◌∙◌, append_assoc, arith}
 use Rattle.std.proofs.lemmas.Bool.Decides.{nat_tests}
 use Rattle.std.proofs.lemmas.List.{drop_more}
+use Rattle.std.proofs.lemmas.List.Folds.{list_any-append}
 use Rattle.std.specs.Map.{lookup}
 use Rattle.indexmap.specs.IndexMap.{insert_entry}
 use Rattle.serde_json.specs.View.{view, items_view}
@@ -30,8 +31,7 @@ pub record ReadSoFar (blocks : List Entry) (left all : List Value) : Type 0 wher
   pub read : followed blocks left ≡ followed [] all
 
 has_key-append : (key : BlockId) (xs ys : List Entry) → has_key key (xs ++ ys) ≡ (has_key key xs || has_key key ys)
-has_key-append key [] ys = refl
-has_key-append key (x ∷ xs) ys = grind (arith, nat_tests, has_key-append key xs ys)
+has_key-append key xs ys = list_any-append (λ entry. key.0 == entry.0.0) xs ys
 
 clash : (blocks : List Entry) (e : Entry) (es : List Entry) → has_key e.0 blocks ≡ true
     → are_distinct (blocks ++ e ∷ es) ≡ false

@@ -1,9 +1,10 @@
 -- Names that ascend, and keys that ascend beside them: a key above a name is none of the names up to that one.
-use Rattle.std.proofs.Common.{◌≡◌, ℕ, zero, suc, ◌<◌, ◌+◌, Bool, true, false, ◌&&◌, ◌||◌, List, [], ◌∷◌, length, drop}
+use Rattle.std.proofs.Common.{◌≡◌, ℕ, zero, suc, ◌<◌, ◌+◌, Bool, true, false, ◌&&◌, List, [], ◌∷◌, length, drop}
 use Rattle.std.proofs.Common.{map, get_or, Bor, Ordering, Less, Equal, Greater, is_eq, String, Global, refl, sym, ap}
 use Rattle.std.proofs.Common.{subst, ◌∙◌, arith, add-one, bytes_eq, nat_cmp, string_bytes, string_cmp}
 use Rattle.std.proofs.lemmas.Cmp.{nat_list_cmp_total}
 use Rattle.std.proofs.lemmas.List.{at_drop_more, drop-map, get_or-map}
+use Rattle.std.proofs.lemmas.List.Folds.{list_any_at}
 use Rattle.std.proofs.lemmas.Map.Text.{is_eq-slice_cmp}
 use Rattle.std.proofs.lemmas.Slice.Eq.{bytes_eq-Decides}
 use Rattle.std.specs.Cmp.Lexicographic.{slice_cmp}
@@ -42,10 +43,6 @@ both : (a b : Bool) → (a && b) ≡ true → (a ≡ true) × (b ≡ true)
 both true b e = (refl, e)
 both false b e = cc
 
-either_true : (b : Bool) → (b || true) ≡ true
-either_true true = refl
-either_true false = refl
-
 differs : (name key : List ℕ) → slice_cmp nat_cmp name key ≡ Less → bytes_eq key name ≡ false
 differs name key below =
     sym (is_eq-slice_cmp key name) ∙ ap is_eq (nat_list_cmp_total.antisymm key name ∙ ap ordering_reverse below)
@@ -70,11 +67,10 @@ list_any-drop_passed key (n ∷ ns) (suc i) rest lt below =
     let apart = differs n key (below_each n key ns i (both _ _ rest).0 (both _ _ rest).1 later below) in
     list_any-drop_passed key ns i (both _ _ rest).1 later below ∙ rw apart refl
 
-here : (key : List ℕ) (names : List (List ℕ)) (i : ℕ) → i < length names → get_or names i [] ≡ key
+is_known : (key : List ℕ) (names : List (List ℕ)) (i : ℕ) → i < length names → get_or names i [] ≡ key
     → list_any (bytes_eq key) names ≡ true
-here key [] i lt is = absurd (omega arith)
-here key (n ∷ ns) zero lt is = rw (ap (λ x. bytes_eq key x) is, (bytes_eq-Decides key key).1 refl) refl
-here key (n ∷ ns) (suc i) lt is = rw (here key ns i (omega arith) is) (either_true (bytes_eq key n))
+is_known key names i lt is =
+    list_any_at (bytes_eq key) names i [] lt ((bytes_eq-Decides key (get_or names i [])).1 (sym is))
 
 -- none of these keys is a name that was passed
 abbrev pub AreAhead : List (List ℕ) → ℕ → List Entry → Type 0
@@ -109,7 +105,7 @@ module _ (names : List (List ℕ)) (passed : ℕ) (left all rest : List Entry) (
   unfolding IsStrictlySortedBy
   next_key i ascending lt is = record {
     ascend = keys_left.ascend.1;
-    known = rw (here (string_bytes key) names i lt is) at keys_left.known;
+    known = rw (is_known (string_bytes key) names i lt is) at keys_left.known;
     ahead = ahead_of names i key rest ascending lt is keys_left.ascend.0;
   }
 

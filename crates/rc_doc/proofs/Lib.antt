@@ -4,5 +4,5 @@ mod KnownNames
 mod Lengths
 mod NoFloats
 mod PartsReadBack
-mod ReadsBack
+pub mod ReadsBack
 mod ShownLists

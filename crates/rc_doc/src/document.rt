@@ -4,7 +4,6 @@ ghost use Rattle.std.specs.Prelude.{◌≡◌, IfOk};
 ghost use Rattle.serde_json.specs.View.{view};
 ghost use Rattle.rc_doc.specs.Document.{doc_of};
 ghost use Rattle.rc_doc.specs.Kinds.{instruction_value_of};
-ghost use Rattle.rc_doc.specs.Reading.{Gives};
 
 use crate::fields::{Read, required};
 use crate::known::known_names;

@@ -1,6 +1,6 @@
 //! Readers of functions and their graphs.
 
-ghost use Rattle.std.specs.Prelude.{◌≡◌, option_and_then};
+ghost use Rattle.std.specs.Prelude.{option_and_then};
 ghost use Rattle.serde_json.specs.View.{view, items_view};
 ghost use Rattle.rc_doc.specs.Graph.{block_of, blocks_of, function_of, hir_of, if_distinct, instruction_of};
 ghost use Rattle.rc_doc.specs.Graph.{keyed_block_of};

@@ -1,6 +1,6 @@
 //! Readers of spans, of places in their three forms, and of what holds a place alone.
 
-ghost use Rattle.std.specs.Prelude.{◌≡◌, option_map, option_and_then};
+ghost use Rattle.std.specs.Prelude.{◌≡◌};
 ghost use Rattle.serde_json.specs.View.{view};
 ghost use Rattle.rc_doc.specs.Places.{argument_of, effect_named, effect_of, long_place, param_of, place_of};
 ghost use Rattle.rc_doc.specs.Places.{short_place, span_of, spanned_place, spread_of};
