@@ -21,13 +21,13 @@ fn are_judged(alloc: Global, path: &str, spellings: &[(&str, bool)]) -> Result<b
 fn a_place_has_three_forms(rt: HostRuntime) -> Result<(), Fail> {
     let spellings = [
         ("1", true),
-        ("[1,\"Read\",false]", true),
-        ("[1,\"Read\",false,[0,4294967295]]", true),
-        ("[1,\"Read\",false,null]", false),
-        ("[1,\"Read\",false,[0,1],[0,1]]", false),
-        ("[1,\"Read\"]", false),
+        (r#"[1,"Read",false]"#, true),
+        (r#"[1,"Read",false,[0,4294967295]]"#, true),
+        (r#"[1,"Read",false,null]"#, false),
+        (r#"[1,"Read",false,[0,1],[0,1]]"#, false),
+        (r#"[1,"Read"]"#, false),
         ("[1]", false),
-        ("{\"identifier\":1}", false),
+        (r#"{"identifier":1}"#, false),
     ];
     assert!(rt;
         are_judged(
@@ -45,7 +45,7 @@ fn a_span_has_two_ends(rt: HostRuntime) -> Result<(), Fail> {
         ("[1,2]", true),
         ("[1,2,3]", false),
         ("[1]", false),
-        ("{\"start\":1,\"end\":2}", false),
+        (r#"{"start":1,"end":2}"#, false),
     ];
     assert!(rt; are_judged(rt.alloc(), "/hir/span", spellings.as_slice())?);
     Ok(())
@@ -54,14 +54,14 @@ fn a_span_has_two_ends(rt: HostRuntime) -> Result<(), Fail> {
 #[test]
 fn a_variant_without_fields_is_its_name_and_no_other_is(rt: HostRuntime) -> Result<(), Fail> {
     let spellings = [
-        ("\"Null\"", true),
-        ("{\"k\":\"Null\"}", false),
-        ("{\"k\":\"Undefined\"}", false),
-        ("{\"k\":\"Boolean\"}", true),
-        ("{\"k\":\"Boolean\",\"v\":null}", false),
-        ("\"Boolean\"", false),
-        ("{\"k\":\"Number\"}", false),
-        ("{\"k\":\"Number\",\"v\":1}", false),
+        (r#""Null""#, true),
+        (r#"{"k":"Null"}"#, false),
+        (r#"{"k":"Undefined"}"#, false),
+        (r#"{"k":"Boolean"}"#, true),
+        (r#"{"k":"Boolean","v":null}"#, false),
+        (r#""Boolean""#, false),
+        (r#"{"k":"Number"}"#, false),
+        (r#"{"k":"Number","v":1}"#, false),
     ];
     let alloc = rt.alloc();
     assert!(rt;
@@ -71,14 +71,14 @@ fn a_variant_without_fields_is_its_name_and_no_other_is(rt: HostRuntime) -> Resu
             spellings.as_slice()
         )?
     );
-    let values = [("{\"k\":\"Debugger\"}", true), ("\"Debugger\"", false)];
+    let values = [(r#"{"k":"Debugger"}"#, true), (r#""Debugger""#, false)];
     assert!(rt; are_judged(alloc, "/hir/instructions/0/value", values.as_slice())?);
     let terminals = [
-        ("{\"k\":\"Unreachable\",\"id\":1}", true),
-        ("\"Unreachable\"", false),
+        (r#"{"k":"Unreachable","id":1}"#, true),
+        (r#""Unreachable""#, false),
     ];
     assert!(rt; are_judged(alloc, "/hir/body/blocks/0/terminal", terminals.as_slice())?);
-    let elements = [("\"Hole\"", true), ("{\"k\":\"Hole\"}", false)];
+    let elements = [(r#""Hole""#, true), (r#"{"k":"Hole"}"#, false)];
     assert!(rt;
         are_judged(
             alloc,

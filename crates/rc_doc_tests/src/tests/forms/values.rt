@@ -103,7 +103,7 @@ fn a_debugger_is_an_instruction_value_and_an_empty_object_is_none(
     rt: HostRuntime,
 ) -> Result<(), Fail> {
     let alloc = rt.alloc();
-    let debugger = read_instruction_value(alloc, &Value::from_str(alloc, "{\"k\":\"Debugger\"}")?)?;
+    let debugger = read_instruction_value(alloc, &Value::from_str(alloc, r#"{"k":"Debugger"}"#)?)?;
     let is_debugger = match debugger {
         Some(InstructionValue::Debugger { span }) => span.is_none(),
         _ => false,
