@@ -39,7 +39,8 @@ fn are_known(members: &Map<String, Value>, names: &[&str]) -> bool
 fn place_of_name(names: &[&str], start: usize, name: &str) -> Option<usize>
     ensures within { IfSome result (λ place. place < length names.now) }
     ensures found { IfSome result (λ place. slice_index_or (map (λ known. known.now) names.now) place [] ≡ name.now) }
-    ensures none { IfNone result (list_any (bytes_eq name.now) (drop start (map (λ known. known.now) names.now)) ≡ false) }
+    ensures none { IfNone result
+        (list_any (bytes_eq name.now) (drop start (map (λ known. known.now) names.now)) ≡ false) }
 {
     for place in start..names.len() {
         if name == names[place] {

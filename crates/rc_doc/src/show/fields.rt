@@ -96,7 +96,8 @@ impl Fields {
 
     /// One more field. The only error is want of memory.
     pub(crate) fn with<T: Show>(self, name: &str, x: &T) -> Result<Fields, AllocError>
-        ensures value { IfOk result (λ fields. members_so_far fields ≡ put name.now (T.shows x.now) (members_so_far self)) }
+        ensures value { IfOk result
+            (λ fields. members_so_far fields ≡ put name.now (T.shows x.now) (members_so_far self)) }
         ensures again { OnOk result (T.Read.reads (T.shows x.now) ≡ Some x.now) }
     {
         let value = x.show(self.alloc)?;
@@ -105,7 +106,8 @@ impl Fields {
 
     /// One more field, if it isn't none. The only error is want of memory.
     pub(crate) fn with_some<T: Show>(self, name: &str, x: &Option<T>) -> Result<Fields, AllocError>
-        ensures value { IfOk result (λ fields. members_so_far fields ≡ put_some T.shows name.now x.now (members_so_far self)) }
+        ensures value { IfOk result
+            (λ fields. members_so_far fields ≡ put_some T.shows name.now x.now (members_so_far self)) }
         ensures again { OnOk result (SomeAgain T.Read.reads T.shows x.now) }
     {
         match x {

@@ -27,7 +27,8 @@ impl Show for Span {
 }
 
 fn pair(alloc: Global, first: u32, second: u32) -> Result<Value, AllocError>
-    ensures { IfOk result (λ shown. view shown ≡ array (item (number_data first) (item (number_data second) no_items))) }
+    ensures { IfOk result
+        (λ shown. view shown ≡ array (item (number_data first) (item (number_data second) no_items))) }
 {
     json!(in alloc; [first, second])
 }

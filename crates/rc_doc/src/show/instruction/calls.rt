@@ -57,7 +57,8 @@ pub(super) fn method_call(
     args: &List<PlaceOrSpread>,
     span: &Option<Span>,
 ) -> Result<Value, AllocError>
-    ensures value { IfOk result (λ shown. view shown ≡ value_data (kinds.MethodCall receiver.now property.now args.now span.now)) }
+    ensures value { IfOk result
+        (λ shown. view shown ≡ value_data (kinds.MethodCall receiver.now property.now args.now span.now)) }
     ensures again { OnOk result (ReadsBack (kinds.MethodCall receiver.now property.now args.now span.now)) }
 {
     Ok(
@@ -94,7 +95,8 @@ pub(super) fn function_expression(
     lowered_func: &LoweredFunction,
     span: &Option<Span>,
 ) -> Result<Value, AllocError>
-    ensures value { IfOk result (λ shown. view shown ≡ value_data (kinds.FunctionExpression name.now lowered_func.now span.now)) }
+    ensures value { IfOk result
+        (λ shown. view shown ≡ value_data (kinds.FunctionExpression name.now lowered_func.now span.now)) }
     ensures again { OnOk result (ReadsBack (kinds.FunctionExpression name.now lowered_func.now span.now)) }
 {
     Ok(
@@ -125,7 +127,8 @@ pub(super) fn start_memoize(
     deps: &List<Place>,
     span: &Option<Span>,
 ) -> Result<Value, AllocError>
-    ensures value { IfOk result (λ shown. view shown ≡ value_data (kinds.StartMemoize manual_memo_id deps.now span.now)) }
+    ensures value { IfOk result
+        (λ shown. view shown ≡ value_data (kinds.StartMemoize manual_memo_id deps.now span.now)) }
     ensures again { OnOk result (ReadsBack (kinds.StartMemoize manual_memo_id deps.now span.now)) }
 {
     Ok(
@@ -145,7 +148,8 @@ pub(super) fn finish_memoize(
     pruned: bool,
     span: &Option<Span>,
 ) -> Result<Value, AllocError>
-    ensures value { IfOk result (λ shown. view shown ≡ value_data (kinds.FinishMemoize manual_memo_id decl.now pruned span.now)) }
+    ensures value { IfOk result
+        (λ shown. view shown ≡ value_data (kinds.FinishMemoize manual_memo_id decl.now pruned span.now)) }
     ensures again { OnOk result (ReadsBack (kinds.FinishMemoize manual_memo_id decl.now pruned span.now)) }
 {
     Ok(

@@ -74,7 +74,8 @@ pub(super) fn unary_expression(
     value: &Place,
     span: &Option<Span>,
 ) -> Result<Value, AllocError>
-    ensures value { IfOk result (λ shown. view shown ≡ value_data (kinds.UnaryExpression operator.now value.now span.now)) }
+    ensures value { IfOk result
+        (λ shown. view shown ≡ value_data (kinds.UnaryExpression operator.now value.now span.now)) }
     ensures again { OnOk result (ReadsBack (kinds.UnaryExpression operator.now value.now span.now)) }
 {
     Ok(
@@ -93,7 +94,8 @@ pub(super) fn type_cast_expression(
     annotation: &Text,
     span: &Option<Span>,
 ) -> Result<Value, AllocError>
-    ensures value { IfOk result (λ shown. view shown ≡ value_data (kinds.TypeCastExpression value.now annotation.now span.now)) }
+    ensures value { IfOk result
+        (λ shown. view shown ≡ value_data (kinds.TypeCastExpression value.now annotation.now span.now)) }
     ensures again { OnOk result (ReadsBack (kinds.TypeCastExpression value.now annotation.now span.now)) }
 {
     Ok(
@@ -129,7 +131,8 @@ pub(super) fn regexp_literal(
     flags: &Text,
     span: &Option<Span>,
 ) -> Result<Value, AllocError>
-    ensures value { IfOk result (λ shown. view shown ≡ value_data (kinds.RegExpLiteral pattern.now flags.now span.now)) }
+    ensures value { IfOk result
+        (λ shown. view shown ≡ value_data (kinds.RegExpLiteral pattern.now flags.now span.now)) }
     ensures again { OnOk result (ReadsBack (kinds.RegExpLiteral pattern.now flags.now span.now)) }
 {
     Ok(
@@ -167,7 +170,8 @@ pub(super) fn tagged_template_expression(
     quasi: &Text,
     span: &Option<Span>,
 ) -> Result<Value, AllocError>
-    ensures value { IfOk result (λ shown. view shown ≡ value_data (kinds.TaggedTemplateExpression tag.now quasi.now span.now)) }
+    ensures value { IfOk result
+        (λ shown. view shown ≡ value_data (kinds.TaggedTemplateExpression tag.now quasi.now span.now)) }
     ensures again { OnOk result (ReadsBack (kinds.TaggedTemplateExpression tag.now quasi.now span.now)) }
 {
     Ok(
@@ -186,7 +190,8 @@ pub(super) fn template_literal(
     quasis: &List<Text>,
     span: &Option<Span>,
 ) -> Result<Value, AllocError>
-    ensures value { IfOk result (λ shown. view shown ≡ value_data (kinds.TemplateLiteral subexprs.now quasis.now span.now)) }
+    ensures value { IfOk result
+        (λ shown. view shown ≡ value_data (kinds.TemplateLiteral subexprs.now quasis.now span.now)) }
     ensures again { OnOk result (ReadsBack (kinds.TemplateLiteral subexprs.now quasis.now span.now)) }
 {
     Ok(
@@ -222,7 +227,8 @@ pub(super) fn iterator_next(
     collection: &Place,
     span: &Option<Span>,
 ) -> Result<Value, AllocError>
-    ensures value { IfOk result (λ shown. view shown ≡ value_data (kinds.IteratorNext iterator.now collection.now span.now)) }
+    ensures value { IfOk result
+        (λ shown. view shown ≡ value_data (kinds.IteratorNext iterator.now collection.now span.now)) }
     ensures again { OnOk result (ReadsBack (kinds.IteratorNext iterator.now collection.now span.now)) }
 {
     Ok(

@@ -53,7 +53,8 @@ pub(super) fn jsx_expression(
     children: &Option<List<Place>>,
     span: &Option<Span>,
 ) -> Result<Value, AllocError>
-    ensures value { IfOk result (λ shown. view shown ≡ value_data (kinds.JsxExpression tag.now props.now children.now span.now)) }
+    ensures value { IfOk result
+        (λ shown. view shown ≡ value_data (kinds.JsxExpression tag.now props.now children.now span.now)) }
     ensures again { OnOk result (ReadsBack (kinds.JsxExpression tag.now props.now children.now span.now)) }
 {
     Ok(
@@ -90,7 +91,8 @@ pub(super) fn property_load(
     property: &PropertyLiteral,
     span: &Option<Span>,
 ) -> Result<Value, AllocError>
-    ensures value { IfOk result (λ shown. view shown ≡ value_data (kinds.PropertyLoad object.now property.now span.now)) }
+    ensures value { IfOk result
+        (λ shown. view shown ≡ value_data (kinds.PropertyLoad object.now property.now span.now)) }
     ensures again { OnOk result (ReadsBack (kinds.PropertyLoad object.now property.now span.now)) }
 {
     Ok(
@@ -109,7 +111,8 @@ pub(super) fn property_delete(
     property: &PropertyLiteral,
     span: &Option<Span>,
 ) -> Result<Value, AllocError>
-    ensures value { IfOk result (λ shown. view shown ≡ value_data (kinds.PropertyDelete object.now property.now span.now)) }
+    ensures value { IfOk result
+        (λ shown. view shown ≡ value_data (kinds.PropertyDelete object.now property.now span.now)) }
     ensures again { OnOk result (ReadsBack (kinds.PropertyDelete object.now property.now span.now)) }
 {
     Ok(
@@ -150,7 +153,8 @@ pub(super) fn computed_load(
     property: &Place,
     span: &Option<Span>,
 ) -> Result<Value, AllocError>
-    ensures value { IfOk result (λ shown. view shown ≡ value_data (kinds.ComputedLoad object.now property.now span.now)) }
+    ensures value { IfOk result
+        (λ shown. view shown ≡ value_data (kinds.ComputedLoad object.now property.now span.now)) }
     ensures again { OnOk result (ReadsBack (kinds.ComputedLoad object.now property.now span.now)) }
 {
     Ok(
@@ -169,7 +173,8 @@ pub(super) fn computed_delete(
     property: &Place,
     span: &Option<Span>,
 ) -> Result<Value, AllocError>
-    ensures value { IfOk result (λ shown. view shown ≡ value_data (kinds.ComputedDelete object.now property.now span.now)) }
+    ensures value { IfOk result
+        (λ shown. view shown ≡ value_data (kinds.ComputedDelete object.now property.now span.now)) }
     ensures again { OnOk result (ReadsBack (kinds.ComputedDelete object.now property.now span.now)) }
 {
     Ok(
