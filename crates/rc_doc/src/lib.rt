@@ -11,4 +11,4 @@ mod show;
 pub use document::{Doc, read_doc, read_instruction_value};
 pub use read::place::read_place;
 pub use show::instruction::value_json;
-pub use show::place::place_json;
+pub use show::place::{is_short, place_json};

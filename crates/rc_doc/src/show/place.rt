@@ -49,7 +49,7 @@ fn effect_name(effect: Effect) -> &'static str
 }
 
 /// Whether the identifier's number says all of the place.
-fn is_short(place: &Place) -> bool
+pub fn is_short(place: &Place) -> bool
     ensures { result ≡ is_short place.now }
 {
     matches!(place.effect, Effect::Read) && !place.reactive && place.span.is_none()
