@@ -2,5 +2,4 @@ pub mod KnownBytes
 pub mod OneWord
 pub mod OutcomeLemmas
 mod BlankLemmas
-mod PlaceLemmas
 mod RefusalLemmas

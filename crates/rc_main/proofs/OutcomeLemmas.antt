@@ -1,6 +1,7 @@
 -- Bytes deserve one status. So what a status says of a source that tells its bytes decides when it comes.
-use Rattle.std.proofs.Common.{◌≡◌, ℕ, ◌⊎◌, inl, inr, List, ◌++◌, length, length-append, Option, Some, None, refl, sym}
-use Rattle.std.proofs.Common.{ap, ◌∙◌, subst, append-nil, arith, rules}
+use Rattle.std.proofs.Common.{◌≡◌, ℕ, ◌⊎◌, inl, inr, List, [], length, length-append, Option, Some, None, refl, ap}
+use Rattle.std.proofs.Common.{subst, arith, rules}
+use Rattle.std.proofs.KnownBytes.{Consumes-all}
 use Rattle.serde_json.specs.Data.{Data}
 use Rattle.serde_json.specs.Read.{read}
 use Rattle.rc_doc.specs.declared.document.Doc.{Doc}
@@ -60,8 +61,7 @@ module _ (bytes : List ℕ) where
 
   -- a source that tells its bytes and has none left gave all of them
   all_read : (taken : List ℕ) (left' : Option (List ℕ)) → ReadToEnd (Some bytes) left' taken → taken ≡ bytes
-  all_read taken None whole = absurd whole.taken
-  all_read taken (Some rest) whole = sym (whole.taken ∙ ap (λ after. taken ++ after) whole.end ∙ append-nil taken)
+  all_read taken left' whole = Consumes-all (Some bytes) left' taken [] taken whole.taken whole.end refl
 
   -- who took more bytes than a document has, was given more
   due_of_many : (left' : Option (List ℕ)) → TookTooMany (Some bytes) left' → Due bytes TooLarge

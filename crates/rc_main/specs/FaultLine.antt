@@ -11,6 +11,7 @@ use Rattle.rc_hir.specs.declared.fault.TableName.{TableName}
 use Rattle.rc_hir.specs.declared.fault.TableName.TheVariants as tables
 use Rattle.rc_main.specs.LineText.{◌&◌, line}
 
+-- the name of the rule that is broken
 abbrev pub rule_name : Rule → List ℕ
 rule_name rules.NoBlock = codes "NoBlock"
 rule_name rules.KeyDiffers = codes "KeyDiffers"
@@ -36,6 +37,7 @@ rule_name rules.ScopeTwice = codes "ScopeTwice"
 rule_name rules.FallsElsewhere = codes "FallsElsewhere"
 rule_name rules.OtherTree = codes "OtherTree"
 
+-- the name of a table that numbers name
 abbrev pub table_name : TableName → List ℕ
 table_name tables.Identifiers = codes "Identifiers"
 table_name tables.Declarations = codes "Declarations"

@@ -19,6 +19,7 @@ marks_text func = codes " generator " & bool_text func.generator & codes " async
 abbrev pub name_text : ReactiveFunction → List ℕ
 name_text func = codes "function " & json_text func.id & codes " hint " & json_text func.name_hint & marks_text func
 
+-- a parameter; three dots stand ahead of one that takes the rest
 abbrev pub param_text : ParamPattern → List ℕ
 param_text (Place place) = codes "param " & place_text place
 param_text (Spread spread) = codes "param ..." & place_text spread.place
@@ -31,9 +32,11 @@ param_lines = flat_map (λ param. line 0 (param_text param))
 abbrev pub directive_lines : List (List ℕ) → List ℕ
 directive_lines = flat_map (λ text. line 0 (codes "directive " & quoted_text text))
 
+-- the lines ahead of the body
 abbrev pub header_lines : ReactiveFunction → List ℕ
 header_lines func = line 0 (name_text func) & param_lines func.params & directive_lines func.directives
 
+-- what became of a scope
 abbrev pub fate_text : Fate → List ℕ
 fate_text Kept = codes "kept"
 fate_text NotEscaping = codes "not-escaping"

@@ -65,99 +65,104 @@ case_part test (Some block) indent = part (case_text test) block indent
 abbrev pub scope_part : List ℕ → ScopeId → Lines → Lines
 scope_part name scope block = part (name & decimal scope.0) block
 
--- a terminal with the lines of its blocks in their places
-abbrev pub TerminalLayer : Type 0
-TerminalLayer = layer.ReactiveTerminal-F Lines TerminalLines Lines Lines Lines Lines Lines
+-- a part's variant, with the lines of its own parts in their places
+abbrev pub WithLines : (Type 0 → Type 0 → Type 0 → Type 0 → Type 0 → Type 0 → Type 0 → Type 0) → Type 0
+WithLines Open = Open Lines TerminalLines Lines Lines Lines Lines Lines
 
 -- the first line of a terminal
-abbrev pub head_layer : TerminalLayer → Option ReactiveLabel → List ℕ
-head_layer (layer.Break target kind id) label =
+abbrev pub head_of : WithLines layer.ReactiveTerminal-F → Option ReactiveLabel → List ℕ
+head_of (layer.Break target kind id) label =
     codes "break bb" & decimal target.0 & codes " " & kind_word kind & id_text id label
-head_layer (layer.Continue target kind id) label =
+head_of (layer.Continue target kind id) label =
     codes "continue bb" & decimal target.0 & codes " " & kind_word kind & id_text id label
-head_layer (layer.Return value id) label = codes "return " & place_text value & id_text id label
-head_layer (layer.Throw value id) label = codes "throw " & place_text value & id_text id label
-head_layer (layer.If test consequent alternate id) label = codes "if " & place_text test & id_text id label
-head_layer (layer.Switch test cases id) label = codes "switch " & place_text test & id_text id label
-head_layer (layer.DoWhile loop_block test id) label = codes "do" & id_text id label
-head_layer (layer.While test loop_block id) label = codes "while" & id_text id label
-head_layer (layer.For init test update loop_block id) label = codes "for" & id_text id label
-head_layer (layer.ForOf init test loop_block span id) label = codes "forof" & id_text id label & span_text span
-head_layer (layer.ForIn init loop_block span id) label = codes "forin" & id_text id label & span_text span
-head_layer (layer.Label block id) label = codes "label" & id_text id label
-head_layer (layer.Try block binding handler id) label = codes "try" & id_text id label
+head_of (layer.Return value id) label = codes "return " & place_text value & id_text id label
+head_of (layer.Throw value id) label = codes "throw " & place_text value & id_text id label
+head_of (layer.If test consequent alternate id) label = codes "if " & place_text test & id_text id label
+head_of (layer.Switch test cases id) label = codes "switch " & place_text test & id_text id label
+head_of (layer.DoWhile loop_block test id) label = codes "do" & id_text id label
+head_of (layer.While test loop_block id) label = codes "while" & id_text id label
+head_of (layer.For init test update loop_block id) label = codes "for" & id_text id label
+head_of (layer.ForOf init test loop_block span id) label = codes "forof" & id_text id label & span_text span
+head_of (layer.ForIn init loop_block span id) label = codes "forin" & id_text id label & span_text span
+head_of (layer.Label block id) label = codes "label" & id_text id label
+head_of (layer.Try block binding handler id) label = codes "try" & id_text id label
 
 -- the values of a loop, which stand above its body
-abbrev pub values_layer : TerminalLayer → Lines
-values_layer (layer.While test loop_block id) indent = value_line (codes "test ") test indent
-values_layer (layer.For init test update loop_block id) indent =
+abbrev pub values_of : WithLines layer.ReactiveTerminal-F → Lines
+values_of (layer.While test loop_block id) indent = value_line (codes "test ") test indent
+values_of (layer.For init test update loop_block id) indent =
     value_line (codes "init ") init indent & value_line (codes "test ") test indent & optional_value_line
     (codes "update ") update indent
-values_layer (layer.ForOf init test loop_block span id) indent =
+values_of (layer.ForOf init test loop_block span id) indent =
     value_line (codes "init ") init indent & value_line (codes "test ") test indent
-values_layer (layer.ForIn init loop_block span id) indent = value_line (codes "init ") init indent
-values_layer _ indent = []
+values_of (layer.ForIn init loop_block span id) indent = value_line (codes "init ") init indent
+values_of _ indent = []
 
 -- the blocks of a terminal; the test of a do-while stands behind its body
-abbrev pub blocks_layer : TerminalLayer → Lines
-blocks_layer (layer.If test consequent alternate id) indent =
+abbrev pub blocks_of : WithLines layer.ReactiveTerminal-F → Lines
+blocks_of (layer.If test consequent alternate id) indent =
     part (codes "then") consequent indent & optional_part (codes "else") alternate indent
-blocks_layer (layer.Switch test cases id) indent = all_lines cases indent
-blocks_layer (layer.DoWhile loop_block test id) indent =
+blocks_of (layer.Switch test cases id) indent = all_lines cases indent
+blocks_of (layer.DoWhile loop_block test id) indent =
     part (codes "body") loop_block indent & value_line (codes "test ") test indent
-blocks_layer (layer.While test loop_block id) indent = part (codes "body") loop_block indent
-blocks_layer (layer.For init test update loop_block id) indent = part (codes "body") loop_block indent
-blocks_layer (layer.ForOf init test loop_block span id) indent = part (codes "body") loop_block indent
-blocks_layer (layer.ForIn init loop_block span id) indent = part (codes "body") loop_block indent
-blocks_layer (layer.Label block id) indent = part (codes "body") block indent
-blocks_layer (layer.Try block binding handler id) indent =
+blocks_of (layer.While test loop_block id) indent = part (codes "body") loop_block indent
+blocks_of (layer.For init test update loop_block id) indent = part (codes "body") loop_block indent
+blocks_of (layer.ForOf init test loop_block span id) indent = part (codes "body") loop_block indent
+blocks_of (layer.ForIn init loop_block span id) indent = part (codes "body") loop_block indent
+blocks_of (layer.Label block id) indent = part (codes "body") block indent
+blocks_of (layer.Try block binding handler id) indent =
     part (codes "block") block indent & part (catch_text binding) handler indent
-blocks_layer _ indent = []
+blocks_of _ indent = []
 
-abbrev pub terminal_layer : TerminalLayer → TerminalLines
-terminal_layer terminal =
-    record { head = head_layer terminal; values = values_layer terminal; blocks = blocks_layer terminal }
+-- the lines of a terminal, from those of its blocks
+abbrev pub of_terminal : WithLines layer.ReactiveTerminal-F → TerminalLines
+of_terminal terminal = record { head = head_of terminal; values = values_of terminal; blocks = blocks_of terminal }
 
-abbrev pub terminal_statement_layer : layer.ReactiveTerminalStatement-F Lines TerminalLines Lines Lines Lines Lines
-    Lines → Lines
-terminal_statement_layer statement indent =
+-- the lines of a terminal with its label
+abbrev pub of_labeled : WithLines layer.ReactiveTerminalStatement-F → Lines
+of_labeled statement indent =
     line indent (statement.terminal.head statement.label) & statement.terminal.values (deeper indent) &
     statement.terminal.blocks (deeper indent)
 
-abbrev pub statement_layer : layer.ReactiveStatement-F Lines TerminalLines Lines Lines Lines Lines Lines → Lines
-statement_layer (layer.Instruction row) indent = line indent (row_text row)
-statement_layer (layer.Terminal statement) indent = statement indent
-statement_layer (layer.Scope scope) indent = scope indent
-statement_layer (layer.PrunedScope scope) indent = scope indent
+-- the lines of a statement; those of a row are one
+abbrev pub of_statement : WithLines layer.ReactiveStatement-F → Lines
+of_statement (layer.Instruction row) indent = line indent (row_text row)
+of_statement (layer.Terminal statement) indent = statement indent
+of_statement (layer.Scope scope) indent = scope indent
+of_statement (layer.PrunedScope scope) indent = scope indent
 
-abbrev pub block_layer : layer.ReactiveBlock-F Lines TerminalLines Lines Lines Lines Lines Lines → Lines
-block_layer block = all_lines block.statements
+-- the lines of a block, from those of its statements
+abbrev pub of_block : WithLines layer.ReactiveBlock-F → Lines
+of_block block = all_lines block.statements
 
-abbrev pub scope_layer : layer.ReactiveScopeBlock-F Lines TerminalLines Lines Lines Lines Lines Lines → Lines
-scope_layer scope = scope_part (codes "scope ") scope.scope scope.instructions
+-- the lines of a scope block, from those of the block in it
+abbrev pub of_scope : WithLines layer.ReactiveScopeBlock-F → Lines
+of_scope scope = scope_part (codes "scope ") scope.scope scope.instructions
 
-abbrev pub pruned_layer : layer.PrunedReactiveScopeBlock-F Lines TerminalLines Lines Lines Lines Lines Lines → Lines
-pruned_layer scope = scope_part (codes "pruned ") scope.scope scope.instructions
+-- the lines of a pruned scope block, from those of the block in it
+abbrev pub of_pruned_scope : WithLines layer.PrunedReactiveScopeBlock-F → Lines
+of_pruned_scope scope = scope_part (codes "pruned ") scope.scope scope.instructions
 
-abbrev pub case_layer : layer.ReactiveSwitchCase-F Lines TerminalLines Lines Lines Lines Lines Lines → Lines
-case_layer case = case_part case.test case.block
+-- the lines of a case, from those of its block
+abbrev pub of_case : WithLines layer.ReactiveSwitchCase-F → Lines
+of_case case = case_part case.test case.block
 
 -- the lines of a statement
 abbrev pub statement_lines : ReactiveStatement → Lines
-statement_lines = fold-ReactiveStatement Lines TerminalLines Lines Lines Lines Lines Lines statement_layer
-    terminal_layer pruned_layer scope_layer block_layer case_layer terminal_statement_layer
+statement_lines = fold-ReactiveStatement Lines TerminalLines Lines Lines Lines Lines Lines of_statement of_terminal
+    of_pruned_scope of_scope of_block of_case of_labeled
 
 -- the lines of a terminal
 abbrev pub terminal_lines : ReactiveTerminal → TerminalLines
-terminal_lines = fold-ReactiveTerminal Lines TerminalLines Lines Lines Lines Lines Lines statement_layer terminal_layer
-    pruned_layer scope_layer block_layer case_layer terminal_statement_layer
+terminal_lines = fold-ReactiveTerminal Lines TerminalLines Lines Lines Lines Lines Lines of_statement of_terminal
+    of_pruned_scope of_scope of_block of_case of_labeled
 
 -- the lines of a case
 abbrev pub case_lines : ReactiveSwitchCase → Lines
-case_lines = fold-ReactiveSwitchCase Lines TerminalLines Lines Lines Lines Lines Lines statement_layer terminal_layer
-    pruned_layer scope_layer block_layer case_layer terminal_statement_layer
+case_lines = fold-ReactiveSwitchCase Lines TerminalLines Lines Lines Lines Lines Lines of_statement of_terminal
+    of_pruned_scope of_scope of_block of_case of_labeled
 
 -- the lines of a block
 abbrev pub block_lines : ReactiveBlock → Lines
-block_lines = fold-ReactiveBlock Lines TerminalLines Lines Lines Lines Lines Lines statement_layer terminal_layer
-    pruned_layer scope_layer block_layer case_layer terminal_statement_layer
+block_lines = fold-ReactiveBlock Lines TerminalLines Lines Lines Lines Lines Lines of_statement of_terminal
+    of_pruned_scope of_scope of_block of_case of_labeled

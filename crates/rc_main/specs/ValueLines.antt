@@ -13,6 +13,7 @@ use Rattle.rc_tree.specs.declared.value.ReactiveInstruction.{ReactiveInstruction
 use Rattle.rc_doc.specs.ShownKinds.{value_data}
 use Rattle.rc_main.specs.LineText.{◌&◌, bool_text, span_text, place_text}
 
+-- an operator as it is written in the source
 abbrev pub operator_text : LogicalOperator → List ℕ
 operator_text And = codes "&&"
 operator_text Or = codes "||"
@@ -32,14 +33,14 @@ abbrev pub rows_text : EvaluationOrder → List (List ℕ) → List ℕ
 rows_text id rows = codes "seq(" & decimal id.0 & codes ", [" & joined false rows & codes "]"
 
 -- the text of a value over the texts of its parts
-abbrev pub value_layer : ReactiveValue-F (List ℕ) (List ℕ) → List ℕ
-value_layer (Instruction value) = compact_text (value_data value)
-value_layer (LogicalExpression operator left right) =
+abbrev pub of_value : ReactiveValue-F (List ℕ) (List ℕ) → List ℕ
+of_value (Instruction value) = compact_text (value_data value)
+of_value (LogicalExpression operator left right) =
     codes "logical(" & operator_text operator & next_text left & next_text right & codes ")"
-value_layer (ConditionalExpression test consequent alternate) =
+of_value (ConditionalExpression test consequent alternate) =
     codes "cond(" & test & next_text consequent & next_text alternate & codes ")"
-value_layer (SequenceExpression rows id value) = rows_text id rows & next_text value & codes ")"
-value_layer (OptionalExpression value optional) = codes "opt(" & bool_text optional & next_text value & codes ")"
+of_value (SequenceExpression rows id value) = rows_text id rows & next_text value & codes ")"
+of_value (OptionalExpression value optional) = codes "opt(" & bool_text optional & next_text value & codes ")"
 
 -- where the value of a row goes
 abbrev pub target_text : Option Place → List ℕ
@@ -47,13 +48,13 @@ target_text None = codes "_"
 target_text (Some place) = place_text place
 
 -- the text of a row over that of its value
-abbrev pub row_layer : ReactiveInstruction-F (List ℕ) (List ℕ) → List ℕ
-row_layer row = decimal row.id.0 & codes " " & target_text row.lvalue & codes " = " & row.value & span_text row.span
+abbrev pub of_row : ReactiveInstruction-F (List ℕ) (List ℕ) → List ℕ
+of_row row = decimal row.id.0 & codes " " & target_text row.lvalue & codes " = " & row.value & span_text row.span
 
 -- a value
 abbrev pub value_text : ReactiveValue → List ℕ
-value_text = fold-ReactiveValue (List ℕ) (List ℕ) value_layer row_layer
+value_text = fold-ReactiveValue (List ℕ) (List ℕ) of_value of_row
 
 -- a row
 abbrev pub row_text : ReactiveInstruction → List ℕ
-row_text = fold-ReactiveInstruction (List ℕ) (List ℕ) value_layer row_layer
+row_text = fold-ReactiveInstruction (List ℕ) (List ℕ) of_value of_row

@@ -17,7 +17,8 @@ const MAX_BYTES: usize = 16_777_216;
 /// How many bytes are asked of the source at a time.
 const BUFFER_BYTES: usize = 4096;
 
-/// The document that a source gives.
+/// The document that a source gives. It stops where a call of the source fails, where there are too many bytes, where
+/// these are no JSON or no document, and for want of memory.
 pub fn load<S: Source>(alloc: Global, source: &mut S) -> Result<Doc, Stop>
     ensures outcome { LoadsOrStops (S.left source.old) (S.left source.new) result }
     ensures later { S.faults source.old ≤ S.faults source.new }

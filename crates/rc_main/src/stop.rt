@@ -1,4 +1,4 @@
-//! Why the program stops before it has an answer.
+//! Why the program stops before its answer is written.
 
 ghost use Rattle.std.specs.Prelude.{◌≡◌};
 ghost use Rattle.rc_main.specs.declared.stop.Stop.TheVariants as stops;

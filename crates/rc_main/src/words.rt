@@ -13,7 +13,7 @@ use std::io;
 /// The command line without the program's name.
 pub type Words = List<Text>;
 
-/// The words of a command line, which is an error where a word isn't UTF-8 or memory is wanting.
+/// The words of a command line: `Usage` where one isn't UTF-8, and `NoMemory` where memory is wanting.
 pub fn words(alloc: Global, args: io::Result<Args>) -> Result<Words, Stop> {
     match args {
         Ok(args) => Ok(words_after_name(alloc, args)?),

@@ -42,6 +42,7 @@ fn write_fate(page: &mut Page, fate: Fate) -> Result<(), AllocError>
     }
 }
 
+/// A name with the scope that another one went into.
 fn write_into(page: &mut Page, name: &str, scope: ScopeId) -> Result<(), AllocError>
     ensures { OnOk result (page.new ≡ page.old ++ (name.now ++ decimal scope.0)) }
 {

@@ -1,19 +1,20 @@
 //! A place, in the shortest of its three forms.
 
 ghost use Rattle.std.specs.Prelude.{◌≡◌, ◌++◌, OnOk, codes, true};
-ghost use Rattle.serde_json.specs.Data.{string, boolean};
+ghost use Rattle.serde_json.specs.Data.{string};
 ghost use Rattle.serde_json.specs.Written.{compact_text, items_text};
-ghost use Rattle.rc_doc.specs.ShownParts.{is_short, long_form, effect_name, span_items};
-ghost use Rattle.rc_main.specs.LineText.{place_text, bool_text};
+ghost use Rattle.rc_doc.specs.ShownParts.{long_form, effect_name, span_items};
+ghost use Rattle.rc_main.specs.LineText.{place_text};
 
 use crate::printing::page::Page;
 use crate::printing::text::write_bool;
+use rc_doc::is_short;
 use rc_hir::{Effect, Place};
 use rc_names::Span;
 use std::alloc::AllocError;
 
 /// A place, in the shortest of its three forms.
-#[tactic(auto, using(crate::proofs::PlaceLemmas::place_text_short, crate::proofs::PlaceLemmas::place_text_long))]
+#[tactic(auto, using(rc_doc::proofs::ReadsBack::placing))]
 pub fn write_place(page: &mut Page, place: &Place) -> Result<(), AllocError>
     ensures { OnOk result (page.new ≡ page.old ++ place_text place.now) }
 {
@@ -21,22 +22,6 @@ pub fn write_place(page: &mut Page, place: &Place) -> Result<(), AllocError>
         page.number(place.identifier.0)
     } else {
         write_long(page, place)
-    }
-}
-
-/// Whether a place's number says it.
-fn is_short(place: &Place) -> bool
-    ensures { result ≡ is_short place.now }
-{
-    match place.effect {
-        Effect::Read => !place.reactive && place.span.is_none(),
-        Effect::Unknown
-        | Effect::Freeze
-        | Effect::Capture
-        | Effect::ConditionallyMutateIterator
-        | Effect::ConditionallyMutate
-        | Effect::Mutate
-        | Effect::Store => false,
     }
 }
 

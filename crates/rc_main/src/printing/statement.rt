@@ -2,9 +2,9 @@
 //!
 //! A step down is a number of spaces more, and lists are loops, so the call stack grows with nesting alone.
 
-ghost use Rattle.std.specs.Prelude.{◌≡◌, ◌++◌, OnOk, map};
-ghost use Rattle.rc_main.specs.Lines.{all_lines, part, catch_text, statement_lines, terminal_lines, case_lines};
-ghost use Rattle.rc_main.specs.Lines.{block_lines};
+ghost use Rattle.std.specs.Prelude.{◌≡◌, ◌++◌, OnOk, map, option_map};
+ghost use Rattle.rc_main.specs.Lines.{all_lines, part, optional_part, catch_text, statement_lines, terminal_lines};
+ghost use Rattle.rc_main.specs.Lines.{case_lines, block_lines};
 
 use crate::printing::page::{Page, deeper};
 use crate::printing::terminal::{
@@ -23,6 +23,7 @@ pub fn write_block(page: &mut Page, block: &ReactiveBlock, indent: usize) -> Res
     write_statements(page, block.statements.as_slice(), indent)
 }
 
+/// Statements one after the other.
 #[cycle(statement)]
 fn write_statements(
     page: &mut Page,
@@ -37,6 +38,7 @@ fn write_statements(
     Ok(())
 }
 
+/// A statement, and what stands below it.
 #[cycle(statement)]
 fn write_statement(
     page: &mut Page,
@@ -90,10 +92,7 @@ fn write_blocks(
             ..
         } => {
             write_part(page, "then", consequent, indent)?;
-            match alternate {
-                Some(block) => write_part(page, "else", block, indent),
-                None => Ok(()),
-            }
+            write_optional_part(page, "else", alternate, indent)
         }
         ReactiveTerminal::Switch { cases, .. } => write_cases(page, cases.as_slice(), indent),
         ReactiveTerminal::DoWhile {
@@ -139,6 +138,23 @@ fn write_part(
     write_block(page, block, deeper(indent)?)
 }
 
+/// A named part, where there is one.
+#[cycle(statement)]
+fn write_optional_part(
+    page: &mut Page,
+    name: &str,
+    block: &Option<ReactiveBlock>,
+    indent: usize,
+) -> Result<(), AllocError>
+    ensures { OnOk result (page.new ≡ page.old ++ optional_part name.now (option_map block_lines block.now) indent) }
+{
+    match block {
+        Some(block) => write_part(page, name, block, indent),
+        None => Ok(()),
+    }
+}
+
+/// The part of a handler, with its block.
 #[cycle(statement)]
 fn write_catch(
     page: &mut Page,
@@ -154,6 +170,7 @@ fn write_catch(
     write_block(page, handler, deeper(indent)?)
 }
 
+/// The cases of a switch.
 #[cycle(statement)]
 fn write_cases(
     page: &mut Page,
@@ -168,6 +185,7 @@ fn write_cases(
     Ok(())
 }
 
+/// A case with its block, or without one.
 #[cycle(statement)]
 fn write_case(page: &mut Page, case: &ReactiveSwitchCase, indent: usize) -> Result<(), AllocError>
     ensures { OnOk result (page.new ≡ page.old ++ case_lines case.now indent) }

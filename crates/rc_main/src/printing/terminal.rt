@@ -3,8 +3,7 @@
 ghost use Rattle.std.specs.Prelude.{◌≡◌, ◌++◌, OnOk, codes, decimal};
 ghost use Rattle.rc_tree.specs.Kind.{kind_word};
 ghost use Rattle.rc_main.specs.LineText.{place_text, id_text};
-ghost use Rattle.rc_main.specs.ValueLines.{value_text};
-ghost use Rattle.rc_main.specs.Lines.{catch_text, case_text, value_line, terminal_lines};
+ghost use Rattle.rc_main.specs.Lines.{catch_text, case_text, value_line, optional_value_line, terminal_lines};
 
 use crate::printing::page::Page;
 use crate::printing::place::write_place;
@@ -121,10 +120,7 @@ pub fn write_values(
         } => {
             write_value_line(page, "init ", init, indent)?;
             write_value_line(page, "test ", test, indent)?;
-            match update {
-                Some(update) => write_value_line(page, "update ", update, indent),
-                None => Ok(()),
-            }
+            write_optional_value_line(page, "update ", update, indent)
         }
         ReactiveTerminal::ForOf { init, test, .. } => {
             write_value_line(page, "init ", init, indent)?;
@@ -156,6 +152,21 @@ pub fn write_value_line(
     page.push(name)?;
     write_value(page, value)?;
     page.push("\n")
+}
+
+/// A named value, where there is one.
+fn write_optional_value_line(
+    page: &mut Page,
+    name: &str,
+    value: &Option<ReactiveValue>,
+    indent: usize,
+) -> Result<(), AllocError>
+    ensures { OnOk result (page.new ≡ page.old ++ optional_value_line name.now value.now indent) }
+{
+    match value {
+        Some(value) => write_value_line(page, name, value, indent),
+        None => Ok(()),
+    }
 }
 
 /// The first line of a scope block.

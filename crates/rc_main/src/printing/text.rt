@@ -1,8 +1,7 @@
 //! The words that lines are made of.
 
 ghost use Rattle.std.specs.Prelude.{◌≡◌, ◌++◌, OnOk};
-ghost use Rattle.rc_main.specs.LineText.{bool_text, quoted_text, json_text, span_text, implicit_text, label_text};
-ghost use Rattle.rc_main.specs.LineText.{id_text};
+ghost use Rattle.rc_main.specs.LineText.{bool_text, quoted_text, json_text, span_text, label_text, id_text};
 
 use crate::printing::page::Page;
 use rc_names::{EvaluationOrder, Span, Text};
@@ -10,6 +9,7 @@ use rc_tree::ReactiveLabel;
 use serde_json::Value;
 use std::alloc::AllocError;
 
+/// A truth value.
 pub fn write_bool(page: &mut Page, b: bool) -> Result<(), AllocError>
     ensures { OnOk result (page.new ≡ page.old ++ bool_text b) }
 {
@@ -50,7 +50,8 @@ pub fn write_span(page: &mut Page, span: Option<Span>) -> Result<(), AllocError>
     }
 }
 
-pub fn write_label(page: &mut Page, label: Option<ReactiveLabel>) -> Result<(), AllocError>
+/// A statement's label, where it has one.
+fn write_label(page: &mut Page, label: Option<ReactiveLabel>) -> Result<(), AllocError>
     ensures { OnOk result (page.new ≡ page.old ++ label_text label) }
 {
     match label {

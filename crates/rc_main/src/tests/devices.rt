@@ -1,6 +1,6 @@
 //! Devices that fail, that never end, and those of std.
 
-ghost use Rattle.std.specs.Prelude.{None, length, ◌≡◌};
+ghost use Rattle.std.specs.Prelude.{None};
 
 use super::{DOCUMENT, TEXT, list, tree_from, words};
 use crate::device::{Failed, Source};

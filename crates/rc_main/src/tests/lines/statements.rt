@@ -119,6 +119,7 @@ pub fn put_switches(alloc: Global, block: &mut ReactiveBlock) -> Result<(), Allo
     put(alloc, block, terminal, None)
 }
 
+/// A `do` loop.
 pub fn put_do_while(alloc: Global, block: &mut ReactiveBlock) -> Result<(), AllocError> {
     let terminal = ReactiveTerminal::DoWhile {
         loop_block: returning(alloc, 51, 52)?,
@@ -128,6 +129,7 @@ pub fn put_do_while(alloc: Global, block: &mut ReactiveBlock) -> Result<(), Allo
     put(alloc, block, terminal, explicit(50))
 }
 
+/// A `while` loop.
 pub fn put_while(alloc: Global, block: &mut ReactiveBlock) -> Result<(), AllocError> {
     let terminal = ReactiveTerminal::While {
         test: load(56),
@@ -137,6 +139,7 @@ pub fn put_while(alloc: Global, block: &mut ReactiveBlock) -> Result<(), AllocEr
     put(alloc, block, terminal, implicit(55))
 }
 
+/// A `for` loop without an update.
 pub fn put_for_without_update(alloc: Global, block: &mut ReactiveBlock) -> Result<(), AllocError> {
     let terminal = ReactiveTerminal::For {
         init: load(60),
@@ -148,6 +151,7 @@ pub fn put_for_without_update(alloc: Global, block: &mut ReactiveBlock) -> Resul
     put(alloc, block, terminal, None)
 }
 
+/// A `for` loop with each part.
 pub fn put_for_with_update(alloc: Global, block: &mut ReactiveBlock) -> Result<(), AllocError> {
     let terminal = ReactiveTerminal::For {
         init: load(66),
@@ -159,6 +163,7 @@ pub fn put_for_with_update(alloc: Global, block: &mut ReactiveBlock) -> Result<(
     put(alloc, block, terminal, explicit(65))
 }
 
+/// A loop over the values of a collection.
 pub fn put_for_of(
     alloc: Global,
     block: &mut ReactiveBlock,
@@ -175,6 +180,7 @@ pub fn put_for_of(
     put(alloc, block, terminal, label)
 }
 
+/// A loop over the property names of an object.
 pub fn put_for_in(
     alloc: Global,
     block: &mut ReactiveBlock,
