@@ -19,7 +19,7 @@ use Rattle.rc_runs.specs.Grammar.{opened, closed, returns, unreachable, breaks}
 use Rattle.rc_runs.specs.Spelled.{AreSound}
 use Rattle.rc_pipe.specs.Rows.{row_statement_of}
 use Rattle.rc_pipe.specs.Namings.{named_blocks, listed, times}
-use Rattle.rc_pipe.specs.Built.{join, Marked, Follows, IsTaken, IsUnusable, MadeList, Refused, Partly, Rest, GoesOn}
+use Rattle.rc_pipe.specs.Built.{join, Marked, MarksBlocks, IsTaken, IsUnusable, MadeList, Refused, Partly, Rest, GoesOn}
 use Rattle.rc_pipe.specs.Built.{rest_of}
 use Rattle.rc_pipe.proofs.MarksLemmas.{front_sound, named_fewer, times_append}
 use Rattle.rc_runs.proofs.OneTree.{one_terminal, one_statement, rest_at, terminal_at}
@@ -39,32 +39,33 @@ statements_of-join (Cons s a) b = ap (λ z. statement_of s ∷ z) (statements_of
 
 module _ (hir : HirFunction) where
   -- nothing is marked yet
-  pub follows_none : (pending : List BlockId) (marks : Marks) → Marked hir marks
-      → Follows hir pending pending marks marks []
-  follows_none pending marks m = record { used = sym (append-nil marks.used); marked = m; named = λ more h. h }
+  pub marking_none : (pending : List BlockId) (marks : Marks) → Marked hir marks
+      → MarksBlocks hir pending pending marks marks []
+  marking_none pending marks m = record { used = sym (append-nil marks.used); marked = m; named = λ more h. h }
 
-  pub follows_then : {a b c : List BlockId} {old mid new : Marks} {xs ys : List BlockId} → Follows hir a b old mid xs
-      → Follows hir b c mid new ys → Follows hir a c old new (xs ++ ys)
-  follows_then {old = old} {xs = xs} {ys = ys} f g = record {
+  -- blocks are marked, and then further ones
+  pub marking_then : {a b c : List BlockId} {old mid new : Marks} {xs ys : List BlockId} → MarksBlocks hir a b old mid xs
+      → MarksBlocks hir b c mid new ys → MarksBlocks hir a c old new (xs ++ ys)
+  marking_then {old = old} {xs = xs} {ys = ys} f g = record {
     used = g.used ∙ ap (λ z. z ++ ys) f.used ∙ append_assoc old.used xs ys;
     marked = g.marked;
     named = λ more h. g.named more (f.named more h);
   }
 
   -- fewer of the pending namings are left
-  pub follows_drop : {a b c : List BlockId} {old new : Marks} {xs : List BlockId}
-      → ((key : BlockId) → times key c ≤ times key b) → Follows hir a b old new xs → Follows hir a c old new xs
-  follows_drop {b = b} {c = c} {new = new} d f = record {
+  pub marking_drop : {a b c : List BlockId} {old new : Marks} {xs : List BlockId}
+      → ((key : BlockId) → times key c ≤ times key b) → MarksBlocks hir a b old new xs → MarksBlocks hir a c old new xs
+  marking_drop {b = b} {c = c} {new = new} d f = record {
     used = f.used;
     marked = f.marked;
     named = λ more h. named_fewer hir new.used (c ++ more) (b ++ more)
         (λ key. omega (arith, d key, times_append key b more, times_append key c more)) (f.named more h);
   }
 
-  -- further namings stay pending beside one that is followed
-  pub follows_beside : {key : BlockId} {more : List BlockId} {old new : Marks} {xs : List BlockId}
-      → Follows hir (key ∷ []) [] old new xs → Follows hir (key ∷ more) more old new xs
-  follows_beside {more = more} f =
+  -- further namings stay pending beside that of the first block
+  pub marking_beside : {key : BlockId} {more : List BlockId} {old new : Marks} {xs : List BlockId}
+      → MarksBlocks hir (key ∷ []) [] old new xs → MarksBlocks hir (key ∷ more) more old new xs
+  marking_beside {more = more} f =
       record { used = f.used; marked = f.marked; named = λ others h. f.named (more ++ others) h }
 
   -- refused in front is refused
@@ -86,7 +87,7 @@ module _ (hir : HirFunction) where
     statements = Nil;
     newly = [];
     put = sym (append-nil out);
-    follows = follows_none pending marks m;
+    marking = marking_none pending marks m;
     onward = λ rest used d. d;
     only = λ all used d. (all, used, d, refl);
   }
@@ -101,7 +102,7 @@ module _ (hir : HirFunction) where
     put = q.put ∙ ap (λ z. z ++ statements_of q.statements) p.put
         ∙ append_assoc out (statements_of p.statements) (statements_of q.statements)
         ∙ ap (λ z. out ++ z) (sym (statements_of-join p.statements q.statements));
-    follows = follows_then p.follows q.follows;
+    marking = marking_then p.marking q.marking;
     onward = λ rest used d. subst (λ z. S z ((p.newly ++ q.newly) ++ used))
         (sym (join-append p.statements q.statements rest))
         (subst (S (join p.statements (join q.statements rest))) (sym (append_assoc p.newly q.newly used))
@@ -118,7 +119,7 @@ module _ (hir : HirFunction) where
       Partly S R hir a b out whole old new → Refused hir R new.used → Refused hir S old.used
   partly_refused S R {old = old} p none all used d s =
       let h = p.only all used d in
-      none h.0 h.1 h.2 (refused_back old.used p.newly h.1 s h.3 p.follows.used)
+      none h.0 h.1 h.2 (refused_back old.used p.newly h.1 s h.3 p.marking.used)
 
 module _ (hir : HirFunction) (env : Environment) (next : Option BlockId) (frames : List Frame) where
   -- nothing is left
@@ -135,7 +136,7 @@ module _ (hir : HirFunction) (env : Environment) (next : Option BlockId) (frames
         spelled = subst (λ z. SpellsList hir env key next frames None z q.newly) (join-nil q.statements)
             (subst (SpellsList hir env key next frames None (join q.statements Nil)) (append-nil q.newly)
             (q.onward Nil [] (refl, refl)));
-        follows = q.follows;
+        marking = q.marking;
       }
 
   rows_join : (rows : List Instruction) (rest : Statements) → rows_before rows rest ≡ join (rows_before rows Nil) rest
@@ -156,7 +157,7 @@ module _ (hir : HirFunction) (env : Environment) (next : Option BlockId) (frames
     statements = rows_before t.rows Nil;
     newly = key ∷ [];
     put = e ∙ ap (λ z. out ++ z) (sym (rows_put t.rows));
-    follows = t.follows;
+    marking = t.marking;
     onward = λ rest used d. block t.usable t.apart d (sym (rows_join t.rows rest));
     only = only;
   }
@@ -184,7 +185,7 @@ module _ (hir : HirFunction) (env : Environment) (next : Option BlockId) (frames
     statements = statements;
     newly = [];
     put = e;
-    follows =
+    marking =
         record {
           used = sym (append-nil marks.used);
           marked = m;
@@ -230,13 +231,13 @@ module _ (hir : HirFunction) (env : Environment) (next : Option BlockId) (frames
       (blocks : List BlockId) (out whole : List ReactiveStatement) (old new : Marks) →
       SpellsStatement hir env terminal next frames None is_open fallthrough statement blocks
       → whole ≡ out ++ statement_of statement ∷ [] →
-      Follows hir (named_blocks terminal) (fallthrough ∷ []) old new blocks
+      MarksBlocks hir (named_blocks terminal) (fallthrough ∷ []) old new blocks
       → GoesOn hir env terminal next frames (rest_of is_open fallthrough) out whole old new
   statement_partly terminal is_open fallthrough statement blocks out whole old new d e f = record {
     statements = Cons statement Nil;
     newly = blocks;
     put = e;
-    follows = follows_drop hir (rest_le is_open) f;
+    marking = marking_drop hir (rest_le is_open) f;
     onward = λ rest used h. and_rest d (rest_left is_open fallthrough rest used h) refl;
     only = λ all used h. let k = after_statement d all used h in
         (k.0, k.1, left_rest is_open fallthrough k.0 k.1 k.2, k.3);

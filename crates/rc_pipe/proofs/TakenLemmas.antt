@@ -22,7 +22,7 @@ use Rattle.rc_runs.specs.GraphRun.{MovesAlive}
 use Rattle.rc_runs.specs.Spelled.{same_scope, scope_named, scope_at}
 use Rattle.rc_pipe.specs.Namings.{is_among, named_blocks}
 use Rattle.rc_pipe.specs.RuleFacts.{At, StepsDead, SharesScope, RuleFact}
-use Rattle.rc_pipe.specs.Built.{Marked, AreNamed, AtList, Follows, live_blocks, IsUnusable, listed_scope}
+use Rattle.rc_pipe.specs.Built.{Marked, AreNamed, AtList, MarksBlocks, live_blocks, IsUnusable, listed_scope}
 use Rattle.rc_pipe.specs.Built.{is_fresh_scope}
 use Rattle.rc_runs.proofs.GraphLemmas.{same_block-eq, blocks_equivalence}
 use Rattle.rc_pipe.proofs.MarksLemmas.{times_append, times_among, named_twice, scopes_equivalence, one_more, among_push}
@@ -82,10 +82,10 @@ marked_push hir old new key block rows m n e f alive fresh u s =
           ∙ sym (ap (filter_map (scope_at hir)) u ∙ scopes);
     }
 
-pub follows_push : (hir : HirFunction) (old new : Marks) (key : BlockId) (block : BasicBlock)
+pub marking_push : (hir : HirFunction) (old new : Marks) (key : BlockId) (block : BasicBlock)
     → is_among old.used key ≡ false → basic_block hir key ≡ Some block → Marked hir new →
-    new.used ≡ old.used ++ key ∷ [] → Follows hir (key ∷ []) (named_blocks block.terminal) old new (key ∷ [])
-follows_push hir old new key block n e m u = record {
+    new.used ≡ old.used ++ key ∷ [] → MarksBlocks hir (key ∷ []) (named_blocks block.terminal) old new (key ∷ [])
+marking_push hir old new key block n e m u = record {
   used = u;
   marked = m;
   named = λ pending h. subst (λ us. AreNamed hir us (named_blocks block.terminal ++ pending)) (sym u)

@@ -29,12 +29,12 @@ use Rattle.rc_runs.specs.Grammar.{SpellsList, SpellsTerminal, opens, opens_reach
 use Rattle.rc_runs.specs.Grammar.{label_of, falls_to, if_only, if_else, label, scope, pruned_scope, and_rest}
 use Rattle.rc_pipe.specs.Namings.{framed_blocks, is_among, times, scope_fallthrough, fallthrough_of}
 use Rattle.rc_pipe.specs.RuleFacts.{At, RuleFact, IsFramedApart}
-use Rattle.rc_pipe.specs.Built.{Marked, AreNamed, AtList, AtTerminal, IsUsed, IsUsedApart, AreOwned, IsFrameOf, Follows}
+use Rattle.rc_pipe.specs.Built.{Marked, AreNamed, AtList, AtTerminal, IsUsed, IsUsedApart, AreOwned, IsFrameOf, MarksBlocks}
 use Rattle.rc_pipe.specs.Built.{Made, Refused, GoesOn, rest_of, live_blocks, frame_blocks, terminal_statement}
 use Rattle.rc_runs.proofs.GraphLemmas.{blocks_equivalence}
 use Rattle.rc_pipe.proofs.MarksLemmas.{named_fewer, times_append}
 use Rattle.rc_pipe.proofs.OwnersLemmas.{owned_weaker, live_framed}
-use Rattle.rc_pipe.proofs.BuiltLemmas.{follows_then, follows_beside, follows_drop, refused_front, refused_back}
+use Rattle.rc_pipe.proofs.BuiltLemmas.{marking_then, marking_beside, marking_drop, refused_front, refused_back}
 use Rattle.rc_pipe.proofs.BuiltLemmas.{statement_partly}
 use Rattle.rc_runs.proofs.OneTree.{part_at, one_list}
 
@@ -99,7 +99,7 @@ module _ (hir : HirFunction) where
 
   -- what was used is used
   pub used_more : {before after : List BlockId} (old new : Marks) (blocks : List BlockId)
-      → Follows hir before after old new blocks → (q : BlockId) → IsUsed old q → IsUsed new q
+      → MarksBlocks hir before after old new blocks → (q : BlockId) → IsUsed old q → IsUsed new q
   used_more old new blocks f q h = subst (λ z. is_among z q ≡ true) (sym f.used)
       (list_any-append (same_block q) old.used blocks ∙ ap (λ b. b || is_among blocks q) h)
 
@@ -174,7 +174,7 @@ module _ (hir : HirFunction) (env : Environment) (next : Option BlockId) (frames
       statement_partly hir env next frames (terminals.Label inner fallthrough id span) is_open fallthrough
       (TerminalStatement (Label m.value id) (label_of is_open fallthrough)) m.newly out whole old new
       (label o refl m.spelled) (e ∙ ap (λ z. out ++ z ∷ [])
-      (s ∙ ap (λ b. labeled b mark) m.is ∙ ap (labeled (statements_of m.value)) n)) (follows_beside hir m.follows)
+      (s ∙ ap (λ b. labeled b mark) m.is ∙ ap (labeled (statements_of m.value)) n)) (marking_beside hir m.marking)
 
   pub label_refused : (inner fallthrough : BlockId) (id : EvaluationOrder) (span : Option Span) (is_open : Bool)
       (marks : Marks) → is_open ≡ opens_reachable hir frames fallthrough →
@@ -198,7 +198,7 @@ module _ (hir : HirFunction) (env : Environment) (next : Option BlockId) (frames
       (record { scope = number; instructions = record { statements = b } }) in
       statement_partly hir env next frames (terminals.Scope fallthrough inner number id span) is_open fallthrough
       (ScopeStatement number m.value) m.newly out whole old new
-      (scope o m.spelled) (e ∙ ap (λ z. out ++ z ∷ []) (s ∙ ap scoped m.is)) (follows_beside hir m.follows)
+      (scope o m.spelled) (e ∙ ap (λ z. out ++ z ∷ []) (s ∙ ap scoped m.is)) (marking_beside hir m.marking)
 
   pub scope_refused : (inner fallthrough : BlockId) (number : ScopeId) (id : EvaluationOrder) (span : Option Span)
       (is_open : Bool) (marks : Marks) → is_open ≡ opens frames fallthrough →
@@ -223,7 +223,7 @@ module _ (hir : HirFunction) (env : Environment) (next : Option BlockId) (frames
       (record { scope = number; instructions = record { statements = b } }) in
       statement_partly hir env next frames (terminals.PrunedScope fallthrough inner number id span) is_open fallthrough
       (PrunedScopeStatement number m.value) m.newly out whole old new
-      (pruned_scope o m.spelled) (e ∙ ap (λ z. out ++ z ∷ []) (s ∙ ap scoped m.is)) (follows_beside hir m.follows)
+      (pruned_scope o m.spelled) (e ∙ ap (λ z. out ++ z ∷ []) (s ∙ ap scoped m.is)) (marking_beside hir m.marking)
 
   pub pruned_scope_refused : (inner fallthrough : BlockId) (number : ScopeId) (id : EvaluationOrder)
       (span : Option Span) (is_open : Bool) (marks : Marks) → is_open ≡ opens frames fallthrough →
@@ -255,7 +255,7 @@ module _ (hir : HirFunction) (env : Environment) (next : Option BlockId) (frames
       old new
       (if_only o refl a t m.spelled) (e ∙ ap (λ z. out ++ z ∷ [])
       (s ∙ ap (λ b. branched b mark) m.is ∙ ap (branched (statements_of m.value)) n))
-      (follows_drop hir (λ key. omega arith) (follows_beside hir m.follows))
+      (marking_drop hir (λ key. omega arith) (marking_beside hir m.marking))
 
   pub if_only_refused : (test : Place) (consequent alternate fallthrough : BlockId) (id : EvaluationOrder)
       (span : Option Span) (is_open : Bool) (marks : Marks) →
@@ -309,7 +309,7 @@ module _ (hir : HirFunction) (env : Environment) (next : Option BlockId) (frames
       (e ∙ ap (λ z. out ++ z ∷ []) (s ∙ ap (λ b. branched b other mark) m.is
       ∙ ap (λ d. branched (statements_of m.value) d mark) n.is
       ∙ ap (branched (statements_of m.value) (statements_of n.value)) l))
-      (follows_then hir (follows_beside hir m.follows) (follows_beside hir n.follows))
+      (marking_then hir (marking_beside hir m.marking) (marking_beside hir n.marking))
 
   pub if_else_first_refused : (test : Place) (consequent alternate fallthrough : BlockId) (id : EvaluationOrder)
       (span : Option Span) (is_open : Bool) (marks : Marks) →
@@ -341,4 +341,4 @@ module _ (hir : HirFunction) (env : Environment) (next : Option BlockId) (frames
       let first = one_list (part_at fallthrough next (kinds.If fallthrough) frames is_open p same d) m.spelled in
       none other second (part_at fallthrough next (kinds.If fallthrough) frames is_open p same b)
       (refused_back hir marks.used m.newly second (refused_front hir marks.used front back s w)
-      (q ∙ ap (λ z. z ++ second) first.1) m.follows.used)
+      (q ∙ ap (λ z. z ++ second) first.1) m.marking.used)

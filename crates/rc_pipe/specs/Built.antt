@@ -104,7 +104,7 @@ abbrev pub AtSome : HirFunction → Marks → List Frame → Terminal → Type 0
 AtSome hir marks frames terminal = (key : BlockId) × AtTerminal hir marks frames key terminal
 
 -- these blocks are marked; of the namings that were pending `before`, those `after` are left
-pub record Follows (hir : HirFunction) (before after : List BlockId) (old new : Marks)
+pub record MarksBlocks (hir : HirFunction) (before after : List BlockId) (old new : Marks)
     (blocks : List BlockId) : Type 0 where
   pub used : new.used ≡ old.used ++ blocks
   pub marked : Marked hir new
@@ -120,7 +120,7 @@ pub record IsTaken (hir : HirFunction) (frames : List Frame) (key : BlockId) (bl
   pub usable : usable_block hir key ≡ Some (record { rows = rows; terminal = block.terminal })
   pub apart : is_live frames key ≡ false
   pub fresh : is_among old.used key ≡ false
-  pub follows : Follows hir (key ∷ []) (named_blocks block.terminal) old new (key ∷ [])
+  pub marking : MarksBlocks hir (key ∷ []) (named_blocks block.terminal) old new (key ∷ [])
 
 -- no tree may use the block there
 abbrev pub IsUnusable : HirFunction → List Frame → BlockId → Marks → Type 0
@@ -134,7 +134,7 @@ pub record Made {A C : Type 0} (view : A → C) (S : A → List BlockId → Type
   pub newly : List BlockId
   pub is : made ≡ view value
   pub spelled : S value newly
-  pub follows : Follows hir before [] old new newly
+  pub marking : MarksBlocks hir before [] old new newly
 
 -- S asks for nothing whose blocks are sound behind the used ones
 abbrev pub Refused : {A : Type 0} → HirFunction → (A → List BlockId → Type 0) → List BlockId → Type 0
@@ -161,7 +161,7 @@ pub record Partly (S R : Statements → List BlockId → Type 0) (hir : HirFunct
   pub statements : Statements
   pub newly : List BlockId
   pub put : whole ≡ out ++ statements_of statements
-  pub follows : Follows hir before after old new newly
+  pub marking : MarksBlocks hir before after old new newly
   pub onward : (rest : Statements) (used : List BlockId) → R rest used →
       S (join statements rest) (newly ++ used)
   pub only : (all : Statements) (used : List BlockId) → S all used →

@@ -58,6 +58,6 @@ pub record AreDepths (stack : List Held) (breaks continues : Depths) : Type 0 wh
   pub of_continues : (key : BlockId) → depth_at continues key ≡ continue_depth (map frame_of stack) key
 
 -- a depth stands under the block, where there is one
-abbrev pub HasRoom : Depths → Option BlockId → Type 0
-HasRoom depths None = Unit {0}
-HasRoom depths (Some block) = IsSome (lookup (same_block block) depths.depths)
+abbrev pub HasDepth : Depths → Option BlockId → Type 0
+HasDepth depths None = Unit {0}
+HasDepth depths (Some block) = IsSome (lookup (same_block block) depths.depths)

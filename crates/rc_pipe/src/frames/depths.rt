@@ -33,7 +33,7 @@ impl Depths {
     /// Makes room for the depth under a block, if there is one, so that `set` takes no memory.
     pub fn make_room(&mut self, block: Option<BlockId>) -> Result<(), AllocError>
         ensures same { (key : BlockId) → spec.depth_at self.new key ≡ spec.depth_at self.old key }
-        ensures there { IfOk result (λ _. spec.HasRoom self.new block) }
+        ensures there { IfOk result (λ _. spec.HasDepth self.new block) }
     {
         if let Some(block) = block {
             let depth = self.at(block);
@@ -44,7 +44,7 @@ impl Depths {
 
     /// Sets the depth under a block, if there is one.
     pub fn set(&mut self, block: Option<BlockId>, depth: usize)
-        requires { spec.HasRoom self.old block }
+        requires { spec.HasDepth self.old block }
         ensures { (key : BlockId) → spec.depth_at self.new key ≡
             (if spec.is_block block key then depth else spec.depth_at self.old key) }
     {

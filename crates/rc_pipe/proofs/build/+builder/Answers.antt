@@ -50,12 +50,12 @@ lists::build_list-build_block-requires t c =
     let now = c.list.state.marks in
     let part = c.list.invariant.part in
     let named = subst (λ a. AreNamed hir now.used (listed a ++ live_blocks frames)) c.in-Some.is
-    (part.follows.named (live_blocks frames) c.requires.named) in
-    let owned = owned_weaker hir (IsUsed old) (IsUsed now) frames (used_more hir old now part.newly part.follows)
+    (part.marking.named (live_blocks frames) c.requires.named) in
+    let owned = owned_weaker hir (IsUsed old) (IsUsed now) frames (used_more hir old now part.newly part.marking)
     c.requires.owned in (
-      omega (arith, ap length part.follows.used, length-append old.used part.newly),
+      omega (arith, ap length part.marking.used, length-append old.used part.newly),
       record {
-        marked = part.follows.marked;
+        marked = part.marking.marked;
         named = subst (λ z. AreNamed hir now.used (c.in-Some.here ∷ live_blocks z)) (sym c.list.invariant.frames) named;
         owned = subst (AreOwned hir (IsUsed now)) (sym c.list.invariant.frames) owned;
       },
@@ -85,7 +85,7 @@ lists::build_list-list-preserved t c =
 
 pub lists::build_list-list-smaller : goal.lists::build_list-list-smaller
 lists::build_list-list-smaller t c =
-    let r = room c.args.hir.now c.build_block.new.state.marks c.in_ok-at.ensures.ok.follows.marked in
+    let r = room c.args.hir.now c.build_block.new.state.marks c.in_ok-at.ensures.ok.marking.marked in
     omega (arith, r, c.in_ok-at.ensures.more)
 
 pub lists::build_list-returns-in_err-at-clause-refused : goal.lists::build_list-returns-in_err-at-clause-refused
@@ -125,15 +125,15 @@ lists::build_block-build_terminal-requires t c =
     let frames = c.args.state.now.frames in
     let taken = c.in_ok-block.ensures.ok in
     let terminal = c.in_ok-block.block.now.terminal in
-    let r = room hir new taken.follows.marked in
-    let named = taken.follows.named (live_blocks frames) c.requires.named in
+    let r = room hir new taken.marking.marked in
+    let named = taken.marking.named (live_blocks frames) c.requires.named in
     let owned = owned_weaker hir (IsUsed old) (IsUsedApart new key) frames
-    (λ q h. (used_more hir old new (key ∷ []) taken.follows q h, used_apart old.used key q taken.fresh h))
+    (λ q h. (used_more hir old new (key ∷ []) taken.marking q h, used_apart old.used key q taken.fresh h))
     c.requires.owned in (
-      omega (arith, r, ap length taken.follows.used, length-append old.used (key ∷ [])),
+      omega (arith, r, ap length taken.marking.used, length-append old.used (key ∷ [])),
       record {
-        marked = taken.follows.marked;
-        used = subst (λ us. is_among us key ≡ true) (sym taken.follows.used) (among_push old.used key);
+        marked = taken.marking.marked;
+        used = subst (λ us. is_among us key ≡ true) (sym taken.marking.used) (among_push old.used key);
         here = record { block = c.in_ok-block.block.now; found = taken.found; holds = refl };
         named = subst (λ z. AreNamed hir new.used (named_blocks terminal ++ live_blocks z))
             (sym c.take_block.ensures.frames) named;
@@ -391,12 +391,12 @@ branches::build_if_else-build_part-requires-2 t c =
     let frame : Frame = kinds.If arms.fallthrough in
     let first = c.in_ok-part.ensures.ok in
     let same = c.in_ok-part.ensures.frames in
-    let left = first.follows.named ((arms.alternate ∷ arms.fallthrough ∷ []) ++ live_blocks frames) at.named in (
-      omega (arith, ap length first.follows.used, length-append old.used first.newly),
+    let left = first.marking.named ((arms.alternate ∷ arms.fallthrough ∷ []) ++ live_blocks frames) at.named in (
+      omega (arith, ap length first.marking.used, length-append old.used first.newly),
       subst (λ z. AtList hir new (frames_inside c.args.opened frame z) arms.alternate) (sym same)
           (at_part hir old new frames c.requires.at.1.0 terminal arms.alternate c.args.opened frame at
-          (if_frame terminal arms.fallthrough (framed_alone arms.fallthrough)) first.follows.marked
-          (used_more hir old new first.newly first.follows)
+          (if_frame terminal arms.fallthrough (framed_alone arms.fallthrough)) first.marking.marked
+          (used_more hir old new first.newly first.marking)
           (named_part hir new.used frames arms.alternate arms.fallthrough (arms.alternate ∷ arms.fallthrough ∷ [])
           c.args.opened frame refl (λ key. omega arith) left)),
     )

@@ -9,7 +9,7 @@ use Rattle.rc_pipe.specs.Built.{live_blocks, listed_scope, is_fresh_scope}
 use Rattle.rc_pipe.proofs.StepsLemmas.{not_true, not_false}
 use Rattle.rc_pipe.proofs.MarksLemmas.{named_once}
 use Rattle.rc_pipe.proofs.UsableLemmas.{usable_made, usable_ids}
-use Rattle.rc_pipe.proofs.TakenLemmas.{marked_push, follows_push, unusable_used, unusable_dead, unusable_scope}
+use Rattle.rc_pipe.proofs.TakenLemmas.{marked_push, marking_push, unusable_used, unusable_dead, unusable_scope}
 use Rattle.rc_pipe.proofs.TakenLemmas.{twice_live, twice_used, shared_scope, insert_fresh}
 use Rattle.rc_pipe.proofs.build.blocks.take_block.Goals as goal
 
@@ -92,5 +92,5 @@ returns-clause-ok c =
       usable = usable_made hir key block ids.rows found c.in_ok-block.ensures.own ids.filled ids.set;
       apart = sym c.is_live.ensures ∙ c.if-is_live.false;
       fresh = fresh;
-      follows = follows_push hir old new key block fresh found marked used;
+      marking = marking_push hir old new key block fresh found marked used;
     }

@@ -2,7 +2,7 @@ use Rattle.std.proofs.Common.{IsSome, refl, sym, ap, ◌∙◌, subst}
 use Rattle.std.specs.Prelude.{unwrap_or}
 use Rattle.std.specs.Map.{lookup}
 use Rattle.rc_runs.specs.Graph.{same_block}
-use Rattle.rc_pipe.specs.Depths.{HasRoom}
+use Rattle.rc_pipe.specs.Depths.{HasDepth}
 use Rattle.rc_pipe.proofs.DepthsLemmas.{depth-kept, lookup-insert_there}
 use Rattle.rc_pipe.proofs.frames.depths.Depths.make_room.Goals as goal
 
@@ -15,4 +15,4 @@ pub returns-in_ok-insert-clause-there : goal.returns-in_ok-insert-clause-there
 returns-in_ok-insert-clause-there c =
     let found = ap (lookup (same_block c.in-Some.block)) c.in_ok-insert.ensures.entries
     ∙ lookup-insert_there c.in-Some.block c.at-depth.result c.args.self.now.depths in
-    subst (HasRoom (record { depths = c.insert.new.self })) (sym c.in-Some.is) (subst IsSome (sym found) refl)
+    subst (HasDepth (record { depths = c.insert.new.self })) (sym c.in-Some.is) (subst IsSome (sym found) refl)
