@@ -1,8 +1,9 @@
 -- Causes exclude what is accepted, and what the builder refuses has a cause.
-use Rattle.std.proofs.Common.{◌≡◌, ℕ, zero, suc, ◌||◌, if◌then◌else◌, ◌+◌, ◌<◌, ◌≤◌, ◌⊎◌, inl, inr, Bool, true, false}
+use Rattle.std.proofs.Common.{◌≡◌, ℕ, zero, suc, if◌then◌else◌, ◌+◌, ◌<◌, ◌≤◌, ◌⊎◌, inl, inr, Bool, true, false}
 use Rattle.std.proofs.Common.{not, List, [], ◌∷◌, ◌++◌, length, get_or, Some, None, refl, ap, subst, eqb-true, arith}
-use Rattle.std.proofs.Common.{length-append, slice_get}
+use Rattle.std.proofs.Common.{slice_get}
 use Rattle.rc_tree.proofs.PlaceLemmas.{past_end}
+use Rattle.std.proofs.lemmas.Bool.{or_cases}
 use Rattle.std.proofs.lemmas.Map.Views.{Contains-from_lookup}
 use Rattle.std.specs.List.{All, Any, flat_map, list_any, find}
 use Rattle.std.specs.Prelude.{option_map}
@@ -20,7 +21,6 @@ use Rattle.rc_hir.specs.GraphNames.{Name, row_name, block_names, under_key, func
 use Rattle.rc_hir.specs.GraphNames.{place_names, instruction_names, terminal_names}
 use Rattle.rc_hir.specs.Names.{NamesOutside, IsInTable, IsOutside, lengths, FunctionInTables, NamesOutsideIn}
 use Rattle.rc_tree.specs.declared.function.ReactiveFunction.{ReactiveFunction}
-use Rattle.rc_runs.specs.Spelled.{Spells}
 use Rattle.rc_hir.specs.EnvironmentNames.{environment_names}
 use Rattle.rc_pipe.specs.Causes.{is_built, first_unbuilt, first_early_return}
 use Rattle.rc_pipe.specs.RuleFacts.{At, LacksRow, FaultFact}
@@ -36,11 +36,6 @@ module _ {X : Type 0} (P : X → Type 0) where
   none_outside : (Q : X → Type 0) → ((x : X) → P x → Q x → ⊥) → (xs : List X) → All P xs → Any Q xs → ⊥
   none_outside Q contrary xs all some = contrary some.1 (subst P some.3 (all some.0 some.1 some.2)) some.4
 
--- where the first test or the others are true
-either : (first rest : Bool) → (first || rest) ≡ true → (first ≡ true) ⊎ (rest ≡ true)
-either true rest is = inl refl
-either false rest is = inr is
-
 module _ (hir : HirFunction) (env : Environment) where
   -- the number is in its table, where the function's rows count
   abbrev Held : Name → Type 0
@@ -55,7 +50,7 @@ module _ (hir : HirFunction) (env : Environment) where
       let here : n.0 < length hir.instructions = All-left Held (row_name n) (flat_map row_name ns) all 0
       (tables.Instructions, 0) (omega arith) in
       split here (λ any. none_past index ns (All-right Held (row_name n) (flat_map row_name ns) all) past any)
-      (either (nat_eq index n.0) _ any)
+      (or_cases (nat_eq index n.0) _ any)
     where
       split : n.0 < length hir.instructions → (list_any (λ number. nat_eq index number.0) ns ≡ true → ⊥)
           → (nat_eq index n.0 ≡ true) ⊎ (list_any (λ number. nat_eq index number.0) ns ≡ true) → ⊥

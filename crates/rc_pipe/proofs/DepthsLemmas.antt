@@ -1,7 +1,8 @@
 -- Depths of frames: what a change leaves under each block, and that a depth finds the frame that decides.
 use Rattle.std.proofs.Common.{◌≡◌, ℕ, ◌+◌, ◌<◌, ◌≤◌, suc, zero, Bool, true, false, cond, ◌||◌, List, [], ◌∷◌, ◌++◌}
 use Rattle.std.proofs.Common.{Option, Some, None, IsSome, length, slice_get, map, reverse, nat_lt, refl, sym, ap, ◌∙◌}
-use Rattle.std.proofs.Common.{subst, eq-eqb, arith}
+use Rattle.std.proofs.Common.{subst, eq-eqb, le-ltb, lt-ltb, arith}
+use Rattle.std.proofs.Math.Bool.{or-false, or-true}
 use Rattle.std.specs.Prelude.{nat_eq, not, unwrap_or, option_map, if◌then◌else◌}
 use Rattle.std.proofs.lemmas.List.{length-map, length-reverse, reverse-append}
 use Rattle.std.proofs.lemmas.Option.{slice_get_past}
@@ -97,12 +98,6 @@ frame_at (frame ∷ outer) depth = if nat_eq depth (length outer + 1) then Some 
 not_eq : (a b : ℕ) → a < b → nat_eq a b ≡ false
 not_eq a b h = grind arith
 
-not_lt : (a b : ℕ) → b ≤ a → nat_lt a b ≡ false
-not_lt a b h = grind arith
-
-is_lt : (a b : ℕ) → a < b → nat_lt a b ≡ true
-is_lt a b h = grind arith
-
 -- a loop stands further inside than the depth, or one stands further inside than all these frames
 abbrev has_loop : Bool → ℕ → List Frame → Bool
 has_loop in_loop depth frames = if nat_lt depth (loop_depth frames) then true else in_loop
@@ -120,10 +115,6 @@ always true c = refl
 always false true = refl
 always false false = refl
 
-or_false : (b : Bool) → (b || false) ≡ b
-or_false true = refl
-or_false false = refl
-
 -- what decides of the loops further inside stays the same where one frame more is looked at
 loops_outside : (in_loop : Bool) (depth : ℕ) (frame : Frame) (outer : List Frame) → depth ≤ length outer →
     has_loop (in_loop || is_loop frame) depth outer ≡ has_loop in_loop depth (frame ∷ outer)
@@ -132,8 +123,8 @@ loops_outside in_loop depth frame outer le = go (is_loop frame)
     go : (b : Bool) → (if nat_lt depth (loop_depth outer) then true else (in_loop || b))
         ≡ (if nat_lt depth (if b then length outer + 1 else loop_depth outer) then true else in_loop)
     go true = always (nat_lt depth (loop_depth outer)) in_loop
-        ∙ sym (ap (λ b. if b then true else in_loop) (is_lt depth (length outer + 1) (omega arith)))
-    go false = ap (λ z. if nat_lt depth (loop_depth outer) then true else z) (or_false in_loop)
+        ∙ sym (ap (λ b. if b then true else in_loop) (lt-ltb depth (length outer + 1) (omega arith)))
+    go false = ap (λ z. if nat_lt depth (loop_depth outer) then true else z) (or-false in_loop)
 
 -- the frame that decides of a break stands at the depth of its block
 pub way_found : (frames : List Frame) (innermost in_loop : Bool) (key : BlockId) (found : Frame)
@@ -158,7 +149,7 @@ way_found (frame ∷ outer) innermost in_loop key found is =
         let here : frame ≡ found = let z : Some frame ≡ Some found = sym
         (ap (λ b. if b then Some frame else frame_at outer depth) (eq-eqb depth depth refl)) ∙ at in cc in
         let top = ap (λ b. if b then innermost else false) (eq-eqb depth (length (frame ∷ outer)) (omega arith)) in
-        let none = ap (λ b. if b then true else in_loop) (not_lt depth (loop_depth (frame ∷ outer))
+        let none = ap (λ b. if b then true else in_loop) (le-ltb depth (loop_depth (frame ∷ outer))
         (omega (arith, depth-le is_loop (frame ∷ outer)))) in
         sym (ap (λ b. way_out_of b (has_loop in_loop depth (frame ∷ outer)) found) top
         ∙ ap (λ b. way_out_of innermost b found) none ∙ ap (λ (f : Frame). way_out_of innermost in_loop f)
@@ -255,15 +246,11 @@ break_way-found frames key found is =
 
 live_at : (frame : Frame) (key : BlockId) → is_live_at frame key
     ≡ (same_block (break_block frame) key || is_block (continue_block frame) key)
-live_at (kinds.If block) key = sym (or_false (same_block block key))
-live_at (kinds.Switch block) key = sym (or_false (same_block block key))
-live_at (kinds.Case block) key = sym (or_false (same_block block key))
-live_at (kinds.Scope block) key = sym (or_false (same_block block key))
+live_at (kinds.If block) key = sym (or-false (same_block block key))
+live_at (kinds.Switch block) key = sym (or-false (same_block block key))
+live_at (kinds.Case block) key = sym (or-false (same_block block key))
+live_at (kinds.Scope block) key = sym (or-false (same_block block key))
 live_at (kinds.Loop block again) key = refl
-
-or_true : (b : Bool) → (b || true) ≡ true
-or_true true = refl
-or_true false = refl
 
 some_depth : (n : ℕ) → not (nat_eq (n + 1) 0) ≡ true
 some_depth n = ap not (let e : nat_eq (n + 1) 0 ≡ false = grind arith in e)
@@ -283,5 +270,5 @@ is_live-depths (frame ∷ outer) key =
     go true b later = sym (ap (λ z. z || not (nat_eq (if b then length outer + 1 else continue_depth outer key) 0))
         (some_depth (length outer)))
     go false true later = sym (ap (λ z. not (nat_eq (break_depth outer key) 0) || z) (some_depth (length outer))
-        ∙ or_true (not (nat_eq (break_depth outer key) 0)))
+        ∙ or-true (not (nat_eq (break_depth outer key) 0)))
     go false false later = later

@@ -5,6 +5,7 @@ use Rattle.std.specs.Prelude.{if◌then◌else◌}
 use Rattle.std.specs.Cmp.{IsEquivalence}
 use Rattle.std.specs.List.{IsDistinct, list_any, filter_map, flat_map, AllByRecursion}
 use Rattle.std.specs.Map.{lookup}
+use Rattle.std.proofs.Math.Bool.{or-true}
 use Rattle.std.proofs.lemmas.Cmp.{nat_eq_equiv}
 use Rattle.std.proofs.lemmas.Map.Steps.{length-le_from_keys}
 use Rattle.std.proofs.lemmas.Map.Views.{Contains-from_any, list_any-from_Contains}
@@ -134,11 +135,7 @@ flat_more used key q (pair ∷ blocks) =
 
 pub among_push : (used : List BlockId) (key : BlockId) → is_among (used ++ key ∷ []) key ≡ true
 among_push used key = list_any-append (same_block key) used (key ∷ [])
-    ∙ ap (λ b. is_among used key || (b || false)) (blocks_equivalence.refl key) ∙ last (is_among used key)
-  where
-    last : (b : Bool) → (b || true) ≡ true
-    last true = refl
-    last false = refl
+    ∙ ap (λ b. is_among used key || (b || false)) (blocks_equivalence.refl key) ∙ or-true (is_among used key)
 
 -- what the blocks name that are among the used ones
 abbrev names_of : List BlockId → List (BlockId × BasicBlock) → List BlockId
@@ -229,15 +226,18 @@ pub named_fewer : (hir : HirFunction) (used few many : List BlockId)
 named_fewer hir used few many f h key =
     omega (arith, h key, f key, times_append key few used, times_append key many used)
 
+-- a block stands once in a list of it alone
+times_alone : (key : BlockId) → times key (key ∷ []) ≡ 1
+times_alone key = ap (λ b. (if b then 1 else 0) + 0) (blocks_equivalence.refl key)
+
 -- a block that is pending, and used or pending besides, is named twice
 pub named_twice : (hir : HirFunction) (used : List BlockId) (key : BlockId) (pending : List BlockId)
     → AreNamed hir used (key ∷ pending) → 1 ≤ times key (pending ++ used) → 2 ≤ times_named hir key
 named_twice hir used key pending h t =
-    let one : times key (key ∷ []) ≡ 1 = ap (λ b. (if b then 1 else 0) + 0) (blocks_equivalence.refl key) in
-    omega (arith, h key, t, one, namings_le hir used key)
+    omega (arith, h key, t, times_alone key, namings_le hir used key)
 
+-- a block that is pending is named
 pub named_once : (hir : HirFunction) (used : List BlockId) (key : BlockId) (pending : List BlockId)
     → AreNamed hir used (key ∷ pending) → 1 ≤ times_named hir key
 named_once hir used key pending h =
-    let one : times key (key ∷ []) ≡ 1 = ap (λ b. (if b then 1 else 0) + 0) (blocks_equivalence.refl key) in
-    omega (arith, h key, one, namings_le hir used key)
+    omega (arith, h key, times_alone key, namings_le hir used key)

@@ -1,8 +1,9 @@
 -- The rows that numbers name, number by number.
 use Rattle.std.proofs.Common.{◌≡◌, ℕ, ◌<◌, ◌+◌, Bool, true, false, List, [], ◌∷◌, ◌++◌, Option, Some, None, ◌||◌}
-use Rattle.std.proofs.Common.{length, take, get_or, map, refl, sym, ap, ◌∙◌, subst, eqb-true, append_assoc}
-use Rattle.std.specs.Prelude.{nat_eq, not, ◌&&◌, slice_get, option_map, option_and_then}
+use Rattle.std.proofs.Common.{length, take, get_or, map, refl, sym, ap, ◌∙◌, subst, eqb-true, true≢false, append_assoc}
+use Rattle.std.specs.Prelude.{nat_eq, slice_get, option_map, option_and_then}
 use Rattle.std.specs.List.{list_any}
+use Rattle.std.proofs.lemmas.Bool.{and_parts, not-true, or_left, or_right}
 use Rattle.std.proofs.lemmas.List.{take_more, map-append}
 use Rattle.std.proofs.lemmas.List.Folds.{list_any-append}
 use Rattle.rc_names.specs.declared.numbers.InstructionId.{InstructionId}
@@ -70,13 +71,6 @@ module _ (all : List Instruction) where
       subst (λ z. list_any (λ (other : Instruction). is_unset other.id) z ≡ true) (sym k.whole)
       (go k (nat_eq number.0 head.0) refl m (λ h. unset_row numbers number row k.rest h f u k.later))
     where
-      ors : (a b : Bool) → (a ≡ true → (a || b) ≡ true)
-      ors a b e = ap (λ z. z || b) e
-
-      last : (a b : Bool) → b ≡ true → (a || b) ≡ true
-      last true b e = refl
-      last false b e = e
-
       go : (k : FirstRow head numbers rows) (b : Bool) → nat_eq number.0 head.0 ≡ b
           → (b || list_any (λ other. nat_eq number.0 other.0) numbers) ≡ true →
           (list_any (λ other. nat_eq number.0 other.0) numbers ≡ true
@@ -85,8 +79,8 @@ module _ (all : List Instruction) where
       go k true q h later =
           let same : slice_get all number.0 ≡ slice_get all head.0 = ap (slice_get all) (eqb-true number.0 head.0 q) in
           let r : row ≡ k.row = (let z = k.first in cc) in
-          ors _ _ (ap (λ (z : Instruction). is_unset z.id) (sym r) ∙ u)
-      go k false q h later = last _ _ (later h)
+          or_left _ _ (ap (λ (z : Instruction). is_unset z.id) (sym r) ∙ u)
+      go k false q h later = or_right _ _ (later h)
 
 none_more : (rows : List Instruction) (row : Instruction) → list_any (λ other. is_unset other.id) rows ≡ false
     → is_unset row.id ≡ false →
@@ -119,27 +113,11 @@ put_more hir numbers i d row out mid whole statement lt h f s e = record {
       ∙ ap (λ z. out ++ z) (sym (map-append row_statement_of h.rows (row ∷ [])));
 }
 
-and_front : (a b : Bool) → (a && b) ≡ true → a ≡ true
-and_front true b e = refl
-and_front false b e = e
-
 -- a block with an unset row hasn't all ids
 pub unset_refused : (hir : HirFunction) (block : BasicBlock) (number : InstructionId) (row : Instruction)
     → list_any (λ other. nat_eq number.0 other.0) block.instructions ≡ true →
     slice_get hir.instructions number.0 ≡ Some row → is_unset row.id ≡ true → HasIds hir block → ⊥
 unset_refused hir block number row m f u h =
     let any = unset_row hir.instructions block.instructions number row h.rows m f u h.filled in
-    let none = and_front _ _ h.set in
-    bad (list_any (λ other. is_unset other.id) h.rows) any none
-  where
-    bad : (a : Bool) → a ≡ true → not a ≡ true → ⊥
-    bad true p q = let no : ⊥ = cc in no
-    bad false p q = let no : ⊥ = cc in no
-
--- two numbers that differ
-pub apart : (a b : ℕ) → (a ≡ b → ⊥) → nat_eq a b ≡ false
-apart a b h = go (nat_eq a b) refl
-  where
-    go : (c : Bool) → nat_eq a b ≡ c → c ≡ false
-    go true e = absurd (h (eqb-true a b e))
-    go false e = refl
+    let none = not-true (list_any (λ other. is_unset other.id) h.rows) (and_parts _ _ h.set).0 in
+    true≢false (sym any ∙ none)

@@ -1,7 +1,9 @@
 -- The moves of a terminal lead to its step blocks, and to each of them.
 use Rattle.std.proofs.Common.{◌≡◌, Bool, true, false, List, [], ◌∷◌, ◌++◌, Option, Some, None, ◌||◌, refl, sym, ap, ◌∙◌}
-use Rattle.std.proofs.Common.{subst}
-use Rattle.std.specs.Prelude.{if◌then◌else◌, not}
+use Rattle.std.proofs.Common.{subst, ⊎_elim}
+use Rattle.std.proofs.Math.Bool.{or-false}
+use Rattle.std.proofs.lemmas.Bool.{or_cases, or_parts}
+use Rattle.std.specs.Prelude.{if◌then◌else◌}
 use Rattle.std.specs.List.{list_any}
 use Rattle.std.proofs.lemmas.List.Folds.{list_any-append}
 use Rattle.rc_names.specs.declared.numbers.BlockId.{BlockId}
@@ -22,26 +24,6 @@ use Rattle.rc_runs.specs.Graph.{is_dead}
 use Rattle.rc_pipe.specs.RuleFacts.{StepsDead}
 use Rattle.rc_pipe.specs.Namings.{step_blocks, case_blocks, past_blocks, listed}
 
-or_left : (a b : Bool) → (a || b) ≡ false → a ≡ false
-or_left true b e = e
-or_left false b e = refl
-
-or_right : (a b : Bool) → (a || b) ≡ false → b ≡ false
-or_right true b e = let bad : ⊥ = cc in absurd bad
-or_right false b e = e
-
-pub not_true : (a : Bool) → not a ≡ true → a ≡ false
-not_true true e = sym e
-not_true false e = refl
-
-pub not_false : (a : Bool) → not a ≡ false → a ≡ true
-not_false true e = refl
-not_false false e = sym e
-
-only : (a : Bool) → (a || false) ≡ true → a ≡ true
-only true e = refl
-only false e = e
-
 -- a test on the cases' blocks
 pub case_blocks_any : (p : BlockId → Bool) (cases : List Case)
     → list_any (λ case. p case.block) cases ≡ list_any p (case_blocks cases)
@@ -58,26 +40,26 @@ module _ (p : BlockId → Bool) where
   case_passes : {case : Case} {cases : List Case} → InCases case cases → list_any p (case_blocks cases) ≡ false
       → p case.block ≡ false
   case_passes (first {other = other} {cases = cases} e) h =
-      subst (λ (c : Case). p c.block ≡ false) (sym e) (or_left (p other.block) (list_any p (case_blocks cases)) h)
+      subst (λ (c : Case). p c.block ≡ false) (sym e) (or_parts (p other.block) (list_any p (case_blocks cases)) h).0
   case_passes (later {other = other} {cases = cases} m) h =
-      case_passes m (or_right (p other.block) (list_any p (case_blocks cases)) h)
+      case_passes m (or_parts (p other.block) (list_any p (case_blocks cases)) h).1
 
   alone : {key : BlockId} → list_any p (key ∷ []) ≡ false → p key ≡ false
-  alone {key = key} h = or_left (p key) false h
+  alone {key = key} h = (or_parts (p key) false h).0
 
   -- a move leads to a step block
   pub none_passes : {terminal : Terminal} {events : List Event} {key : BlockId} → Move terminal events key
       → list_any p (step_blocks terminal) ≡ false → p key ≡ false
-  none_passes (then_arm {consequent = a} {alternate = b}) h = or_left (p a) (p b || false) h
-  none_passes (else_arm {consequent = a} {alternate = b}) h = or_left (p b) false (or_right (p a) (p b || false) h)
-  none_passes (branch_true {consequent = a} {alternate = b}) h = or_left (p a) (p b || false) h
-  none_passes (branch_false {consequent = a} {alternate = b}) h = or_left (p b) false (or_right (p a) (p b || false) h)
+  none_passes (then_arm {consequent = a} {alternate = b}) h = (or_parts (p a) (p b || false) h).0
+  none_passes (else_arm {consequent = a} {alternate = b}) h = alone (or_parts (p a) (p b || false) h).1
+  none_passes (branch_true {consequent = a} {alternate = b}) h = (or_parts (p a) (p b || false) h).0
+  none_passes (branch_false {consequent = a} {alternate = b}) h = alone (or_parts (p a) (p b || false) h).1
   none_passes (to_case {cases = cases} {fallthrough = f} {case = case} m c e) h =
-      subst (λ k. p k ≡ false) (sym e) (case_passes m (or_left _ _
-      (sym (list_any-append p (case_blocks cases) (past_blocks cases f)) ∙ h)))
+      subst (λ k. p k ≡ false) (sym e) (case_passes m (or_parts _ _
+      (sym (list_any-append p (case_blocks cases) (past_blocks cases f)) ∙ h)).0)
   none_passes (past_cases {cases = cases} {fallthrough = f} e) h =
-      let last : list_any p (past_blocks cases f) ≡ false = or_right _ _
-      (sym (list_any-append p (case_blocks cases) (past_blocks cases f)) ∙ h) in
+      let last : list_any p (past_blocks cases f) ≡ false = (or_parts _ _
+      (sym (list_any-append p (case_blocks cases) (past_blocks cases f)) ∙ h)).1 in
       alone (sym (ap (λ b. list_any p (if b then [] else f ∷ [])) e) ∙ last)
   none_passes into_do_while h = alone h
   none_passes into_while h = alone h
@@ -93,8 +75,8 @@ module _ (p : BlockId → Bool) where
   none_passes into_pruned_scope h = alone h
   none_passes into_try h = alone h
   none_passes goes_to h = alone h
-  none_passes (goes_on {continuation = a} {handler = b}) h = or_left (p a) (list_any p (listed b)) h
-  none_passes (throws {continuation = a} {handler = b}) h = alone (or_right (p a) (p b || false) h)
+  none_passes (goes_on {continuation = a} {handler = b}) h = (or_parts (p a) (list_any p (listed b)) h).0
+  none_passes (throws {continuation = a} {handler = b}) h = alone (or_parts (p a) (p b || false) h).1
 
 module _ (hir : HirFunction) where
   steps_to : {terminal : Terminal} {events : List Event} {target : BlockId} → Move terminal events target
@@ -103,20 +85,16 @@ module _ (hir : HirFunction) where
 
   steps_only : {terminal : Terminal} {events : List Event} {target : BlockId} → Move terminal events target
       → list_any (is_dead hir) (target ∷ []) ≡ true → StepsDead hir terminal
-  steps_only {target = target} m h = steps_to m (only (is_dead hir target) h)
-
-  either_of : {R : Type 0} (a b : Bool) → (a || b) ≡ true → (a ≡ true → R) → (b ≡ true → R) → R
-  either_of true b h f g = f refl
-  either_of false b h f g = g h
+  steps_only {target = target} m h = steps_to m (sym (or-false (is_dead hir target)) ∙ h)
 
   dead_case : (test : Place) (all : List Case) (fallthrough : BlockId) (id : EvaluationOrder) (span : Option Span)
       (cases : List Case) → ((case : Case) → InCases case cases → InCases case all) →
       list_any (is_dead hir) (case_blocks cases) ≡ true → StepsDead hir (terminals.Switch test all fallthrough id span)
   dead_case test all fallthrough id span [] within h = let bad : ⊥ = cc in absurd bad
   dead_case test all fallthrough id span (case ∷ cases) within h =
-      either_of (is_dead hir case.block) (list_any (is_dead hir) (case_blocks cases)) h
-      (λ d. steps_to (to_case (within case (first refl)) refl refl) d)
+      ⊎_elim (λ d. steps_to (to_case (within case (first refl)) refl refl) d)
       (λ d. dead_case test all fallthrough id span cases (λ other m. within other (later m)) d)
+      (or_cases (is_dead hir case.block) (list_any (is_dead hir) (case_blocks cases)) h)
 
   dead_past : (test : Place) (cases : List Case) (fallthrough : BlockId) (id : EvaluationOrder) (span : Option Span)
       (defaulted : Bool) → list_any is_default cases ≡ defaulted →
@@ -133,9 +111,9 @@ module _ (hir : HirFunction) where
   -- a step block that ends in `Unreachable` is reached by a move
   pub dead_steps : (terminal : Terminal) → list_any (is_dead hir) (step_blocks terminal) ≡ true → StepsDead hir terminal
   dead_steps (terminals.If test a b fallthrough id span) h =
-      either_of (is_dead hir a) (is_dead hir b || false) h (steps_to then_arm) (steps_only else_arm)
+      ⊎_elim (steps_to then_arm) (steps_only else_arm) (or_cases (is_dead hir a) (is_dead hir b || false) h)
   dead_steps (terminals.Branch test a b id span) h =
-      either_of (is_dead hir a) (is_dead hir b || false) h (steps_to branch_true) (steps_only branch_false)
+      ⊎_elim (steps_to branch_true) (steps_only branch_false) (or_cases (is_dead hir a) (is_dead hir b || false) h)
   dead_steps (terminals.Logical operator test fallthrough id span) h = steps_only into_logical h
   dead_steps (terminals.Ternary test fallthrough id span) h = steps_only into_ternary h
   dead_steps (terminals.Optional optional test fallthrough id span) h = steps_only into_optional h
@@ -144,9 +122,9 @@ module _ (hir : HirFunction) where
   dead_steps (terminals.Return value id span) h = let bad : ⊥ = cc in absurd bad
   dead_steps (terminals.Goto block variant id span) h = steps_only goes_to h
   dead_steps (terminals.Switch test cases fallthrough id span) h =
-      either_of _ _ (sym (list_any-append (is_dead hir) (case_blocks cases) (past_blocks cases fallthrough)) ∙ h)
-      (dead_case test cases fallthrough id span cases (λ case m. m))
+      ⊎_elim (dead_case test cases fallthrough id span cases (λ case m. m))
       (dead_past test cases fallthrough id span (list_any is_default cases) refl)
+      (or_cases _ _ (sym (list_any-append (is_dead hir) (case_blocks cases) (past_blocks cases fallthrough)) ∙ h))
   dead_steps (terminals.DoWhile loop_block test fallthrough id span) h = steps_only into_do_while h
   dead_steps (terminals.While test loop_block fallthrough id span) h = steps_only into_while h
   dead_steps (terminals.For init test update loop_block fallthrough id span) h = steps_only into_for h
@@ -155,7 +133,8 @@ module _ (hir : HirFunction) where
   dead_steps (terminals.Label block fallthrough id span) h = steps_only into_label h
   dead_steps (terminals.Unreachable id span) h = let bad : ⊥ = cc in absurd bad
   dead_steps (terminals.MaybeThrow continuation handler id span) h =
-      either_of _ _ h (steps_to goes_on) (dead_handler continuation handler id span)
+      ⊎_elim (steps_to goes_on) (dead_handler continuation handler id span)
+      (or_cases (is_dead hir continuation) (list_any (is_dead hir) (listed handler)) h)
   dead_steps (terminals.Scope fallthrough block scope id span) h = steps_only into_scope h
   dead_steps (terminals.PrunedScope fallthrough block scope id span) h = steps_only into_pruned_scope h
   dead_steps (terminals.Try block handler_binding handler fallthrough id span) h = steps_only into_try h

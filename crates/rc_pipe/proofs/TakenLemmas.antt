@@ -4,6 +4,7 @@ use Rattle.std.proofs.Common.{◌∙◌, subst, arith, eqb-true}
 use Rattle.std.specs.Cmp.{IsEquivalence}
 use Rattle.std.specs.Prelude.{IsSome, is_some, if◌then◌else◌, option_and_then, option_map}
 use Rattle.std.specs.List.{IsDistinct, list_any, filter_map, cons_option, AllByRecursion}
+use Rattle.std.proofs.lemmas.Bool.{not-false, not-true, or_right}
 use Rattle.std.proofs.lemmas.List.{append-nil}
 use Rattle.std.proofs.lemmas.Map.Keys.{IsDistinct-push}
 use Rattle.std.proofs.lemmas.Map.Views.{Contains-from_any, list_any-from_Contains}
@@ -27,7 +28,6 @@ use Rattle.rc_pipe.specs.Built.{is_fresh_scope}
 use Rattle.rc_runs.proofs.GraphLemmas.{same_block-eq, blocks_equivalence}
 use Rattle.rc_pipe.proofs.MarksLemmas.{times_append, times_among, named_twice, scopes_equivalence, one_more, among_push}
 use Rattle.rc_pipe.proofs.MarksLemmas.{named_push}
-use Rattle.rc_pipe.proofs.StepsLemmas.{not_true, not_false}
 use Rattle.rc_pipe.proofs.OwnersLemmas.{live_times}
 use Rattle.rc_pipe.proofs.UsableLemmas.{found_terminal, found_block}
 
@@ -51,7 +51,7 @@ distinct_scopes : (scopes : List ScopeId) (scope : Option ScopeId) → IsDistinc
     → is_fresh_scope scopes scope ≡ true → IsDistinct same_scope (scopes ++ listed_scope scope)
 distinct_scopes scopes None d f = subst (IsDistinct same_scope) (sym (append-nil scopes)) d
 distinct_scopes scopes (Some scope) d f =
-    IsDistinct-push scopes_equivalence scopes scope d (not_true (list_any (same_scope scope) scopes) f)
+    IsDistinct-push scopes_equivalence scopes scope d (not-true (list_any (same_scope scope) scopes) f)
 
 -- a block more is used
 pub marked_push : (hir : HirFunction) (old new : Marks) (key : BlockId) (block : BasicBlock) (rows : List Instruction)
@@ -139,7 +139,7 @@ unusable_scope hir frames key marks block rows m e f n whole u l s =
         ≡ filter_map (scope_at hir) marks.used ++ listed_scope scope →
         is_fresh_scope (filter_map (scope_at hir) marks.used) scope ≡ false → ⊥
     go None p h = let bad : ⊥ = cc in bad
-    go (Some scope) p h = repeated scopes_equivalence (filter_map (scope_at hir) marks.used) scope [] (not_false _ h)
+    go (Some scope) p h = repeated scopes_equivalence (filter_map (scope_at hir) marks.used) scope [] (not-false _ h)
         (subst (IsDistinct same_scope) p s.scopes_once)
 
 -- a live block is named twice where it is to be opened
@@ -176,11 +176,7 @@ same_number a b e = let numbered : ℕ → ScopeId = λ n. record { 0 = n } in a
 more_opener : (hir : HirFunction) (key : BlockId) (used : List BlockId) (scope : ScopeId) → Opener hir used scope
     → Opener hir (key ∷ used) scope
 more_opener hir key used scope o =
-    record { owner = o.owner; among = last (same_block o.owner key) (is_among used o.owner) o.among; opens = o.opens }
-  where
-    last : (a b : Bool) → b ≡ true → (a || b) ≡ true
-    last true b e = refl
-    last false b e = e
+    record { owner = o.owner; among = or_right (same_block o.owner key) (is_among used o.owner) o.among; opens = o.opens }
 
 opener : (hir : HirFunction) (used : List BlockId) (scope : ScopeId)
     → list_any (same_scope scope) (filter_map (scope_at hir) used) ≡ true → Opener hir used scope
@@ -250,7 +246,7 @@ shared_scope hir marks key block m n e f =
         → is_fresh_scope (filter_map (scope_at hir) marks.used) scope ≡ false → SharesScope hir key block.terminal
     go None p h = let bad : ⊥ = cc in absurd bad
     go (Some scope) p h =
-        let o = opener hir marks.used scope (not_false _ h) in
+        let o = opener hir marks.used scope (not-false _ h) in
         record {
           scope = scope;
           opens = p;

@@ -2,6 +2,7 @@
 use Rattle.std.proofs.Common.{◌≡◌, ◌≤◌, ◌+◌, Bool, true, false, List, [], ◌∷◌, ◌++◌, Option, Some, None, ◌||◌, refl}
 use Rattle.std.proofs.Common.{sym, ap, ◌∙◌, subst, arith, inl, inr}
 use Rattle.std.specs.Prelude.{if◌then◌else◌, ◌⊎◌, not}
+use Rattle.std.proofs.lemmas.Bool.{not-false}
 use Rattle.std.proofs.lemmas.List.Folds.{list_any-append}
 use Rattle.rc_names.specs.declared.numbers.BlockId.{BlockId}
 use Rattle.rc_names.specs.declared.numbers.ScopeId.{ScopeId}
@@ -142,16 +143,12 @@ module _ (hir : HirFunction) where
     };
   }
     where
-      dead : (b : Bool) → not b ≡ false → b ≡ true
-      dead true e = refl
-      dead false e = sym e
-
       go : (b : Bool) → is_live frames fallthrough ≡ b → (if b then false else not (is_dead hir fallthrough)) ≡ false
           → IsFramedApart hir key fallthrough ⊎ (is_dead hir fallthrough ≡ true)
       go true l h =
           let o = live_framed hir (IsUsedApart marks key) frames fallthrough a.owned l in
           inl (record { other = o.owner; apart = o.chosen.1; frames = o.frames })
-      go false l h = inr (dead (is_dead hir fallthrough) h)
+      go false l h = inr (not-false (is_dead hir fallthrough) h)
 
 module _ (hir : HirFunction) (env : Environment) (next : Option BlockId) (frames : List Frame) where
   -- the statements of a part of a statement

@@ -1,5 +1,5 @@
 use Rattle.std.proofs.Common.{sym, ◌∙◌}
-use Rattle.rc_pipe.proofs.StepsLemmas.{not_true}
+use Rattle.std.proofs.lemmas.Bool.{not-true}
 use Rattle.rc_pipe.proofs.UsableLemmas.{unusable_missing, unusable_numbered}
 use Rattle.rc_pipe.proofs.build.blocks.find_block.Goals as goal
 
@@ -8,4 +8,4 @@ returns-in_default-clause-refused c = unusable_missing c.args.hir.now c.args.key
 
 pub returns-then-ne-clause-refused : goal.returns-then-ne-clause-refused
 returns-then-ne-clause-refused c = unusable_numbered c.args.hir.now c.args.key c.in-Some.block.now
-    (sym c.in-Some.ensures) (not_true _ (sym c.ne.ensures ∙ c.if-ne.true))
+    (sym c.in-Some.ensures) (not-true _ (sym c.ne.ensures ∙ c.if-ne.true))

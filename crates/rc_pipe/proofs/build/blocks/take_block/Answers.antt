@@ -1,4 +1,5 @@
 use Rattle.std.proofs.Common.{◌≡◌, true, false, [], ◌∷◌, ◌++◌, Err, sym, ap, ◌∙◌, subst}
+use Rattle.std.proofs.lemmas.Bool.{not-false, not-true}
 use Rattle.std.proofs.lemmas.Result.{err_from_is_err_and}
 use Rattle.rc_hir.specs.declared.fault.Fault.TheVariants as faults
 use Rattle.rc_pipe.specs.declared.build.state.Marks.{Marks}
@@ -6,7 +7,6 @@ use Rattle.rc_runs.specs.Spelled.{scope_named}
 use Rattle.rc_pipe.specs.Namings.{is_among}
 use Rattle.rc_pipe.specs.RuleFacts.{FaultFact}
 use Rattle.rc_pipe.specs.Built.{live_blocks, listed_scope, is_fresh_scope}
-use Rattle.rc_pipe.proofs.StepsLemmas.{not_true, not_false}
 use Rattle.rc_pipe.proofs.MarksLemmas.{named_once}
 use Rattle.rc_pipe.proofs.UsableLemmas.{usable_made, usable_ids}
 use Rattle.rc_pipe.proofs.TakenLemmas.{marked_push, marking_push, unusable_used, unusable_dead, unusable_scope}
@@ -40,14 +40,14 @@ returns-then-not-moves_alive-clause-refused c = λ named rule e.
 pub returns-then-not-branch-clause-refused : goal.returns-then-not-branch-clause-refused
 returns-then-not-branch-clause-refused c = λ named rule e.
     unusable_used c.args.hir.now c.args.state.now.frames c.args.key c.args.state.now.marks
-    (not_false _ (sym c.in_ok-insert.ensures.added ∙ c.if-not-branch.true))
+    (not-false _ (sym c.in_ok-insert.ensures.added ∙ c.if-not-branch.true))
 
 pub returns-then-not-branch-clause-facts : goal.returns-then-not-branch-clause-facts
 returns-then-not-branch-clause-facts c =
     subst (FaultFact c.args.hir.now) (sym c.malformed-then-not-branch.ensures)
     (twice_used c.args.hir.now c.args.state.now.marks c.args.state.now.frames c.args.key c.in_ok-block.block.now
     c.requires c.in_ok-block.ensures.found
-    (not_false _ (sym c.in_ok-insert.ensures.added ∙ c.if-not-branch.true)))
+    (not-false _ (sym c.in_ok-insert.ensures.added ∙ c.if-not-branch.true)))
 
 pub returns-then-not-branch-2-clause-refused : goal.returns-then-not-branch-2-clause-refused
 returns-then-not-branch-2-clause-refused c = λ named rule e.
@@ -60,7 +60,7 @@ returns-then-not-branch-2-clause-refused c = λ named rule e.
 pub returns-then-not-branch-2-clause-facts : goal.returns-then-not-branch-2-clause-facts
 returns-then-not-branch-2-clause-facts c =
     let fresh : is_among c.args.state.now.marks.used c.args.key
-    ≡ false = not_true _ (sym c.in_ok-insert.ensures.added ∙ c.if-not-branch.false) in
+    ≡ false = not-true _ (sym c.in_ok-insert.ensures.added ∙ c.if-not-branch.false) in
     let stale = subst (λ z. is_fresh_scope c.args.state.now.marks.scopes z ≡ false) c.scope_named.ensures
     (sym c.in_ok-mark_scope.ensures.fresh ∙ c.if-not-branch-2.true) in
     subst (FaultFact c.args.hir.now) (sym c.malformed-then-not-branch-2.ensures)
@@ -76,7 +76,7 @@ returns-clause-ok c =
     let found = c.in_ok-block.ensures.found in
     let ids = c.in_ok-check_ids.ensures.ok in
     let new : Marks = record { used = c.insert.new.self; scopes = c.mark_scope.new.scopes } in
-    let fresh : is_among old.used key ≡ false = not_true _ (sym c.in_ok-insert.ensures.added ∙ c.if-not-branch.false) in
+    let fresh : is_among old.used key ≡ false = not-true _ (sym c.in_ok-insert.ensures.added ∙ c.if-not-branch.false) in
     let used : new.used ≡ old.used ++ key ∷ [] = c.in_ok-insert.ensures.keys ∙ insert_fresh old.used key fresh in
     let added : c.in_ok-mark_scope.field-0 ≡ true = c.if-not-branch-2.false in
     let scopes : new.scopes ≡ old.scopes ++ listed_scope (scope_named block.terminal) =

@@ -1,9 +1,9 @@
-use Rattle.std.proofs.Common.{◌≡◌, true, Some, get_or, ap, subst, eq-eqb, arith, length, refl}
+use Rattle.std.proofs.Common.{◌≡◌, true, Some, get_or, ap, subst, eq-eqb, ne_eqb, arith, length, refl}
 use Rattle.std.specs.Prelude.{nat_eq, slice_get}
 use Rattle.std.specs.List.{list_any}
 use Rattle.std.proofs.lemmas.List.Folds.{list_any_at}
 use Rattle.rc_names.specs.declared.numbers.InstructionId.{InstructionId}
-use Rattle.rc_pipe.proofs.NumbersLemmas.{ids_more, unset_refused, apart}
+use Rattle.rc_pipe.proofs.NumbersLemmas.{ids_more, unset_refused}
 use Rattle.rc_pipe.proofs.build.rows.check_ids.Goals as goal
 
 pub loop-number-preserved : goal.loop-number-preserved
@@ -15,7 +15,7 @@ loop-number-preserved c =
     ≡ Some c.in_ok-find_row.field-0.now) c.as_slice-number-items.ensures c.in_ok-find_row.ensures.ok in
     ids_more c.args.hir.now numbers i d c.in_ok-find_row.field-0.now
     (omega (arith, ap length c.as_slice-number-items.ensures)) c.loop-number.invariant found
-    (apart c.in_ok-find_row.field-0.now.id.0 0 c.if-branch-eq0.false)
+    (ne_eqb c.in_ok-find_row.field-0.now.id.0 0 c.if-branch-eq0.false)
 
 pub returns-then-branch-eq0-clause-refused : goal.returns-then-branch-eq0-clause-refused
 returns-then-branch-eq0-clause-refused c = λ named rule e h.
