@@ -1,7 +1,7 @@
 -- The check of break targets meets no jump in a spelled tree: it enters scopes alone, and a break out of a scope is no
 -- statement.
-use Rattle.std.proofs.Common.{◌≡◌, ◌∙◌, ℕ, zero, suc, List, [], ◌∷◌, ◌++◌, flat_map, slice_get, Bool, true, false}
-use Rattle.std.proofs.Common.{if◌then◌else◌, ◌||◌, Option, None, Some, option_and_then, refl, sym, ap, subst}
+use Rattle.std.proofs.Common.{◌≡◌, ℕ, zero, suc, List, [], ◌∷◌, ◌++◌, flat_map, Bool, true, false}
+use Rattle.std.proofs.Common.{if◌then◌else◌, ◌||◌, Option, None, Some, sym, ap, subst}
 use Rattle.rc_names.specs.declared.numbers.BlockId.{BlockId}
 use Rattle.rc_names.specs.declared.numbers.EvaluationOrder.{EvaluationOrder}
 use Rattle.rc_hir.specs.declared.environment.Environment.{Environment}
@@ -9,22 +9,18 @@ use Rattle.rc_hir.specs.declared.function.HirFunction.{HirFunction}
 use Rattle.rc_hir.specs.declared.function.Instruction.{Instruction}
 use Rattle.rc_hir.specs.declared.terminal.Terminal.{Terminal}
 use Rattle.rc_tree.specs.declared.function.ReactiveFunction.{ReactiveFunction}
-use Rattle.rc_tree.specs.declared.scope.PrunedReactiveScopeBlock.{PrunedReactiveScopeBlock}
-use Rattle.rc_tree.specs.declared.scope.ReactiveScopeBlock.{ReactiveScopeBlock}
-use Rattle.rc_tree.specs.declared.statement.ReactiveStatement.TheVariants as stmt
 use Rattle.rc_tree.specs.declared.terminal.ReactiveLabel.{ReactiveLabel}
 use Rattle.rc_tree.specs.declared.terminal.ReactiveTerminal.TheVariants as term
-use Rattle.rc_tree.specs.declared.terminal.ReactiveTerminalStatement.{ReactiveTerminalStatement}
 use Rattle.rc_tree.specs.declared.value.ReactiveInstruction.{ReactiveInstruction}
 use Rattle.rc_tree.specs.declared.value.ReactiveValue.TheVariants as val
-use Rattle.rc_runs.specs.Frames.{break_block, break_way, is_loop, way_from, way_out_of}
+use Rattle.rc_runs.specs.Frames.{break_way, way_from, way_out_of}
 use Rattle.rc_runs.specs.Graph.{same_block}
 use Rattle.rc_runs.specs.Grammar.{SpellsList, SpellsRest, SpellsStatement, SpellsTerminal, break_statements}
-use Rattle.rc_runs.specs.Grammar.{frames_inside, rows_before, unlabeled}
+use Rattle.rc_runs.specs.Grammar.{frames_inside, rows_before}
 use Rattle.rc_runs.specs.Grammar.{block, returns, unreachable, breaks, and_rest, if_only, if_else, label, scope}
 use Rattle.rc_runs.specs.Grammar.{pruned_scope, closed, opened}
 use Rattle.rc_runs.specs.PlainTree.{Base, Statement, RowStatement, TerminalStatement, Statements, Nil, Cons}
-use Rattle.rc_runs.specs.PlainTree.{TreeTerminal, Break, Return, If, Label, Absent, Present}
+use Rattle.rc_runs.specs.PlainTree.{TreeTerminal, Return, If, Label, Absent, Present}
 use Rattle.rc_runs.specs.Spelled.{Spells}
 use Rattle.rc_runs.specs.TreeOf.{block_of, statement_of, statements_of, terminal_of}
 use Rattle.rc_runs.specs.declared.frames.Frame.{Frame}

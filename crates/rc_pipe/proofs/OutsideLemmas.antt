@@ -1,5 +1,5 @@
 -- Where no operand is outside, none is the last one outside.
-use Rattle.std.proofs.Common.{◌≡◌, List, ◌∷◌, ◌++◌, None, Some, Ok, All, arith, subst}
+use Rattle.std.proofs.Common.{◌≡◌, ◌∷◌, ◌++◌, None, Some, Ok, All, arith, subst}
 use Rattle.rc_hir.specs.declared.environment.Environment.{Environment}
 use Rattle.rc_names.specs.declared.numbers.EvaluationOrder.{EvaluationOrder}
 use Rattle.rc_names.specs.declared.numbers.ScopeId.{ScopeId}

@@ -1,7 +1,6 @@
 -- What the passes refuse of a spelled function: operands outside, and nothing else.
-use Rattle.std.proofs.Common.{◌≡◌, ◌∙◌, ◌⊎◌, inl, inr, ℕ, List, Result, Ok, Err, All, OnOk, ◌↔◌, sym, subst, ap}
+use Rattle.std.proofs.Common.{◌≡◌, ◌∙◌, ◌⊎◌, inl, inr, ℕ, List, Result, Ok, Err, All, OnOk, ◌↔◌, sym, subst}
 use Rattle.rc_hir.specs.Names.{IsInTable, lengths}
-use Rattle.rc_hir.specs.PartNames.{Name}
 use Rattle.rc_hir.specs.declared.environment.Environment.{Environment}
 use Rattle.rc_hir.specs.declared.fault.Fault.{Fault}
 use Rattle.rc_hir.specs.declared.fault.Fault.TheVariants as faults
@@ -28,7 +27,7 @@ use Rattle.rc_checks.proofs.LabelsKeep.{labels_keep_names}
 use Rattle.rc_checks.proofs.UnusedScopesFaults.{scopes_are_there}
 use Rattle.rc_checks.proofs.VisitsKnown.{no_unknown}
 use Rattle.rc_pipe.specs.Headline.{IsAccepted, IsCause}
-use Rattle.rc_pipe.specs.Passes.{AreInside, EndsOutside, IsPassFault, IsPruned, LacksNumber, OfLabeled}
+use Rattle.rc_pipe.specs.Passes.{AreInside, EndsOutside, IsPassFault, IsPruned, LacksNumber}
 use Rattle.rc_pipe.proofs.NoJumpIsMet.{no_jump_is_met}
 
 -- runs that are kept up to a function are kept up to one with the same statements outside its scopes

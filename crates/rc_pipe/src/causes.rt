@@ -6,7 +6,7 @@ ghost use Rattle.rc_pipe.specs.Causes.{first_early_return, is_scope, scope_count
 ghost use Rattle.rc_pipe.specs.Causes.{is_built, first_unbuilt};
 
 use rc_hir::{Environment, GotoVariant, HirFunction, Terminal};
-use rc_names::{BlockId, Name, ScopeId};
+use rc_names::{BlockId, ScopeId};
 
 /// The place of the lowest scope that answers for a `Return` already.
 fn first_early_place(env: &Environment) -> Option<usize>

@@ -1,6 +1,6 @@
 //! The checks and passes over a spelled function, in their order.
 
-ghost use Rattle.std.specs.Prelude.{◌≡◌, ◌↔◌, List as Items, IfErr, OnOk};
+ghost use Rattle.std.specs.Prelude.{◌↔◌, List as Items, IfErr, OnOk};
 ghost use Rattle.rc_runs.specs.BodyRun.{IsBodyRun};
 ghost use Rattle.rc_runs.specs.Event.{Event, End};
 ghost use Rattle.rc_pipe.specs.Passes.{IsPassFault, IsPruned};

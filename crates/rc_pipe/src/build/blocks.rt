@@ -12,7 +12,7 @@ use crate::build::rows::check_ids;
 use crate::build::state::{State, malformed};
 use crate::build::steps::moves_alive;
 use rc_hir::{BasicBlock, Fault, HirFunction, Rule, Terminal};
-use rc_names::{BlockId, EvaluationOrder, KeySet, ScopeId};
+use rc_names::{BlockId, KeySet, ScopeId};
 use std::alloc::AllocError;
 
 /// The block under a key, marked as used.
