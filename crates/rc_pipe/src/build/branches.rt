@@ -9,18 +9,19 @@ ghost use Rattle.rc_tree.specs.declared.terminal.ReactiveTerminal.TheVariants as
 ghost use Rattle.rc_runs.specs.Graph.{same_block};
 ghost use Rattle.rc_runs.specs.Grammar as grammar;
 ghost use Rattle.rc_pipe.specs.RuleFacts.{FaultFact};
-ghost use Rattle.rc_pipe.specs.Built.{AtSome, AtTerminal, GoesOn, IfMalformed, NoStatements, terminal_statement};
+ghost use Rattle.rc_pipe.specs.Built.{AtSome, AtTerminal, GoesOn, IfMalformed, NoStatements};
+ghost use Rattle.rc_pipe.specs.Built as built;
 ghost use Rattle.rc_pipe.specs.Arms.{if_of};
 ghost use Rattle.std.specs.Prelude.{Option, None, true, false};
 
 use crate::build::lists::build_part;
-use crate::build::state::{State, falls_to, label_of, malformed, opens_reachable, rest_of};
-use rc_hir::{Environment, Fault, HirFunction, Place, Rule};
-use rc_names::{BlockId, Boxed, EvaluationOrder, List};
-use rc_runs::Frame;
-use rc_tree::{
-    ReactiveBlock, ReactiveLabel, ReactiveStatement, ReactiveTerminal, ReactiveTerminalStatement,
+use crate::build::state::{
+    State, falls_to, label_of, malformed, opens_reachable, rest_of, terminal_statement,
 };
+use rc_hir::{Environment, Fault, HirFunction, Place, Rule};
+use rc_names::{BlockId, EvaluationOrder, List};
+use rc_runs::Frame;
+use rc_tree::{ReactiveBlock, ReactiveLabel, ReactiveStatement, ReactiveTerminal};
 use std::alloc::{AllocError, Global};
 
 /// The fields of an `If`.
@@ -142,7 +143,7 @@ fn if_statement(
     label: Option<ReactiveLabel>,
 ) -> Result<ReactiveStatement, AllocError>
     ensures { IfOk result (λ statement. statement ≡
-        terminal_statement (tree.If arms.test (record { statements = consequent }) alternate arms.id) label) }
+        built.terminal_statement (tree.If arms.test (record { statements = consequent }) alternate arms.id) label) }
 {
     let terminal = ReactiveTerminal::If {
         test: arms.test,
@@ -152,8 +153,5 @@ fn if_statement(
         alternate,
         id: arms.id,
     };
-    Ok(ReactiveStatement::Terminal(Boxed::new(
-        alloc,
-        ReactiveTerminalStatement { terminal, label },
-    )?))
+    terminal_statement(alloc, terminal, label)
 }

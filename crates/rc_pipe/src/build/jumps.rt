@@ -11,15 +11,14 @@ ghost use Rattle.rc_tree.specs.declared.terminal.ReactiveTerminal.TheVariants as
 ghost use Rattle.rc_runs.specs.Frames.{break_way};
 ghost use Rattle.rc_runs.specs.Grammar.{break_statements};
 ghost use Rattle.rc_pipe.specs.RuleFacts.{FaultFact};
-ghost use Rattle.rc_pipe.specs.Built.{AtTerminal, EndsList, IfMalformed, NoStatements, PutBreak, terminal_statement};
+ghost use Rattle.rc_pipe.specs.Built.{AtTerminal, EndsList, IfMalformed, NoStatements, PutBreak};
+ghost use Rattle.rc_pipe.specs.Built as built;
 
-use crate::build::state::{State, malformed};
+use crate::build::state::{State, malformed, terminal_statement};
 use rc_hir::{Fault, GotoVariant, HirFunction, Place, Rule};
-use rc_names::{BlockId, Boxed, EvaluationOrder, List};
+use rc_names::{BlockId, EvaluationOrder, List};
 use rc_runs::Way;
-use rc_tree::{
-    ReactiveStatement, ReactiveTerminal, ReactiveTerminalStatement, ReactiveTerminalTargetKind,
-};
+use rc_tree::{ReactiveStatement, ReactiveTerminal, ReactiveTerminalTargetKind};
 use std::alloc::{AllocError, Global};
 
 /// Puts a return. The only error is want of memory.
@@ -29,9 +28,10 @@ pub fn put_return(
     id: EvaluationOrder,
     out: &mut List<ReactiveStatement>,
 ) -> Result<(), AllocError>
-    ensures { IfOk result (λ _. out.new ≡ out.old ++ terminal_statement (tree.Return value id) None ∷ []) }
+    ensures { IfOk result (λ _. out.new ≡ out.old ++ built.terminal_statement (tree.Return value id) None ∷ []) }
 {
-    out.push(unlabeled(alloc, ReactiveTerminal::Return { value, id })?)
+    let terminal = ReactiveTerminal::Return { value, id };
+    out.push(terminal_statement(alloc, terminal, None)?)
 }
 
 /// Puts the statement of a jump, if it has one.
@@ -101,26 +101,12 @@ fn break_statement(
     id: EvaluationOrder,
 ) -> Result<ReactiveStatement, AllocError>
     ensures { IfOk result (λ statement.
-        statement ≡ terminal_statement (tree.Break target target_kind id) None) }
+        statement ≡ built.terminal_statement (tree.Break target target_kind id) None) }
 {
-    unlabeled(
-        alloc,
-        ReactiveTerminal::Break {
-            target,
-            target_kind,
-            id,
-        },
-    )
-}
-
-fn unlabeled(alloc: Global, terminal: ReactiveTerminal) -> Result<ReactiveStatement, AllocError>
-    ensures { IfOk result (λ statement. statement ≡ terminal_statement terminal None) }
-{
-    Ok(ReactiveStatement::Terminal(Boxed::new(
-        alloc,
-        ReactiveTerminalStatement {
-            terminal,
-            label: None,
-        },
-    )?))
+    let terminal = ReactiveTerminal::Break {
+        target,
+        target_kind,
+        id,
+    };
+    terminal_statement(alloc, terminal, None)
 }

@@ -8,17 +8,18 @@ ghost use Rattle.rc_names.specs.declared.span.Span.{Span};
 ghost use Rattle.rc_tree.specs.declared.statement.ReactiveStatement.TheVariants as statements;
 ghost use Rattle.rc_tree.specs.declared.terminal.ReactiveTerminal.TheVariants as tree;
 ghost use Rattle.rc_pipe.specs.RuleFacts.{FaultFact};
-ghost use Rattle.rc_pipe.specs.Built.{AtSome, GoesOn, IfMalformed, NoStatements, terminal_statement};
+ghost use Rattle.rc_pipe.specs.Built.{AtSome, GoesOn, IfMalformed, NoStatements};
+ghost use Rattle.rc_pipe.specs.Built as built;
 ghost use Rattle.std.specs.Prelude.{Option};
 
 use crate::build::lists::build_part;
-use crate::build::state::{State, label_of, opens_reachable, rest_of};
+use crate::build::state::{State, label_of, opens_reachable, rest_of, terminal_statement};
 use rc_hir::{Environment, Fault, HirFunction};
-use rc_names::{BlockId, Boxed, EvaluationOrder, List, ScopeId};
+use rc_names::{BlockId, EvaluationOrder, List, ScopeId};
 use rc_runs::Frame;
 use rc_tree::{
     PrunedReactiveScopeBlock, ReactiveBlock, ReactiveLabel, ReactiveScopeBlock, ReactiveStatement,
-    ReactiveTerminal, ReactiveTerminalStatement,
+    ReactiveTerminal,
 };
 use std::alloc::{AllocError, Global};
 
@@ -117,16 +118,13 @@ fn label_statement(
     label: Option<ReactiveLabel>,
 ) -> Result<ReactiveStatement, AllocError>
     ensures { IfOk result (λ statement.
-        statement ≡ terminal_statement (tree.Label (record { statements = body }) id) label) }
+        statement ≡ built.terminal_statement (tree.Label (record { statements = body }) id) label) }
 {
     let terminal = ReactiveTerminal::Label {
         block: ReactiveBlock { statements: body },
         id,
     };
-    Ok(ReactiveStatement::Terminal(Boxed::new(
-        alloc,
-        ReactiveTerminalStatement { terminal, label },
-    )?))
+    terminal_statement(alloc, terminal, label)
 }
 
 fn scope_statement(scope: ScopeId, body: List<ReactiveStatement>) -> ReactiveStatement

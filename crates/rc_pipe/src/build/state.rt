@@ -1,6 +1,6 @@
-//! What the builder keeps while it walks, and what the frames decide of a statement.
+//! What the builder keeps while it walks, and what the functions that put statements share.
 
-ghost use Rattle.std.specs.Prelude.{◌≡◌, []};
+ghost use Rattle.std.specs.Prelude.{◌≡◌, [], IfOk};
 ghost use Rattle.rc_hir.specs.declared.fault.Fault.TheVariants as faults;
 ghost use Rattle.rc_pipe.specs.Built as built;
 ghost use Rattle.rc_runs.specs.Grammar as grammar;
@@ -8,9 +8,9 @@ ghost use Rattle.rc_runs.specs.Grammar as grammar;
 use crate::build::steps::is_dead;
 use crate::frames::FrameStack;
 use rc_hir::{Fault, HirFunction, Rule};
-use rc_names::{BlockId, KeySet, ScopeId};
-use rc_tree::ReactiveLabel;
-use std::alloc::Global;
+use rc_names::{BlockId, Boxed, KeySet, ScopeId};
+use rc_tree::{ReactiveLabel, ReactiveStatement, ReactiveTerminal, ReactiveTerminalStatement};
+use std::alloc::{AllocError, Global};
 
 /// The used blocks and the scopes that they open, in the order in which they were marked.
 #[derive(Drop)]
@@ -78,6 +78,20 @@ pub fn label_of(opened: bool, fallthrough: BlockId) -> Option<ReactiveLabel>
     } else {
         None
     }
+}
+
+/// The statement of a terminal with a label. The only error is want of memory.
+pub fn terminal_statement(
+    alloc: Global,
+    terminal: ReactiveTerminal,
+    label: Option<ReactiveLabel>,
+) -> Result<ReactiveStatement, AllocError>
+    ensures { IfOk result (λ statement. statement ≡ built.terminal_statement terminal label) }
+{
+    Ok(ReactiveStatement::Terminal(Boxed::new(
+        alloc,
+        ReactiveTerminalStatement { terminal, label },
+    )?))
 }
 
 /// Where a list goes on behind a statement: at its fallthrough where that is opened.
