@@ -36,6 +36,7 @@ loop_depth frames = depth_where is_loop frames
 abbrev pub depth_at : Depths → BlockId → ℕ
 depth_at depths key = unwrap_or (lookup (same_block key) depths.depths) 0
 
+-- the frame that is held
 abbrev pub frame_of : Held → Frame
 frame_of held = held.frame
 
@@ -46,7 +47,7 @@ pub record IsHeld (held : Held) (outer : List Frame) : Type 0 where
   pub outer_continue : (key : BlockId) → continue_block held.frame ≡ Some key →
       held.outer_continue ≡ continue_depth outer key
 
--- the innermost first
+-- beside each frame, the innermost first, what is held says where those outside it stand
 abbrev pub AreHeld : List Held → Type 0
 AreHeld [] = Unit {0}
 AreHeld (held ∷ outer) = IsHeld held (map frame_of outer) × AreHeld outer

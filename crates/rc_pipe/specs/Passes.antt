@@ -33,7 +33,7 @@ pub record IsPruned (env : Environment) (spelled pruned : ReactiveFunction) : Ty
   pub stays : scope_blocks pruned.body ≡ staying_blocks env labeled
   pub header : pruned ≡ record spelled { body = pruned.body }
 
--- that holds of the body without its unused labels
+-- P holds of the body without its unused labels
 pub record OfLabeled (body : ReactiveBlock) (P : ReactiveBlock → Type 0) : Type 0 where
   pub labeled : ReactiveBlock
   pub labels : IsWithoutUnusedLabels body labeled

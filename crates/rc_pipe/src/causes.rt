@@ -2,8 +2,7 @@
 
 ghost use Rattle.std.specs.Prelude.{◌≡◌, ◌↔◌, ◌<◌, IsTrue, All, option_map};
 ghost use Rattle.rc_names.specs.declared.numbers.ScopeId.{ScopeId};
-ghost use Rattle.rc_pipe.specs.Causes.{first_early_return, is_scope, scope_count, HasRoom};
-ghost use Rattle.rc_pipe.specs.Causes.{is_built, first_unbuilt};
+ghost use Rattle.rc_pipe.specs.Causes.{HasRoom, first_early_return, first_unbuilt, is_built, is_scope, scope_count};
 
 use rc_hir::{Environment, GotoVariant, HirFunction, Terminal};
 use rc_names::{BlockId, ScopeId};
@@ -32,12 +31,14 @@ pub fn first_early_return(env: &Environment) -> Option<ScopeId>
     }
 }
 
+/// Whether a terminal opens a scope that is kept so far.
 fn is_scope(terminal: &Terminal) -> bool
     ensures { result ≡ is_scope terminal.now }
 {
     matches!(terminal, Terminal::Scope { .. })
 }
 
+/// How many scope blocks the graph asks for.
 fn scope_count(hir: &HirFunction) -> usize
     ensures { result ≡ scope_count hir.now }
 {
@@ -48,13 +49,15 @@ fn scope_count(hir: &HirFunction) -> usize
         .count()
 }
 
+/// Whether each key of the graph is below a number.
 fn are_keys_below(hir: &HirFunction, next_block: u32) -> bool
     ensures { IsTrue result ↔ All (λ entry. entry.0.0 < next_block) hir.now.body.blocks }
 {
     hir.body.blocks.iter().all(|(key, _)| key.0 < next_block)
 }
 
-/// Whether there are numbers enough for an early return in each scope of the graph.
+/// Whether there are numbers enough for an early return in each scope of the graph: five identifiers, five types and
+/// a block for each.
 pub fn has_room(hir: &HirFunction, env: &Environment) -> bool
     ensures { IsTrue result ↔ HasRoom hir.now env.now }
 {
@@ -67,6 +70,7 @@ pub fn has_room(hir: &HirFunction, env: &Environment) -> bool
         && are_keys_below(hir, next_block)
 }
 
+/// Whether a terminal is of a form that is built.
 fn is_built(terminal: &Terminal) -> bool
     ensures { result ≡ is_built terminal.now }
 {

@@ -51,6 +51,7 @@ pub fn take_block<'g>(
     Ok(block)
 }
 
+/// The block under a key: `NoBlock` where there is none, `KeyDiffers` where it has another number.
 fn find_block(hir: &HirFunction, key: BlockId) -> Result<&BasicBlock, Fault>
     requires { 1 ≤ times_named hir.now key }
     ensures found { IfOk result (λ block. basic_block hir.now key ≡ Some block.now) }

@@ -1,6 +1,6 @@
 //! Statements that choose between arms: `If`.
 
-ghost use Rattle.std.specs.Prelude.{◌≡◌, Err, IfOk, IfErr};
+ghost use Rattle.std.specs.Prelude.{◌≡◌, Option, None, Err, true, false, IfOk, IfErr};
 ghost use Rattle.rc_names.specs.declared.numbers.BlockId.{BlockId};
 ghost use Rattle.rc_hir.specs.declared.fault.Rule.{Rule};
 ghost use Rattle.rc_hir.specs.declared.terminal.Terminal.{Terminal};
@@ -12,7 +12,6 @@ ghost use Rattle.rc_pipe.specs.RuleFacts.{FaultFact};
 ghost use Rattle.rc_pipe.specs.Built.{AtSome, AtTerminal, GoesOn, IfMalformed, NoStatements};
 ghost use Rattle.rc_pipe.specs.Built as built;
 ghost use Rattle.rc_pipe.specs.Arms.{if_of};
-ghost use Rattle.std.specs.Prelude.{Option, None, true, false};
 
 use crate::build::lists::build_part;
 use crate::build::state::{
@@ -34,7 +33,7 @@ pub struct Arms {
     pub id: EvaluationOrder,
 }
 
-/// Puts an if; an alternate that is the fallthrough gives none.
+/// Puts an if, where an alternate that is the fallthrough gives none; answers where the list goes on.
 #[cycle(builder)]
 pub fn build_if(
     hir: &HirFunction,
@@ -63,6 +62,7 @@ pub fn build_if(
     }
 }
 
+/// Puts an if whose alternate is its fallthrough.
 #[cycle(builder)]
 fn build_if_only(
     hir: &HirFunction,
@@ -98,6 +98,7 @@ fn build_if_only(
     Ok(rest_of(opened, arms.fallthrough))
 }
 
+/// Puts an if with both arms.
 #[cycle(builder)]
 fn build_if_else(
     hir: &HirFunction,
@@ -135,6 +136,7 @@ fn build_if_else(
     Ok(rest_of(opened, arms.fallthrough))
 }
 
+/// The statement of an if with these arms. The only error is want of memory.
 fn if_statement(
     alloc: Global,
     arms: Arms,

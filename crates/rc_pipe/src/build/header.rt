@@ -28,6 +28,7 @@ pub fn with_header(
     })
 }
 
+/// A copy of a text, where there is one. The only error is want of memory.
 fn copy_text(alloc: Global, text: &Option<Text>) -> Result<Option<Text>, AllocError>
     ensures { IfOk result (λ copy. copy ≡ text.now) }
 {

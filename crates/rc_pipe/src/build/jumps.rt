@@ -94,6 +94,7 @@ fn put_break(
     }
 }
 
+/// The statement of a break. The only error is want of memory.
 fn break_statement(
     alloc: Global,
     target: BlockId,

@@ -1,6 +1,6 @@
 //! Lists: blocks that follow each other, by a loop, and the parts of statements, by a nested call.
 
-ghost use Rattle.std.specs.Prelude.{◌≡◌, Err, IfOk, IfErr};
+ghost use Rattle.std.specs.Prelude.{◌≡◌, ◌<◌, ◌∷◌, [], Err, None, IfOk, IfErr, length};
 ghost use Rattle.rc_names.specs.declared.numbers.BlockId.{BlockId};
 ghost use Rattle.rc_runs.specs.Frames.{break_block};
 ghost use Rattle.rc_runs.specs.Grammar.{SpellsList, frames_inside, next_inside};
@@ -8,7 +8,6 @@ ghost use Rattle.rc_pipe.specs.RuleFacts.{FaultFact};
 ghost use Rattle.rc_pipe.specs.Built.{AtList, AtTerminal, GoesOn, MadeList, Partly, Refused, Rest};
 ghost use Rattle.rc_pipe.specs.Built.{IfMalformed, NoList, NoStatements};
 ghost use Rattle.rc_pipe.specs.Namings.{listed};
-ghost use Rattle.std.specs.Prelude.{◌<◌, ◌∷◌, [], None, length};
 
 use crate::build::blocks::take_block;
 use crate::build::branches::{Arms, build_if};

@@ -1,6 +1,6 @@
 //! Statements with one part: labels, and the blocks of scopes, kept or pruned.
 
-ghost use Rattle.std.specs.Prelude.{◌≡◌, IfOk, IfErr};
+ghost use Rattle.std.specs.Prelude.{◌≡◌, Option, IfOk, IfErr};
 ghost use Rattle.rc_names.specs.declared.numbers.BlockId.{BlockId};
 ghost use Rattle.rc_hir.specs.declared.terminal.Terminal.TheVariants as terminals;
 ghost use Rattle.rc_names.specs.declared.numbers.EvaluationOrder.{EvaluationOrder};
@@ -10,7 +10,6 @@ ghost use Rattle.rc_tree.specs.declared.terminal.ReactiveTerminal.TheVariants as
 ghost use Rattle.rc_pipe.specs.RuleFacts.{FaultFact};
 ghost use Rattle.rc_pipe.specs.Built.{AtSome, GoesOn, IfMalformed, NoStatements};
 ghost use Rattle.rc_pipe.specs.Built as built;
-ghost use Rattle.std.specs.Prelude.{Option};
 
 use crate::build::lists::build_part;
 use crate::build::state::{State, label_of, opens_reachable, rest_of, terminal_statement};
@@ -111,6 +110,7 @@ pub fn build_pruned_scope(
     Ok(rest_of(opened, fallthrough))
 }
 
+/// The statement of a label around a list. The only error is want of memory.
 fn label_statement(
     alloc: Global,
     body: List<ReactiveStatement>,
@@ -127,6 +127,7 @@ fn label_statement(
     terminal_statement(alloc, terminal, label)
 }
 
+/// The block of a scope around a list, as a statement.
 fn scope_statement(scope: ScopeId, body: List<ReactiveStatement>) -> ReactiveStatement
     ensures { result ≡
         statements.Scope (record { scope = scope; instructions = record { statements = body } }) }
@@ -137,6 +138,7 @@ fn scope_statement(scope: ScopeId, body: List<ReactiveStatement>) -> ReactiveSta
     })
 }
 
+/// The block of a pruned scope around a list, as a statement.
 fn pruned_scope_statement(scope: ScopeId, body: List<ReactiveStatement>) -> ReactiveStatement
     ensures { result ≡
         statements.PrunedScope (record { scope = scope; instructions = record { statements = body } }) }

@@ -28,6 +28,7 @@ pub fn moves_alive(hir: &HirFunction, terminal: &Terminal) -> bool
     !moves_dead(hir, terminal)
 }
 
+/// Whether a move from the terminal leads to a block that ends in `Unreachable`.
 fn moves_dead(hir: &HirFunction, terminal: &Terminal) -> bool
     ensures { result ≡ list_any (graph.is_dead hir.now) (step_blocks terminal.now) }
 {
@@ -73,6 +74,7 @@ fn moves_dead(hir: &HirFunction, terminal: &Terminal) -> bool
     }
 }
 
+/// Whether there is a handler, and its block ends in `Unreachable`.
 fn is_dead_handler(hir: &HirFunction, handler: Option<BlockId>) -> bool
     ensures { result ≡ list_any (graph.is_dead hir.now) (listed handler) }
 {
@@ -82,6 +84,7 @@ fn is_dead_handler(hir: &HirFunction, handler: Option<BlockId>) -> bool
     }
 }
 
+/// Whether a move from a switch leads to a block that ends in `Unreachable`.
 fn switch_moves_dead(hir: &HirFunction, cases: &[Case], fallthrough: BlockId) -> bool
     ensures { result ≡
         list_any (graph.is_dead hir.now) (case_blocks cases.now ++ past_blocks cases.now fallthrough) }
@@ -89,18 +92,21 @@ fn switch_moves_dead(hir: &HirFunction, cases: &[Case], fallthrough: BlockId) ->
     has_dead_case(hir, cases) || falls_dead(hir, cases, fallthrough)
 }
 
+/// Whether the block of a case ends in `Unreachable`.
 fn has_dead_case(hir: &HirFunction, cases: &[Case]) -> bool
     ensures { result ≡ list_any (λ case. graph.is_dead hir.now case.block) cases.now }
 {
     cases.iter().any(|case| is_dead(hir, case.block))
 }
 
+/// Whether a switch has no default, and its fallthrough ends in `Unreachable`.
 fn falls_dead(hir: &HirFunction, cases: &[Case], fallthrough: BlockId) -> bool
     ensures { result ≡ list_any (graph.is_dead hir.now) (past_blocks cases.now fallthrough) }
 {
     !has_default(cases) && is_dead(hir, fallthrough)
 }
 
+/// Whether one of the cases is the default, which has no test.
 fn has_default(cases: &[Case]) -> bool
     ensures { result ≡ list_any is_default cases.now }
 {

@@ -111,7 +111,7 @@ impl FrameStack {
         }
     }
 
-    // The frame with what it covers of these.
+    /// The frame with what it covers of these.
     fn hold(&self, frame: Frame) -> Held
         ensures frame { result.frame ≡ frame }
         ensures held { depths.IsHeld result self.now }
@@ -124,7 +124,7 @@ impl FrameStack {
         }
     }
 
-    // The depth of the innermost loop.
+    /// The depth of the innermost loop; 0 where there is none.
     fn loop_depth(&self) -> usize
         ensures { result ≡ depths.loop_depth self.now }
     {
@@ -138,6 +138,7 @@ impl FrameStack {
         }
     }
 
+    /// The depth of the innermost frame with that continue block; 0 where no block is given.
     fn continue_depth(&self, block: Option<BlockId>) -> usize
         ensures { (key : BlockId) → block ≡ Some key → result ≡ depths.continue_depth self.now key }
     {
