@@ -44,8 +44,8 @@ module _ (hir : HirFunction) where
   marking_none pending marks m = record { used = sym (append-nil marks.used); marked = m; named = λ more h. h }
 
   -- blocks are marked, and then further ones
-  pub marking_then : {a b c : List BlockId} {old mid new : Marks} {xs ys : List BlockId} → MarksBlocks hir a b old mid xs
-      → MarksBlocks hir b c mid new ys → MarksBlocks hir a c old new (xs ++ ys)
+  pub marking_then : {a b c : List BlockId} {old mid new : Marks} {xs ys : List BlockId}
+      → MarksBlocks hir a b old mid xs → MarksBlocks hir b c mid new ys → MarksBlocks hir a c old new (xs ++ ys)
   marking_then {old = old} {xs = xs} {ys = ys} f g = record {
     used = g.used ∙ ap (λ z. z ++ ys) f.used ∙ append_assoc old.used xs ys;
     marked = g.marked;

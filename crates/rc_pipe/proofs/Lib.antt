@@ -1,5 +1,5 @@
 pub mod DepthsLemmas
-pub mod StepsLemmas
+pub mod MovesLemmas
 pub mod NumbersLemmas
 pub mod MarksLemmas
 pub mod UsableLemmas

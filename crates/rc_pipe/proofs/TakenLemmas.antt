@@ -22,7 +22,7 @@ use Rattle.rc_runs.specs.Graph.{Block, same_block, basic_block, block_at, rows_o
 use Rattle.rc_runs.specs.GraphRun.{MovesAlive}
 use Rattle.rc_runs.specs.Spelled.{same_scope, scope_named, scope_at}
 use Rattle.rc_pipe.specs.Namings.{is_among, named_blocks}
-use Rattle.rc_pipe.specs.RuleFacts.{At, StepsDead, SharesScope, RuleFact}
+use Rattle.rc_pipe.specs.RuleFacts.{At, MovesDead, SharesScope, RuleFact}
 use Rattle.rc_pipe.specs.Built.{Marked, AreNamed, AtList, MarksBlocks, live_blocks, IsUnusable, listed_scope}
 use Rattle.rc_pipe.specs.Built.{is_fresh_scope}
 use Rattle.rc_runs.proofs.GraphLemmas.{same_block-eq, blocks_equivalence}
@@ -113,10 +113,10 @@ pub unusable_used : (hir : HirFunction) (frames : List Frame) (key : BlockId) (m
     → is_among marks.used key ≡ true → IsUnusable hir frames key marks
 unusable_used hir frames key marks h block u l s = repeated blocks_equivalence marks.used key [] h s.distinct
 
--- no tree may use a block that steps to a dead one
+-- no tree may use a block that moves to a dead one
 pub unusable_dead : (hir : HirFunction) (frames : List Frame) (key : BlockId) (marks : Marks) (block : BasicBlock)
     (rows : List Instruction) → basic_block hir key ≡ Some block →
-    rows_of hir.instructions block.instructions ≡ Some rows → StepsDead hir block.terminal
+    rows_of hir.instructions block.instructions ≡ Some rows → MovesDead hir block.terminal
     → IsUnusable hir frames key marks
 unusable_dead hir frames key marks block rows e f d whole u l s =
     let alive = s.alive key (Contains-from_any same_block-eq key (marks.used ++ key ∷ []) (among_push marks.used key))
@@ -176,7 +176,8 @@ same_number a b e = let numbered : ℕ → ScopeId = λ n. record { 0 = n } in a
 more_opener : (hir : HirFunction) (key : BlockId) (used : List BlockId) (scope : ScopeId) → Opener hir used scope
     → Opener hir (key ∷ used) scope
 more_opener hir key used scope o =
-    record { owner = o.owner; among = or_right (same_block o.owner key) (is_among used o.owner) o.among; opens = o.opens }
+    let among : is_among (key ∷ used) o.owner ≡ true = or_right (same_block o.owner key) (is_among used o.owner) o.among in
+    record { owner = o.owner; among = among; opens = o.opens }
 
 opener : (hir : HirFunction) (used : List BlockId) (scope : ScopeId)
     → list_any (same_scope scope) (filter_map (scope_at hir) used) ≡ true → Opener hir used scope

@@ -117,26 +117,26 @@ abbrev pub past_blocks : List Case → BlockId → List BlockId
 past_blocks cases fallthrough = if list_any is_default cases then [] else fallthrough ∷ []
 
 -- the blocks to which a terminal moves
-abbrev pub step_blocks : Terminal → List BlockId
-step_blocks (terminals.If test consequent alternate fallthrough id span) = consequent ∷ alternate ∷ []
-step_blocks (terminals.Branch test consequent alternate id span) = consequent ∷ alternate ∷ []
-step_blocks (terminals.Logical operator test fallthrough id span) = test ∷ []
-step_blocks (terminals.Ternary test fallthrough id span) = test ∷ []
-step_blocks (terminals.Optional optional test fallthrough id span) = test ∷ []
-step_blocks (terminals.Sequence block fallthrough id span) = block ∷ []
-step_blocks (terminals.Throw value id span) = []
-step_blocks (terminals.Return value id span) = []
-step_blocks (terminals.Goto block variant id span) = block ∷ []
-step_blocks (terminals.Switch test cases fallthrough id span) =
+abbrev pub move_targets : Terminal → List BlockId
+move_targets (terminals.If test consequent alternate fallthrough id span) = consequent ∷ alternate ∷ []
+move_targets (terminals.Branch test consequent alternate id span) = consequent ∷ alternate ∷ []
+move_targets (terminals.Logical operator test fallthrough id span) = test ∷ []
+move_targets (terminals.Ternary test fallthrough id span) = test ∷ []
+move_targets (terminals.Optional optional test fallthrough id span) = test ∷ []
+move_targets (terminals.Sequence block fallthrough id span) = block ∷ []
+move_targets (terminals.Throw value id span) = []
+move_targets (terminals.Return value id span) = []
+move_targets (terminals.Goto block variant id span) = block ∷ []
+move_targets (terminals.Switch test cases fallthrough id span) =
     case_blocks cases ++ past_blocks cases fallthrough
-step_blocks (terminals.DoWhile loop_block test fallthrough id span) = loop_block ∷ []
-step_blocks (terminals.While test loop_block fallthrough id span) = test ∷ []
-step_blocks (terminals.For init test update loop_block fallthrough id span) = init ∷ []
-step_blocks (terminals.ForOf init test loop_block fallthrough id span) = init ∷ []
-step_blocks (terminals.ForIn init loop_block fallthrough id span) = init ∷ []
-step_blocks (terminals.Label block fallthrough id span) = block ∷ []
-step_blocks (terminals.Unreachable id span) = []
-step_blocks (terminals.MaybeThrow continuation handler id span) = continuation ∷ listed handler
-step_blocks (terminals.Scope fallthrough block scope id span) = block ∷ []
-step_blocks (terminals.PrunedScope fallthrough block scope id span) = block ∷ []
-step_blocks (terminals.Try block handler_binding handler fallthrough id span) = block ∷ []
+move_targets (terminals.DoWhile loop_block test fallthrough id span) = loop_block ∷ []
+move_targets (terminals.While test loop_block fallthrough id span) = test ∷ []
+move_targets (terminals.For init test update loop_block fallthrough id span) = init ∷ []
+move_targets (terminals.ForOf init test loop_block fallthrough id span) = init ∷ []
+move_targets (terminals.ForIn init loop_block fallthrough id span) = init ∷ []
+move_targets (terminals.Label block fallthrough id span) = block ∷ []
+move_targets (terminals.Unreachable id span) = []
+move_targets (terminals.MaybeThrow continuation handler id span) = continuation ∷ listed handler
+move_targets (terminals.Scope fallthrough block scope id span) = block ∷ []
+move_targets (terminals.PrunedScope fallthrough block scope id span) = block ∷ []
+move_targets (terminals.Try block handler_binding handler fallthrough id span) = block ∷ []

@@ -81,7 +81,7 @@ IsLostJump hir b (terminals.Branch test consequent alternate id span) =
 IsLostJump hir b _ = ⊥
 
 -- a move from the terminal leads to a block that ends in `Unreachable`
-pub record StepsDead (hir : HirFunction) (terminal : Terminal) : Type 0 where
+pub record MovesDead (hir : HirFunction) (terminal : Terminal) : Type 0 where
   pub events : List Event
   pub target : BlockId
   pub move : Move terminal events target
@@ -113,7 +113,7 @@ RuleFact hir rules.CaseLabel key =
     At hir key (λ block. (target : BlockId) × Jumps block.terminal target × IsCaseBlock hir target)
 RuleFact hir rules.ScopeBreak key =
     At hir key (λ block. (target : BlockId) × Jumps block.terminal target × IsScopeFallthrough hir target)
-RuleFact hir rules.Dead key = At hir key (λ block. StepsDead hir block.terminal)
+RuleFact hir rules.Dead key = At hir key (λ block. MovesDead hir block.terminal)
 RuleFact hir rules.ScopeTwice key = At hir key (λ block. SharesScope hir key block.terminal)
 RuleFact hir rules.FallsElsewhere key = At hir key (λ block. FallsBadly hir key block.terminal)
 RuleFact hir _ key = ⊥

@@ -9,10 +9,10 @@ mod branches;
 mod header;
 mod jumps;
 mod lists;
+mod moves;
 mod rows;
 mod scopes;
 mod state;
-mod steps;
 
 ghost use Rattle.std.specs.Prelude.{IfOk, IfErr};
 ghost use Rattle.rc_tree.specs.declared.function.ReactiveFunction.{ReactiveFunction};

@@ -8,9 +8,9 @@ ghost use Rattle.rc_runs.specs.Spelled as spelled;
 ghost use Rattle.rc_pipe.specs.RuleFacts.{FaultFact, times_named};
 ghost use Rattle.rc_pipe.specs.Built.{AtList, IsTaken, IsUnusable, is_fresh_scope, listed_scope, IfMalformed};
 
+use crate::build::moves::moves_alive;
 use crate::build::rows::check_ids;
 use crate::build::state::{State, malformed};
-use crate::build::steps::moves_alive;
 use rc_hir::{BasicBlock, Fault, HirFunction, Rule, Terminal};
 use rc_names::{BlockId, KeySet, ScopeId};
 use std::alloc::AllocError;
@@ -18,7 +18,7 @@ use std::alloc::AllocError;
 /// The block under a key, marked as used.
 ///
 /// - `Malformed`: no tree may use it there; it is no key (`NoBlock`), stands under another number than its
-///   own (`KeyDiffers`), is used already or live (`Twice`), has an unset id (`UnsetId`), steps to a block
+///   own (`KeyDiffers`), is used already or live (`Twice`), has an unset id (`UnsetId`), moves to a block
 ///   that ends in `Unreachable` (`Dead`), or opens a scope that is used already (`ScopeTwice`).
 /// - `BadName`: one of its rows isn't there.
 /// - `NoMemory`: want of memory.

@@ -5,7 +5,7 @@ ghost use Rattle.rc_hir.specs.declared.fault.Fault.TheVariants as faults;
 ghost use Rattle.rc_pipe.specs.Built as built;
 ghost use Rattle.rc_runs.specs.Grammar as grammar;
 
-use crate::build::steps::is_dead;
+use crate::build::moves::is_dead;
 use crate::frames::FrameStack;
 use rc_hir::{Fault, HirFunction, Rule};
 use rc_names::{BlockId, Boxed, KeySet, ScopeId};

@@ -1,4 +1,4 @@
--- The moves of a terminal lead to its step blocks, and to each of them.
+-- The moves of a terminal lead to its targets, and to each of them.
 use Rattle.std.proofs.Common.{◌≡◌, Bool, true, false, List, [], ◌∷◌, ◌++◌, Option, Some, None, ◌||◌, refl, sym, ap, ◌∙◌}
 use Rattle.std.proofs.Common.{subst, ⊎_elim}
 use Rattle.std.proofs.Math.Bool.{or-false}
@@ -21,8 +21,8 @@ use Rattle.rc_runs.specs.GraphRun.{into_ternary, into_optional, into_sequence, i
 use Rattle.rc_runs.specs.GraphRun.{into_pruned_scope, into_try, goes_to, goes_on, throws, InCases, first, later}
 use Rattle.rc_runs.specs.GraphRun.{is_default}
 use Rattle.rc_runs.specs.Graph.{is_dead}
-use Rattle.rc_pipe.specs.RuleFacts.{StepsDead}
-use Rattle.rc_pipe.specs.Namings.{step_blocks, case_blocks, past_blocks, listed}
+use Rattle.rc_pipe.specs.RuleFacts.{MovesDead}
+use Rattle.rc_pipe.specs.Namings.{move_targets, case_blocks, past_blocks, listed}
 
 -- a test on the cases' blocks
 pub case_blocks_any : (p : BlockId → Bool) (cases : List Case)
@@ -47,9 +47,9 @@ module _ (p : BlockId → Bool) where
   alone : {key : BlockId} → list_any p (key ∷ []) ≡ false → p key ≡ false
   alone {key = key} h = (or_parts (p key) false h).0
 
-  -- a move leads to a step block
+  -- a move leads to a target
   pub none_passes : {terminal : Terminal} {events : List Event} {key : BlockId} → Move terminal events key
-      → list_any p (step_blocks terminal) ≡ false → p key ≡ false
+      → list_any p (move_targets terminal) ≡ false → p key ≡ false
   none_passes (then_arm {consequent = a} {alternate = b}) h = (or_parts (p a) (p b || false) h).0
   none_passes (else_arm {consequent = a} {alternate = b}) h = alone (or_parts (p a) (p b || false) h).1
   none_passes (branch_true {consequent = a} {alternate = b}) h = (or_parts (p a) (p b || false) h).0
@@ -79,62 +79,63 @@ module _ (p : BlockId → Bool) where
   none_passes (throws {continuation = a} {handler = b}) h = alone (or_parts (p a) (p b || false) h).1
 
 module _ (hir : HirFunction) where
-  steps_to : {terminal : Terminal} {events : List Event} {target : BlockId} → Move terminal events target
-      → is_dead hir target ≡ true → StepsDead hir terminal
-  steps_to {events = events} {target = target} m h = record { events = events; target = target; move = m; dead = h }
+  moves_to : {terminal : Terminal} {events : List Event} {target : BlockId} → Move terminal events target
+      → is_dead hir target ≡ true → MovesDead hir terminal
+  moves_to {events = events} {target = target} m h = record { events = events; target = target; move = m; dead = h }
 
-  steps_only : {terminal : Terminal} {events : List Event} {target : BlockId} → Move terminal events target
-      → list_any (is_dead hir) (target ∷ []) ≡ true → StepsDead hir terminal
-  steps_only {target = target} m h = steps_to m (sym (or-false (is_dead hir target)) ∙ h)
+  moves_only_to : {terminal : Terminal} {events : List Event} {target : BlockId} → Move terminal events target
+      → list_any (is_dead hir) (target ∷ []) ≡ true → MovesDead hir terminal
+  moves_only_to {target = target} m h = moves_to m (sym (or-false (is_dead hir target)) ∙ h)
 
   dead_case : (test : Place) (all : List Case) (fallthrough : BlockId) (id : EvaluationOrder) (span : Option Span)
       (cases : List Case) → ((case : Case) → InCases case cases → InCases case all) →
-      list_any (is_dead hir) (case_blocks cases) ≡ true → StepsDead hir (terminals.Switch test all fallthrough id span)
+      list_any (is_dead hir) (case_blocks cases) ≡ true → MovesDead hir (terminals.Switch test all fallthrough id span)
   dead_case test all fallthrough id span [] within h = let bad : ⊥ = cc in absurd bad
   dead_case test all fallthrough id span (case ∷ cases) within h =
-      ⊎_elim (λ d. steps_to (to_case (within case (first refl)) refl refl) d)
+      ⊎_elim (λ d. moves_to (to_case (within case (first refl)) refl refl) d)
       (λ d. dead_case test all fallthrough id span cases (λ other m. within other (later m)) d)
       (or_cases (is_dead hir case.block) (list_any (is_dead hir) (case_blocks cases)) h)
 
   dead_past : (test : Place) (cases : List Case) (fallthrough : BlockId) (id : EvaluationOrder) (span : Option Span)
       (defaulted : Bool) → list_any is_default cases ≡ defaulted →
       list_any (is_dead hir) (if defaulted then [] else fallthrough ∷ []) ≡ true
-      → StepsDead hir (terminals.Switch test cases fallthrough id span)
+      → MovesDead hir (terminals.Switch test cases fallthrough id span)
   dead_past test cases fallthrough id span true e h = let bad : ⊥ = cc in absurd bad
-  dead_past test cases fallthrough id span false e h = steps_only (past_cases e) h
+  dead_past test cases fallthrough id span false e h = moves_only_to (past_cases e) h
 
   dead_handler : (continuation : BlockId) (handler : Option BlockId) (id : EvaluationOrder) (span : Option Span) →
-      list_any (is_dead hir) (listed handler) ≡ true → StepsDead hir (terminals.MaybeThrow continuation handler id span)
+      list_any (is_dead hir) (listed handler) ≡ true → MovesDead hir (terminals.MaybeThrow continuation handler id span)
   dead_handler continuation None id span h = let bad : ⊥ = cc in absurd bad
-  dead_handler continuation (Some handler) id span h = steps_only throws h
+  dead_handler continuation (Some handler) id span h = moves_only_to throws h
 
-  -- a step block that ends in `Unreachable` is reached by a move
-  pub dead_steps : (terminal : Terminal) → list_any (is_dead hir) (step_blocks terminal) ≡ true → StepsDead hir terminal
-  dead_steps (terminals.If test a b fallthrough id span) h =
-      ⊎_elim (steps_to then_arm) (steps_only else_arm) (or_cases (is_dead hir a) (is_dead hir b || false) h)
-  dead_steps (terminals.Branch test a b id span) h =
-      ⊎_elim (steps_to branch_true) (steps_only branch_false) (or_cases (is_dead hir a) (is_dead hir b || false) h)
-  dead_steps (terminals.Logical operator test fallthrough id span) h = steps_only into_logical h
-  dead_steps (terminals.Ternary test fallthrough id span) h = steps_only into_ternary h
-  dead_steps (terminals.Optional optional test fallthrough id span) h = steps_only into_optional h
-  dead_steps (terminals.Sequence block fallthrough id span) h = steps_only into_sequence h
-  dead_steps (terminals.Throw value id span) h = let bad : ⊥ = cc in absurd bad
-  dead_steps (terminals.Return value id span) h = let bad : ⊥ = cc in absurd bad
-  dead_steps (terminals.Goto block variant id span) h = steps_only goes_to h
-  dead_steps (terminals.Switch test cases fallthrough id span) h =
+  -- a target that ends in `Unreachable` is reached by a move
+  pub dead_targets : (terminal : Terminal) → list_any (is_dead hir) (move_targets terminal) ≡ true
+      → MovesDead hir terminal
+  dead_targets (terminals.If test a b fallthrough id span) h =
+      ⊎_elim (moves_to then_arm) (moves_only_to else_arm) (or_cases (is_dead hir a) (is_dead hir b || false) h)
+  dead_targets (terminals.Branch test a b id span) h =
+      ⊎_elim (moves_to branch_true) (moves_only_to branch_false) (or_cases (is_dead hir a) (is_dead hir b || false) h)
+  dead_targets (terminals.Logical operator test fallthrough id span) h = moves_only_to into_logical h
+  dead_targets (terminals.Ternary test fallthrough id span) h = moves_only_to into_ternary h
+  dead_targets (terminals.Optional optional test fallthrough id span) h = moves_only_to into_optional h
+  dead_targets (terminals.Sequence block fallthrough id span) h = moves_only_to into_sequence h
+  dead_targets (terminals.Throw value id span) h = let bad : ⊥ = cc in absurd bad
+  dead_targets (terminals.Return value id span) h = let bad : ⊥ = cc in absurd bad
+  dead_targets (terminals.Goto block variant id span) h = moves_only_to goes_to h
+  dead_targets (terminals.Switch test cases fallthrough id span) h =
       ⊎_elim (dead_case test cases fallthrough id span cases (λ case m. m))
       (dead_past test cases fallthrough id span (list_any is_default cases) refl)
       (or_cases _ _ (sym (list_any-append (is_dead hir) (case_blocks cases) (past_blocks cases fallthrough)) ∙ h))
-  dead_steps (terminals.DoWhile loop_block test fallthrough id span) h = steps_only into_do_while h
-  dead_steps (terminals.While test loop_block fallthrough id span) h = steps_only into_while h
-  dead_steps (terminals.For init test update loop_block fallthrough id span) h = steps_only into_for h
-  dead_steps (terminals.ForOf init test loop_block fallthrough id span) h = steps_only into_for_of h
-  dead_steps (terminals.ForIn init loop_block fallthrough id span) h = steps_only into_for_in h
-  dead_steps (terminals.Label block fallthrough id span) h = steps_only into_label h
-  dead_steps (terminals.Unreachable id span) h = let bad : ⊥ = cc in absurd bad
-  dead_steps (terminals.MaybeThrow continuation handler id span) h =
-      ⊎_elim (steps_to goes_on) (dead_handler continuation handler id span)
+  dead_targets (terminals.DoWhile loop_block test fallthrough id span) h = moves_only_to into_do_while h
+  dead_targets (terminals.While test loop_block fallthrough id span) h = moves_only_to into_while h
+  dead_targets (terminals.For init test update loop_block fallthrough id span) h = moves_only_to into_for h
+  dead_targets (terminals.ForOf init test loop_block fallthrough id span) h = moves_only_to into_for_of h
+  dead_targets (terminals.ForIn init loop_block fallthrough id span) h = moves_only_to into_for_in h
+  dead_targets (terminals.Label block fallthrough id span) h = moves_only_to into_label h
+  dead_targets (terminals.Unreachable id span) h = let bad : ⊥ = cc in absurd bad
+  dead_targets (terminals.MaybeThrow continuation handler id span) h =
+      ⊎_elim (moves_to goes_on) (dead_handler continuation handler id span)
       (or_cases (is_dead hir continuation) (list_any (is_dead hir) (listed handler)) h)
-  dead_steps (terminals.Scope fallthrough block scope id span) h = steps_only into_scope h
-  dead_steps (terminals.PrunedScope fallthrough block scope id span) h = steps_only into_pruned_scope h
-  dead_steps (terminals.Try block handler_binding handler fallthrough id span) h = steps_only into_try h
+  dead_targets (terminals.Scope fallthrough block scope id span) h = moves_only_to into_scope h
+  dead_targets (terminals.PrunedScope fallthrough block scope id span) h = moves_only_to into_pruned_scope h
+  dead_targets (terminals.Try block handler_binding handler fallthrough id span) h = moves_only_to into_try h

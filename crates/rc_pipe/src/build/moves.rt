@@ -4,8 +4,8 @@ ghost use Rattle.std.specs.Prelude.{◌≡◌, ◌++◌, true, false};
 ghost use Rattle.std.specs.List.{list_any};
 ghost use Rattle.rc_runs.specs.Graph as graph;
 ghost use Rattle.rc_runs.specs.GraphRun.{MovesAlive, is_default};
-ghost use Rattle.rc_pipe.specs.Namings.{case_blocks, listed, past_blocks, step_blocks};
-ghost use Rattle.rc_pipe.specs.RuleFacts.{StepsDead};
+ghost use Rattle.rc_pipe.specs.Namings.{case_blocks, listed, move_targets, past_blocks};
+ghost use Rattle.rc_pipe.specs.RuleFacts.{MovesDead};
 
 use rc_hir::{Case, HirFunction, Terminal};
 use rc_names::BlockId;
@@ -23,14 +23,14 @@ pub fn is_dead(hir: &HirFunction, key: BlockId) -> bool
 /// Whether no move from the terminal leads to a block that ends in `Unreachable`.
 pub fn moves_alive(hir: &HirFunction, terminal: &Terminal) -> bool
     ensures yes { result ≡ true → MovesAlive hir.now terminal.now }
-    ensures no { result ≡ false → StepsDead hir.now terminal.now }
+    ensures no { result ≡ false → MovesDead hir.now terminal.now }
 {
     !moves_dead(hir, terminal)
 }
 
 /// Whether a move from the terminal leads to a block that ends in `Unreachable`.
 fn moves_dead(hir: &HirFunction, terminal: &Terminal) -> bool
-    ensures { result ≡ list_any (graph.is_dead hir.now) (step_blocks terminal.now) }
+    ensures { result ≡ list_any (graph.is_dead hir.now) (move_targets terminal.now) }
 {
     match terminal {
         Terminal::If {

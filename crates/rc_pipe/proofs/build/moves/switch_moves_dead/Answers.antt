@@ -1,8 +1,8 @@
 use Rattle.std.proofs.Common.{sym, ◌∙◌}
 use Rattle.rc_runs.specs.Graph.{is_dead}
 use Rattle.rc_pipe.specs.Namings.{past_blocks}
-use Rattle.rc_pipe.proofs.StepsLemmas.{switch_any}
-use Rattle.rc_pipe.proofs.build.steps.switch_moves_dead.Goals as goal
+use Rattle.rc_pipe.proofs.MovesLemmas.{switch_any}
+use Rattle.rc_pipe.proofs.build.moves.switch_moves_dead.Goals as goal
 
 pub returns-then-has_dead_case : goal.returns-then-has_dead_case
 returns-then-has_dead_case c =
