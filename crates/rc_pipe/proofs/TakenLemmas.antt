@@ -176,8 +176,11 @@ same_number a b e = let numbered : ℕ → ScopeId = λ n. record { 0 = n } in a
 more_opener : (hir : HirFunction) (key : BlockId) (used : List BlockId) (scope : ScopeId) → Opener hir used scope
     → Opener hir (key ∷ used) scope
 more_opener hir key used scope o =
-    let among : is_among (key ∷ used) o.owner ≡ true = or_right (same_block o.owner key) (is_among used o.owner) o.among in
-    record { owner = o.owner; among = among; opens = o.opens }
+    record {
+      owner = o.owner;
+      among = or_right (same_block o.owner key) (is_among used o.owner) o.among;
+      opens = o.opens;
+    }
 
 opener : (hir : HirFunction) (used : List BlockId) (scope : ScopeId)
     → list_any (same_scope scope) (filter_map (scope_at hir) used) ≡ true → Opener hir used scope

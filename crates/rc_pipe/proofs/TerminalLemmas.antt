@@ -31,7 +31,8 @@ use Rattle.rc_runs.specs.Grammar.{label_of, falls_to, if_only, if_else, label, s
 use Rattle.rc_pipe.specs.Namings.{framed_blocks, is_among, times, scope_fallthrough, fallthrough_of}
 use Rattle.rc_pipe.specs.RuleFacts.{At, RuleFact, IsFramedApart}
 use Rattle.rc_pipe.specs.Built.{Marked, AreNamed, AtList, AtTerminal, IsUsed, IsUsedApart, AreOwned, IsFrameOf}
-use Rattle.rc_pipe.specs.Built.{MarksBlocks, Made, Refused, GoesOn, rest_of, live_blocks, frame_blocks, terminal_statement}
+use Rattle.rc_pipe.specs.Built.{MarksBlocks, Made, Refused, GoesOn, rest_of, live_blocks, frame_blocks}
+use Rattle.rc_pipe.specs.Built.{terminal_statement}
 use Rattle.rc_runs.proofs.GraphLemmas.{blocks_equivalence}
 use Rattle.rc_pipe.proofs.MarksLemmas.{named_fewer, times_append}
 use Rattle.rc_pipe.proofs.OwnersLemmas.{owned_weaker, live_framed}
