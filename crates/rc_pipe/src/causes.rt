@@ -1,7 +1,6 @@
 //! The tests that come before a graph is built.
 
 ghost use Rattle.std.specs.Prelude.{◌≡◌, ◌↔◌, ◌<◌, IsTrue, All, option_map};
-ghost use Rattle.rc_names.specs.declared.numbers.ScopeId.{ScopeId};
 ghost use Rattle.rc_pipe.specs.Causes.{HasRoom, first_early_return, first_unbuilt, is_built, is_scope, scope_count};
 
 use rc_hir::{Environment, GotoVariant, HirFunction, Terminal};

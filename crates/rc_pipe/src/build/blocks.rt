@@ -1,8 +1,6 @@
 //! One block: whether a tree may use it where the walk stands, and its mark.
 
-ghost use Rattle.std.specs.Prelude.{◌≡◌, ◌≤◌, ◌++◌, true, Err, None, Some, IfOk, IfErr};
-ghost use Rattle.rc_names.specs.declared.numbers.BlockId.{BlockId};
-ghost use Rattle.rc_hir.specs.declared.fault.Rule.{Rule};
+ghost use Rattle.std.specs.Prelude.{◌≡◌, ◌≤◌, ◌++◌, true, None, Some, IfOk, IfErr};
 ghost use Rattle.rc_runs.specs.Graph.{basic_block, same_block, usable_block};
 ghost use Rattle.rc_runs.specs.Spelled as spelled;
 ghost use Rattle.rc_pipe.specs.RuleFacts.{FaultFact, times_named};

@@ -1,9 +1,6 @@
 //! Statements that choose between arms: `If`.
 
-ghost use Rattle.std.specs.Prelude.{◌≡◌, Option, None, Err, true, false, IfOk, IfErr};
-ghost use Rattle.rc_names.specs.declared.numbers.BlockId.{BlockId};
-ghost use Rattle.rc_hir.specs.declared.fault.Rule.{Rule};
-ghost use Rattle.rc_hir.specs.declared.terminal.Terminal.{Terminal};
+ghost use Rattle.std.specs.Prelude.{◌≡◌, Option, true, false, IfOk, IfErr};
 ghost use Rattle.rc_names.specs.declared.span.Span.{Span};
 ghost use Rattle.rc_tree.specs.declared.terminal.ReactiveTerminal.TheVariants as tree;
 ghost use Rattle.rc_runs.specs.Graph.{same_block};

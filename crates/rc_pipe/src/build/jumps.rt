@@ -1,10 +1,9 @@
 //! Statements that end a list: returns and breaks.
 
-ghost use Rattle.std.specs.Prelude.{◌≡◌, ◌++◌, ◌∷◌, [], Err, Option, None, IfOk, IfErr};
+ghost use Rattle.std.specs.Prelude.{◌≡◌, ◌++◌, ◌∷◌, [], Option, None, IfOk, IfErr};
 ghost use Rattle.rc_names.specs.declared.numbers.BlockId.{BlockId};
 ghost use Rattle.rc_names.specs.declared.span.Span.{Span};
 ghost use Rattle.rc_hir.specs.declared.environment.Environment.{Environment};
-ghost use Rattle.rc_hir.specs.declared.fault.Rule.{Rule};
 ghost use Rattle.rc_hir.specs.declared.terminal.GotoVariant.TheVariants as variants;
 ghost use Rattle.rc_hir.specs.declared.terminal.Terminal.TheVariants as terminals;
 ghost use Rattle.rc_tree.specs.declared.terminal.ReactiveTerminal.TheVariants as tree;

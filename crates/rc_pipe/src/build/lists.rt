@@ -1,7 +1,6 @@
 //! Lists: blocks that follow each other, by a loop, and the parts of statements, by a nested call.
 
-ghost use Rattle.std.specs.Prelude.{◌≡◌, ◌<◌, ◌∷◌, [], Err, None, IfOk, IfErr, length};
-ghost use Rattle.rc_names.specs.declared.numbers.BlockId.{BlockId};
+ghost use Rattle.std.specs.Prelude.{◌≡◌, ◌<◌, ◌∷◌, [], None, IfOk, IfErr, length};
 ghost use Rattle.rc_runs.specs.Frames.{break_block};
 ghost use Rattle.rc_runs.specs.Grammar.{SpellsList, frames_inside, next_inside};
 ghost use Rattle.rc_pipe.specs.RuleFacts.{FaultFact};

@@ -1,10 +1,9 @@
 //! The rows of a block: their ids, and their statements.
 
-ghost use Rattle.std.specs.Prelude.{◌≡◌, ◌++◌, Err, None, Some, IfOk, IfErr, map, slice_get, List};
+ghost use Rattle.std.specs.Prelude.{◌≡◌, ◌++◌, None, Some, IfOk, IfErr, map, slice_get, List};
 ghost use Rattle.rc_names.specs.declared.numbers.BlockId.{BlockId};
 ghost use Rattle.rc_hir.specs.declared.fault.Fault.TheVariants as faults;
 ghost use Rattle.rc_hir.specs.declared.fault.TableName.TheVariants as tables;
-ghost use Rattle.rc_hir.specs.declared.fault.Rule.{Rule};
 ghost use Rattle.rc_hir.specs.declared.function.Instruction.{Instruction};
 ghost use Rattle.rc_runs.specs.Graph.{basic_block, rows_of};
 ghost use Rattle.rc_pipe.specs.RuleFacts.{FaultFact};

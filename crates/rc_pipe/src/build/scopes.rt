@@ -1,7 +1,6 @@
 //! Statements with one part: labels, and the blocks of scopes, kept or pruned.
 
 ghost use Rattle.std.specs.Prelude.{◌≡◌, Option, IfOk, IfErr};
-ghost use Rattle.rc_names.specs.declared.numbers.BlockId.{BlockId};
 ghost use Rattle.rc_hir.specs.declared.terminal.Terminal.TheVariants as terminals;
 ghost use Rattle.rc_names.specs.declared.numbers.EvaluationOrder.{EvaluationOrder};
 ghost use Rattle.rc_names.specs.declared.span.Span.{Span};

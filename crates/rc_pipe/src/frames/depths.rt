@@ -1,6 +1,6 @@
 //! At which depth a block has a frame.
 
-ghost use Rattle.std.specs.Prelude.{◌≡◌, Option, Some, IfOk, if◌then◌else◌};
+ghost use Rattle.std.specs.Prelude.{◌≡◌, IfOk, if◌then◌else◌};
 ghost use Rattle.rc_names.specs.declared.numbers.BlockId.{BlockId};
 ghost use Rattle.rc_pipe.specs.Depths as spec;
 
