@@ -11,7 +11,6 @@ use Rattle.rc_hir.specs.declared.environment.Environment.{Environment}
 use Rattle.rc_tree.specs.declared.statement.ReactiveStatement.{ReactiveStatement}
 use Rattle.rc_runs.specs.declared.frames.Frame.{Frame}
 use Rattle.rc_pipe.specs.declared.build.state.Marks.{Marks}
-use Rattle.rc_runs.specs.Graph.{Block}
 use Rattle.rc_runs.specs.PlainTree.{Statements, Nil, Cons, Statement, RowStatement, Base}
 use Rattle.rc_runs.specs.TreeOf.{statements_of, statement_of}
 use Rattle.rc_runs.specs.Grammar.{SpellsList, SpellsTerminal, SpellsStatement, SpellsRest, rows_before, block, and_rest}
@@ -22,6 +21,7 @@ use Rattle.rc_pipe.specs.Namings.{named_blocks, listed, times}
 use Rattle.rc_pipe.specs.Built.{join, Marked, MarksBlocks, IsTaken, IsUnusable, MadeList, Refused, Partly, Rest, GoesOn}
 use Rattle.rc_pipe.specs.Built.{rest_of}
 use Rattle.rc_pipe.proofs.MarksLemmas.{front_sound, named_fewer, times_append}
+use Rattle.rc_pipe.proofs.UsableLemmas.{filled}
 use Rattle.rc_runs.proofs.OneTree.{one_terminal, one_statement, rest_at, terminal_at}
 
 -- statements behind others, and none behind them
@@ -166,8 +166,7 @@ module _ (hir : HirFunction) (env : Environment) (next : Option BlockId) (frames
           (rest : Statements) × (later : List BlockId) × SpellsTerminal hir env found.terminal next frames None rest
           later × (used ≡ key ∷ later)
       only all used (block {rest = rest} {used = later} {block = other} u l d w) =
-          let mine : Block = record { rows = t.rows; terminal = found.terminal } in
-          let same : other ≡ mine = (let z = t.usable in cc) in
+          let same : other ≡ filled found t.rows = (let z = t.usable in cc) in
           (rest, later, terminal_at same d, refl)
 
   -- a block that no tree may use there

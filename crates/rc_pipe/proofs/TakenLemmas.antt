@@ -29,7 +29,7 @@ use Rattle.rc_runs.proofs.GraphLemmas.{same_block-eq, blocks_equivalence}
 use Rattle.rc_pipe.proofs.MarksLemmas.{times_append, times_among, named_twice, scopes_equivalence, one_more, among_push}
 use Rattle.rc_pipe.proofs.MarksLemmas.{named_push}
 use Rattle.rc_pipe.proofs.OwnersLemmas.{live_times}
-use Rattle.rc_pipe.proofs.UsableLemmas.{found_terminal, found_block}
+use Rattle.rc_pipe.proofs.UsableLemmas.{filled, found_terminal, found_block}
 
 listed_option : (scope : Option ScopeId) → cons_option scope [] ≡ listed_scope scope
 listed_option None = refl
@@ -120,7 +120,7 @@ pub unusable_dead : (hir : HirFunction) (frames : List Frame) (key : BlockId) (m
     → IsUnusable hir frames key marks
 unusable_dead hir frames key marks block rows e f d whole u l s =
     let alive = s.alive key (Contains-from_any same_block-eq key (marks.used ++ key ∷ []) (among_push marks.used key))
-    (record { rows = rows; terminal = block.terminal }) (found_block hir key block rows e f) in
+    (filled block rows) (found_block hir key block rows e f) in
     let no = alive d.events d.target d.move in
     let yes = d.dead in
     let bad : ⊥ = cc in bad
@@ -211,9 +211,7 @@ unfolding block_at
 opened_at hir key scope e = go (basic_block hir key) refl e
   where
     rows : (block : BasicBlock) (r : Option (List Instruction)) →
-        option_and_then (λ (z : Block). scope_named z.terminal)
-        (option_map (λ (z : List Instruction). (let made : Block = record { rows = z; terminal = block.terminal } in
-        made)) r) ≡ Some scope →
+        option_and_then (λ (z : Block). scope_named z.terminal) (option_map (filled block) r) ≡ Some scope →
         scope_named block.terminal ≡ Some scope
     rows block None h = let bad : ⊥ = cc in absurd bad
     rows block (Some z) h = h

@@ -9,6 +9,10 @@ use Rattle.rc_runs.specs.Graph.{Block, same_block, basic_block, block_at, usable
 use Rattle.rc_runs.specs.Graph.{has_all_ids, under_own_number}
 use Rattle.rc_pipe.specs.Rows.{HasIds}
 
+-- a basic block with these rows
+abbrev pub filled : BasicBlock → List Instruction → Block
+filled block = λ rows. record { rows = rows; terminal = block.terminal }
+
 module _ (hir : HirFunction) (key : BlockId) where
   pub unusable_missing : basic_block hir key ≡ None → usable_block hir key ≡ None
   unfolding usable_block
@@ -26,37 +30,30 @@ module _ (hir : HirFunction) (key : BlockId) where
   -- a block under its own number whose rows and ids are there
   pub usable_made : (block : BasicBlock) (rows : List Instruction) → basic_block hir key ≡ Some block
       → same_block block.id key ≡ true → rows_of hir.instructions block.instructions ≡ Some rows →
-      (let whole : Block = record { rows = rows; terminal = block.terminal } in has_all_ids whole ≡ true)
-      → usable_block hir key ≡ Some (record { rows = rows; terminal = block.terminal })
+      has_all_ids (filled block rows) ≡ true → usable_block hir key ≡ Some (filled block rows)
   unfolding usable_block
   usable_made block rows e n f i =
-      let whole : Block = record { rows = rows; terminal = block.terminal } in
       let own : option_and_then (under_own_number key) (basic_block hir key) ≡ Some block =
       ap (option_and_then (under_own_number key)) e ∙ ap (λ b. if b then Some block else None) n in
-      let filled : option_and_then (with_rows hir) (option_and_then (under_own_number key) (basic_block hir key))
-      ≡ Some whole =
-      ap (option_and_then (with_rows hir)) own ∙ ap (λ r. option_map
-      (λ (z : List Instruction). (let b : Block = record { rows = z; terminal = block.terminal } in b)) r) f in
-      ap (option_and_then with_ids) filled ∙ ap (λ b. if b then Some whole else None) i
+      let there : option_and_then (with_rows hir) (option_and_then (under_own_number key) (basic_block hir key))
+      ≡ Some (filled block rows) =
+      ap (option_and_then (with_rows hir)) own ∙ ap (option_map (filled block)) f in
+      ap (option_and_then with_ids) there ∙ ap (λ b. if b then Some (filled block rows) else None) i
 
   ids_of : (block : BasicBlock) (whole : Block) → option_and_then with_ids (with_rows hir block) ≡ Some whole
       → HasIds hir block
   ids_of block whole e = go (rows_of hir.instructions block.instructions) refl e
     where
       pick : (rows : List Instruction) → rows_of hir.instructions block.instructions ≡ Some rows → (b : Bool) →
-          (let made : Block = record { rows = rows; terminal = block.terminal } in has_all_ids made ≡ b) →
-          (if b then Some (let made : Block = record { rows = rows; terminal = block.terminal } in made) else None)
-          ≡ Some whole → HasIds hir block
+          has_all_ids (filled block rows) ≡ b → (if b then Some (filled block rows) else None) ≡ Some whole
+          → HasIds hir block
       pick rows f true i h = record { rows = rows; filled = f; set = i }
       pick rows f false i h = let bad : ⊥ = cc in absurd bad
 
       go : (r : Option (List Instruction)) → rows_of hir.instructions block.instructions ≡ r →
-          option_and_then with_ids (option_map (λ (z : List Instruction).
-          (let made : Block = record { rows = z; terminal = block.terminal } in made)) r) ≡ Some whole
-          → HasIds hir block
+          option_and_then with_ids (option_map (filled block) r) ≡ Some whole → HasIds hir block
       go None f h = let bad : ⊥ = cc in absurd bad
-      go (Some rows) f h = pick rows f (let made : Block = record { rows = rows; terminal = block.terminal } in
-          has_all_ids made) refl h
+      go (Some rows) f h = pick rows f (has_all_ids (filled block rows)) refl h
 
   -- the ids of a block that may be used are there
   pub usable_ids : (block : BasicBlock) (whole : Block) → basic_block hir key ≡ Some block
@@ -79,12 +76,10 @@ module _ (hir : HirFunction) (key : BlockId) where
       → whole.terminal ≡ block.terminal
   terminal_of block whole e = go (rows_of hir.instructions block.instructions) e
     where
-      go : (r : Option (List Instruction)) → option_map (λ (z : List Instruction).
-          (let made : Block = record { rows = z; terminal = block.terminal } in made)) r ≡ Some whole
+      go : (r : Option (List Instruction)) → option_map (filled block) r ≡ Some whole
           → whole.terminal ≡ block.terminal
       go None h = let bad : ⊥ = cc in absurd bad
-      go (Some rows) h = let made : Block = record { rows = rows; terminal = block.terminal } in
-          let same : made ≡ whole = cc in ap (λ (z : Block). z.terminal) (sym same)
+      go (Some rows) h = let same : filled block rows ≡ whole = cc in ap (λ (z : Block). z.terminal) (sym same)
 
   pub found_terminal : (block : BasicBlock) (whole : Block) → basic_block hir key ≡ Some block
       → block_at hir key ≡ Some whole → whole.terminal ≡ block.terminal
@@ -93,8 +88,6 @@ module _ (hir : HirFunction) (key : BlockId) where
 
   pub found_block : (block : BasicBlock) (rows : List Instruction) → basic_block hir key ≡ Some block
       → rows_of hir.instructions block.instructions ≡ Some rows →
-      block_at hir key ≡ Some (record { rows = rows; terminal = block.terminal })
+      block_at hir key ≡ Some (filled block rows)
   unfolding block_at
-  found_block block rows e f = ap (option_and_then (with_rows hir)) e
-      ∙ ap (λ r. option_map
-      (λ (z : List Instruction). (let made : Block = record { rows = z; terminal = block.terminal } in made)) r) f
+  found_block block rows e f = ap (option_and_then (with_rows hir)) e ∙ ap (option_map (filled block)) f
