@@ -97,11 +97,11 @@ pub set_contains : (set : BTreeSet ScopeId) (scope : ScopeId)
 set_contains set scope = btree_set_contains_iff scopes_ordered scopes_exact set scope
 
 -- a further entry lists its scope, with its fate
-pub one_more : (left : List ScopeId) (fates : List ScopeFate) (entry : ScopeFate) (scope : ScopeId)
+pub fates_more : (left : List ScopeId) (fates : List ScopeFate) (entry : ScopeFate) (scope : ScopeId)
     (rest keys : List ScopeId) → entry.scope ≡ scope → HasFate left entry
     → (listed_scopes fates ++ scope ∷ rest ≡ keys) × All (HasFate left) fates
     → (listed_scopes (fates ++ entry ∷ []) ++ rest ≡ keys) × All (HasFate left) (fates ++ entry ∷ [])
-one_more left fates entry scope rest keys same has given =
+fates_more left fates entry scope rest keys same has given =
     let list = ap (λ l. l ++ rest) (map-append (λ e. e.scope) fates (entry ∷ []))
     ∙ append_assoc (listed_scopes fates) (entry.scope ∷ []) rest in (
       list ∙ ap (λ s. listed_scopes fates ++ s ∷ rest) same

@@ -78,9 +78,9 @@ scopes_way innermost in_loop (frame.Loop of again ∷ frames) target all = absur
 abbrev Quiet : Statements → Type 0
 Quiet statements = NoJumps (flat_map met_at (statements_of statements))
 
-one_more : (statement : Statement) (rest : Statements) → NoJumps (met_at (statement_of statement)) → Quiet rest
+cons_quiet : (statement : Statement) (rest : Statements) → NoJumps (met_at (statement_of statement)) → Quiet rest
     → Quiet (Cons statement rest)
-one_more statement rest first later =
+cons_quiet statement rest first later =
     no_jumps-append (met_at (statement_of statement)) (flat_map met_at (statements_of rest)) first later
 
 rows_quiet : (rows : List Instruction) (rest : Statements) → Quiet rest → Quiet (rows_before rows rest)
@@ -88,7 +88,7 @@ rows_quiet [] rest later = later
 rows_quiet (row ∷ rows) rest later =
     let x : ReactiveInstruction =
     record { id = row.id; lvalue = Some row.lvalue; value = val.Instruction row.value; span = row.span } in
-    one_more (RowStatement row.id (Some row.lvalue) (Base row.value) row.span) (rows_before rows rest)
+    cons_quiet (RowStatement row.id (Some row.lvalue) (Base row.value) row.span) (rows_before rows rest)
     (subst NoJumps (sym (met_at-Instruction x)) tt) (rows_quiet rows rest later)
 
 -- a terminal that is no jump
@@ -127,13 +127,13 @@ module _ {hir : HirFunction} {env : Environment} where
         {statements : Statements} {used : List BlockId} →
         SpellsTerminal hir env terminal next frames handler statements used → AreScopes frames → Quiet statements
     quiet_terminal (returns {value = value} {id = id}) all =
-        one_more (TerminalStatement (Return value id) None) Nil
+        cons_quiet (TerminalStatement (Return value id) None) Nil
         (still (Return value id) None (ap target_of (term.outs-Return value id))) tt
     quiet_terminal unreachable all = tt
     quiet_terminal (breaks {target = target} {id = id} {frames = frames} {statements = statements} e) all =
         break_quiet (break_way frames target) target id statements (scopes_way true false frames target all) e
     quiet_terminal (and_rest {statement = statement} {rest = rest} d r w) all =
-        one_more statement rest (quiet_statement d all) (quiet_rest r all)
+        cons_quiet statement rest (quiet_statement d all) (quiet_rest r all)
 
     quiet_statement : {terminal : Terminal} {next handler : Option BlockId} {frames : List Frame} {o : Bool}
         {f : BlockId} {statement : Statement} {used : List BlockId} →
