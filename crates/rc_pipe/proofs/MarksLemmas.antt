@@ -2,11 +2,9 @@
 use Rattle.std.proofs.Common.{◌≡◌, ◌≤◌, ◌+◌, Bool, true, false, cond, List, [], ◌∷◌, ◌++◌, Some, ◌||◌, length, refl}
 use Rattle.std.proofs.Common.{sym, ap, ◌∙◌, subst, arith}
 use Rattle.std.specs.Prelude.{if◌then◌else◌}
-use Rattle.std.specs.Cmp.{IsEquivalence}
 use Rattle.std.specs.List.{IsDistinct, list_any, filter_map, flat_map, AllByRecursion}
 use Rattle.std.specs.Map.{lookup}
 use Rattle.std.proofs.Math.Bool.{or-true}
-use Rattle.std.proofs.lemmas.Cmp.{nat_eq_equiv}
 use Rattle.std.proofs.lemmas.Map.Steps.{length-le_from_keys}
 use Rattle.std.proofs.lemmas.Map.Views.{Contains-from_any, list_any-from_Contains}
 use Rattle.std.proofs.lemmas.List.Elements.{filter_map-append}
@@ -21,13 +19,6 @@ use Rattle.rc_pipe.specs.Namings.{named_blocks, is_among, times, namings_of}
 use Rattle.rc_pipe.specs.RuleFacts.{times_named}
 use Rattle.rc_runs.proofs.GraphLemmas.{same_block-eq, blocks_equivalence}
 use Rattle.rc_pipe.specs.Built.{Marked, AreNamed}
-
-pub scopes_equivalence : IsEquivalence same_scope
-scopes_equivalence = record {
-  refl = λ x. nat_eq_equiv.refl x.0;
-  symm = λ x y. nat_eq_equiv.symm x.0 y.0;
-  congr = λ x y z. nat_eq_equiv.congr x.0 y.0 z.0;
-}
 
 -- there is room for a block that isn't used
 pub room : (hir : HirFunction) (marks : Marks) → Marked hir marks → length marks.used ≤ length hir.body.blocks

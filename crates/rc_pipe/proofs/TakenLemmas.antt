@@ -1,6 +1,6 @@
 -- One more used block: the marks stay sound, or no tree may use it.
-use Rattle.std.proofs.Common.{◌≡◌, ℕ, Bool, true, false, List, [], ◌∷◌, ◌++◌, Option, Some, None, ◌||◌, refl, sym, ap}
-use Rattle.std.proofs.Common.{◌∙◌, subst, arith, eqb-true}
+use Rattle.std.proofs.Common.{◌≡◌, Bool, true, false, List, [], ◌∷◌, ◌++◌, Option, Some, None, ◌||◌, refl, sym, ap}
+use Rattle.std.proofs.Common.{◌∙◌, subst, arith}
 use Rattle.std.specs.Cmp.{IsEquivalence}
 use Rattle.std.specs.Prelude.{IsSome, is_some, if◌then◌else◌, option_and_then, option_map}
 use Rattle.std.specs.List.{IsDistinct, list_any, filter_map, cons_option, AllByRecursion}
@@ -26,7 +26,8 @@ use Rattle.rc_pipe.specs.RuleFacts.{At, MovesDead, SharesScope, RuleFact}
 use Rattle.rc_pipe.specs.Built.{Marked, AreNamed, AtList, MarksBlocks, live_blocks, IsUnusable, listed_scope}
 use Rattle.rc_pipe.specs.Built.{is_fresh_scope}
 use Rattle.rc_runs.proofs.GraphLemmas.{same_block-eq, blocks_equivalence}
-use Rattle.rc_pipe.proofs.MarksLemmas.{times_append, times_among, named_twice, scopes_equivalence, one_more, among_push}
+use Rattle.rc_checks.proofs.OpenScopesLemmas.{same_scope-eq, scopes_equivalence}
+use Rattle.rc_pipe.proofs.MarksLemmas.{times_append, times_among, named_twice, one_more, among_push}
 use Rattle.rc_pipe.proofs.MarksLemmas.{named_push}
 use Rattle.rc_pipe.proofs.OwnersLemmas.{live_times}
 use Rattle.rc_pipe.proofs.UsableLemmas.{filled, found_terminal, found_block}
@@ -170,9 +171,6 @@ record Opener (hir : HirFunction) (used : List BlockId) (scope : ScopeId) : Type
   pub among : is_among used owner ≡ true
   pub opens : scope_at hir owner ≡ Some scope
 
-same_number : (a b : ScopeId) → same_scope a b ≡ true → a ≡ b
-same_number a b e = let numbered : ℕ → ScopeId = λ n. record { 0 = n } in ap numbered (eqb-true a.0 b.0 e)
-
 more_opener : (hir : HirFunction) (key : BlockId) (used : List BlockId) (scope : ScopeId) → Opener hir used scope
     → Opener hir (key ∷ used) scope
 more_opener hir key used scope o =
@@ -195,7 +193,7 @@ opener hir (key ∷ used) scope h =
         → (b || list_any (same_scope scope) (filter_map (scope_at hir) used)) ≡ true →
         (list_any (same_scope scope) (filter_map (scope_at hir) used) ≡ true → Opener hir (key ∷ used) scope)
         → Opener hir (key ∷ used) scope
-    pick other true e s k f = here (e ∙ ap Some (sym (same_number scope other s)))
+    pick other true e s k f = here (e ∙ ap Some (sym (same_scope-eq scope other s)))
     pick other false e s k f = f k
 
     go : (o : Option ScopeId) → scope_at hir key ≡ o → list_any (same_scope scope)
