@@ -1,3 +1,4 @@
+pub mod FaultLemmas
 pub mod DepthsLemmas
 pub mod MovesLemmas
 pub mod NumbersLemmas

@@ -1,9 +1,8 @@
-use Rattle.std.proofs.Common.{◌≡◌, true, false, [], ◌∷◌, ◌++◌, None, Err, refl, sym, ap, ◌∙◌, subst, arith, length}
+use Rattle.std.proofs.Common.{◌≡◌, true, false, [], ◌∷◌, ◌++◌, None, refl, sym, ap, ◌∙◌, subst, arith, length}
 use Rattle.std.proofs.Common.{length-append}
 use Rattle.std.specs.Prelude.{not}
 use Rattle.std.proofs.lemmas.List.{append-nil}
-use Rattle.std.proofs.lemmas.Result.{err_from_is_err_and, IfOk-weaker}
-use Rattle.rc_hir.specs.declared.fault.Fault.TheVariants as faults
+use Rattle.std.proofs.lemmas.Result.{IfOk-weaker}
 use Rattle.rc_hir.specs.declared.terminal.Terminal.TheVariants as terminals
 use Rattle.rc_runs.specs.declared.frames.Frame.{Frame}
 use Rattle.rc_runs.specs.declared.frames.Frame.TheVariants as kinds
@@ -15,6 +14,7 @@ use Rattle.rc_pipe.specs.RuleFacts.{FaultFact}
 use Rattle.rc_pipe.specs.Arms.{if_of}
 use Rattle.rc_pipe.specs.Built.{AreNamed, AreOwned, AtList, IsUsed, IsUsedApart, Partly, Rest, Refused, GoesOn}
 use Rattle.rc_pipe.specs.Built.{MadeList, live_blocks}
+use Rattle.rc_pipe.proofs.FaultLemmas.{passed_on}
 use Rattle.rc_pipe.proofs.MarksLemmas.{room, among_push}
 use Rattle.rc_pipe.proofs.OwnersLemmas.{owned_weaker}
 use Rattle.rc_pipe.proofs.TakenLemmas.{used_apart}
@@ -94,13 +94,11 @@ lists::build_list-returns-in_err-at-clause-refused t c = λ named rule e.
     let env = c.args.env.now in
     let frames = c.args.state.now.frames in
     let S = SpellsList hir env c.args.key c.args.next frames None in
-    let p = err_from_is_err_and c.from_residual.result c.from_residual.ensures.1 in
-    let d : c.in_err-at.field-0.0 ≡ faults.Malformed named rule = cc (p.1, p.2, e) in
     let so_far = subst (λ a. Partly S (Rest hir env c.args.next frames a) hir (c.args.key ∷ []) (listed a) [] c.list.out
     c.args.state.now.marks c.list.state.marks) c.in-Some.is c.list.invariant.part in
     partly_refused hir S (SpellsList hir env c.in-Some.here c.args.next frames None) so_far
     (subst (λ z. Refused hir (SpellsList hir env c.in-Some.here c.args.next z None) c.list.state.marks.used)
-    c.list.invariant.frames (c.in_err-at.ensures.refused named rule (ap Err d)))
+    c.list.invariant.frames (c.in_err-at.ensures.refused named rule (passed_on c.from_residual.ensures.1 e)))
 
 pub lists::build_list-returns-clause-ok : goal.lists::build_list-returns-clause-ok
 lists::build_list-returns-clause-ok t c =
@@ -111,10 +109,8 @@ lists::build_list-returns-clause-ok t c =
 
 pub lists::build_block-returns-in_err-block-clause-refused : goal.lists::build_block-returns-in_err-block-clause-refused
 lists::build_block-returns-in_err-block-clause-refused t c = λ named rule e.
-    let p = err_from_is_err_and c.from_residual.result c.from_residual.ensures.1 in
-    let d : c.in_err-block.field-0.0 ≡ faults.Malformed named rule = cc (p.1, p.2, e) in
     block_refused c.args.hir.now c.args.env.now c.args.next c.args.state.now.frames c.args.key c.args.state.now.marks
-    (c.in_err-block.ensures.refused named rule (ap Err d))
+    (c.in_err-block.ensures.refused named rule (passed_on c.from_residual.ensures.1 e))
 
 pub lists::build_block-build_terminal-requires : goal.lists::build_block-build_terminal-requires
 lists::build_block-build_terminal-requires t c =
@@ -216,11 +212,9 @@ scopes::build_label-build_part-requires t c =
 
 pub scopes::build_label-returns-in_err-body-clause-refused : goal.scopes::build_label-returns-in_err-body-clause-refused
 scopes::build_label-returns-in_err-body-clause-refused t c = λ named rule e span.
-    let p = err_from_is_err_and c.from_residual.result c.from_residual.ensures.1 in
-    let d : c.in_err-body.field-0.0 ≡ faults.Malformed named rule = cc (p.1, p.2, e) in
     label_refused c.args.hir.now c.args.env.now c.args.next c.args.state.now.frames c.args.inner c.args.fallthrough
     c.args.id span c.opens_reachable-opened.result c.args.state.now.marks c.opens_reachable-opened.ensures
-    (c.in_err-body.ensures.refused named rule (ap Err d))
+    (c.in_err-body.ensures.refused named rule (passed_on c.from_residual.ensures.1 e))
 
 pub scopes::build_label-returns-clause-ok : goal.scopes::build_label-returns-clause-ok
 scopes::build_label-returns-clause-ok t c = λ span.
@@ -253,12 +247,10 @@ scopes::build_pruned_scope-build_part-requires t c =
 pub scopes::build_pruned_scope-returns-in_err-body-clause-refused :
     goal.scopes::build_pruned_scope-returns-in_err-body-clause-refused
 scopes::build_pruned_scope-returns-in_err-body-clause-refused t c = λ named rule e id span.
-    let p = err_from_is_err_and c.from_residual.result c.from_residual.ensures.1 in
-    let d : c.in_err-body.field-0.0 ≡ faults.Malformed named rule = cc (p.1, p.2, e) in
     pruned_scope_refused c.args.hir.now c.args.env.now c.args.next c.args.state.now.frames c.args.inner
     c.args.fallthrough c.args.scope id span (not c.is_live-opened.result) c.args.state.now.marks
     (ap not c.is_live-opened.ensures)
-    (c.in_err-body.ensures.refused named rule (ap Err d))
+    (c.in_err-body.ensures.refused named rule (passed_on c.from_residual.ensures.1 e))
 
 pub scopes::build_pruned_scope-returns-clause-ok : goal.scopes::build_pruned_scope-returns-clause-ok
 scopes::build_pruned_scope-returns-clause-ok t c = λ id span.
@@ -290,11 +282,9 @@ scopes::build_scope-build_part-requires t c =
 
 pub scopes::build_scope-returns-in_err-body-clause-refused : goal.scopes::build_scope-returns-in_err-body-clause-refused
 scopes::build_scope-returns-in_err-body-clause-refused t c = λ named rule e id span.
-    let p = err_from_is_err_and c.from_residual.result c.from_residual.ensures.1 in
-    let d : c.in_err-body.field-0.0 ≡ faults.Malformed named rule = cc (p.1, p.2, e) in
     scope_refused c.args.hir.now c.args.env.now c.args.next c.args.state.now.frames c.args.inner c.args.fallthrough
     c.args.scope id span (not c.is_live-opened.result) c.args.state.now.marks (ap not c.is_live-opened.ensures)
-    (c.in_err-body.ensures.refused named rule (ap Err d))
+    (c.in_err-body.ensures.refused named rule (passed_on c.from_residual.ensures.1 e))
 
 pub scopes::build_scope-returns-clause-ok : goal.scopes::build_scope-returns-clause-ok
 scopes::build_scope-returns-clause-ok t c = λ id span.
@@ -337,11 +327,10 @@ branches::build_if_only-build_part-requires t c =
 pub branches::build_if_only-returns-in_err-part-clause-refused :
     goal.branches::build_if_only-returns-in_err-part-clause-refused
 branches::build_if_only-returns-in_err-part-clause-refused t c = λ named rule e span.
-    let p = err_from_is_err_and c.from_residual.result c.from_residual.ensures.1 in
-    let d : c.in_err-part.field-0.0 ≡ faults.Malformed named rule = cc (p.1, p.2, e) in
     if_only_refused c.args.hir.now c.args.env.now c.args.next c.args.state.now.frames c.args.arms.test
     c.args.arms.consequent c.args.arms.alternate c.args.arms.fallthrough c.args.arms.id span c.args.opened
-    c.args.state.now.marks c.requires.opens c.requires.absent (c.in_err-part.ensures.refused named rule (ap Err d))
+    c.args.state.now.marks c.requires.opens c.requires.absent
+    (c.in_err-part.ensures.refused named rule (passed_on c.from_residual.ensures.1 e))
 
 pub branches::build_if_only-returns-clause-ok : goal.branches::build_if_only-returns-clause-ok
 branches::build_if_only-returns-clause-ok t c = λ span.
@@ -373,11 +362,10 @@ branches::build_if_else-build_part-requires t c =
 pub branches::build_if_else-returns-in_err-part-clause-refused :
     goal.branches::build_if_else-returns-in_err-part-clause-refused
 branches::build_if_else-returns-in_err-part-clause-refused t c = λ named rule e span.
-    let p = err_from_is_err_and c.from_residual.result c.from_residual.ensures.1 in
-    let d : c.in_err-part.field-0.0 ≡ faults.Malformed named rule = cc (p.1, p.2, e) in
     if_else_first_refused c.args.hir.now c.args.env.now c.args.next c.args.state.now.frames c.args.arms.test
     c.args.arms.consequent c.args.arms.alternate c.args.arms.fallthrough c.args.arms.id span c.args.opened
-    c.args.state.now.marks c.requires.opens c.requires.present (c.in_err-part.ensures.refused named rule (ap Err d))
+    c.args.state.now.marks c.requires.opens c.requires.present
+    (c.in_err-part.ensures.refused named rule (passed_on c.from_residual.ensures.1 e))
 
 pub branches::build_if_else-build_part-requires-2 : goal.branches::build_if_else-build_part-requires-2
 branches::build_if_else-build_part-requires-2 t c =
@@ -404,13 +392,12 @@ branches::build_if_else-build_part-requires-2 t c =
 pub branches::build_if_else-returns-in_err-other-clause-refused :
     goal.branches::build_if_else-returns-in_err-other-clause-refused
 branches::build_if_else-returns-in_err-other-clause-refused t c = λ named rule e span.
-    let p = err_from_is_err_and c.from_residual-in_err-other.result c.from_residual-in_err-other.ensures.1 in
-    let d : c.in_err-other.field-0.0 ≡ faults.Malformed named rule = cc (p.1, p.2, e) in
     let arms = c.args.arms in
     let none = subst (λ z. Refused c.args.hir.now (SpellsList c.args.hir.now c.args.env.now arms.alternate
     (next_inside c.args.opened arms.fallthrough c.args.next)
     (frames_inside c.args.opened (kinds.If arms.fallthrough) z) None) c.build_part.new.state.marks.used)
-    c.in_ok-part.ensures.frames (c.in_err-other.ensures.refused named rule (ap Err d)) in
+    c.in_ok-part.ensures.frames
+    (c.in_err-other.ensures.refused named rule (passed_on c.from_residual-in_err-other.ensures.1 e)) in
     if_else_second_refused c.args.hir.now c.args.env.now c.args.next c.args.state.now.frames c.args.arms.test
     c.args.arms.consequent c.args.arms.alternate c.args.arms.fallthrough c.args.arms.id span c.args.opened
     c.in_ok-part.part c.args.state.now.marks c.build_part.new.state.marks c.requires.opens c.requires.present

@@ -1,12 +1,11 @@
-use Rattle.std.proofs.Common.{◌≡◌, true, false, [], ◌∷◌, ◌++◌, Err, sym, ap, ◌∙◌, subst}
+use Rattle.std.proofs.Common.{◌≡◌, true, false, [], ◌∷◌, ◌++◌, sym, ap, ◌∙◌, subst}
 use Rattle.std.proofs.lemmas.Bool.{not-false, not-true}
-use Rattle.std.proofs.lemmas.Result.{err_from_is_err_and}
-use Rattle.rc_hir.specs.declared.fault.Fault.TheVariants as faults
 use Rattle.rc_pipe.specs.declared.build.state.Marks.{Marks}
 use Rattle.rc_runs.specs.Spelled.{scope_named}
 use Rattle.rc_pipe.specs.Namings.{is_among}
 use Rattle.rc_pipe.specs.RuleFacts.{FaultFact}
 use Rattle.rc_pipe.specs.Built.{live_blocks, listed_scope, is_fresh_scope}
+use Rattle.rc_pipe.proofs.FaultLemmas.{passed_on}
 use Rattle.rc_pipe.proofs.MarksLemmas.{named_once}
 use Rattle.rc_pipe.proofs.UsableLemmas.{usable_made, usable_ids}
 use Rattle.rc_pipe.proofs.TakenLemmas.{marked_push, marking_push, unusable_used, unusable_dead, unusable_scope}
@@ -25,9 +24,7 @@ returns-then-is_live-clause-facts c =
 
 pub returns-in_err-check_ids-clause-refused : goal.returns-in_err-check_ids-clause-refused
 returns-in_err-check_ids-clause-refused c = λ named rule e whole u l s.
-    let p = err_from_is_err_and c.from_residual-in_err-check_ids.result c.from_residual-in_err-check_ids.ensures.1 in
-    let d : c.in_err-check_ids.field-0.0 ≡ faults.Malformed named rule = cc (p.1, p.2, e) in
-    c.in_err-check_ids.ensures.refused named rule (ap Err d)
+    c.in_err-check_ids.ensures.refused named rule (passed_on c.from_residual-in_err-check_ids.ensures.1 e)
     (usable_ids c.args.hir.now c.args.key c.in_ok-block.block.now whole c.in_ok-block.ensures.found u)
 
 pub returns-then-not-moves_alive-clause-refused : goal.returns-then-not-moves_alive-clause-refused
