@@ -14,8 +14,10 @@ pub mod MembershipLemmas
 pub mod OperandsKnown
 mod VisitsForms
 pub mod VisitsKnown
+pub mod VisitsStay
 mod ScopeBlocksLemmas
 pub mod ScopesOfBlocks
+pub mod ScopeBlocksStay
 pub mod NamesStay
 pub mod UsedScopesStay
 mod UnusedScopesKeepErase
