@@ -1,8 +1,7 @@
 -- Label pruning keeps each measure that counts no label and that a `Label` adds nothing to.
-use Rattle.std.proofs.Common.{◌≡◌, ◌∙◌, [], ◌∷◌, ◌++◌, Bool, true, false, if◌then◌else◌, Option, None, Some, Result, Ok}
+use Rattle.std.proofs.Common.{◌≡◌, ◌∙◌, [], ◌∷◌, ◌++◌, Bool, true, false, if◌then◌else◌, Option, None, Some}
 use Rattle.std.proofs.Common.{refl, sym, ap}
 use Rattle.std.proofs.lemmas.List.{append-nil}
-use Rattle.rc_hir.specs.declared.fault.Fault.{Fault}
 use Rattle.rc_names.specs.declared.numbers.EvaluationOrder.{EvaluationOrder}
 use Rattle.rc_tree.specs.Opened.{OpenTerminal}
 use Rattle.rc_tree.specs.RewriteKeeps.{Measure, block, one, Compositional}
@@ -20,15 +19,6 @@ use Rattle.rc_tree.proofs.TreeNamesLemmas.{terminal-Label}
 use Rattle.rc_runs.proofs.RebuiltKeeps.{only_answer, rebuilt_keeps}
 use Rattle.rc_checks.specs.Labels.{IsWithoutUnusedLabels, Targets, flattened, in_place_of, is_named}
 use Rattle.rc_checks.specs.Labels.{label_after, label_rules, targets_behind}
-
--- a block has one form without its unused labels
-pub one_without_labels : (before after other : ReactiveBlock) → IsWithoutUnusedLabels before after
-    → IsWithoutUnusedLabels before other → after ≡ other
-one_without_labels before after other a b =
-    let same : ◌≡◌ {A = Result (Targets × ReactiveBlock) Fault} (Ok (a.targets, after)) (Ok (b.targets, other)) = sym
-    a.rebuilt ∙ b.rebuilt in
-    let pair : ◌≡◌ {A = Targets × ReactiveBlock} (a.targets, after) (b.targets, other) = cc in
-    ap (λ p. p.1) pair
 
 module _ {V I L C P : Type 0} (m : Measure V I L C P) (laws : Compositional m)
     (blind : (x : ReactiveTerminalStatement) (label : Option ReactiveLabel)

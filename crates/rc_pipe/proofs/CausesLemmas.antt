@@ -25,7 +25,7 @@ use Rattle.rc_hir.specs.EnvironmentNames.{environment_names}
 use Rattle.rc_pipe.specs.Causes.{is_built, first_unbuilt, first_early_return}
 use Rattle.rc_pipe.specs.RuleFacts.{At, LacksRow, FaultFact}
 use Rattle.rc_pipe.specs.Headline.{HasAnswer, IsAccepted, IsCause, SpellsNone}
-use Rattle.rc_pipe.specs.Passes.{EndsOutside, OfLabeled}
+use Rattle.rc_pipe.specs.Passes.{EndsOutside}
 use Rattle.rc_runs.proofs.OneTree.{spells_one_function}
 use Rattle.rc_pipe.proofs.OutsideLemmas.{last_outside}
 use Rattle.rc_runs.proofs.AllLemmas.{All-left, All-right, All-flat_map}
@@ -127,9 +127,8 @@ module _ (hir : HirFunction) (env : Environment) (accepted : IsAccepted hir env)
   only_memory func answer (faults.Todo block) cause = absurd cause
   only_memory func answer (faults.ScopeCompleted id scope) cause =
       let one : cause.1.0 ≡ func = spells_one_function cause.1.1 answer.spelled in
-      let last : OfLabeled func.body (λ body. EndsOutside env body id scope) = subst
-      (λ f. OfLabeled f.body (λ body. EndsOutside env body id scope)) one cause.1.2 in
-      absurd (last_outside env last.labeled id scope (answer.inside last.labeled last.labels) last.holds)
+      let last : EndsOutside env func.body id scope = subst (λ f. EndsOutside env f.body id scope) one cause.1.2 in
+      absurd (last_outside env func.body id scope answer.inside last)
   only_memory func answer (faults.Uninitialised declaration) cause = absurd cause
   only_memory func answer (faults.NoScopeNode scope) cause = absurd cause
   only_memory func answer (faults.BadTarget target) cause = absurd cause

@@ -1,5 +1,5 @@
 -- What is spelled, pruned and listed has the headline.
-use Rattle.std.proofs.Common.{◌∙◌, ◌↔◌, List, map, ap, subst}
+use Rattle.std.proofs.Common.{◌∙◌, ◌↔◌, List, map, ap}
 use Rattle.rc_hir.specs.declared.function.HirFunction.{HirFunction}
 use Rattle.rc_hir.specs.declared.environment.Environment.{Environment}
 use Rattle.rc_tree.specs.TreeNames.{TreeInTables}
@@ -12,13 +12,13 @@ use Rattle.rc_runs.proofs.GraphToBody.{graph_to_function}
 use Rattle.rc_runs.proofs.BodyToGraph.{function_to_graph}
 use Rattle.rc_runs.proofs.SpelledNames.{spelled_names_held}
 use Rattle.rc_checks.specs.ScopesIn.{scopes_in}
-use Rattle.rc_checks.proofs.LabelsKeep.{labels_keep_names, one_without_labels}
+use Rattle.rc_checks.proofs.LabelsKeep.{labels_keep_names}
 use Rattle.rc_checks.proofs.NamesStay.{still_known, unused_scopes_keep_names}
 use Rattle.rc_checks.proofs.ScopesOfBlocks.{scopes_in-blocks}
 use Rattle.rc_pipe.specs.declared.pipeline.Pruned.{Pruned}
 use Rattle.rc_pipe.specs.Fates.{AreFates}
 use Rattle.rc_pipe.specs.Headline.{HasAnswer, IsAccepted, IsAnswer}
-use Rattle.rc_pipe.specs.Passes.{AreInside, IsPruned}
+use Rattle.rc_pipe.specs.Passes.{IsPruned}
 
 -- the passes leave the numbers of the spelled function, and those are in their tables
 known_of_pruned : (hir : HirFunction) (env : Environment) → IsAccepted hir env
@@ -56,6 +56,5 @@ pub has_answer : (hir : HirFunction) (env : Environment) (pruned : Pruned) (answ
     → HasAnswer hir env answer.spelled
 has_answer hir env pruned answer = record {
   spelled = answer.spells;
-  inside = λ labeled labels. subst (AreInside env) (one_without_labels answer.spelled.body answer.passes.labeled labeled
-      answer.passes.labels labels) answer.passes.inside;
+  inside = answer.passes.inside;
 }

@@ -18,14 +18,16 @@ use Rattle.rc_runs.specs.Spelled.{Spells}
 use Rattle.rc_runs.proofs.ErasedRuns.{same_erased_same_runs}
 use Rattle.rc_runs.proofs.SpelledNames.{spelled_names_held}
 use Rattle.rc_checks.specs.Labels.{IsWithoutUnusedLabels}
-use Rattle.rc_checks.specs.Membership.{IsFirstUnknown}
+use Rattle.rc_checks.specs.Membership.{IsFirstUnknown, IsInside, IsLastOutside}
 use Rattle.rc_checks.specs.ScopeBlocks.{scope_blocks, staying_blocks}
 use Rattle.rc_checks.specs.ScopesIn.{scopes_in}
 use Rattle.rc_checks.specs.UnusedScopes.{IsWithoutUnusedScopes}
-use Rattle.rc_checks.specs.Visits.{visits_of}
+use Rattle.rc_checks.specs.Visits.{Visit, visits_of}
 use Rattle.rc_checks.proofs.LabelsKeep.{labels_keep_names}
+use Rattle.rc_checks.proofs.ScopeBlocksStay.{labels_keep_scopes}
 use Rattle.rc_checks.proofs.UnusedScopesFaults.{scopes_are_there}
 use Rattle.rc_checks.proofs.VisitsKnown.{no_unknown}
+use Rattle.rc_checks.proofs.VisitsStay.{labels_keep_visits}
 use Rattle.rc_pipe.specs.Headline.{IsAccepted, IsCause}
 use Rattle.rc_pipe.specs.Passes.{AreInside, EndsOutside, IsPassFault, IsPruned, LacksNumber}
 use Rattle.rc_pipe.proofs.NoJumpIsMet.{no_jump_is_met}
@@ -41,6 +43,14 @@ runs_through env first second third (Ok done) same e = λ events end.
     (λ run. there.1 (here.0 run), λ run. here.1 (there.0 run))
 runs_through env first second third (Err fault) same e = tt
 
+-- what holds of the scopes and the operands of a tree without its unused labels holds of those of the tree
+of_spelled : (env : Environment) (body labeled : ReactiveBlock) → IsWithoutUnusedLabels body labeled
+    → (P : List ScopeId → List Visit → Type 0) → P (scopes_in labeled) (visits_of env.functions labeled)
+    → P (scopes_in body) (visits_of env.functions body)
+of_spelled env body labeled labels P holds =
+    subst (P (scopes_in body)) (labels_keep_visits env.functions body labeled labels)
+    (subst (λ scopes. P scopes (visits_of env.functions labeled)) (labels_keep_scopes body labeled labels) holds)
+
 -- a function that lost its unused labels and then its unused scopes is pruned, where no operand was outside between
 pub pruned_by_both : (env : Environment) (first second third : ReactiveFunction) (result : Result (Unit {0}) Fault)
     → IsWithoutUnusedLabels first.body second.body → second ≡ record first { body = second.body }
@@ -51,7 +61,7 @@ pub pruned_by_both : (env : Environment) (first second third : ReactiveFunction)
 pruned_by_both env first second third (Ok done) labels kept inside scopes stays header = record {
   labeled = second.body;
   labels = labels;
-  inside = inside;
+  inside = of_spelled env first.body second.body labels (λ scopes visits. All (IsInside env scopes) visits) inside;
   scopes = scopes;
   stays = stays;
   header = header ∙ (λ i. record (kept i) { body = third.body });
@@ -73,7 +83,8 @@ module _ (env : Environment) (func : ReactiveFunction) (labeled : ReactiveBlock)
   outside_fault fault completed unknown (inl memory) = subst (IsPassFault env func) (sym memory) tt
   outside_fault fault completed unknown (inr (inl it)) =
       subst (IsPassFault env func) (sym it.2)
-      (record { labeled = labeled; labels = labels; holds = completed it.0 it.1 it.2 })
+      (of_spelled env func.body labeled labels (λ scopes visits. IsLastOutside env scopes visits it.0 it.1)
+      (completed it.0 it.1 it.2))
   outside_fault fault completed unknown (inr (inr it)) =
       subst (IsPassFault env func) (sym it.2)
       (record { labeled = labeled; labels = labels; holds = inl (unknown it.0 it.1 it.2) })

@@ -15,11 +15,9 @@ use Rattle.rc_runs.specs.BodyRun.{IsBodyRun}
 use Rattle.rc_pipe.specs.Causes.{first_early_return, NoEarlyReturnSet, HasRoom, first_unbuilt, AreBuilt}
 use Rattle.rc_pipe.specs.RuleFacts.{RuleFact}
 use Rattle.rc_pipe.specs.Fates.{AreFates}
-use Rattle.rc_pipe.specs.Passes.{AreInside, EndsOutside, IsPruned, OfLabeled}
-use Rattle.rc_checks.specs.Labels.{IsWithoutUnusedLabels}
+use Rattle.rc_pipe.specs.Passes.{AreInside, EndsOutside, IsPruned}
 use Rattle.rc_checks.specs.ScopeBlocks.{staying_blocks}
 use Rattle.rc_checks.specs.ScopesIn.{scopes_in}
-use Rattle.rc_tree.specs.declared.statement.ReactiveBlock.{ReactiveBlock}
 
 -- nothing is asked of a graph but this before it is built
 pub record IsAccepted (hir : HirFunction) (env : Environment) : Type 0 where
@@ -35,7 +33,7 @@ SpellsNone hir env = (func : ReactiveFunction) → Spells hir env func → ⊥
 -- the graph spells the function, and no operand of it is outside the blocks of its scope
 pub record HasAnswer (hir : HirFunction) (env : Environment) (func : ReactiveFunction) : Type 0 where
   pub spelled : Spells hir env func
-  pub inside : (labeled : ReactiveBlock) → IsWithoutUnusedLabels func.body labeled → AreInside env labeled
+  pub inside : AreInside env func.body
 
 -- what is answered for a graph with its environment
 pub record IsAnswer (hir : HirFunction) (env : Environment) (pruned : Pruned) : Type 0 where
@@ -69,7 +67,6 @@ IsCause hir env (faults.NotBuilt block) =
 IsCause hir env (faults.Malformed block rule) =
     IsAccepted hir env × SpellsNone hir env × RuleFact hir rule block
 IsCause hir env (faults.ScopeCompleted id scope) =
-    IsAccepted hir env × ((func : ReactiveFunction) × Spells hir env func
-    × OfLabeled func.body (λ body. EndsOutside env body id scope))
+    IsAccepted hir env × ((func : ReactiveFunction) × Spells hir env func × EndsOutside env func.body id scope)
 IsCause hir env faults.NoMemory = ⊤
 IsCause hir env _ = ⊥

@@ -23,11 +23,11 @@ AreInside env body = All (IsInside env (scopes_in body)) (visits_of env.function
 abbrev pub EndsOutside : Environment → ReactiveBlock → EvaluationOrder → ScopeId → Type 0
 EndsOutside env body id scope = IsLastOutside env (scopes_in body) (visits_of env.functions body) id scope
 
--- the function without its unused labels, where no operand is outside, and then without its unused scopes
+-- the function, where no operand is outside, without its unused labels and then without its unused scopes
 pub record IsPruned (env : Environment) (spelled pruned : ReactiveFunction) : Type 0 where
   pub labeled : ReactiveBlock
   pub labels : IsWithoutUnusedLabels spelled.body labeled
-  pub inside : AreInside env labeled
+  pub inside : AreInside env spelled.body
   pub scopes : IsWithoutUnusedScopes env labeled pruned.body
   -- of the scope blocks exactly those stay whose scopes give something
   pub stays : scope_blocks pruned.body ≡ staying_blocks env labeled
@@ -47,7 +47,7 @@ LacksNumber env fault body =
 -- why the passes refuse a function
 abbrev pub IsPassFault : Environment → ReactiveFunction → Fault → Type 0
 IsPassFault env func (faults.BadTarget target) = IsFirstUnmet (met_in func.body) target
-IsPassFault env func (faults.ScopeCompleted id scope) = OfLabeled func.body (λ body. EndsOutside env body id scope)
+IsPassFault env func (faults.ScopeCompleted id scope) = EndsOutside env func.body id scope
 IsPassFault env func (faults.BadName table index) = OfLabeled func.body (LacksNumber env (faults.BadName table index))
 IsPassFault env func faults.NoMemory = ⊤
 IsPassFault env func _ = ⊥
