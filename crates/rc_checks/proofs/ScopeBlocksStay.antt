@@ -11,7 +11,7 @@ use Rattle.rc_tree.specs.declared.terminal.ReactiveLabel.{ReactiveLabel}
 use Rattle.rc_tree.specs.declared.terminal.ReactiveTerminal.TheVariants as term
 use Rattle.rc_tree.specs.declared.terminal.ReactiveTerminalStatement.{ReactiveTerminalStatement}
 use Rattle.rc_checks.specs.Labels.{IsWithoutUnusedLabels}
-use Rattle.rc_checks.specs.ScopeBlocks.{ScopeBlock, Held, nothing, both, all_of, of_scope, held}
+use Rattle.rc_checks.specs.ScopeBlocks.{ScopeBlock, Held, nothing, both, all_of, of_scope, held, scope_blocks}
 use Rattle.rc_checks.specs.ScopesIn.{scopes_in}
 use Rattle.rc_checks.proofs.LabelsKeep.{labels_keep}
 use Rattle.rc_checks.proofs.ScopeBlocksLemmas.{held_if, held_list, held_list-append, held_statement, held_terminal}
@@ -108,10 +108,15 @@ labels_keep_held before after is = inside before after (labels_keep held_measure
         sym (held-block body) ∙ sym (held-Label body id) ∙ ap held_terminal (sym is) ∙ sym (held-Terminal x)
         ∙ sym (both-nothing (held_statement (stmt.Terminal x)))
 
+-- the scope blocks of a tree stay
+pub labels_keep_scope_blocks : (before after : ReactiveBlock) → IsWithoutUnusedLabels before after
+    → scope_blocks after ≡ scope_blocks before
+labels_keep_scope_blocks before after is = ap (λ (it : Held). it.blocks) (labels_keep_held before after is)
+
 -- the scopes of a tree stay
 pub labels_keep_scopes : (before after : ReactiveBlock) → IsWithoutUnusedLabels before after
     → scopes_in after ≡ scopes_in before
 labels_keep_scopes before after is =
     scopes_in-blocks after
-    ∙ ap (λ (it : Held). map (λ (block : ScopeBlock). block.scope) it.blocks) (labels_keep_held before after is)
+    ∙ ap (map (λ (block : ScopeBlock). block.scope)) (labels_keep_scope_blocks before after is)
     ∙ sym (scopes_in-blocks before)

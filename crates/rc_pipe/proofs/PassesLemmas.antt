@@ -1,5 +1,6 @@
 -- What the passes refuse of a spelled function: operands outside, and nothing else.
-use Rattle.std.proofs.Common.{◌≡◌, ◌∙◌, ◌⊎◌, inl, inr, ℕ, List, Result, Ok, Err, All, OnOk, ◌↔◌, sym, subst}
+use Rattle.std.proofs.Common.{◌≡◌, ◌∙◌, ◌⊎◌, inl, inr, ℕ, List, Result, Ok, Err, All, OnOk, ◌↔◌, sym, ap, subst}
+use Rattle.std.specs.List.{filter}
 use Rattle.rc_hir.specs.Names.{IsInTable, lengths}
 use Rattle.rc_hir.specs.declared.environment.Environment.{Environment}
 use Rattle.rc_hir.specs.declared.fault.Fault.{Fault}
@@ -20,11 +21,12 @@ use Rattle.rc_runs.proofs.SpelledNames.{spelled_names_held}
 use Rattle.rc_checks.specs.Labels.{IsWithoutUnusedLabels}
 use Rattle.rc_checks.specs.Membership.{IsFirstUnknown, IsInside, IsLastOutside}
 use Rattle.rc_checks.specs.ScopeBlocks.{scope_blocks, staying_blocks}
+use Rattle.rc_checks.specs.ScopeBlocks as spec
 use Rattle.rc_checks.specs.ScopesIn.{scopes_in}
 use Rattle.rc_checks.specs.UnusedScopes.{IsWithoutUnusedScopes}
 use Rattle.rc_checks.specs.Visits.{Visit, visits_of}
 use Rattle.rc_checks.proofs.LabelsKeep.{labels_keep_names}
-use Rattle.rc_checks.proofs.ScopeBlocksStay.{labels_keep_scopes}
+use Rattle.rc_checks.proofs.ScopeBlocksStay.{labels_keep_scope_blocks, labels_keep_scopes}
 use Rattle.rc_checks.proofs.UnusedScopesFaults.{scopes_are_there}
 use Rattle.rc_checks.proofs.VisitsKnown.{no_unknown}
 use Rattle.rc_checks.proofs.VisitsStay.{labels_keep_visits}
@@ -63,7 +65,7 @@ pruned_by_both env first second third (Ok done) labels kept inside scopes stays 
   labels = labels;
   inside = of_spelled env first.body second.body labels (λ scopes visits. All (IsInside env scopes) visits) inside;
   scopes = scopes;
-  stays = stays;
+  stays = stays ∙ ap (filter (spec.stays env)) (labels_keep_scope_blocks first.body second.body labels);
   header = header ∙ (λ i. record (kept i) { body = third.body });
 }
 pruned_by_both env first second third (Err fault) labels kept inside scopes stays header = tt

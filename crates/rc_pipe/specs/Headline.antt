@@ -49,7 +49,7 @@ pub record IsAnswer (hir : HirFunction) (env : Environment) (pruned : Pruned) : 
   pub body_to_graph : (events : List Event) (end : End) → IsBodyRun pruned.func env events end →
       IsGraphRun hir env events end
   -- the scope blocks that are left are those whose scopes give something
-  pub left : scopes_in pruned.func.body ≡ map (λ block. block.scope) (staying_blocks env passes.labeled)
+  pub left : scopes_in pruned.func.body ≡ map (λ block. block.scope) (staying_blocks env spelled.body)
   -- each scope of the spelled tree is listed once, by rising number, with its fate
   pub fates : AreFates (scopes_in spelled.body) pruned.func.body pruned.fates
   -- every number of the answered function and of the environment is in its table

@@ -30,7 +30,7 @@ pub record IsPruned (env : Environment) (spelled pruned : ReactiveFunction) : Ty
   pub inside : AreInside env spelled.body
   pub scopes : IsWithoutUnusedScopes env labeled pruned.body
   -- of the scope blocks exactly those stay whose scopes give something
-  pub stays : scope_blocks pruned.body ≡ staying_blocks env labeled
+  pub stays : scope_blocks pruned.body ≡ staying_blocks env spelled.body
   pub header : pruned ≡ record spelled { body = pruned.body }
 
 -- P holds of the body without its unused labels
