@@ -1,5 +1,5 @@
 -- Causes exclude what is accepted, and what the builder refuses has a cause.
-use Rattle.std.proofs.Common.{◌≡◌, ℕ, zero, suc, if◌then◌else◌, ◌+◌, ◌<◌, ◌≤◌, ◌⊎◌, inl, inr, Bool, true, false}
+use Rattle.std.proofs.Common.{◌≡◌, ℕ, zero, suc, if◌then◌else◌, ◌<◌, ◌≤◌, ◌⊎◌, inl, inr, Bool, true, false}
 use Rattle.std.proofs.Common.{not, List, [], ◌∷◌, ◌++◌, length, get_or, Some, None, refl, ap, subst, eqb-true, arith}
 use Rattle.std.proofs.Common.{slice_get}
 use Rattle.rc_tree.proofs.PlaceLemmas.{past_end}

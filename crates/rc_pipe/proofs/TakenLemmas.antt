@@ -25,8 +25,7 @@ use Rattle.rc_pipe.specs.Namings.{is_among, named_blocks}
 use Rattle.rc_pipe.specs.RuleFacts.{At, MovesDead, SharesScope, RuleFact}
 use Rattle.rc_pipe.specs.Built.{Marked, AreNamed, AtList, MarksBlocks, live_blocks, IsUnusable, listed_scope}
 use Rattle.rc_pipe.specs.Built.{is_fresh_scope}
-use Rattle.rc_runs.proofs.GraphLemmas.{same_block-eq, blocks_equivalence}
-use Rattle.rc_checks.proofs.OpenScopesLemmas.{same_scope-eq, scopes_equivalence}
+use Rattle.rc_runs.proofs.GraphLemmas.{same_block-eq, blocks_equivalence, same_scope-eq, scopes_equivalence}
 use Rattle.rc_pipe.proofs.MarksLemmas.{times_append, times_among, named_twice, one_more, among_push}
 use Rattle.rc_pipe.proofs.MarksLemmas.{named_push}
 use Rattle.rc_pipe.proofs.OwnersLemmas.{live_times}
