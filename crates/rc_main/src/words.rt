@@ -1,6 +1,6 @@
 //! The words of the command line.
 
-ghost use Rattle.std.specs.Prelude.{◌≡◌, ◌↔◌, IfOk, IsTrue, drop, map, string_bytes};
+ghost use Rattle.std.specs.Prelude.{◌≡◌, ◌↔◌, ◌⊎◌, Err, IfErr, IfOk, IsErr, IsTrue, MatchResult, drop, map, string_bytes};
 ghost use Rattle.std.specs.Vec.Iter.{into_iter_items};
 ghost use Rattle.rc_main.specs.Outcome.{IsTree};
 
@@ -14,7 +14,12 @@ use std::io;
 pub type Words = List<Text>;
 
 /// The words of a command line: `Usage` where one isn't UTF-8, and `NoMemory` where memory is wanting.
-pub fn words(alloc: Global, args: io::Result<Args>) -> Result<Words, Stop> {
+pub fn words(alloc: Global, args: io::Result<Args>) -> Result<Words, Stop>
+    ensures ok { MatchResult args
+        (λ args. IfOk result (λ words. words ≡ map string_bytes (drop 1 (into_iter_items args)))) (λ _. IsErr result) }
+    ensures usage { result ≡ Err Stop.Usage → IsErr args }
+    ensures only { IfErr result (λ stop. (stop ≡ Stop.Usage) ⊎ (stop ≡ Stop.NoMemory)) }
+{
     match args {
         Ok(args) => Ok(words_after_name(alloc, args)?),
         Err(error) if error.kind() == io::ErrorKind::OutOfMemory => Err(Stop::NoMemory),
