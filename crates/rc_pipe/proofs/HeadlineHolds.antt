@@ -16,6 +16,7 @@ use Rattle.rc_checks.proofs.LabelsKeep.{labels_keep_names}
 use Rattle.rc_checks.proofs.NamesStay.{still_known, unused_scopes_keep_names}
 use Rattle.rc_checks.proofs.ScopesOfBlocks.{scopes_in-blocks}
 use Rattle.rc_pipe.specs.declared.pipeline.Pruned.{Pruned}
+use Rattle.rc_build.specs.BuiltForms.{AreBuilt}
 use Rattle.rc_pipe.specs.Fates.{AreFates}
 use Rattle.rc_pipe.specs.Headline.{HasAnswer, IsAccepted, IsAnswer}
 use Rattle.rc_pipe.specs.Passes.{IsPruned}
@@ -34,12 +35,13 @@ known_of_pruned hir env accepted spelled spells func passes =
       environment = accepted.names.environment;
     })
 
-pub headline_holds : (hir : HirFunction) (env : Environment) (pruned : Pruned) → IsAccepted hir env
+pub headline_holds : (hir : HirFunction) (env : Environment) (pruned : Pruned) → IsAccepted hir env → AreBuilt hir
     → (spelled : ReactiveFunction) → Spells hir env spelled → IsPruned env spelled pruned.func
     → ((events : List Event) (end : End) → IsBodyRun spelled env events end ↔ IsBodyRun pruned.func env events end)
     → AreFates (scopes_in spelled.body) pruned.func.body pruned.fates → IsAnswer hir env pruned
-headline_holds hir env pruned accepted spelled spells passes same_runs told = record {
+headline_holds hir env pruned accepted forms spelled spells passes same_runs told = record {
   accepted = accepted;
+  forms = forms;
   spelled = spelled;
   spells = spells;
   one_tree = λ func other. spells_one_function other spells;
@@ -55,6 +57,7 @@ headline_holds hir env pruned accepted spelled spells passes same_runs told = re
 pub has_answer : (hir : HirFunction) (env : Environment) (pruned : Pruned) (answer : IsAnswer hir env pruned)
     → HasAnswer hir env answer.spelled
 has_answer hir env pruned answer = record {
+  forms = answer.forms;
   spelled = answer.spells;
   inside = answer.passes.inside;
 }

@@ -1,14 +1,3 @@
-pub mod FaultLemmas
-pub mod DepthsLemmas
-pub mod MovesLemmas
-pub mod NumbersLemmas
-pub mod MarksLemmas
-pub mod UsableLemmas
-pub mod OwnersLemmas
-pub mod TakenLemmas
-pub mod BuiltLemmas
-pub mod TerminalLemmas
-pub mod BuildLemmas
 pub mod FatesLemmas
 pub mod OutsideLemmas
 pub mod CausesLemmas

@@ -30,6 +30,7 @@ use Rattle.rc_checks.proofs.ScopeBlocksStay.{labels_keep_scope_blocks, labels_ke
 use Rattle.rc_checks.proofs.UnusedScopesFaults.{scopes_are_there}
 use Rattle.rc_checks.proofs.VisitsKnown.{no_unknown}
 use Rattle.rc_checks.proofs.VisitsStay.{labels_keep_visits}
+use Rattle.rc_build.specs.BuiltForms.{AreBuilt}
 use Rattle.rc_pipe.specs.Headline.{IsAccepted, IsCause}
 use Rattle.rc_pipe.specs.Passes.{AreInside, EndsOutside, IsPassFault, IsPruned, LacksNumber}
 use Rattle.rc_pipe.proofs.NoJumpIsMet.{no_jump_is_met}
@@ -91,8 +92,8 @@ module _ (env : Environment) (func : ReactiveFunction) (labeled : ReactiveBlock)
       subst (IsPassFault env func) (sym it.2)
       (record { labeled = labeled; labels = labels; holds = inl (unknown it.0 it.1 it.2) })
 
-module _ (hir : HirFunction) (env : Environment) (accepted : IsAccepted hir env) (func : ReactiveFunction)
-    (spelled : Spells hir env func) where
+module _ (hir : HirFunction) (env : Environment) (accepted : IsAccepted hir env) (forms : AreBuilt hir)
+    (func : ReactiveFunction) (spelled : Spells hir env func) where
   -- the numbers of the function without its unused labels are in their tables
   labeled_names : (labeled : ReactiveBlock) → IsWithoutUnusedLabels func.body labeled
       → All (IsInTable (lengths env 0)) (names_in labeled)
@@ -111,7 +112,7 @@ module _ (hir : HirFunction) (env : Environment) (accepted : IsAccepted hir env)
   -- what a pass refuses of a spelled function has a cause
   pub pass_cause : (fault : Fault) → IsPassFault env func fault → IsCause hir env fault
   pass_cause (faults.BadTarget target) unmet = absurd (no_jump_is_met func spelled unmet.place target unmet.jumps)
-  pass_cause (faults.ScopeCompleted id scope) last = (accepted, (func, spelled, last))
+  pass_cause (faults.ScopeCompleted id scope) last = (accepted, forms, (func, spelled, last))
   pass_cause (faults.BadName table index) lacks =
       absurd (nothing_lacks (faults.BadName table index) lacks.labeled lacks.labels lacks.holds)
   pass_cause faults.NoMemory fault = tt

@@ -1,5 +1,5 @@
 -- The headline: what an answered function is to its graph, and why a graph is refused.
-use Rattle.std.specs.Prelude.{◌≡◌, List, Some, option_map, ⊤, map}
+use Rattle.std.specs.Prelude.{◌≡◌, List, Some, ⊤, map}
 use Rattle.rc_hir.specs.declared.fault.Fault.{Fault}
 use Rattle.rc_hir.specs.declared.fault.Fault.TheVariants as faults
 use Rattle.rc_hir.specs.declared.function.HirFunction.{HirFunction}
@@ -12,8 +12,11 @@ use Rattle.rc_runs.specs.Event.{Event, End}
 use Rattle.rc_runs.specs.GraphRun.{IsGraphRun}
 use Rattle.rc_runs.specs.Spelled.{Spells}
 use Rattle.rc_runs.specs.BodyRun.{IsBodyRun}
-use Rattle.rc_pipe.specs.Causes.{first_early_return, NoEarlyReturnSet, HasRoom, first_unbuilt, AreBuilt}
-use Rattle.rc_pipe.specs.RuleFacts.{RuleFact}
+use Rattle.rc_runs.specs.EarlyReturns.{first_early_return, NoEarlyReturnSet}
+use Rattle.rc_build.specs.BuildCauses.{SpellsNone}
+use Rattle.rc_build.specs.BuiltForms.{AreBuilt, IsFirstUnbuilt}
+use Rattle.rc_build.specs.RuleFacts.{RuleFact}
+use Rattle.rc_pipe.specs.Causes.{HasRoom}
 use Rattle.rc_pipe.specs.Fates.{AreFates}
 use Rattle.rc_pipe.specs.Passes.{AreInside, EndsOutside, IsPruned}
 use Rattle.rc_checks.specs.ScopeBlocks.{staying_blocks}
@@ -24,20 +27,18 @@ pub record IsAccepted (hir : HirFunction) (env : Environment) : Type 0 where
   pub names : NamesInTables hir env
   pub no_early_return : NoEarlyReturnSet env
   pub room : HasRoom hir env
-  pub built : AreBuilt hir
 
--- the graph spells no function
-abbrev pub SpellsNone : HirFunction → Environment → Type 0
-SpellsNone hir env = (func : ReactiveFunction) → Spells hir env func → ⊥
-
--- the graph spells the function, and no operand of it is outside the blocks of its scope
+-- the graph, whose terminals are of forms that are built, spells the function, and no operand of it is outside the
+-- blocks of its scope
 pub record HasAnswer (hir : HirFunction) (env : Environment) (func : ReactiveFunction) : Type 0 where
+  pub forms : AreBuilt hir
   pub spelled : Spells hir env func
   pub inside : AreInside env func.body
 
 -- what is answered for a graph with its environment
 pub record IsAnswer (hir : HirFunction) (env : Environment) (pruned : Pruned) : Type 0 where
   pub accepted : IsAccepted hir env
+  pub forms : AreBuilt hir
   -- the graph spells exactly one function, and the answered one is what the passes make of it, with its header
   pub spelled : ReactiveFunction
   pub spells : Spells hir env spelled
@@ -55,18 +56,22 @@ pub record IsAnswer (hir : HirFunction) (env : Environment) (pruned : Pruned) : 
   -- every number of the answered function and of the environment is in its table
   pub known : TreeInTables pruned.func env
 
--- Why a fault is answered. Each cause but want of memory asks that those above it in the order don't hold.
+-- Why a fault is returned. Each cause but that of `NoMemory` asks that those above it in the order don't hold.
 abbrev pub IsCause : HirFunction → Environment → Fault → Type 0
 IsCause hir env (faults.BadName table index) = NamesOutside hir env (faults.BadName table index)
 IsCause hir env (faults.EarlyReturnSet scope) =
     NamesInTables hir env × (first_early_return env ≡ Some scope.0)
 IsCause hir env faults.NoIds = NamesInTables hir env × NoEarlyReturnSet env × ¬ HasRoom hir env
-IsCause hir env (faults.NotBuilt block) =
-    NamesInTables hir env × NoEarlyReturnSet env × HasRoom hir env
-    × (option_map (λ entry. entry.0) (first_unbuilt hir) ≡ Some block)
+IsCause hir env (faults.NotBuilt block) = IsAccepted hir env × IsFirstUnbuilt hir block
 IsCause hir env (faults.Malformed block rule) =
-    IsAccepted hir env × SpellsNone hir env × RuleFact hir rule block
+    IsAccepted hir env × AreBuilt hir × SpellsNone hir env × RuleFact hir rule block
 IsCause hir env (faults.ScopeCompleted id scope) =
-    IsAccepted hir env × ((func : ReactiveFunction) × Spells hir env func × EndsOutside env func.body id scope)
+    IsAccepted hir env × AreBuilt hir
+    × ((func : ReactiveFunction) × Spells hir env func × EndsOutside env func.body id scope)
 IsCause hir env faults.NoMemory = ⊤
-IsCause hir env _ = ⊥
+-- faults that no graph gets
+IsCause hir env (faults.Todo block) = ⊥
+IsCause hir env (faults.Uninitialised declaration) = ⊥
+IsCause hir env (faults.NoScopeNode scope) = ⊥
+IsCause hir env (faults.BadTarget target) = ⊥
+IsCause hir env (faults.FunctionCycle function) = ⊥

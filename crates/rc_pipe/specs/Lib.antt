@@ -1,10 +1,4 @@
-pub mod Depths
 pub mod Causes
 pub mod Passes
 pub mod Fates
-pub mod Namings
-pub mod RuleFacts
-pub mod Rows
-pub mod Arms
-pub mod Built
 pub mod Headline

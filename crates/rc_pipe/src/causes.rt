@@ -1,10 +1,11 @@
 //! The tests that come before a graph is built.
 
 ghost use Rattle.std.specs.Prelude.{◌≡◌, ◌↔◌, ◌<◌, IsTrue, All, option_map};
-ghost use Rattle.rc_pipe.specs.Causes.{HasRoom, first_early_return, first_unbuilt, is_built, is_scope, scope_count};
+ghost use Rattle.rc_pipe.specs.Causes.{HasRoom, is_scope, scope_count};
+ghost use Rattle.rc_runs.specs.EarlyReturns.{first_early_return};
 
-use rc_hir::{Environment, GotoVariant, HirFunction, Terminal};
-use rc_names::{BlockId, ScopeId};
+use rc_hir::{Environment, HirFunction, Terminal};
+use rc_names::ScopeId;
 
 /// The place of the lowest scope that answers for a `Return` already.
 fn first_early_place(env: &Environment) -> Option<usize>
@@ -67,48 +68,4 @@ pub fn has_room(hir: &HirFunction, env: &Environment) -> bool
         && env.types.len() as u128 + 5 * scopes <= last
         && next_block as u128 + scopes <= last
         && are_keys_below(hir, next_block)
-}
-
-/// Whether a terminal is of a form that is built.
-fn is_built(terminal: &Terminal) -> bool
-    ensures { result ≡ is_built terminal.now }
-{
-    match terminal {
-        Terminal::If { .. }
-        | Terminal::Return { .. }
-        | Terminal::Unreachable { .. }
-        | Terminal::Label { .. }
-        | Terminal::Scope { .. }
-        | Terminal::PrunedScope { .. } => true,
-        Terminal::Goto { variant, .. } => match variant {
-            GotoVariant::Break => true,
-            GotoVariant::Continue | GotoVariant::Try => false,
-        },
-        Terminal::Branch { .. }
-        | Terminal::Logical { .. }
-        | Terminal::Ternary { .. }
-        | Terminal::Optional { .. }
-        | Terminal::Sequence { .. }
-        | Terminal::Throw { .. }
-        | Terminal::Switch { .. }
-        | Terminal::DoWhile { .. }
-        | Terminal::While { .. }
-        | Terminal::For { .. }
-        | Terminal::ForOf { .. }
-        | Terminal::ForIn { .. }
-        | Terminal::MaybeThrow { .. }
-        | Terminal::Try { .. } => false,
-    }
-}
-
-/// The first block in graph order whose terminal isn't built yet.
-pub fn first_unbuilt(hir: &HirFunction) -> Option<BlockId>
-    ensures { result ≡ option_map (λ entry. entry.0) (first_unbuilt hir.now) }
-{
-    for (key, block) in hir.body.blocks.iter() {
-        if !is_built(&block.terminal) {
-            return Some(*key);
-        }
-    }
-    None
 }

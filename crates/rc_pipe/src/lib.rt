@@ -1,10 +1,8 @@
-//! From a graph to its pruned tree: the builder, the passes in their order, and the fates of scopes.
+//! From a graph to its pruned tree: the passes in their order, and the fates of scopes.
 #![tactic(auto)]
 
-mod build;
 mod causes;
 mod fates;
-mod frames;
 mod passes;
 mod pipeline;
 

@@ -4,10 +4,10 @@ ghost use Rattle.std.specs.Prelude.{◌≡◌, ◌≢◌, ◌⊎◌, IfOk, IfErr
 ghost use Rattle.rc_tree.specs.declared.function.ReactiveFunction.{ReactiveFunction};
 ghost use Rattle.rc_pipe.specs.Headline.{HasAnswer, IsAccepted, IsAnswer, IsCause};
 
-use crate::build::build;
-use crate::causes::{first_early_return, first_unbuilt, has_room};
+use crate::causes::{first_early_return, has_room};
 use crate::fates::{ScopeFate, fates_of};
 use crate::passes::prune;
+use rc_build::build_reactive_function;
 use rc_checks::scopes_in;
 use rc_hir::{Environment, Fault, HirFunction, check_names};
 use rc_names::List;
@@ -48,14 +48,14 @@ pub fn build_and_prune(
         → IsOk result ⊎ (result ≡ Err Fault.NoMemory) }
 {
     accept(hir, env)?;
-    let mut func = build(alloc, hir, env)?;
+    let mut func = build_reactive_function(alloc, hir, env)?;
     let scopes = scopes_in(alloc, &func.body)?;
     prune(alloc, &mut func, env)?;
     let fates = fates_of(alloc, scopes.as_slice(), &func.body)?;
     Ok(Pruned { func, fates })
 }
 
-/// Refuses a graph for its numbers, early returns, room or forms, in this order. It takes no memory.
+/// Refuses a graph for its numbers, early returns or room, in this order. It takes no memory.
 fn accept(hir: &HirFunction, env: &Environment) -> Result<(), Fault>
     ensures ok { OnOk result (IsAccepted hir.now env.now) }
     ensures refused { IfErr result (λ fault. IsCause hir.now env.now fault × (fault ≢ Fault.NoMemory)) }
@@ -67,8 +67,5 @@ fn accept(hir: &HirFunction, env: &Environment) -> Result<(), Fault>
     if !has_room(hir, env) {
         return Err(Fault::NoIds);
     }
-    match first_unbuilt(hir) {
-        Some(block) => Err(Fault::NotBuilt { block }),
-        None => Ok(()),
-    }
+    Ok(())
 }

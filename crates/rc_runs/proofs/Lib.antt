@@ -7,6 +7,7 @@ pub mod EveryBlockIsPlain
 pub mod OneTree
 pub mod GraphToBody
 pub mod BodyToGraph
+pub mod NamesOutsideLemmas
 mod NoRowNamed
 pub mod SpelledNames
 pub mod RebuiltFaults

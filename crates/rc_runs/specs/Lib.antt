@@ -2,6 +2,7 @@ pub mod Event
 pub mod Silent
 pub mod Graph
 pub mod GraphRun
+pub mod EarlyReturns
 pub mod Frames
 pub mod PlainTree
 pub mod TreeOf

@@ -1,0 +1,135 @@
+-- Causes exclude a graph that can be built and spells a function, and what the walk refuses of it has a cause.
+use Rattle.std.proofs.Common.{◌≡◌, ℕ, zero, suc, if◌then◌else◌, ◌<◌, ◌≤◌, ◌⊎◌, inl, inr, Bool, true, false}
+use Rattle.std.proofs.Common.{not, List, [], ◌∷◌, ◌++◌, length, get_or, Some, None, refl, ap, eqb-true, arith}
+use Rattle.std.proofs.Common.{slice_get}
+use Rattle.std.proofs.lemmas.Bool.{or_cases}
+use Rattle.std.proofs.lemmas.Map.Views.{Contains-from_lookup}
+use Rattle.std.specs.List.{All, flat_map, list_any, find}
+use Rattle.std.specs.Prelude.{nat_eq, option_map}
+use Rattle.rc_names.specs.declared.numbers.BlockId.{BlockId}
+use Rattle.rc_names.specs.declared.numbers.InstructionId.{InstructionId}
+use Rattle.rc_hir.specs.declared.fault.Fault.{Fault}
+use Rattle.rc_hir.specs.declared.fault.Fault.TheVariants as faults
+use Rattle.rc_hir.specs.declared.fault.Rule.{Rule}
+use Rattle.rc_hir.specs.declared.fault.TableName.TheVariants as tables
+use Rattle.rc_hir.specs.declared.function.BasicBlock.{BasicBlock}
+use Rattle.rc_hir.specs.declared.function.HirFunction.{HirFunction}
+use Rattle.rc_hir.specs.declared.environment.Environment.{Environment}
+use Rattle.rc_hir.specs.GraphNames.{Name, row_name, block_names, under_key, function_names, parameter_names}
+use Rattle.rc_hir.specs.GraphNames.{place_names, instruction_names, terminal_names}
+use Rattle.rc_hir.specs.Names.{IsInTable, lengths, FunctionInTables}
+use Rattle.rc_tree.specs.declared.function.ReactiveFunction.{ReactiveFunction}
+use Rattle.rc_tree.proofs.PlaceLemmas.{past_end}
+use Rattle.rc_runs.specs.Spelled.{Spells}
+use Rattle.rc_runs.proofs.AllLemmas.{All-left, All-right, All-flat_map}
+use Rattle.rc_runs.proofs.GraphLemmas.{same_block-eq}
+use Rattle.rc_runs.proofs.NamesOutsideLemmas.{no_name_outside}
+use Rattle.rc_build.specs.BuiltForms.{is_built, first_unbuilt}
+use Rattle.rc_build.specs.BuildCauses.{CanBeBuilt, IsBuildCause, SpellsNone}
+use Rattle.rc_build.specs.RuleFacts.{At, LacksRow, FaultFact}
+
+module _ (hir : HirFunction) (env : Environment) where
+  -- the number is in its table, where the function's rows count
+  abbrev Held : Name → Type 0
+  Held name = IsInTable (lengths env (length hir.instructions)) name
+
+  -- rows that are there are not past the end
+  none_past : (index : ℕ) (numbers : List InstructionId) → All Held (flat_map row_name numbers)
+      → length hir.instructions ≤ index
+      → list_any (λ number. nat_eq index number.0) numbers ≡ true → ⊥
+  none_past index [] all past any = let no : ⊥ = cc in no
+  none_past index (n ∷ ns) all past any =
+      let here : n.0 < length hir.instructions = All-left Held (row_name n) (flat_map row_name ns) all 0
+      (tables.Instructions, 0) (omega arith) in
+      split here (λ any. none_past index ns (All-right Held (row_name n) (flat_map row_name ns) all) past any)
+      (or_cases (nat_eq index n.0) _ any)
+    where
+      split : n.0 < length hir.instructions → (list_any (λ number. nat_eq index number.0) ns ≡ true → ⊥)
+          → (nat_eq index n.0 ≡ true) ⊎ (list_any (λ number. nat_eq index number.0) ns ≡ true) → ⊥
+      split here later (inl same) = omega (arith, eqb-true index n.0 same)
+      split here later (inr any) = later any
+
+  -- a block of a named function names no row that isn't there
+  no_row_lacks : FunctionInTables env hir → (key : BlockId) (index : ℕ) → slice_get hir.instructions index ≡ None
+      → At hir key (LacksRow hir index) → ⊥
+  no_row_lacks names key index none at =
+      let held = Contains-from_lookup same_block-eq key at.block hir.body.blocks at.found in
+      let later : All Held (flat_map place_names hir.context
+      ++ (flat_map (under_key block_names) hir.body.blocks ++ flat_map instruction_names hir.instructions)) =
+      All-right Held (flat_map parameter_names hir.params) _ names
+      in
+      let blocks : All Held (flat_map (under_key block_names) hir.body.blocks) =
+      All-left Held (flat_map (under_key block_names) hir.body.blocks) (flat_map instruction_names hir.instructions)
+      (All-right Held (flat_map place_names hir.context) _ later)
+      in
+      let here : All Held (flat_map row_name at.block.instructions ++ terminal_names at.block.terminal) =
+      All-flat_map Held (under_key block_names) hir.body.blocks blocks held.0 (key, at.block) held.1 held.2
+      in
+      none_past index at.block.instructions (All-left Held (flat_map row_name at.block.instructions)
+      (terminal_names at.block.terminal) here)
+      (past_end hir.instructions index none) at.holds
+
+-- where none of the entries is unbuilt, none is
+none_unbuilt : (entries : List (BlockId × BasicBlock)) → find (λ entry. not (is_built entry.1.terminal)) entries ≡ None
+    → (i : ℕ) (entry : BlockId × BasicBlock) → i < length entries → get_or entries i entry ≡ entry
+    → is_built entry.1.terminal ≡ false → ⊥
+none_unbuilt [] none i entry below is unbuilt = omega arith
+none_unbuilt (e ∷ es) none zero entry below is unbuilt =
+    let same : is_built e.1.terminal ≡ false = rw is unbuilt in
+    let found : find (λ entry. not (is_built entry.1.terminal)) (e ∷ es) ≡ Some e = rw same refl in
+    let no : ⊥ = cc in no
+none_unbuilt (e ∷ es) none (suc i) entry below is unbuilt =
+    split (is_built e.1.terminal) refl none (λ rest. none_unbuilt es rest i entry (omega arith) is unbuilt)
+  where
+    split : (built : Bool) → is_built e.1.terminal ≡ built
+        → (if not built then Some e else find (λ entry. not (is_built entry.1.terminal)) es) ≡ None
+        → (find (λ entry. not (is_built entry.1.terminal)) es ≡ None → ⊥) → ⊥
+    split true is none later = later none
+    split false is none later = let no : ⊥ = cc in no
+
+module _ (hir : HirFunction) (env : Environment) (can : CanBeBuilt hir env) where
+  -- a graph that can be built and spells a function is refused for want of memory alone
+  pub only_memory : (func : ReactiveFunction) → Spells hir env func → (fault : Fault) → IsBuildCause hir env fault
+      → fault ≡ faults.NoMemory
+  only_memory func spelled (faults.BadName table index) cause =
+      absurd (no_name_outside hir env can.names (faults.BadName table index) cause)
+  only_memory func spelled (faults.NotBuilt block) cause =
+      absurd (let some : option_map (λ entry. entry.0) (first_unbuilt hir) ≡ Some block = cause.1 in
+      let none : option_map (λ entry. entry.0) (first_unbuilt hir)
+      ≡ None = ap (option_map (λ entry. entry.0)) can.forms in let no : ⊥ = cc in no)
+  only_memory func spelled (faults.Malformed block rule) cause = absurd (cause.1 func spelled)
+  only_memory func spelled faults.NoMemory cause = refl
+  only_memory func spelled (faults.Todo block) cause = absurd cause
+  only_memory func spelled (faults.EarlyReturnSet scope) cause = absurd cause
+  only_memory func spelled (faults.ScopeCompleted id scope) cause = absurd cause
+  only_memory func spelled (faults.Uninitialised declaration) cause = absurd cause
+  only_memory func spelled (faults.NoScopeNode scope) cause = absurd cause
+  only_memory func spelled faults.NoIds cause = absurd cause
+  only_memory func spelled (faults.BadTarget target) cause = absurd cause
+  only_memory func spelled (faults.FunctionCycle function) cause = absurd cause
+
+  -- what the walk refuses of a graph that can be built has a cause
+  pub cause_of : (fault : Fault) → FaultFact hir fault →
+      ((block : BlockId) (rule : Rule) → fault ≡ faults.Malformed block rule → SpellsNone hir env)
+      → IsBuildCause hir env fault
+  cause_of (faults.Malformed block rule) fact none = (can, none block rule refl, fact)
+  cause_of (faults.BadName tables.Instructions index) fact none =
+      absurd (no_row_lacks hir env can.names.graph fact.1.0 index fact.0 fact.1.1)
+  cause_of (faults.NotBuilt key) fact none =
+      let held = Contains-from_lookup same_block-eq key fact.block hir.body.blocks fact.found in
+      absurd (none_unbuilt hir.body.blocks can.forms held.0 (key, fact.block) held.1 held.2 fact.holds)
+  cause_of faults.NoMemory fact none = tt
+  cause_of (faults.BadName tables.Identifiers index) fact none = absurd fact
+  cause_of (faults.BadName tables.Declarations index) fact none = absurd fact
+  cause_of (faults.BadName tables.Types index) fact none = absurd fact
+  cause_of (faults.BadName tables.Scopes index) fact none = absurd fact
+  cause_of (faults.BadName tables.Functions index) fact none = absurd fact
+  cause_of (faults.BadName tables.Shapes index) fact none = absurd fact
+  cause_of (faults.Todo block) fact none = absurd fact
+  cause_of (faults.EarlyReturnSet scope) fact none = absurd fact
+  cause_of (faults.ScopeCompleted id scope) fact none = absurd fact
+  cause_of (faults.Uninitialised declaration) fact none = absurd fact
+  cause_of (faults.NoScopeNode scope) fact none = absurd fact
+  cause_of faults.NoIds fact none = absurd fact
+  cause_of (faults.BadTarget target) fact none = absurd fact
+  cause_of (faults.FunctionCycle function) fact none = absurd fact

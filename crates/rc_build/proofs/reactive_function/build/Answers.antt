@@ -1,0 +1,13 @@
+use Rattle.rc_build.proofs.BuildLemmas.{at_entry, none_spelled}
+use Rattle.rc_build.proofs.FaultLemmas.{passed_on}
+use Rattle.rc_build.proofs.reactive_function.build.Goals as goal
+
+pub build_list-requires : goal.build_list-requires
+build_list-requires c = at_entry c.args.hir.now c.new-state.result.marks c.new-state.result.frames
+    c.new-state.ensures.used c.new-state.ensures.scopes c.new-state.ensures.frames
+
+pub returns-in_err-statements-clause-refused : goal.returns-in_err-statements-clause-refused
+returns-in_err-statements-clause-refused c = λ named rule e.
+    none_spelled c.args.hir.now c.args.env.now c.new-state.result.marks c.new-state.result.frames
+    c.new-state.ensures.used c.new-state.ensures.frames
+    (c.in_err-statements.ensures.refused named rule (passed_on c.from_residual.ensures.1 e))

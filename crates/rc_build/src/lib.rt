@@ -1,0 +1,23 @@
+//! The builder: from a graph to the one function that it spells.
+//!
+//! A list is built block by block: the rows of a block, then the statement of its terminal, and on at the
+//! statement's fallthrough where that was opened. Only the parts of a statement are built by a nested call.
+//! Each block is marked before its parts are built, so a graph that leads back to a block is refused there.
+//!
+//! After oxc's build_reactive_function.
+#![tactic(auto)]
+
+mod blocks;
+mod branches;
+mod forms;
+mod frames;
+mod header;
+mod jumps;
+mod lists;
+mod moves;
+mod reactive_function;
+mod rows;
+mod scopes;
+mod state;
+
+pub use reactive_function::build_reactive_function;

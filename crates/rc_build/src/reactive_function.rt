@@ -1,0 +1,86 @@
+//! From a graph to the function that it spells.
+
+ghost use Rattle.std.specs.Prelude.{◌≡◌, ◌≢◌, ◌⊎◌, List as Items, IfOk, IfErr, OnOk, IsOk, Err};
+ghost use Rattle.rc_tree.specs.TreeNames.{TreeInTables};
+ghost use Rattle.rc_tree.specs.declared.function.ReactiveFunction.{ReactiveFunction};
+ghost use Rattle.rc_runs.specs.BodyRun.{IsBodyRun};
+ghost use Rattle.rc_runs.specs.EarlyReturns.{NoEarlyReturnSet};
+ghost use Rattle.rc_runs.specs.Event.{Event, End};
+ghost use Rattle.rc_runs.specs.GraphRun.{IsGraphRun};
+ghost use Rattle.rc_runs.specs.Spelled.{Spells};
+ghost use Rattle.rc_build.specs.BuildCauses.{CanBeBuilt, IsBuildCause};
+ghost use Rattle.rc_build.specs.Built.{IfMalformed};
+ghost use Rattle.rc_build.specs.RuleFacts.{FaultFact};
+
+use crate::forms::first_unbuilt;
+use crate::header::with_header;
+use crate::lists::build_list;
+use crate::state::State;
+use rc_hir::{Environment, Fault, HirFunction, check_names};
+use rc_tree::{ReactiveBlock, ReactiveFunction};
+use std::alloc::Global;
+
+/// The one function that a graph spells.
+///
+/// A graph is refused, in this order,
+///
+/// - with a number outside its table: `BadName`;
+/// - with a terminal of a form that isn't built yet: `NotBuilt`, of the first such block;
+/// - if it spells no function: `Malformed`, with a rule whose fact holds of the named block.
+///
+/// `NoMemory` may come at any time.
+pub fn build_reactive_function(
+    alloc: Global,
+    hir: &HirFunction,
+    env: &Environment,
+) -> Result<ReactiveFunction, Fault>
+    ensures ok { IfOk result (Spells hir.now env.now) }
+    ensures accepted { IfOk result (λ built. CanBeBuilt hir.now env.now) }
+    ensures one_tree { IfOk result (λ built.
+        (func : ReactiveFunction) → Spells hir.now env.now func → func ≡ built) }
+    ensures known { IfOk result (λ built. TreeInTables built env.now) }
+
+    // A break to the label of an early return that is set could be read as that return.
+    ensures graph_to_body { IfOk result (λ built. NoEarlyReturnSet env.now
+        → (events : Items Event) (end : End) → IsGraphRun hir.now env.now events end
+        → IsBodyRun built env.now events end) }
+    ensures body_to_graph { IfOk result (λ built. NoEarlyReturnSet env.now
+        → (events : Items Event) (end : End) → IsBodyRun built env.now events end
+        → IsGraphRun hir.now env.now events end) }
+
+    ensures refused { IfErr result (IsBuildCause hir.now env.now) }
+    ensures complete { (func : ReactiveFunction) → CanBeBuilt hir.now env.now → Spells hir.now env.now func
+        → IsOk result ⊎ (result ≡ Err Fault.NoMemory) }
+{
+    accept(hir, env)?;
+    let built = build(alloc, hir, env)?;
+    Ok(built)
+}
+
+/// Refuses a graph for its numbers or forms, in this order. It takes no memory.
+fn accept(hir: &HirFunction, env: &Environment) -> Result<(), Fault>
+    ensures ok { OnOk result (CanBeBuilt hir.now env.now) }
+    ensures refused { IfErr result (λ fault. IsBuildCause hir.now env.now fault × (fault ≢ Fault.NoMemory)) }
+{
+    check_names(hir, env)?;
+    match first_unbuilt(hir) {
+        Some(block) => Err(Fault::NotBuilt { block }),
+        None => Ok(()),
+    }
+}
+
+/// The function that a graph spells; nothing is asked of the graph.
+///
+/// - `Malformed`: the graph spells none, and the rule's fact holds of the named block.
+/// - `BadName`: a block names a row that isn't there.
+/// - `NotBuilt`: the block's terminal isn't built yet.
+/// - `NoMemory`: out of memory.
+fn build(alloc: Global, hir: &HirFunction, env: &Environment) -> Result<ReactiveFunction, Fault>
+    ensures ok { IfOk result (λ func. Spells hir.now env.now func) }
+    ensures refused { IfMalformed result ((func : ReactiveFunction) → Spells hir.now env.now func → ⊥) }
+    ensures facts { IfErr result (FaultFact hir.now) }
+{
+    let mut state = State::new(alloc);
+    let statements = build_list(hir, env, &mut state, hir.body.entry, None)?;
+    Ok(with_header(alloc, hir, ReactiveBlock { statements })?)
+}

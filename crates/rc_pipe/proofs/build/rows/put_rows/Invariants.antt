@@ -1,6 +1,0 @@
-use Rattle.std.proofs.Common.{take}
-use Rattle.rc_pipe.specs.Rows.{PutSoFar}
-use Rattle.rc_pipe.proofs.build.rows.put_rows.Given as goal
-
-abbrev pub invariant-loop-number : goal.invariant-loop-number
-invariant-loop-number l = PutSoFar l.hir (take l.number-index l.block.instructions) l.initial.out l.out
