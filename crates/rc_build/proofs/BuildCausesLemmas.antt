@@ -15,7 +15,7 @@ use Rattle.rc_hir.specs.declared.fault.TableName.TheVariants as tables
 use Rattle.rc_hir.specs.declared.function.BasicBlock.{BasicBlock}
 use Rattle.rc_hir.specs.declared.function.HirFunction.{HirFunction}
 use Rattle.rc_hir.specs.declared.environment.Environment.{Environment}
-use Rattle.rc_hir.specs.GraphNames.{Name, row_name, block_names, under_key, function_names, parameter_names}
+use Rattle.rc_hir.specs.GraphNames.{Name, row_name, block_names, under_key, parameter_names}
 use Rattle.rc_hir.specs.GraphNames.{place_names, instruction_names, terminal_names}
 use Rattle.rc_hir.specs.Names.{IsInTable, lengths, FunctionInTables}
 use Rattle.rc_tree.specs.declared.function.ReactiveFunction.{ReactiveFunction}

@@ -9,17 +9,19 @@ use Rattle.rc_hir.specs.declared.function.BasicBlock.{BasicBlock}
 use Rattle.rc_hir.specs.declared.function.HirFunction.{HirFunction}
 use Rattle.rc_hir.specs.declared.environment.Environment.{Environment}
 use Rattle.rc_tree.specs.declared.statement.ReactiveStatement.{ReactiveStatement}
-use Rattle.rc_runs.specs.declared.frames.Frame.{Frame}
 use Rattle.rc_build.specs.declared.state.Marks.{Marks}
 use Rattle.rc_runs.specs.PlainTree.{Statements, Nil, Cons, Statement, RowStatement, Base}
+use Rattle.rc_runs.specs.ListContext.{ListContext}
 use Rattle.rc_runs.specs.TreeOf.{statements_of, statement_of}
 use Rattle.rc_runs.specs.Grammar.{SpellsList, SpellsTerminal, SpellsStatement, SpellsRest, rows_before, block, and_rest}
 use Rattle.rc_runs.specs.Grammar.{opened, closed, returns, unreachable, breaks}
 use Rattle.rc_runs.specs.Spelled.{AreSound}
 use Rattle.rc_build.specs.Rows.{row_statement_of}
 use Rattle.rc_build.specs.Namings.{named_blocks, listed, times}
-use Rattle.rc_build.specs.Built.{join, Marked, MarksBlocks, IsTaken, IsUnusable, MadeList, Refused, Partly, Rest, GoesOn}
+use Rattle.rc_build.specs.BuiltFrom.{Marked, AreNamed}
+use Rattle.rc_build.specs.Built.{join, MarksBlocks, MadeList, NoList, Refused, Partly, Rest, ListGoesOn, GoesOn}
 use Rattle.rc_build.specs.Built.{rest_of}
+use Rattle.rc_build.specs.Taken.{IsTaken, IsUnusable}
 use Rattle.rc_build.proofs.MarksLemmas.{front_sound, named_fewer, times_append}
 use Rattle.rc_build.proofs.UsableLemmas.{filled}
 use Rattle.rc_runs.proofs.OneTree.{one_terminal, one_statement, rest_at, terminal_at}
@@ -62,11 +64,24 @@ module _ (hir : HirFunction) where
         (λ key. omega (arith, d key, times_append key b more, times_append key c more)) (f.named more h);
   }
 
-  -- further namings stay pending beside that of the first block
-  pub marking_beside : {key : BlockId} {more : List BlockId} {old new : Marks} {xs : List BlockId}
-      → MarksBlocks hir (key ∷ []) [] old new xs → MarksBlocks hir (key ∷ more) more old new xs
-  marking_beside {more = more} f =
-      record { used = f.used; marked = f.marked; named = λ others h. f.named (more ++ others) h }
+  -- more namings were pending
+  pub marking_more : {a b c : List BlockId} {old new : Marks} {xs : List BlockId}
+      → ((key : BlockId) → times key b ≤ times key a) → MarksBlocks hir b c old new xs → MarksBlocks hir a c old new xs
+  marking_more {a = a} {b = b} {old = old} d f = record {
+    used = f.used;
+    marked = f.marked;
+    named = λ more h. f.named more (named_fewer hir old.used (b ++ more) (a ++ more)
+        (λ key. omega (arith, d key, times_append key a more, times_append key b more)) h);
+  }
+
+  -- further namings stay pending beside those of the marked blocks
+  pub marking_beside : {before more : List BlockId} {old new : Marks} {xs : List BlockId}
+      → MarksBlocks hir before [] old new xs → MarksBlocks hir (before ++ more) more old new xs
+  marking_beside {before = before} {more = more} {old = old} f = record {
+    used = f.used;
+    marked = f.marked;
+    named = λ others h. f.named (more ++ others) (subst (AreNamed hir old.used) (append_assoc before more others) h);
+  }
 
   -- refused in front is refused
   pub refused_front : (used front back : List BlockId) {blocks : List BlockId} → AreSound hir (used ++ blocks)
@@ -121,20 +136,18 @@ module _ (hir : HirFunction) where
       let h = p.only all used d in
       none h.0 h.1 h.2 (refused_back old.used p.newly h.1 s h.3 p.marking.used)
 
-module _ (hir : HirFunction) (env : Environment) (next : Option BlockId) (frames : List Frame) where
+module _ (hir : HirFunction) (env : Environment) (context : ListContext) where
   -- nothing is left
   pub partly_done : (key : BlockId) (at : Option BlockId) (out : List ReactiveStatement) (old new : Marks) → at ≡ None →
-      Partly (SpellsList hir env key next frames None) (Rest hir env next frames at) hir (key ∷ []) (listed at) [] out
-      old new → MadeList hir env key next frames out old new
+      ListGoesOn hir env key context at [] out old new → MadeList hir env key context out old new
   partly_done key at out old new e p =
-      let q = subst (λ z. Partly (SpellsList hir env key next frames None) (Rest hir env next frames z) hir (key ∷ [])
-      (listed z) [] out old new) e p in
+      let q = subst (λ z. ListGoesOn hir env key context z [] out old new) e p in
       record {
         value = q.statements;
         newly = q.newly;
         is = q.put;
-        spelled = subst (λ z. SpellsList hir env key next frames None z q.newly) (join-nil q.statements)
-            (subst (SpellsList hir env key next frames None (join q.statements Nil)) (append-nil q.newly)
+        spelled = subst (λ z. SpellsList hir env key context z q.newly) (join-nil q.statements)
+            (subst (SpellsList hir env key context (join q.statements Nil)) (append-nil q.newly)
             (q.onward Nil [] (refl, refl)));
         marking = q.marking;
       }
@@ -149,11 +162,11 @@ module _ (hir : HirFunction) (env : Environment) (next : Option BlockId) (frames
   rows_put (row ∷ rows) = ap (λ z. row_statement_of row ∷ z) (rows_put rows)
 
   -- a block: its rows, and then its terminal
-  pub block_partly : (key : BlockId) (found : BasicBlock) (out mid : List ReactiveStatement) (old new : Marks)
-      → (t : IsTaken hir frames key found old new) → mid ≡ out ++ map row_statement_of t.rows →
-      Partly (SpellsList hir env key next frames None) (SpellsTerminal hir env found.terminal next frames None) hir
+  pub block_partly : (key : BlockId) (found : BasicBlock) {out mid : List ReactiveStatement} {old new : Marks}
+      → (t : IsTaken hir context.frames key found old new) → mid ≡ out ++ map row_statement_of t.rows →
+      Partly (SpellsList hir env key context) (SpellsTerminal hir env found.terminal context) hir
       (key ∷ []) (named_blocks found.terminal) out mid old new
-  block_partly key found out mid old new t e = record {
+  block_partly key found {out} t e = record {
     statements = rows_before t.rows Nil;
     newly = key ∷ [];
     put = e ∙ ap (λ z. out ++ z) (sym (rows_put t.rows));
@@ -162,61 +175,55 @@ module _ (hir : HirFunction) (env : Environment) (next : Option BlockId) (frames
     only = only;
   }
     where
-      only : (all : Statements) (used : List BlockId) → SpellsList hir env key next frames None all used →
-          (rest : Statements) × (later : List BlockId) × SpellsTerminal hir env found.terminal next frames None rest
+      only : (all : Statements) (used : List BlockId) → SpellsList hir env key context all used →
+          (rest : Statements) × (later : List BlockId) × SpellsTerminal hir env found.terminal context rest
           later × (used ≡ key ∷ later)
       only all used (block {rest = rest} {used = later} {block = other} u l d w) =
           let same : other ≡ filled found t.rows = (let z = t.usable in cc) in
           (rest, later, terminal_at same d, refl)
 
   -- a block that no tree may use there
-  pub block_refused : (key : BlockId) (marks : Marks) → IsUnusable hir frames key marks
-      → Refused hir (SpellsList hir env key next frames None) marks.used
+  pub block_refused : (key : BlockId) (marks : Marks) → IsUnusable hir context.frames key marks
+      → NoList hir env key context marks
   block_refused key marks none all used (block {used = later} {block = found} u l d w) s =
       none found u l (refused_front hir marks.used (key ∷ []) later s refl)
 
   -- a terminal that ends its list
   pub leaf_partly : (terminal : Terminal) (statements : Statements) (out whole : List ReactiveStatement) (marks : Marks)
       → Marked hir marks → whole ≡ out ++ statements_of statements →
-      SpellsTerminal hir env terminal next frames None statements []
-      → GoesOn hir env terminal next frames None out whole marks marks
+      SpellsTerminal hir env terminal context statements []
+      → GoesOn hir env terminal context None out whole marks marks
   leaf_partly terminal statements out whole marks m e d = record {
     statements = statements;
     newly = [];
     put = e;
-    marking =
-        record {
-          used = sym (append-nil marks.used);
-          marked = m;
-          named = λ more h. named_fewer hir marks.used more
-              (named_blocks terminal ++ more) (λ key. omega (arith, times_append key (named_blocks terminal) more)) h;
-        };
-    onward = λ rest used h. subst (λ z. SpellsTerminal hir env terminal next frames None (join statements z) used)
+    marking = marking_drop hir (λ key. omega arith) (marking_none hir (named_blocks terminal) marks m);
+    onward = λ rest used h. subst (λ z. SpellsTerminal hir env terminal context (join statements z) used)
         (sym h.0)
-        (subst (SpellsTerminal hir env terminal next frames None (join statements Nil)) (sym h.1)
-        (subst (λ z. SpellsTerminal hir env terminal next frames None z []) (sym (join-nil statements)) d));
+        (subst (SpellsTerminal hir env terminal context (join statements Nil)) (sym h.1)
+        (subst (λ z. SpellsTerminal hir env terminal context z []) (sym (join-nil statements)) d));
     only = λ all used h. (Nil, [], (refl, refl), (one_terminal h d).1);
   }
 
   rest_left : (is_open : Bool) (fallthrough : BlockId) (rest : Statements) (used : List BlockId)
-      → Rest hir env next frames (rest_of is_open fallthrough) rest used
-      → SpellsRest hir env is_open fallthrough next frames None rest used
+      → Rest hir env context (rest_of is_open fallthrough) rest used
+      → SpellsRest hir env is_open fallthrough context rest used
   rest_left true fallthrough rest used d = opened d
   rest_left false fallthrough rest used d =
-      subst (λ z. SpellsRest hir env false fallthrough next frames None z used) (sym d.0)
-      (subst (SpellsRest hir env false fallthrough next frames None Nil) (sym d.1) closed)
+      subst (λ z. SpellsRest hir env false fallthrough context z used) (sym d.0)
+      (subst (SpellsRest hir env false fallthrough context Nil) (sym d.1) closed)
 
   left_rest : (is_open : Bool) (fallthrough : BlockId) (rest : Statements) (used : List BlockId)
-      → SpellsRest hir env is_open fallthrough next frames None rest used
-      → Rest hir env next frames (rest_of is_open fallthrough) rest used
+      → SpellsRest hir env is_open fallthrough context rest used
+      → Rest hir env context (rest_of is_open fallthrough) rest used
   left_rest true fallthrough rest used (opened d) = d
   left_rest false fallthrough rest used closed = (refl, refl)
 
   -- what follows a statement
   after_statement : {terminal : Terminal} {is_open : Bool} {fallthrough : BlockId} {statement : Statement}
-      {blocks : List BlockId} → SpellsStatement hir env terminal next frames None is_open fallthrough statement blocks →
-      (all : Statements) (used : List BlockId) → SpellsTerminal hir env terminal next frames None all used →
-      (rest : Statements) × (later : List BlockId) × SpellsRest hir env is_open fallthrough next frames None rest later
+      {blocks : List BlockId} → SpellsStatement hir env terminal context is_open fallthrough statement blocks →
+      (all : Statements) (used : List BlockId) → SpellsTerminal hir env terminal context all used →
+      (rest : Statements) × (later : List BlockId) × SpellsRest hir env is_open fallthrough context rest later
       × (used ≡ blocks ++ later)
   after_statement d all used returns = elim d [ ]
   after_statement d all used unreachable = elim d [ ]
@@ -226,13 +233,13 @@ module _ (hir : HirFunction) (env : Environment) (next : Option BlockId) (frames
       (rest, later, rest_at (sym h.1) (sym h.0) r, w ∙ ap (λ z. z ++ later) (sym h.3))
 
   -- a statement, and then what its fallthrough spells
-  pub statement_partly : (terminal : Terminal) (is_open : Bool) (fallthrough : BlockId) (statement : Statement)
-      (blocks : List BlockId) (out whole : List ReactiveStatement) (old new : Marks) →
-      SpellsStatement hir env terminal next frames None is_open fallthrough statement blocks
+  statement_before : (terminal : Terminal) (is_open : Bool) (fallthrough : BlockId) (statement : Statement)
+      (blocks : List BlockId) {out whole : List ReactiveStatement} {old new : Marks} →
+      SpellsStatement hir env terminal context is_open fallthrough statement blocks
       → whole ≡ out ++ statement_of statement ∷ [] →
       MarksBlocks hir (named_blocks terminal) (fallthrough ∷ []) old new blocks
-      → GoesOn hir env terminal next frames (rest_of is_open fallthrough) out whole old new
-  statement_partly terminal is_open fallthrough statement blocks out whole old new d e f = record {
+      → GoesOn hir env terminal context (rest_of is_open fallthrough) out whole old new
+  statement_before terminal is_open fallthrough statement blocks d e f = record {
     statements = Cons statement Nil;
     newly = blocks;
     put = e;
@@ -245,3 +252,14 @@ module _ (hir : HirFunction) (env : Environment) (next : Option BlockId) (frames
       rest_le : (b : Bool) (key : BlockId) → times key (listed (rest_of b fallthrough)) ≤ times key (fallthrough ∷ [])
       rest_le true key = omega arith
       rest_le false key = omega arith
+
+  -- the same where the list goes on at `rest`
+  pub statement_partly : (terminal : Terminal) (is_open : Bool) (fallthrough : BlockId) (statement : Statement)
+      (blocks : List BlockId) {rest : Option BlockId} {out whole : List ReactiveStatement} {old new : Marks} →
+      rest ≡ rest_of is_open fallthrough → SpellsStatement hir env terminal context is_open fallthrough statement blocks
+      → whole ≡ out ++ statement_of statement ∷ [] →
+      MarksBlocks hir (named_blocks terminal) (fallthrough ∷ []) old new blocks
+      → GoesOn hir env terminal context rest out whole old new
+  statement_partly terminal is_open fallthrough statement blocks {out = out} {whole} {old} {new} r d e f =
+      subst (λ z. GoesOn hir env terminal context z out whole old new) (sym r)
+      (statement_before terminal is_open fallthrough statement blocks d e f)

@@ -1,12 +1,13 @@
-pub mod FaultLemmas
-pub mod DepthsLemmas
-pub mod MovesLemmas
-pub mod NumbersLemmas
-pub mod MarksLemmas
-pub mod UsableLemmas
-pub mod OwnersLemmas
-pub mod TakenLemmas
-pub mod BuiltLemmas
-pub mod TerminalLemmas
-pub mod BuildLemmas
-pub mod BuildCausesLemmas
+mod FaultLemmas
+mod DepthsLemmas
+mod MovesLemmas
+mod NumbersLemmas
+mod MarksLemmas
+mod UsableLemmas
+mod OwnersLemmas
+mod TakenLemmas
+mod BuiltLemmas
+mod WalkLemmas
+mod TerminalLemmas
+mod BuildLemmas
+mod BuildCausesLemmas

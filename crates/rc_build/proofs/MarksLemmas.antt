@@ -1,10 +1,11 @@
 -- Used blocks: what one more mark keeps, and how often blocks are named.
 use Rattle.std.proofs.Common.{◌≡◌, ◌≤◌, ◌+◌, Bool, true, false, cond, List, [], ◌∷◌, ◌++◌, Some, ◌||◌, length, refl}
-use Rattle.std.proofs.Common.{sym, ap, ◌∙◌, subst, arith}
-use Rattle.std.specs.Prelude.{if◌then◌else◌}
-use Rattle.std.specs.List.{IsDistinct, list_any, filter_map, flat_map, AllByRecursion}
+use Rattle.std.proofs.Common.{sym, ap, ◌∙◌, subst, arith, inl, inr}
+use Rattle.std.specs.Prelude.{if◌then◌else◌, ◌⊎◌}
+use Rattle.std.specs.List.{IsDistinct, filter_map, flat_map, AllByRecursion}
 use Rattle.std.specs.Map.{lookup}
 use Rattle.std.proofs.Math.Bool.{or-true}
+use Rattle.std.proofs.lemmas.Bool.{or_cases, or_left, or_right}
 use Rattle.std.proofs.lemmas.Map.Steps.{length-le_from_keys}
 use Rattle.std.proofs.lemmas.Map.Views.{Contains-from_any, list_any-from_Contains}
 use Rattle.std.proofs.lemmas.List.Elements.{filter_map-append}
@@ -18,7 +19,7 @@ use Rattle.rc_runs.specs.Spelled.{AreSound, same_scope, scope_at}
 use Rattle.rc_build.specs.Namings.{named_blocks, is_among, times, namings_of}
 use Rattle.rc_build.specs.RuleFacts.{times_named}
 use Rattle.rc_runs.proofs.GraphLemmas.{same_block-eq, blocks_equivalence}
-use Rattle.rc_build.specs.Built.{Marked, AreNamed}
+use Rattle.rc_build.specs.BuiltFrom.{Marked, AreNamed}
 
 -- there is room for a block that isn't used
 pub room : (hir : HirFunction) (marks : Marks) → Marked hir marks → length marks.used ≤ length hir.body.blocks
@@ -46,8 +47,32 @@ unfolding IsDistinct
 front_distinct eq [] ys h = tt
 front_distinct eq (x ∷ xs) ys h = (front_all _ xs ys h.0, front_distinct eq xs ys h.1)
 
-among_front : (xs ys : List BlockId) (q : BlockId) → is_among xs q ≡ true → is_among (xs ++ ys) q ≡ true
-among_front xs ys q h = list_any-append (same_block q) xs ys ∙ ap (λ b. b || list_any (same_block q) ys) h
+-- a block is one of two lists' where it is one of either's
+pub among_front : (xs ys : List BlockId) (q : BlockId) → is_among xs q ≡ true → is_among (xs ++ ys) q ≡ true
+among_front xs ys q h = list_any-append (same_block q) xs ys ∙ or_left (is_among xs q) (is_among ys q) h
+
+pub among_back : (xs ys : List BlockId) (q : BlockId) → is_among ys q ≡ true → is_among (xs ++ ys) q ≡ true
+among_back xs ys q h = list_any-append (same_block q) xs ys ∙ or_right (is_among xs q) (is_among ys q) h
+
+pub among_parts : (xs ys : List BlockId) (q : BlockId) → is_among (xs ++ ys) q ≡ true
+    → (is_among xs q ≡ true) ⊎ (is_among ys q ≡ true)
+among_parts xs ys q h = or_cases (is_among xs q) (is_among ys q) (sym (list_any-append (same_block q) xs ys) ∙ h)
+
+-- the only block
+pub among_alone : (block key : BlockId) → same_block block key ≡ true → is_among (block ∷ []) key ≡ true
+among_alone block key e = ap (λ b. b || false) (blocks_equivalence.symm key block ∙ e)
+
+pub alone_same : (block key : BlockId) → is_among (block ∷ []) key ≡ true → same_block block key ≡ true
+alone_same block key h = go (or_cases (same_block key block) false h)
+  where
+    go : (same_block key block ≡ true) ⊎ (false ≡ true) → same_block block key ≡ true
+    go (inl e) = blocks_equivalence.symm block key ∙ e
+    go (inr e) = let bad : ⊥ = cc in absurd bad
+
+-- a block of the same number is among the blocks too
+pub among_same : (blocks : List BlockId) (block key : BlockId) → is_among blocks block ≡ true
+    → same_block block key ≡ true → is_among blocks key ≡ true
+among_same blocks block key h e = subst (λ z. is_among blocks z ≡ true) (same_block-eq block key e) h
 
 pub front_sound : (hir : HirFunction) (xs ys : List BlockId) → AreSound hir (xs ++ ys) → AreSound hir xs
 front_sound hir xs ys h = record {

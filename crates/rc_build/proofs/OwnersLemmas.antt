@@ -1,11 +1,13 @@
--- The frames around a list: their blocks are pending, and other blocks opened them.
-use Rattle.std.proofs.Common.{◌≡◌, ◌≤◌, ◌+◌, Bool, true, false, List, [], ◌∷◌, ◌++◌, Option, ◌||◌, refl, sym, ap, ◌∙◌}
-use Rattle.std.proofs.Common.{subst, arith}
-use Rattle.std.specs.Prelude.{if◌then◌else◌}
+-- The frames around a list: their blocks are pending or used, and other blocks opened them.
+use Rattle.std.proofs.Common.{◌≡◌, Bool, true, false, List, [], ◌∷◌, ◌++◌, Option, Some, ◌||◌, refl, sym, ap, ◌∙◌}
+use Rattle.std.proofs.Common.{subst, inl, inr}
+use Rattle.std.specs.Prelude.{if◌then◌else◌, ◌⊎◌}
+use Rattle.std.proofs.lemmas.Bool.{or_cases}
 use Rattle.rc_names.specs.declared.numbers.BlockId.{BlockId}
 use Rattle.rc_names.specs.declared.numbers.EvaluationOrder.{EvaluationOrder}
 use Rattle.rc_names.specs.declared.span.Span.{Span}
 use Rattle.rc_hir.specs.declared.terminal.GotoVariant.TheVariants as variants
+use Rattle.rc_hir.specs.declared.terminal.Terminal.{Terminal}
 use Rattle.rc_hir.specs.declared.terminal.Terminal.TheVariants as terminals
 use Rattle.rc_hir.specs.declared.function.HirFunction.{HirFunction}
 use Rattle.rc_runs.specs.declared.frames.Frame.{Frame}
@@ -13,41 +15,50 @@ use Rattle.rc_runs.specs.declared.frames.Frame.TheVariants as kinds
 use Rattle.rc_runs.specs.declared.frames.Way.TheVariants.{LeavesScope, LeavesCase}
 use Rattle.rc_runs.specs.Graph.{same_block}
 use Rattle.rc_runs.specs.Frames.{break_block, is_live, is_live_at, is_loop, way_out_of, way_from}
-use Rattle.rc_build.specs.Namings.{is_among, times, framed_blocks}
+use Rattle.rc_build.specs.Namings.{is_among, framed_blocks, tested_blocks, fallthrough_of, scope_fallthrough, listed}
+use Rattle.rc_build.specs.Namings.{case_blocks, cases_of}
 use Rattle.rc_build.specs.RuleFacts.{At, Jumps, goto_break, IsScopeFallthrough, IsCaseBlock}
-use Rattle.rc_build.specs.Built.{frame_blocks, live_blocks, HasOwner, AreOwned}
-use Rattle.rc_runs.proofs.GraphLemmas.{same_block-eq, blocks_equivalence}
-use Rattle.rc_build.proofs.MarksLemmas.{times_append}
+use Rattle.rc_build.specs.BuiltFrom.{pending_at, used_at, pending_blocks, used_blocks, IsFrameOf, HasOwner, AreOwned}
+use Rattle.rc_runs.proofs.GraphLemmas.{same_block-eq}
+use Rattle.rc_build.proofs.MarksLemmas.{among_front, among_back, among_alone, among_same}
 
-one_times : (block key : BlockId) → same_block block key ≡ true → 1 ≤ times key (block ∷ [])
-one_times block key e =
-    let z : times key (block ∷ []) ≡ 1 = ap (λ b. (if b then 1 else 0) + 0) (blocks_equivalence.symm key block ∙ e) in
-    omega arith
-
-two_times : (block other key : BlockId) (b : Bool) → same_block block key ≡ b → (b || same_block other key) ≡ true
-    → 1 ≤ times key (block ∷ other ∷ [])
-two_times block other key true e h =
-    let z = one_times block key e in omega (arith, times_append key (block ∷ []) (other ∷ []), z)
-two_times block other key false e h =
-    let z = one_times other key h in omega (arith, times_append key (block ∷ []) (other ∷ []), z)
-
-frame_times : (frame : Frame) (key : BlockId) → is_live_at frame key ≡ true → 1 ≤ times key (frame_blocks frame)
-frame_times (kinds.If block) key e = one_times block key e
-frame_times (kinds.Switch block) key e = one_times block key e
-frame_times (kinds.Case block) key e = one_times block key e
-frame_times (kinds.Scope block) key e = one_times block key e
-frame_times (kinds.Loop block continue_block) key e = two_times block continue_block key (same_block block key) refl e
-
--- a live block is pending
-pub live_times : (frames : List Frame) (key : BlockId) → is_live frames key ≡ true → 1 ≤ times key (live_blocks frames)
-live_times [] key e = let bad : ⊥ = cc in absurd bad
-live_times (frame ∷ frames) key e = go (is_live_at frame key) refl e (live_times frames key)
+-- a block that is live at a frame is used before or after the parts inside it
+pending_or_used_there : (frame : Frame) (key : BlockId) → is_live_at frame key ≡ true
+    → (is_among (pending_at frame) key ≡ true) ⊎ (is_among (used_at frame) key ≡ true)
+pending_or_used_there (kinds.If block) key e = inl (among_alone block key e)
+pending_or_used_there (kinds.Switch block) key e = inl (among_alone block key e)
+pending_or_used_there (kinds.Case block) key e = inr (among_alone block key e)
+pending_or_used_there (kinds.Scope block) key e = inl (among_alone block key e)
+pending_or_used_there (kinds.Loop block again) key e = go (or_cases (same_block block key) (same_block again key) e)
   where
+    go : (same_block block key ≡ true) ⊎ (same_block again key ≡ true)
+        → (is_among (block ∷ []) key ≡ true) ⊎ (is_among (again ∷ []) key ≡ true)
+    go (inl h) = inl (among_alone block key h)
+    go (inr h) = inr (among_alone again key h)
+
+-- a live block is pending, or used before the parts inside its frame
+pub pending_or_used : (frames : List Frame) (key : BlockId) → is_live frames key ≡ true
+    → (is_among (pending_blocks frames) key ≡ true) ⊎ (is_among (used_blocks frames) key ≡ true)
+pending_or_used [] key e = let bad : ⊥ = cc in absurd bad
+pending_or_used (frame ∷ frames) key e = go (is_live_at frame key) refl e (pending_or_used frames key)
+  where
+    Found : Type 0
+    Found = (is_among (pending_at frame ++ pending_blocks frames) key ≡ true)
+        ⊎ (is_among (used_at frame ++ used_blocks frames) key ≡ true)
+
+    here : (is_among (pending_at frame) key ≡ true) ⊎ (is_among (used_at frame) key ≡ true) → Found
+    here (inl h) = inl (among_front (pending_at frame) (pending_blocks frames) key h)
+    here (inr h) = inr (among_front (used_at frame) (used_blocks frames) key h)
+
+    outside : (is_among (pending_blocks frames) key ≡ true) ⊎ (is_among (used_blocks frames) key ≡ true) → Found
+    outside (inl h) = inl (among_back (pending_at frame) (pending_blocks frames) key h)
+    outside (inr h) = inr (among_back (used_at frame) (used_blocks frames) key h)
+
     go : (b : Bool) → is_live_at frame key ≡ b → (if b then true else is_live frames key) ≡ true
-        → (is_live frames key ≡ true → 1 ≤ times key (live_blocks frames)) →
-        1 ≤ times key (frame_blocks frame ++ live_blocks frames)
-    go true h r f = omega (arith, times_append key (frame_blocks frame) (live_blocks frames), frame_times frame key h)
-    go false h r f = omega (arith, times_append key (frame_blocks frame) (live_blocks frames), f r)
+        → (is_live frames key ≡ true
+        → (is_among (pending_blocks frames) key ≡ true) ⊎ (is_among (used_blocks frames) key ≡ true)) → Found
+    go true h r f = here (pending_or_used_there frame key h)
+    go false h r f = outside (f r)
 
 -- who owns frames may be told by less
 owner_weaker : (hir : HirFunction) (P Q : BlockId → Type 0) (frame : Frame) → ((q : BlockId) → P q → Q q)
@@ -58,6 +69,50 @@ pub owned_weaker : (hir : HirFunction) (P Q : BlockId → Type 0) (frames : List
     → AreOwned hir P frames → AreOwned hir Q frames
 owned_weaker hir P Q [] f o = tt
 owned_weaker hir P Q (frame ∷ frames) f o = (owner_weaker hir P Q frame f o.0, owned_weaker hir P Q frames f o.1)
+
+-- the fallthrough of a terminal is framed by it, and so are its cases and what it tests
+module _ (terminal : Terminal) where
+  framed_fallthrough : (block key : BlockId) → fallthrough_of terminal ≡ Some block → same_block block key ≡ true
+      → is_among (framed_blocks terminal) key ≡ true
+  framed_fallthrough block key f e =
+      among_front (tested_blocks terminal ++ listed (fallthrough_of terminal)) (case_blocks (cases_of terminal)) key
+      (among_back (tested_blocks terminal) (listed (fallthrough_of terminal)) key
+      (subst (λ z. is_among (listed z) key ≡ true) (sym f) (among_alone block key e)))
+
+  framed_case : (block key : BlockId) → is_among (case_blocks (cases_of terminal)) block ≡ true
+      → same_block block key ≡ true → is_among (framed_blocks terminal) key ≡ true
+  framed_case block key c e =
+      among_back (tested_blocks terminal ++ listed (fallthrough_of terminal)) (case_blocks (cases_of terminal)) key
+      (among_same (case_blocks (cases_of terminal)) block key c e)
+
+  framed_test : (block key : BlockId) → is_among (tested_blocks terminal) block ≡ true
+      → same_block block key ≡ true → is_among (framed_blocks terminal) key ≡ true
+  framed_test block key t e =
+      among_front (tested_blocks terminal ++ listed (fallthrough_of terminal)) (case_blocks (cases_of terminal)) key
+      (among_front (tested_blocks terminal) (listed (fallthrough_of terminal)) key
+      (among_same (tested_blocks terminal) block key t e))
+
+-- the fallthrough of a scope is that of its terminal
+scope_falls : (terminal : Terminal) (block : BlockId) → scope_fallthrough terminal ≡ Some block
+    → fallthrough_of terminal ≡ Some block
+scope_falls (terminals.Scope fallthrough inner scope id span) block e = e
+scope_falls (terminals.PrunedScope fallthrough inner scope id span) block e = e
+scope_falls _ block e = let bad : ⊥ = cc in absurd bad
+
+-- a block that is live at a frame is framed by the frame's terminal
+framed_there : (terminal : Terminal) (frame : Frame) (key : BlockId) → IsFrameOf terminal frame
+    → is_live_at frame key ≡ true → is_among (framed_blocks terminal) key ≡ true
+framed_there terminal (kinds.If block) key f e = framed_fallthrough terminal block key f e
+framed_there terminal (kinds.Switch block) key f e = framed_fallthrough terminal block key f e
+framed_there terminal (kinds.Case block) key f e = framed_case terminal block key f e
+framed_there terminal (kinds.Scope block) key f e =
+    framed_fallthrough terminal block key (scope_falls terminal block f) e
+framed_there terminal (kinds.Loop block again) key f e =
+    go (or_cases (same_block block key) (same_block again key) e)
+  where
+    go : (same_block block key ≡ true) ⊎ (same_block again key ≡ true) → is_among (framed_blocks terminal) key ≡ true
+    go (inl h) = framed_fallthrough terminal block key f.0 h
+    go (inr h) = framed_test terminal again key f.1 h
 
 -- a block of which P holds frames the block
 pub record Frames (hir : HirFunction) (P : BlockId → Type 0) (key : BlockId) : Type 0 where
@@ -76,7 +131,11 @@ live_framed hir P (frame ∷ frames) key o e = go (is_live_at frame key) refl e 
     go true h r f = record {
       owner = o.0.owner;
       chosen = o.0.chosen;
-      frames = record { block = o.0.owns.block; found = o.0.owns.found; holds = o.0.owns.holds.framed key h };
+      frames = record {
+        block = o.0.owns.block;
+        found = o.0.owns.found;
+        holds = framed_there o.0.owns.block.terminal frame key o.0.owns.holds h;
+      };
     }
     go false h r f = f r
 
@@ -93,8 +152,7 @@ scope_way hir P innermost in_loop (kinds.Scope block) key o s e = (
   record {
     block = o.owns.block;
     found = o.owns.found;
-    holds = o.owns.holds.scope key
-        (ap kinds.Scope (same_block-eq block key s));
+    holds = o.owns.holds ∙ ap Some (same_block-eq block key s);
   },
 )
 scope_way hir P innermost in_loop (kinds.Loop block continue_block) key o s e = let bad : ⊥ = cc in absurd bad
@@ -125,8 +183,7 @@ case_way hir P innermost in_loop (kinds.Case block) key o s e = (
   record {
     block = o.owns.block;
     found = o.owns.found;
-    holds = o.owns.holds.case key
-        (ap kinds.Case (same_block-eq block key s));
+    holds = among_same (case_blocks (cases_of o.owns.block.terminal)) block key o.owns.holds s;
   },
 )
 case_way hir P true in_loop (kinds.Scope block) key o s e = let bad : ⊥ = cc in absurd bad

@@ -1,8 +1,8 @@
 -- One more used block: the marks stay sound, or no tree may use it.
 use Rattle.std.proofs.Common.{◌≡◌, Bool, true, false, List, [], ◌∷◌, ◌++◌, Option, Some, None, ◌||◌, refl, sym, ap}
-use Rattle.std.proofs.Common.{◌∙◌, subst, arith}
+use Rattle.std.proofs.Common.{◌∙◌, subst, inl, inr}
 use Rattle.std.specs.Cmp.{IsEquivalence}
-use Rattle.std.specs.Prelude.{IsSome, is_some, if◌then◌else◌, option_and_then, option_map}
+use Rattle.std.specs.Prelude.{IsSome, is_some, if◌then◌else◌, option_and_then, option_map, ◌⊎◌}
 use Rattle.std.specs.List.{IsDistinct, list_any, filter_map, cons_option, AllByRecursion}
 use Rattle.std.proofs.lemmas.Bool.{not-false, not-true, or_right}
 use Rattle.std.proofs.lemmas.List.{append-nil}
@@ -23,12 +23,13 @@ use Rattle.rc_runs.specs.GraphRun.{MovesAlive}
 use Rattle.rc_runs.specs.Spelled.{same_scope, scope_named, scope_at}
 use Rattle.rc_build.specs.Namings.{is_among, named_blocks}
 use Rattle.rc_build.specs.RuleFacts.{At, MovesDead, SharesScope, RuleFact}
-use Rattle.rc_build.specs.Built.{Marked, AreNamed, AtList, MarksBlocks, live_blocks, IsUnusable, listed_scope}
-use Rattle.rc_build.specs.Built.{is_fresh_scope}
+use Rattle.rc_build.specs.BuiltFrom.{Marked, AreNamed, AtList, pending_blocks, used_blocks}
+use Rattle.rc_build.specs.Built.{MarksBlocks}
+use Rattle.rc_build.specs.Taken.{IsUnusable, listed_scope, is_fresh_scope}
 use Rattle.rc_runs.proofs.GraphLemmas.{same_block-eq, blocks_equivalence, same_scope-eq, scopes_equivalence}
-use Rattle.rc_build.proofs.MarksLemmas.{times_append, times_among, named_twice, one_more, among_push}
+use Rattle.rc_build.proofs.MarksLemmas.{times_among, named_twice, one_more, among_push, among_front, among_back}
 use Rattle.rc_build.proofs.MarksLemmas.{named_push}
-use Rattle.rc_build.proofs.OwnersLemmas.{live_times}
+use Rattle.rc_build.proofs.OwnersLemmas.{pending_or_used}
 use Rattle.rc_build.proofs.UsableLemmas.{filled, found_terminal, found_block}
 
 listed_option : (scope : Option ScopeId) → cons_option scope [] ≡ listed_scope scope
@@ -142,27 +143,33 @@ unusable_scope hir frames key marks block rows m e f n whole u l s =
     go (Some scope) p h = repeated scopes_equivalence (filter_map (scope_at hir) marks.used) scope [] (not-false _ h)
         (subst (IsDistinct same_scope) p s.scopes_once)
 
--- a live block is named twice where it is to be opened
-pub twice_live : (hir : HirFunction) (marks : Marks) (frames : List Frame) (key : BlockId) (block : BasicBlock)
-    → AtList hir marks frames key → basic_block hir key ≡ Some block →
-    is_live frames key ≡ true → RuleFact hir Twice key
-twice_live hir marks frames key block a e l = record {
-  block = block;
-  found = e;
-  holds = named_twice hir marks.used key (live_blocks frames) a.named
-      (omega (arith, times_append key (live_blocks frames) marks.used, live_times frames key l));
-}
-
--- so is a used block
+-- a used block is named twice where it is to be opened
 pub twice_used : (hir : HirFunction) (marks : Marks) (frames : List Frame) (key : BlockId) (block : BasicBlock)
     → AtList hir marks frames key → basic_block hir key ≡ Some block →
     is_among marks.used key ≡ true → RuleFact hir Twice key
 twice_used hir marks frames key block a e u = record {
   block = block;
   found = e;
-  holds = named_twice hir marks.used key (live_blocks frames) a.named
-      (omega (arith, times_append key (live_blocks frames) marks.used, times_among key marks.used u));
+  holds = named_twice hir marks.used key (pending_blocks frames) a.named
+      (times_among key (pending_blocks frames ++ marks.used) (among_back (pending_blocks frames) marks.used key u));
 }
+
+-- so is a live block
+pub twice_live : (hir : HirFunction) (marks : Marks) (frames : List Frame) (key : BlockId) (block : BasicBlock)
+    → AtList hir marks frames key → basic_block hir key ≡ Some block →
+    is_live frames key ≡ true → RuleFact hir Twice key
+twice_live hir marks frames key block a e l = go (pending_or_used frames key l)
+  where
+    go : (is_among (pending_blocks frames) key ≡ true) ⊎ (is_among (used_blocks frames) key ≡ true)
+        → RuleFact hir Twice key
+    go (inl pending) = record {
+      block = block;
+      found = e;
+      holds = named_twice hir marks.used key (pending_blocks frames) a.named
+          (times_among key (pending_blocks frames ++ marks.used)
+          (among_front (pending_blocks frames) marks.used key pending));
+    }
+    go (inr used) = twice_used hir marks frames key block a e (a.used_before key used)
 
 -- the block that opens a scope
 record Opener (hir : HirFunction) (used : List BlockId) (scope : ScopeId) : Type 0 where

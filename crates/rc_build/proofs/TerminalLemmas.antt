@@ -1,9 +1,8 @@
 -- What the parts of a terminal's statement give together, terminal by terminal.
-use Rattle.std.proofs.Common.{◌≡◌, ◌≤◌, ◌+◌, Bool, true, false, List, [], ◌∷◌, ◌++◌, Option, Some, None, ◌||◌, refl}
-use Rattle.std.proofs.Common.{sym, ap, ◌∙◌, subst, arith, inl, inr}
+use Rattle.std.proofs.Common.{◌≡◌, Bool, true, false, List, [], ◌∷◌, ◌++◌, Option, Some, None, refl, sym, ap, ◌∙◌}
+use Rattle.std.proofs.Common.{arith, inl, inr}
 use Rattle.std.specs.Prelude.{if◌then◌else◌, ◌⊎◌, not}
 use Rattle.std.proofs.lemmas.Bool.{not-false}
-use Rattle.std.proofs.lemmas.List.Folds.{list_any-append}
 use Rattle.rc_names.specs.declared.numbers.BlockId.{BlockId}
 use Rattle.rc_names.specs.declared.numbers.ScopeId.{ScopeId}
 use Rattle.rc_names.specs.declared.numbers.EvaluationOrder.{EvaluationOrder}
@@ -22,50 +21,20 @@ use Rattle.rc_runs.specs.declared.frames.Frame.{Frame}
 use Rattle.rc_runs.specs.declared.frames.Frame.TheVariants as kinds
 use Rattle.rc_build.specs.declared.state.Marks.{Marks}
 use Rattle.rc_runs.specs.Graph.{same_block, is_dead}
-use Rattle.rc_runs.specs.Frames.{is_live, break_block}
-use Rattle.rc_runs.specs.PlainTree.{Statements, TerminalStatement, ScopeStatement, PrunedScopeStatement, If, Label}
-use Rattle.rc_runs.specs.PlainTree.{Absent, Present}
+use Rattle.rc_runs.specs.Frames.{is_live}
+use Rattle.rc_runs.specs.ListContext.{ListContext, inside}
+use Rattle.rc_runs.specs.PlainTree.{TerminalStatement, ScopeStatement, PrunedScopeStatement, If, Label, Absent, Present}
 use Rattle.rc_runs.specs.TreeOf.{statements_of}
-use Rattle.rc_runs.specs.Grammar.{SpellsList, SpellsTerminal, opens, opens_reachable, next_inside, frames_inside}
-use Rattle.rc_runs.specs.Grammar.{label_of, falls_to, if_only, if_else, label, scope, pruned_scope, and_rest}
-use Rattle.rc_build.specs.Namings.{framed_blocks, is_among, times, scope_fallthrough, fallthrough_of}
-use Rattle.rc_build.specs.RuleFacts.{At, RuleFact, IsFramedApart}
-use Rattle.rc_build.specs.Built.{Marked, AreNamed, AtList, AtTerminal, IsUsed, IsUsedApart, AreOwned, IsFrameOf}
-use Rattle.rc_build.specs.Built.{MarksBlocks, Made, Refused, GoesOn, rest_of, live_blocks, frame_blocks}
-use Rattle.rc_build.specs.Built.{terminal_statement}
-use Rattle.rc_runs.proofs.GraphLemmas.{blocks_equivalence}
-use Rattle.rc_build.proofs.MarksLemmas.{named_fewer, times_append}
-use Rattle.rc_build.proofs.OwnersLemmas.{owned_weaker, live_framed}
+use Rattle.rc_runs.specs.Grammar.{opens, opens_reachable, label_of, falls_to, if_only, if_else, label, scope}
+use Rattle.rc_runs.specs.Grammar.{pruned_scope, and_rest}
+use Rattle.rc_build.specs.Namings.{fallthrough_of}
+use Rattle.rc_build.specs.RuleFacts.{RuleFact, IsFramedApart}
+use Rattle.rc_build.specs.BuiltFrom.{AtTerminal, IsUsedApart}
+use Rattle.rc_build.specs.Built.{MadeList, GoesOn, NoList, NoStatements, rest_of, terminal_statement}
+use Rattle.rc_build.proofs.OwnersLemmas.{live_framed}
 use Rattle.rc_build.proofs.BuiltLemmas.{marking_then, marking_beside, marking_drop, refused_front, refused_back}
 use Rattle.rc_build.proofs.BuiltLemmas.{statement_partly}
 use Rattle.rc_runs.proofs.OneTree.{part_at, one_list}
-
--- the frame of an `If`, a `Label` or any other terminal whose fallthrough takes breaks
-pub if_frame : (terminal : Terminal) (fallthrough : BlockId)
-    → ((key : BlockId) → same_block fallthrough key ≡ true → is_among (framed_blocks terminal) key ≡ true)
-    → IsFrameOf terminal (kinds.If fallthrough)
-if_frame terminal fallthrough f =
-    record {
-      framed = f;
-      scope = λ key e. (let bad : ⊥ = cc in absurd bad);
-      case =
-          λ key e. (let bad : ⊥ = cc in absurd bad);
-    }
-
--- the frame of a scope
-pub scope_frame : (terminal : Terminal) (fallthrough : BlockId) → scope_fallthrough terminal ≡ Some fallthrough →
-    ((key : BlockId) → same_block fallthrough key ≡ true → is_among (framed_blocks terminal) key ≡ true)
-    → IsFrameOf terminal (kinds.Scope fallthrough)
-scope_frame terminal fallthrough s f = record {
-  framed = f;
-  scope = λ key e. s ∙ ap (λ (z : Frame). Some (break_block z)) e;
-  case = λ key e. (let bad : ⊥ = cc in absurd bad);
-}
-
--- the only framed block
-pub framed_alone : (fallthrough key : BlockId) → same_block fallthrough key ≡ true
-    → is_among (fallthrough ∷ []) key ≡ true
-framed_alone fallthrough key e = ap (λ b. b || false) (blocks_equivalence.symm key fallthrough ∙ e)
 
 -- what doesn't fall to its fallthrough hasn't opened it
 pub falls_shut : (is_open : Bool) (fallthrough : BlockId) (next : Option BlockId)
@@ -74,61 +43,6 @@ falls_shut true fallthrough next e = e
 falls_shut false fallthrough next e = refl
 
 module _ (hir : HirFunction) where
-  at_key : (key : BlockId) (terminal : Terminal) (frame : Frame) → IsFrameOf terminal frame
-      → At hir key (λ block. block.terminal ≡ terminal) → At hir key (λ block. IsFrameOf block.terminal frame)
-  at_key key terminal frame f a =
-      record { block = a.block; found = a.found; holds = subst (λ z. IsFrameOf z frame) (sym a.holds) f }
-
-  owned_inside : (marks : Marks) (frames : List Frame) (key : BlockId) (terminal : Terminal) (is_open : Bool)
-      (frame : Frame) → IsUsed marks key → At hir key (λ block. block.terminal ≡ terminal) → IsFrameOf terminal frame →
-      AreOwned hir (IsUsed marks) frames → AreOwned hir (IsUsed marks) (frames_inside is_open frame frames)
-  owned_inside marks frames key terminal true frame u a f o =
-      (record { owner = key; chosen = u; owns = at_key key terminal frame f a }, o)
-  owned_inside marks frames key terminal false frame u a f o = o
-
-  -- a part of a statement can be built, once the parts before it are
-  pub at_part : (old new : Marks) (frames : List Frame) (key : BlockId) (terminal : Terminal) (part : BlockId)
-      (is_open : Bool) (frame : Frame) → AtTerminal hir old frames key terminal → IsFrameOf terminal frame →
-      Marked hir new → ((q : BlockId) → IsUsed old q → IsUsed new q)
-      → AreNamed hir new.used (part ∷ live_blocks (frames_inside is_open frame frames))
-      → AtList hir new (frames_inside is_open frame frames) part
-  at_part old new frames key terminal part is_open frame a f m more n = record {
-    marked = m;
-    named = n;
-    owned = owned_inside new frames key terminal is_open frame (more key a.used) a.here f
-        (owned_weaker hir (IsUsedApart old key) (IsUsed new) frames (λ q h. more q h.0) a.owned);
-  }
-
-  -- what was used is used
-  pub used_more : {before after : List BlockId} (old new : Marks) (blocks : List BlockId)
-      → MarksBlocks hir before after old new blocks → (q : BlockId) → IsUsed old q → IsUsed new q
-  used_more old new blocks f q h = subst (λ z. is_among z q ≡ true) (sym f.used)
-      (list_any-append (same_block q) old.used blocks ∙ ap (λ b. b || is_among blocks q) h)
-
-  -- the live blocks inside a frame are those of the frame and those around it
-  pub live_inside : (is_open : Bool) (frame : Frame) (frames : List Frame) (key : BlockId)
-      → times key (live_blocks (frames_inside is_open frame frames)) ≤ times key (frame_blocks frame) + times key
-      (live_blocks frames)
-  live_inside true frame frames key = omega (arith, times_append key (frame_blocks frame) (live_blocks frames))
-  live_inside false frame frames key = omega arith
-
-  -- a part that a terminal names beside the fallthrough of its frame is pending
-  pub named_part : (used : List BlockId) (frames : List Frame) (part fallthrough : BlockId) (names : List BlockId)
-      (is_open : Bool) (frame : Frame) → frame_blocks frame ≡ fallthrough ∷ [] →
-      ((key : BlockId) → times key (part ∷ fallthrough ∷ []) ≤ times key names)
-      → AreNamed hir used (names ++ live_blocks frames) → AreNamed hir used
-      (part ∷ live_blocks (frames_inside is_open frame frames))
-  named_part used frames part fallthrough names is_open frame e f h =
-      named_fewer hir used (part ∷ live_blocks (frames_inside is_open frame frames)) (names ++ live_blocks frames)
-      (λ key. omega (
-        arith,
-        f key,
-        live_inside is_open frame frames key,
-        ap (times key) e,
-        times_append key names
-            (live_blocks frames),
-      )) h
-
   -- a fallthrough that isn't opened is framed apart, or ends in `Unreachable`
   pub falls_badly : (marks : Marks) (frames : List Frame) (key : BlockId) (terminal : Terminal) (fallthrough : BlockId)
       → AtTerminal hir marks frames key terminal → fallthrough_of terminal ≡ Some fallthrough →
@@ -151,192 +65,164 @@ module _ (hir : HirFunction) where
           inl (record { other = o.owner; apart = o.chosen.1; frames = o.frames })
       go false l h = inr (not-false (is_dead hir fallthrough) h)
 
-module _ (hir : HirFunction) (env : Environment) (next : Option BlockId) (frames : List Frame) where
-  -- the statements of a part of a statement
-  abbrev pub PartOf : BlockId → Bool → Frame → Statements → List BlockId → Type 0
-  PartOf part is_open frame =
-      SpellsList hir env part (next_inside is_open (break_block frame) next) (frames_inside is_open frame frames) None
-
+module _ (hir : HirFunction) (env : Environment) (context : ListContext) (fallthrough : BlockId) (is_open : Bool) where
   -- the statement of a label stands where it is to stand
-  pub label_made : (inner fallthrough : BlockId) (id : EvaluationOrder) (span : Option Span) (is_open : Bool)
-      (mark : Option ReactiveLabel) (out whole body : List ReactiveStatement) (statement : ReactiveStatement)
-      (old new : Marks) → is_open ≡ opens_reachable hir frames fallthrough → mark ≡ label_of is_open fallthrough →
-      Made statements_of (PartOf inner is_open (kinds.If fallthrough)) hir (inner ∷ []) body old new →
+  pub label_made : (inner : BlockId) (id : EvaluationOrder) (span : Option Span) {mark : Option ReactiveLabel}
+      {rest : Option BlockId} {out whole body : List ReactiveStatement} {statement : ReactiveStatement}
+      {old new : Marks} →
+      is_open ≡ opens_reachable hir context.frames fallthrough → mark ≡ label_of is_open fallthrough →
+      MadeList hir env inner (inside is_open (kinds.If fallthrough) context) body old new →
       statement ≡ terminal_statement (tree.Label (record { statements = body }) id) mark
-      → whole ≡ out ++ statement ∷ [] →
-      GoesOn hir env (terminals.Label inner fallthrough id span) next frames (rest_of is_open fallthrough) out whole old
-      new
-  label_made inner fallthrough id span is_open mark out whole body statement old new o n m s e =
+      → whole ≡ out ++ statement ∷ [] → rest ≡ rest_of is_open fallthrough →
+      GoesOn hir env (terminals.Label inner fallthrough id span) context rest out whole old new
+  label_made inner id span {mark = mark} {out = out} {body = body} o n m s e g =
       let labeled : List ReactiveStatement → Option ReactiveLabel
       → ReactiveStatement = λ b l. terminal_statement (tree.Label (record { statements = b }) id) l in
-      statement_partly hir env next frames (terminals.Label inner fallthrough id span) is_open fallthrough
-      (TerminalStatement (Label m.value id) (label_of is_open fallthrough)) m.newly out whole old new
-      (label o refl m.spelled) (e ∙ ap (λ z. out ++ z ∷ [])
-      (s ∙ ap (λ b. labeled b mark) m.is ∙ ap (labeled (statements_of m.value)) n)) (marking_beside hir m.marking)
+      statement_partly hir env context (terminals.Label inner fallthrough id span) is_open fallthrough
+      (TerminalStatement (Label m.value id) (label_of is_open fallthrough)) m.newly g (label o refl m.spelled)
+      (e ∙ ap (λ z. out ++ z ∷ []) (s ∙ ap (λ b. labeled b mark) m.is ∙ ap (labeled (statements_of m.value)) n))
+      (marking_beside hir m.marking)
 
-  pub label_refused : (inner fallthrough : BlockId) (id : EvaluationOrder) (span : Option Span) (is_open : Bool)
-      (marks : Marks) → is_open ≡ opens_reachable hir frames fallthrough →
-      Refused hir (PartOf inner is_open (kinds.If fallthrough)) marks.used
-      → Refused hir (SpellsTerminal hir env (terminals.Label inner fallthrough id span) next frames None) marks.used
-  label_refused inner fallthrough id span is_open marks o none all used
+  pub label_refused : (inner : BlockId) (id : EvaluationOrder) (span : Option Span) (marks : Marks) →
+      is_open ≡ opens_reachable hir context.frames fallthrough →
+      NoList hir env inner (inside is_open (kinds.If fallthrough) context) marks
+      → NoStatements hir env (terminals.Label inner fallthrough id span) context marks
+  label_refused inner id span marks o none all used
       (and_rest {part_used = front} {rest_used = back} (label {opened = p} {part = part} i l d) r w) s =
-      none part front (part_at fallthrough next (kinds.If fallthrough) frames is_open p (i ∙ sym o) d)
+      none part front (part_at (kinds.If fallthrough) context is_open p (i ∙ sym o) d)
       (refused_front hir marks.used front back s w)
 
-  pub scope_made : (inner fallthrough : BlockId) (number : ScopeId) (id : EvaluationOrder) (span : Option Span)
-      (is_open : Bool) (out whole body : List ReactiveStatement) (statement : ReactiveStatement) (old new : Marks) →
-      is_open ≡ opens frames fallthrough →
-      Made statements_of (PartOf inner is_open (kinds.Scope fallthrough)) hir (inner ∷ []) body old new →
+  -- the block of a scope
+  pub scope_made : (inner : BlockId) (number : ScopeId) (id : EvaluationOrder) (span : Option Span)
+      {rest : Option BlockId} {out whole body : List ReactiveStatement} {statement : ReactiveStatement}
+      {old new : Marks} →
+      is_open ≡ opens context.frames fallthrough →
+      MadeList hir env inner (inside is_open (kinds.Scope fallthrough) context) body old new →
       statement ≡ statements.Scope (record { scope = number; instructions = record { statements = body } })
-      → whole ≡ out ++ statement ∷ [] →
-      GoesOn hir env (terminals.Scope fallthrough inner number id span) next frames (rest_of is_open fallthrough) out
-      whole old new
-  scope_made inner fallthrough number id span is_open out whole body statement old new o m s e =
+      → whole ≡ out ++ statement ∷ [] → rest ≡ rest_of is_open fallthrough →
+      GoesOn hir env (terminals.Scope fallthrough inner number id span) context rest out whole old new
+  scope_made inner number id span {out = out} o m s e g =
       let scoped : List ReactiveStatement → ReactiveStatement = λ b. statements.Scope
       (record { scope = number; instructions = record { statements = b } }) in
-      statement_partly hir env next frames (terminals.Scope fallthrough inner number id span) is_open fallthrough
-      (ScopeStatement number m.value) m.newly out whole old new
-      (scope o m.spelled) (e ∙ ap (λ z. out ++ z ∷ []) (s ∙ ap scoped m.is)) (marking_beside hir m.marking)
+      statement_partly hir env context (terminals.Scope fallthrough inner number id span) is_open fallthrough
+      (ScopeStatement number m.value) m.newly g (scope o m.spelled)
+      (e ∙ ap (λ z. out ++ z ∷ []) (s ∙ ap scoped m.is)) (marking_beside hir m.marking)
 
-  pub scope_refused : (inner fallthrough : BlockId) (number : ScopeId) (id : EvaluationOrder) (span : Option Span)
-      (is_open : Bool) (marks : Marks) → is_open ≡ opens frames fallthrough →
-      Refused hir (PartOf inner is_open (kinds.Scope fallthrough)) marks.used
-      → Refused hir (SpellsTerminal hir env (terminals.Scope fallthrough inner number id span) next frames None)
-      marks.used
-  scope_refused inner fallthrough number id span is_open marks o none all used
+  pub scope_refused : (inner : BlockId) (number : ScopeId) (id : EvaluationOrder) (span : Option Span) (marks : Marks)
+      → is_open ≡ opens context.frames fallthrough →
+      NoList hir env inner (inside is_open (kinds.Scope fallthrough) context) marks
+      → NoStatements hir env (terminals.Scope fallthrough inner number id span) context marks
+  scope_refused inner number id span marks o none all used
       (and_rest {part_used = front} {rest_used = back} (scope {opened = p} {part = part} i d) r w) s =
-      none part front (part_at fallthrough next (kinds.Scope fallthrough) frames is_open p (i ∙ sym o) d)
+      none part front (part_at (kinds.Scope fallthrough) context is_open p (i ∙ sym o) d)
       (refused_front hir marks.used front back s w)
 
-  pub pruned_scope_made : (inner fallthrough : BlockId) (number : ScopeId) (id : EvaluationOrder) (span : Option Span)
-      (is_open : Bool) (out whole body : List ReactiveStatement) (statement : ReactiveStatement) (old new : Marks) →
-      is_open ≡ opens frames fallthrough →
-      Made statements_of (PartOf inner is_open (kinds.Scope fallthrough)) hir (inner ∷ []) body old new →
+  -- the block of a pruned scope
+  pub pruned_scope_made : (inner : BlockId) (number : ScopeId) (id : EvaluationOrder) (span : Option Span)
+      {rest : Option BlockId} {out whole body : List ReactiveStatement} {statement : ReactiveStatement}
+      {old new : Marks} →
+      is_open ≡ opens context.frames fallthrough →
+      MadeList hir env inner (inside is_open (kinds.Scope fallthrough) context) body old new →
       statement ≡ statements.PrunedScope (record { scope = number; instructions = record { statements = body } })
-      → whole ≡ out ++ statement ∷ [] →
-      GoesOn hir env (terminals.PrunedScope fallthrough inner number id span) next frames (rest_of is_open fallthrough)
-      out whole old new
-  pruned_scope_made inner fallthrough number id span is_open out whole body statement old new o m s e =
+      → whole ≡ out ++ statement ∷ [] → rest ≡ rest_of is_open fallthrough →
+      GoesOn hir env (terminals.PrunedScope fallthrough inner number id span) context rest out whole old new
+  pruned_scope_made inner number id span {out = out} o m s e g =
       let scoped : List ReactiveStatement → ReactiveStatement = λ b. statements.PrunedScope
       (record { scope = number; instructions = record { statements = b } }) in
-      statement_partly hir env next frames (terminals.PrunedScope fallthrough inner number id span) is_open fallthrough
-      (PrunedScopeStatement number m.value) m.newly out whole old new
-      (pruned_scope o m.spelled) (e ∙ ap (λ z. out ++ z ∷ []) (s ∙ ap scoped m.is)) (marking_beside hir m.marking)
+      statement_partly hir env context (terminals.PrunedScope fallthrough inner number id span) is_open fallthrough
+      (PrunedScopeStatement number m.value) m.newly g (pruned_scope o m.spelled)
+      (e ∙ ap (λ z. out ++ z ∷ []) (s ∙ ap scoped m.is)) (marking_beside hir m.marking)
 
-  pub pruned_scope_refused : (inner fallthrough : BlockId) (number : ScopeId) (id : EvaluationOrder)
-      (span : Option Span) (is_open : Bool) (marks : Marks) → is_open ≡ opens frames fallthrough →
-      Refused hir (PartOf inner is_open (kinds.Scope fallthrough)) marks.used
-      → Refused hir (SpellsTerminal hir env (terminals.PrunedScope fallthrough inner number id span) next frames
-      None) marks.used
-  pruned_scope_refused inner fallthrough number id span is_open marks o none all used
+  pub pruned_scope_refused : (inner : BlockId) (number : ScopeId) (id : EvaluationOrder) (span : Option Span)
+      (marks : Marks) → is_open ≡ opens context.frames fallthrough →
+      NoList hir env inner (inside is_open (kinds.Scope fallthrough) context) marks
+      → NoStatements hir env (terminals.PrunedScope fallthrough inner number id span) context marks
+  pruned_scope_refused inner number id span marks o none all used
       (and_rest {part_used = front} {rest_used = back} (pruned_scope {opened = p} {part = part} i d) r w) s =
-      none part front (part_at fallthrough next (kinds.Scope fallthrough) frames is_open p (i ∙ sym o) d)
+      none part front (part_at (kinds.Scope fallthrough) context is_open p (i ∙ sym o) d)
       (refused_front hir marks.used front back s w)
 
   -- an if whose alternate is its fallthrough
-  pub if_only_made : (test : Place) (consequent alternate fallthrough : BlockId) (id : EvaluationOrder)
-      (span : Option Span) (is_open : Bool) (mark : Option ReactiveLabel) (out whole body : List ReactiveStatement)
-      (statement : ReactiveStatement) (old new : Marks) →
-      is_open ≡ opens_reachable hir frames fallthrough → same_block alternate fallthrough ≡ true
-      → falls_to is_open fallthrough next ≡ true → mark ≡ label_of is_open fallthrough →
-      Made statements_of (PartOf consequent is_open (kinds.If fallthrough)) hir (consequent ∷ []) body old new →
+  pub if_only_made : (test : Place) (consequent alternate : BlockId) (id : EvaluationOrder) (span : Option Span)
+      {rest : Option BlockId} {mark : Option ReactiveLabel} {out whole body : List ReactiveStatement}
+      {statement : ReactiveStatement}
+      {old new : Marks} →
+      is_open ≡ opens_reachable hir context.frames fallthrough → same_block alternate fallthrough ≡ true
+      → falls_to is_open fallthrough context.next ≡ true → mark ≡ label_of is_open fallthrough →
+      MadeList hir env consequent (inside is_open (kinds.If fallthrough) context) body old new →
       statement ≡ terminal_statement (tree.If test (record { statements = body }) None id) mark
-      → whole ≡ out ++ statement ∷ [] →
-      GoesOn hir env (terminals.If test consequent alternate fallthrough id span) next frames
-      (rest_of is_open fallthrough) out whole old new
-  if_only_made test consequent alternate fallthrough id span is_open mark out whole body statement old new o a t n m s
-      e =
+      → whole ≡ out ++ statement ∷ [] → rest ≡ rest_of is_open fallthrough →
+      GoesOn hir env (terminals.If test consequent alternate fallthrough id span) context rest out whole old new
+  if_only_made test consequent alternate id span {mark = mark} {out = out} {body = body} o a t n m s e g =
       let branched : List ReactiveStatement → Option ReactiveLabel
       → ReactiveStatement = λ b l. terminal_statement (tree.If test (record { statements = b }) None id) l in
-      statement_partly hir env next frames (terminals.If test consequent alternate fallthrough id span) is_open
-      fallthrough (TerminalStatement (If test m.value Absent id) (label_of is_open fallthrough)) m.newly out whole
-      old new
-      (if_only o refl a t m.spelled) (e ∙ ap (λ z. out ++ z ∷ [])
-      (s ∙ ap (λ b. branched b mark) m.is ∙ ap (branched (statements_of m.value)) n))
+      statement_partly hir env context (terminals.If test consequent alternate fallthrough id span) is_open fallthrough
+      (TerminalStatement (If test m.value Absent id) (label_of is_open fallthrough)) m.newly g
+      (if_only o refl a t m.spelled)
+      (e ∙ ap (λ z. out ++ z ∷ []) (s ∙ ap (λ b. branched b mark) m.is ∙ ap (branched (statements_of m.value)) n))
       (marking_drop hir (λ key. omega arith) (marking_beside hir m.marking))
 
-  pub if_only_refused : (test : Place) (consequent alternate fallthrough : BlockId) (id : EvaluationOrder)
-      (span : Option Span) (is_open : Bool) (marks : Marks) →
-      is_open ≡ opens_reachable hir frames fallthrough → same_block alternate fallthrough ≡ true →
-      Refused hir (PartOf consequent is_open (kinds.If fallthrough)) marks.used
-      → Refused hir (SpellsTerminal hir env (terminals.If test consequent alternate fallthrough id span) next frames
-      None) marks.used
-  if_only_refused test consequent alternate fallthrough id span is_open marks o a none all used
+  pub if_only_refused : (test : Place) (consequent alternate : BlockId) (id : EvaluationOrder) (span : Option Span)
+      (marks : Marks) →
+      is_open ≡ opens_reachable hir context.frames fallthrough → same_block alternate fallthrough ≡ true →
+      NoList hir env consequent (inside is_open (kinds.If fallthrough) context) marks
+      → NoStatements hir env (terminals.If test consequent alternate fallthrough id span) context marks
+  if_only_refused test consequent alternate id span marks o a none all used
       (and_rest {part_used = front} {rest_used = back} (if_only {opened = p} {part = part} i l x y d) r w) s =
-      none part front (part_at fallthrough next (kinds.If fallthrough) frames is_open p (i ∙ sym o) d)
+      none part front (part_at (kinds.If fallthrough) context is_open p (i ∙ sym o) d)
       (refused_front hir marks.used front back s w)
-  if_only_refused test consequent alternate fallthrough id span is_open marks o a none all used
-      (and_rest (if_else i l x d b q) r w) s = let bad : ⊥ = cc in bad
-
-  -- an if without alternate that falls elsewhere
-  pub falls_refused : (test : Place) (consequent alternate fallthrough : BlockId) (id : EvaluationOrder)
-      (span : Option Span) (is_open : Bool) (marks : Marks) →
-      is_open ≡ opens_reachable hir frames fallthrough → same_block alternate fallthrough ≡ true
-      → falls_to is_open fallthrough next ≡ false →
-      Refused hir (SpellsTerminal hir env (terminals.If test consequent alternate fallthrough id span) next frames None)
-      marks.used
-  falls_refused test consequent alternate fallthrough id span is_open marks o a t all used
-      (and_rest (if_only {opened = p} i l x y d) r w) s =
-      let same : p ≡ is_open = i ∙ sym o in
-      let yes : falls_to is_open fallthrough next ≡ true = ap (λ z. falls_to z fallthrough next) (sym same) ∙ y in
+  if_only_refused test consequent alternate id span marks o a none all used (and_rest (if_else i l x d b q) r w) s =
       let bad : ⊥ = cc in bad
-  falls_refused test consequent alternate fallthrough id span is_open marks o a t all used
-      (and_rest (if_else i l x d b q) r w) s = let bad : ⊥ = cc in bad
 
   -- an if with an alternate
-  pub if_else_made : (test : Place) (consequent alternate fallthrough : BlockId) (id : EvaluationOrder)
-      (span : Option Span) (is_open : Bool) (mark : Option ReactiveLabel)
-      (out whole body other : List ReactiveStatement)
-      (statement : ReactiveStatement) (old mid new : Marks) →
-      is_open ≡ opens_reachable hir frames fallthrough → same_block alternate fallthrough ≡ false
+  pub if_else_made : (test : Place) (consequent alternate : BlockId) (id : EvaluationOrder) (span : Option Span)
+      {rest : Option BlockId} {mark : Option ReactiveLabel} {out whole body other : List ReactiveStatement}
+      {statement : ReactiveStatement}
+      {old mid new : Marks} →
+      is_open ≡ opens_reachable hir context.frames fallthrough → same_block alternate fallthrough ≡ false
       → mark ≡ label_of is_open fallthrough →
-      Made statements_of (PartOf consequent is_open (kinds.If fallthrough)) hir (consequent ∷ []) body old mid →
-      Made statements_of (PartOf alternate is_open (kinds.If fallthrough)) hir (alternate ∷ []) other mid new →
+      MadeList hir env consequent (inside is_open (kinds.If fallthrough) context) body old mid →
+      MadeList hir env alternate (inside is_open (kinds.If fallthrough) context) other mid new →
       statement ≡ terminal_statement (tree.If test (record { statements = body }) (Some (record { statements = other }))
-      id) mark → whole ≡ out ++ statement ∷ [] →
-      GoesOn hir env (terminals.If test consequent alternate fallthrough id span) next frames
-      (rest_of is_open fallthrough) out whole old new
-  if_else_made test consequent alternate fallthrough id span is_open mark out whole body other statement old mid new o a
-      l m n s e =
+      id) mark → whole ≡ out ++ statement ∷ [] → rest ≡ rest_of is_open fallthrough →
+      GoesOn hir env (terminals.If test consequent alternate fallthrough id span) context rest out whole old new
+  if_else_made test consequent alternate id span {mark = mark} {out = out} {other = other} o a l m n s e g =
       let branched : List ReactiveStatement → List ReactiveStatement → Option ReactiveLabel → ReactiveStatement =
       λ b d k. terminal_statement (tree.If test (record { statements = b }) (Some (record { statements = d })) id) k in
-      statement_partly hir env next frames (terminals.If test consequent alternate fallthrough id span) is_open
-      fallthrough (TerminalStatement (If test m.value (Present n.value) id) (label_of is_open fallthrough))
-      (m.newly ++ n.newly) out whole old new
+      statement_partly hir env context (terminals.If test consequent alternate fallthrough id span) is_open fallthrough
+      (TerminalStatement (If test m.value (Present n.value) id) (label_of is_open fallthrough)) (m.newly ++ n.newly) g
       (if_else o refl a m.spelled n.spelled refl)
       (e ∙ ap (λ z. out ++ z ∷ []) (s ∙ ap (λ b. branched b other mark) m.is
       ∙ ap (λ d. branched (statements_of m.value) d mark) n.is
       ∙ ap (branched (statements_of m.value) (statements_of n.value)) l))
       (marking_then hir (marking_beside hir m.marking) (marking_beside hir n.marking))
 
-  pub if_else_first_refused : (test : Place) (consequent alternate fallthrough : BlockId) (id : EvaluationOrder)
-      (span : Option Span) (is_open : Bool) (marks : Marks) →
-      is_open ≡ opens_reachable hir frames fallthrough → same_block alternate fallthrough ≡ false →
-      Refused hir (PartOf consequent is_open (kinds.If fallthrough)) marks.used
-      → Refused hir (SpellsTerminal hir env (terminals.If test consequent alternate fallthrough id span) next frames
-      None) marks.used
-  if_else_first_refused test consequent alternate fallthrough id span is_open marks o a none all used
+  pub if_else_first_refused : (test : Place) (consequent alternate : BlockId) (id : EvaluationOrder)
+      (span : Option Span) (marks : Marks) →
+      is_open ≡ opens_reachable hir context.frames fallthrough → same_block alternate fallthrough ≡ false →
+      NoList hir env consequent (inside is_open (kinds.If fallthrough) context) marks
+      → NoStatements hir env (terminals.If test consequent alternate fallthrough id span) context marks
+  if_else_first_refused test consequent alternate id span marks o a none all used
       (and_rest (if_only i l x y d) r w) s = let bad : ⊥ = cc in bad
-  if_else_first_refused test consequent alternate fallthrough id span is_open marks o a none all used
+  if_else_first_refused test consequent alternate id span marks o a none all used
       (and_rest {part_used = front} {rest_used = back} (if_else {opened = p} {part = part} {part_used = first}
       {other_used = second} i l x d b q) r w) s =
-      none part first (part_at fallthrough next (kinds.If fallthrough) frames is_open p (i ∙ sym o) d)
+      none part first (part_at (kinds.If fallthrough) context is_open p (i ∙ sym o) d)
       (refused_front hir marks.used first second (refused_front hir marks.used front back s w) q)
 
-  pub if_else_second_refused : (test : Place) (consequent alternate fallthrough : BlockId) (id : EvaluationOrder)
-      (span : Option Span) (is_open : Bool) (body : List ReactiveStatement) (marks mid : Marks) →
-      is_open ≡ opens_reachable hir frames fallthrough → same_block alternate fallthrough ≡ false →
-      Made statements_of (PartOf consequent is_open (kinds.If fallthrough)) hir (consequent ∷ []) body marks mid →
-      Refused hir (PartOf alternate is_open (kinds.If fallthrough)) mid.used
-      → Refused hir (SpellsTerminal hir env (terminals.If test consequent alternate fallthrough id span) next frames
-      None) marks.used
-  if_else_second_refused test consequent alternate fallthrough id span is_open body marks mid o a m none all used
+  pub if_else_second_refused : (test : Place) (consequent alternate : BlockId) (id : EvaluationOrder)
+      (span : Option Span) {body : List ReactiveStatement} (marks mid : Marks) →
+      is_open ≡ opens_reachable hir context.frames fallthrough → same_block alternate fallthrough ≡ false →
+      MadeList hir env consequent (inside is_open (kinds.If fallthrough) context) body marks mid →
+      NoList hir env alternate (inside is_open (kinds.If fallthrough) context) mid
+      → NoStatements hir env (terminals.If test consequent alternate fallthrough id span) context marks
+  if_else_second_refused test consequent alternate id span marks mid o a m none all used
       (and_rest (if_only i l x y d) r w) s = let bad : ⊥ = cc in bad
-  if_else_second_refused test consequent alternate fallthrough id span is_open body marks mid o a m none all used
+  if_else_second_refused test consequent alternate id span marks mid o a m none all used
       (and_rest {part_used = front} {rest_used = back} (if_else {opened = p} {other = other} {other_used = second} i l x
       d b q) r w) s =
       let same : p ≡ is_open = i ∙ sym o in
-      let first = one_list (part_at fallthrough next (kinds.If fallthrough) frames is_open p same d) m.spelled in
-      none other second (part_at fallthrough next (kinds.If fallthrough) frames is_open p same b)
+      let first = one_list (part_at (kinds.If fallthrough) context is_open p same d) m.spelled in
+      none other second (part_at (kinds.If fallthrough) context is_open p same b)
       (refused_back hir marks.used m.newly second (refused_front hir marks.used front back s w)
       (q ∙ ap (λ z. z ++ second) first.1) m.marking.used)

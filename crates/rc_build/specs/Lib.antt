@@ -5,4 +5,6 @@ pub mod BuildCauses
 pub mod Depths
 pub mod Rows
 pub mod Arms
+pub mod BuiltFrom
 pub mod Built
+pub mod Taken

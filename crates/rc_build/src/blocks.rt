@@ -1,10 +1,13 @@
 //! One block: whether a tree may use it where the walk stands, and its mark.
 
-ghost use Rattle.std.specs.Prelude.{◌≡◌, ◌≤◌, ◌++◌, true, None, Some, IfOk, IfErr};
+ghost use Rattle.std.specs.Prelude.{◌≡◌, ◌≤◌, ◌++◌, true, Option, None, Some, IfOk, IfErr};
+ghost use Rattle.rc_names.specs.declared.numbers.BlockId.{BlockId};
 ghost use Rattle.rc_runs.specs.Graph.{basic_block, same_block, usable_block};
 ghost use Rattle.rc_runs.specs.Spelled as spelled;
 ghost use Rattle.rc_build.specs.RuleFacts.{FaultFact, times_named};
-ghost use Rattle.rc_build.specs.Built.{AtList, IsTaken, IsUnusable, is_fresh_scope, listed_scope, IfMalformed};
+ghost use Rattle.rc_build.specs.BuiltFrom.{AtList};
+ghost use Rattle.rc_build.specs.Built.{IfMalformed, context_of};
+ghost use Rattle.rc_build.specs.Taken.{IsTaken, IsUnusable, is_fresh_scope, listed_scope};
 
 use crate::moves::moves_alive;
 use crate::rows::check_ids;
@@ -30,7 +33,7 @@ pub fn take_block<'g>(
         IsTaken hir.now state.old.frames key block.now state.old.marks state.new.marks) }
     ensures refused { IfMalformed result (IsUnusable hir.now state.old.frames key state.old.marks) }
     ensures facts { IfErr result (FaultFact hir.now) }
-    ensures frames { state.new.frames ≡ state.old.frames }
+    ensures context { (next : Option BlockId) → context_of next state.new ≡ context_of next state.old }
 {
     let block = find_block(hir, key)?;
     if state.frames.is_live(key) {

@@ -6,7 +6,8 @@ ghost use Rattle.rc_tree.specs.declared.terminal.ReactiveTerminal.TheVariants as
 ghost use Rattle.rc_runs.specs.Graph.{same_block};
 ghost use Rattle.rc_runs.specs.Grammar as grammar;
 ghost use Rattle.rc_build.specs.RuleFacts.{FaultFact};
-ghost use Rattle.rc_build.specs.Built.{AtSome, AtTerminal, GoesOn, IfMalformed, NoStatements};
+ghost use Rattle.rc_build.specs.BuiltFrom.{AtSome, AtTerminal};
+ghost use Rattle.rc_build.specs.Built.{GoesOn, IfMalformed, NoStatements, context_of};
 ghost use Rattle.rc_build.specs.Built as built;
 ghost use Rattle.rc_build.specs.Arms.{if_of};
 
@@ -44,12 +45,12 @@ pub fn build_if(
     requires { (span : Option Span) ×
         AtTerminal hir.now state.old.marks state.old.frames key (if_of arms span) }
     ensures ok { IfOk result (λ rest. (span : Option Span) →
-        GoesOn hir.now env.now (if_of arms span) next state.old.frames rest
+        GoesOn hir.now env.now (if_of arms span) (context_of next state.old) rest
         out.old out.new state.old.marks state.new.marks) }
     ensures refused { IfMalformed result ((span : Option Span) →
-        NoStatements hir.now env.now (if_of arms span) next state.old) }
+        NoStatements hir.now env.now (if_of arms span) (context_of next state.old) state.old.marks) }
     ensures facts { IfErr result (FaultFact hir.now) }
-    ensures frames { IfOk result (λ _. state.new.frames ≡ state.old.frames) }
+    ensures context { IfOk result (λ _. context_of next state.new ≡ context_of next state.old) }
 {
     let opened = opens_reachable(hir, &state.frames, arms.fallthrough);
     if arms.alternate == arms.fallthrough {
@@ -76,12 +77,12 @@ fn build_if_only(
     requires opens { opened ≡ grammar.opens_reachable hir.now state.old.frames arms.fallthrough }
     requires absent { same_block arms.alternate arms.fallthrough ≡ true }
     ensures ok { IfOk result (λ rest. (span : Option Span) →
-        GoesOn hir.now env.now (if_of arms span) next state.old.frames rest
+        GoesOn hir.now env.now (if_of arms span) (context_of next state.old) rest
         out.old out.new state.old.marks state.new.marks) }
     ensures refused { IfMalformed result ((span : Option Span) →
-        NoStatements hir.now env.now (if_of arms span) next state.old) }
+        NoStatements hir.now env.now (if_of arms span) (context_of next state.old) state.old.marks) }
     ensures facts { IfErr result (FaultFact hir.now) }
-    ensures frames { IfOk result (λ _. state.new.frames ≡ state.old.frames) }
+    ensures context { IfOk result (λ _. context_of next state.new ≡ context_of next state.old) }
 {
     if !falls_to(opened, arms.fallthrough, next) {
         return Err(malformed(key, Rule::FallsElsewhere));
@@ -110,12 +111,12 @@ fn build_if_else(
     requires opens { opened ≡ grammar.opens_reachable hir.now state.old.frames arms.fallthrough }
     requires present { same_block arms.alternate arms.fallthrough ≡ false }
     ensures ok { IfOk result (λ rest. (span : Option Span) →
-        GoesOn hir.now env.now (if_of arms span) next state.old.frames rest
+        GoesOn hir.now env.now (if_of arms span) (context_of next state.old) rest
         out.old out.new state.old.marks state.new.marks) }
     ensures refused { IfMalformed result ((span : Option Span) →
-        NoStatements hir.now env.now (if_of arms span) next state.old) }
+        NoStatements hir.now env.now (if_of arms span) (context_of next state.old) state.old.marks) }
     ensures facts { IfErr result (FaultFact hir.now) }
-    ensures frames { IfOk result (λ _. state.new.frames ≡ state.old.frames) }
+    ensures context { IfOk result (λ _. context_of next state.new ≡ context_of next state.old) }
 {
     let frame = Frame::If {
         block: arms.fallthrough,

@@ -1,7 +1,6 @@
 //! Statements that end a list: returns and breaks.
 
 ghost use Rattle.std.specs.Prelude.{◌≡◌, ◌++◌, ◌∷◌, [], Option, None, IfOk, IfErr};
-ghost use Rattle.rc_names.specs.declared.numbers.BlockId.{BlockId};
 ghost use Rattle.rc_names.specs.declared.span.Span.{Span};
 ghost use Rattle.rc_hir.specs.declared.environment.Environment.{Environment};
 ghost use Rattle.rc_hir.specs.declared.terminal.GotoVariant.TheVariants as variants;
@@ -10,7 +9,8 @@ ghost use Rattle.rc_tree.specs.declared.terminal.ReactiveTerminal.TheVariants as
 ghost use Rattle.rc_runs.specs.Frames.{break_way};
 ghost use Rattle.rc_runs.specs.Grammar.{break_statements};
 ghost use Rattle.rc_build.specs.RuleFacts.{FaultFact};
-ghost use Rattle.rc_build.specs.Built.{AtTerminal, EndsList, IfMalformed, NoStatements, PutBreak};
+ghost use Rattle.rc_build.specs.BuiltFrom.{AtTerminal};
+ghost use Rattle.rc_build.specs.Built.{EndsList, IfMalformed, NoStatements, PutBreak, context_of};
 ghost use Rattle.rc_build.specs.Built as built;
 
 use crate::state::{State, malformed, terminal_statement};
@@ -41,6 +41,7 @@ pub fn put_goto(
     hir: &HirFunction,
     state: &State,
     key: BlockId,
+    next: Option<BlockId>,
     target: BlockId,
     variant: GotoVariant,
     id: EvaluationOrder,
@@ -49,9 +50,10 @@ pub fn put_goto(
     requires { (span : Option Span) ×
         AtTerminal hir.now state.now.marks state.now.frames key (terminals.Goto target variant id span) }
     ensures ok { IfOk result (λ _. (span : Option Span) →
-        EndsList hir.now state.now.frames (terminals.Goto target variant id span) out.old out.new) }
-    ensures refused { IfMalformed result ((env : Environment) (next : Option BlockId) (span : Option Span) →
-        NoStatements hir.now env (terminals.Goto target variant id span) next state.now) }
+        EndsList hir.now (context_of next state.now) (terminals.Goto target variant id span) out.old out.new) }
+    ensures refused { IfMalformed result ((env : Environment) (span : Option Span) →
+        NoStatements hir.now env (terminals.Goto target variant id span) (context_of next state.now)
+        state.now.marks) }
     ensures facts { IfErr result (FaultFact hir.now) }
 {
     match variant {

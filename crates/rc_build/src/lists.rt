@@ -1,12 +1,10 @@
 //! Lists: blocks that follow each other, by a loop, and the parts of statements, by a nested call.
 
-ghost use Rattle.std.specs.Prelude.{◌≡◌, ◌<◌, ◌∷◌, [], None, IfOk, IfErr, length};
-ghost use Rattle.rc_runs.specs.Frames.{break_block};
-ghost use Rattle.rc_runs.specs.Grammar.{SpellsList, frames_inside, next_inside};
+ghost use Rattle.std.specs.Prelude.{◌≡◌, ◌<◌, IfOk, IfErr, length};
+ghost use Rattle.rc_runs.specs.ListContext.{inside};
 ghost use Rattle.rc_build.specs.RuleFacts.{FaultFact};
-ghost use Rattle.rc_build.specs.Built.{AtList, AtTerminal, GoesOn, MadeList, Partly, Refused, Rest};
-ghost use Rattle.rc_build.specs.Built.{IfMalformed, NoList, NoStatements};
-ghost use Rattle.rc_build.specs.Namings.{listed};
+ghost use Rattle.rc_build.specs.BuiltFrom.{AtList, AtTerminal};
+ghost use Rattle.rc_build.specs.Built.{GoesOn, IfMalformed, ListGoesOn, MadeList, NoList, NoStatements, context_of};
 
 use crate::blocks::take_block;
 use crate::branches::{Arms, build_if};
@@ -30,10 +28,11 @@ pub fn build_list(
 ) -> Result<List<ReactiveStatement>, Fault>
     requires { AtList hir.now state.old.marks state.old.frames key }
     ensures ok { IfOk result (λ list.
-        MadeList hir.now env.now key next state.old.frames list state.old.marks state.new.marks) }
-    ensures refused { IfMalformed result (NoList hir.now env.now key next state.old) }
+        MadeList hir.now env.now key (context_of next state.old) list state.old.marks state.new.marks) }
+    ensures refused { IfMalformed result
+        (NoList hir.now env.now key (context_of next state.old) state.old.marks) }
     ensures facts { IfErr result (FaultFact hir.now) }
-    ensures frames { IfOk result (λ _. state.new.frames ≡ state.old.frames) }
+    ensures context { IfOk result (λ _. context_of next state.new ≡ context_of next state.old) }
 {
     let mut out = List::new(state.alloc);
     let mut at = Some(key);
@@ -55,12 +54,12 @@ fn build_block(
 ) -> Result<Option<BlockId>, Fault>
     requires { AtList hir.now state.old.marks state.old.frames key }
     ensures ok { IfOk result (λ rest.
-        Partly (SpellsList hir.now env.now key next state.old.frames None)
-        (Rest hir.now env.now next state.old.frames rest)
-        hir.now (key ∷ []) (listed rest) out.old out.new state.old.marks state.new.marks) }
-    ensures refused { IfMalformed result (NoList hir.now env.now key next state.old) }
+        ListGoesOn hir.now env.now key (context_of next state.old) rest
+        out.old out.new state.old.marks state.new.marks) }
+    ensures refused { IfMalformed result
+        (NoList hir.now env.now key (context_of next state.old) state.old.marks) }
     ensures facts { IfErr result (FaultFact hir.now) }
-    ensures frames { IfOk result (λ _. state.new.frames ≡ state.old.frames) }
+    ensures context { IfOk result (λ _. context_of next state.new ≡ context_of next state.old) }
     ensures more { IfOk result (λ _. length state.old.marks.used < length state.new.marks.used) }
 {
     let block = take_block(hir, state, key)?;
@@ -81,11 +80,12 @@ fn build_terminal(
 ) -> Result<Option<BlockId>, Fault>
     requires { AtTerminal hir.now state.old.marks state.old.frames key terminal.now }
     ensures ok { IfOk result (λ rest.
-        GoesOn hir.now env.now terminal.now next state.old.frames rest
+        GoesOn hir.now env.now terminal.now (context_of next state.old) rest
         out.old out.new state.old.marks state.new.marks) }
-    ensures refused { IfMalformed result (NoStatements hir.now env.now terminal.now next state.old) }
+    ensures refused { IfMalformed result
+        (NoStatements hir.now env.now terminal.now (context_of next state.old) state.old.marks) }
     ensures facts { IfErr result (FaultFact hir.now) }
-    ensures frames { IfOk result (λ _. state.new.frames ≡ state.old.frames) }
+    ensures context { IfOk result (λ _. context_of next state.new ≡ context_of next state.old) }
 {
     match terminal {
         Terminal::Return { value, id, .. } => {
@@ -99,7 +99,7 @@ fn build_terminal(
             id,
             ..
         } => {
-            put_goto(hir, state, key, *target, *variant, *id, out)?;
+            put_goto(hir, state, key, next, *target, *variant, *id, out)?;
             Ok(None)
         }
         Terminal::If {
@@ -165,23 +165,20 @@ pub fn build_part(
     frame: Frame,
     next: Option<BlockId>,
 ) -> Result<List<ReactiveStatement>, Fault>
-    requires { AtList hir.now state.old.marks (frames_inside opened frame state.old.frames) block }
+    requires { AtList hir.now state.old.marks (inside opened frame (context_of next state.old)).frames block }
     ensures ok { IfOk result (λ part.
-        MadeList hir.now env.now block (next_inside opened (break_block frame) next)
-        (frames_inside opened frame state.old.frames) part state.old.marks state.new.marks) }
+        MadeList hir.now env.now block (inside opened frame (context_of next state.old)) part
+        state.old.marks state.new.marks) }
     ensures refused { IfMalformed result
-        (Refused hir.now
-        (SpellsList hir.now env.now block (next_inside opened (break_block frame) next)
-        (frames_inside opened frame state.old.frames) None)
-        state.old.marks.used) }
+        (NoList hir.now env.now block (inside opened frame (context_of next state.old)) state.old.marks) }
     ensures facts { IfErr result (FaultFact hir.now) }
-    ensures frames { IfOk result (λ _. state.new.frames ≡ state.old.frames) }
+    ensures context { IfOk result (λ _. context_of next state.new ≡ context_of next state.old) }
 {
     if !opened {
         return build_list(hir, env, state, block, next);
     }
     state.frames.push(frame)?;
-    let part = build_list(hir, env, state, block, Some(frame.break_block()))?;
+    let part = build_list(hir, env, state, block, Some(frame.fall_block()))?;
     state.frames.pop();
     Ok(part)
 }

@@ -7,7 +7,8 @@ ghost use Rattle.rc_names.specs.declared.span.Span.{Span};
 ghost use Rattle.rc_tree.specs.declared.statement.ReactiveStatement.TheVariants as statements;
 ghost use Rattle.rc_tree.specs.declared.terminal.ReactiveTerminal.TheVariants as tree;
 ghost use Rattle.rc_build.specs.RuleFacts.{FaultFact};
-ghost use Rattle.rc_build.specs.Built.{AtSome, GoesOn, IfMalformed, NoStatements};
+ghost use Rattle.rc_build.specs.BuiltFrom.{AtSome};
+ghost use Rattle.rc_build.specs.Built.{GoesOn, IfMalformed, NoStatements, context_of};
 ghost use Rattle.rc_build.specs.Built as built;
 
 use crate::lists::build_part;
@@ -36,12 +37,13 @@ pub fn build_label(
     requires { (span : Option Span) ×
         AtSome hir.now state.old.marks state.old.frames (terminals.Label inner fallthrough id span) }
     ensures ok { IfOk result (λ rest. (span : Option Span) →
-        GoesOn hir.now env.now (terminals.Label inner fallthrough id span) next state.old.frames rest
+        GoesOn hir.now env.now (terminals.Label inner fallthrough id span) (context_of next state.old) rest
         out.old out.new state.old.marks state.new.marks) }
     ensures refused { IfMalformed result ((span : Option Span) →
-        NoStatements hir.now env.now (terminals.Label inner fallthrough id span) next state.old) }
+        NoStatements hir.now env.now (terminals.Label inner fallthrough id span)
+        (context_of next state.old) state.old.marks) }
     ensures facts { IfErr result (FaultFact hir.now) }
-    ensures frames { IfOk result (λ _. state.new.frames ≡ state.old.frames) }
+    ensures context { IfOk result (λ _. context_of next state.new ≡ context_of next state.old) }
 {
     let opened = opens_reachable(hir, &state.frames, fallthrough);
     let frame = Frame::If { block: fallthrough };
@@ -65,12 +67,13 @@ pub fn build_scope(
     requires { (id : EvaluationOrder) × (span : Option Span) ×
         AtSome hir.now state.old.marks state.old.frames (terminals.Scope fallthrough inner scope id span) }
     ensures ok { IfOk result (λ rest. (id : EvaluationOrder) (span : Option Span) →
-        GoesOn hir.now env.now (terminals.Scope fallthrough inner scope id span) next state.old.frames rest
+        GoesOn hir.now env.now (terminals.Scope fallthrough inner scope id span) (context_of next state.old) rest
         out.old out.new state.old.marks state.new.marks) }
     ensures refused { IfMalformed result ((id : EvaluationOrder) (span : Option Span) →
-        NoStatements hir.now env.now (terminals.Scope fallthrough inner scope id span) next state.old) }
+        NoStatements hir.now env.now (terminals.Scope fallthrough inner scope id span)
+        (context_of next state.old) state.old.marks) }
     ensures facts { IfErr result (FaultFact hir.now) }
-    ensures frames { IfOk result (λ _. state.new.frames ≡ state.old.frames) }
+    ensures context { IfOk result (λ _. context_of next state.new ≡ context_of next state.old) }
 {
     let opened = !state.frames.is_live(fallthrough);
     let frame = Frame::Scope { block: fallthrough };
@@ -96,11 +99,12 @@ pub fn build_pruned_scope(
         (terminals.PrunedScope fallthrough inner scope id span) }
     ensures ok { IfOk result (λ rest. (id : EvaluationOrder) (span : Option Span) →
         GoesOn hir.now env.now (terminals.PrunedScope fallthrough inner scope id span)
-        next state.old.frames rest out.old out.new state.old.marks state.new.marks) }
+        (context_of next state.old) rest out.old out.new state.old.marks state.new.marks) }
     ensures refused { IfMalformed result ((id : EvaluationOrder) (span : Option Span) →
-        NoStatements hir.now env.now (terminals.PrunedScope fallthrough inner scope id span) next state.old) }
+        NoStatements hir.now env.now (terminals.PrunedScope fallthrough inner scope id span)
+        (context_of next state.old) state.old.marks) }
     ensures facts { IfErr result (FaultFact hir.now) }
-    ensures frames { IfOk result (λ _. state.new.frames ≡ state.old.frames) }
+    ensures context { IfOk result (λ _. context_of next state.new ≡ context_of next state.old) }
 {
     let opened = !state.frames.is_live(fallthrough);
     let frame = Frame::Scope { block: fallthrough };

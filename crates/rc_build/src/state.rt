@@ -1,9 +1,10 @@
 //! What the builder keeps while it walks, and what the functions that put statements share.
 
-ghost use Rattle.std.specs.Prelude.{◌≡◌, [], IfOk};
+ghost use Rattle.std.specs.Prelude.{◌≡◌, [], None, IfOk};
 ghost use Rattle.rc_hir.specs.declared.fault.Fault.TheVariants as faults;
 ghost use Rattle.rc_build.specs.Built as built;
 ghost use Rattle.rc_runs.specs.Grammar as grammar;
+ghost use Rattle.rc_runs.specs.ListContext.{outermost};
 
 use crate::frames::FrameStack;
 use crate::moves::is_dead;
@@ -19,20 +20,22 @@ pub struct Marks {
     pub scopes: KeySet<ScopeId>,
 }
 
-/// What is used so far, and the frames around the list.
+/// What is used so far, and what stands around the list.
 #[derive(Drop)]
 pub struct State {
     pub alloc: Global,
     pub marks: Marks,
     pub frames: FrameStack,
+    /// The block of the current handler.
+    pub handler: Option<BlockId>,
 }
 
 impl State {
-    /// Nothing is used, and no frame stands around the list.
+    /// Nothing is used, and nothing stands around the list.
     pub fn new(alloc: Global) -> State
         ensures used { result.marks.used ≡ [] }
         ensures scopes { result.marks.scopes ≡ [] }
-        ensures frames { result.frames ≡ [] }
+        ensures context { built.context_of None result ≡ outermost }
     {
         State {
             alloc,
@@ -41,6 +44,7 @@ impl State {
                 scopes: KeySet::new(alloc),
             },
             frames: FrameStack::new(alloc),
+            handler: None,
         }
     }
 }

@@ -1,11 +1,14 @@
--- Label pruning keeps each measure that counts no label and that a `Label` adds nothing to.
-use Rattle.std.proofs.Common.{◌≡◌, ◌∙◌, [], ◌∷◌, ◌++◌, Bool, true, false, if◌then◌else◌, Option, None, Some}
+-- Label pruning keeps each measure that counts no label and that a `Label` adds nothing to. So it keeps what is
+-- collected of a tree where labels add nothing: its numbers, its visits, its scope blocks and their scopes.
+use Rattle.std.proofs.Common.{◌≡◌, ◌∙◌, List, [], ◌∷◌, Bool, true, false, if◌then◌else◌, Option, None, Some}
 use Rattle.std.proofs.Common.{refl, sym, ap}
-use Rattle.std.proofs.lemmas.List.{append-nil}
+use Rattle.rc_hir.specs.declared.function.HirFunction.{HirFunction}
 use Rattle.rc_names.specs.declared.numbers.EvaluationOrder.{EvaluationOrder}
 use Rattle.rc_tree.specs.Opened.{OpenTerminal}
 use Rattle.rc_tree.specs.RewriteKeeps.{Measure, block, one, Compositional}
-use Rattle.rc_tree.specs.TreeNames.{names_in, names_in_statement, names_in_terminal}
+use Rattle.rc_tree.specs.Collected.{OfParts, collected, collected_statement, collected_terminal}
+use Rattle.rc_tree.specs.Joining.{IsMonoid, lists}
+use Rattle.rc_tree.specs.TreeNames.{names_in, names_of_parts, names_of_values}
 use Rattle.rc_tree.specs.declared.statement.ReactiveBlock.{ReactiveBlock}
 use Rattle.rc_tree.specs.declared.statement.ReactiveStatement.TheOpen as layer
 use Rattle.rc_tree.specs.declared.statement.ReactiveStatement.TheVariants as stmt
@@ -14,11 +17,17 @@ use Rattle.rc_tree.specs.declared.terminal.ReactiveTerminal.{out-ReactiveTermina
 use Rattle.rc_tree.specs.declared.terminal.ReactiveTerminal.{roll-ReactiveTerminal, roll-out-ReactiveTerminal}
 use Rattle.rc_tree.specs.declared.terminal.ReactiveTerminal.TheVariants as term
 use Rattle.rc_tree.specs.declared.terminal.ReactiveTerminalStatement.{ReactiveTerminalStatement}
-use Rattle.rc_tree.proofs.TreeNamesLemmas.{of_list, block-names, names_laws, names_measure, statement-Terminal}
-use Rattle.rc_tree.proofs.TreeNamesLemmas.{terminal-Label}
+use Rattle.rc_tree.proofs.CollectedKeeps.{CompositionalValues, added_by_value, collected_laws, collected_measure}
+use Rattle.rc_tree.proofs.CollectedKeeps.{nothing_laws, same_alone, same_block, value_laws}
+use Rattle.rc_tree.proofs.CollectedLemmas.{collected-block, collected-Label, collected-Terminal}
+use Rattle.rc_tree.proofs.JoiningLemmas.{around_monoid, lists_monoid}
 use Rattle.rc_runs.proofs.RebuiltKeeps.{only_answer, rebuilt_keeps}
 use Rattle.rc_checks.specs.Labels.{IsWithoutUnusedLabels, Targets, flattened, in_place_of, is_named}
 use Rattle.rc_checks.specs.Labels.{label_after, label_rules, targets_behind}
+use Rattle.rc_checks.specs.ScopeBlocks.{Held, held, held_of_parts, nothing, scope_blocks}
+use Rattle.rc_checks.specs.ScopesIn.{scopes_in, scopes_of}
+use Rattle.rc_checks.specs.Visits.{visits_of, visits_of_parts, visits_of_values}
+use Rattle.rc_checks.proofs.ScopeBlocksLemmas.{held_monoid}
 
 module _ {V I L C P : Type 0} (m : Measure V I L C P) (laws : Compositional m)
     (blind : (x : ReactiveTerminalStatement) (label : Option ReactiveLabel)
@@ -62,24 +71,57 @@ module _ {V I L C P : Type 0} (m : Measure V I L C P) (laws : Compositional m)
       (λ met x s a e. only_answer m.statements s (stmt.Scope x ∷ []) a e)
       before [] (is.targets, after) is.rebuilt
 
+module _ {A : Type 0} (adds : OfParts A) (monoid : IsMonoid adds.joining)
+    (values : CompositionalValues (added_by_value adds) adds.row)
+    (unlabeled : (label : Option ReactiveLabel) → adds.label label ≡ adds.joining.nothing) where
+  -- a terminal holds what it holds without its label
+  without_label : (x : ReactiveTerminalStatement)
+      → collected_statement adds (stmt.Terminal x) ≡ collected_terminal adds x.terminal
+  without_label x = collected-Terminal adds x
+      ∙ ap (λ own. adds.joining.both own (collected_terminal adds x.terminal)) (unlabeled x.label)
+      ∙ monoid.before (collected_terminal adds x.terminal)
+
+  -- what is collected of a tree stays, where labels add nothing
+  pub labels_keep_collected : (before after : ReactiveBlock) → IsWithoutUnusedLabels before after
+      → collected adds after ≡ collected adds before
+  labels_keep_collected before after is = same_block adds before after
+      (labels_keep (collected_measure adds) (collected_laws adds monoid values) blind opens before after is)
+    where
+      blind : (x : ReactiveTerminalStatement) (label : Option ReactiveLabel)
+          → one (collected_measure adds) (stmt.Terminal (record { terminal = x.terminal; label = label }))
+          ≡ one (collected_measure adds) (stmt.Terminal x)
+      blind x label =
+          let y : ReactiveTerminalStatement = record { terminal = x.terminal; label = label } in
+          same_alone adds (stmt.Terminal x) (stmt.Terminal y) (without_label y ∙ sym (without_label x))
+
+      opens : (x : ReactiveTerminalStatement) (body : ReactiveBlock) (id : EvaluationOrder)
+          → x.terminal ≡ term.Label body id
+          → block (collected_measure adds) body ≡ one (collected_measure adds) (stmt.Terminal x)
+      opens x body id is =
+          sym (collected-block adds body) ∙ sym (collected-Label adds body id) ∙ ap (collected_terminal adds) (sym is)
+          ∙ sym (without_label x) ∙ sym (monoid.behind (collected_statement adds (stmt.Terminal x)))
+
 -- the numbers of a tree stay
 pub labels_keep_names : (before after : ReactiveBlock) → IsWithoutUnusedLabels before after
     → names_in after ≡ names_in before
-labels_keep_names before after is =
-    block-names after ∙ labels_keep names_measure names_laws blind opens before after is ∙ sym (block-names before)
-  where
-    with_rest : (x y : ReactiveTerminalStatement) → x.terminal ≡ y.terminal
-        → of_list (stmt.Terminal x ∷ []) ≡ of_list (stmt.Terminal y ∷ [])
-    with_rest x y same = ap (λ names. names ++ []) (statement-Terminal x ∙ ap names_in_terminal same
-        ∙ sym (statement-Terminal y))
+labels_keep_names = labels_keep_collected names_of_parts lists_monoid (value_laws names_of_values) (λ label. refl)
 
-    blind : (x : ReactiveTerminalStatement) (label : Option ReactiveLabel)
-        → one names_measure (stmt.Terminal (record { terminal = x.terminal; label = label }))
-        ≡ one names_measure (stmt.Terminal x)
-    blind x label = with_rest (record { terminal = x.terminal; label = label }) x refl
+-- the visits of a tree stay
+pub labels_keep_visits : (functions : List HirFunction) (before after : ReactiveBlock)
+    → IsWithoutUnusedLabels before after → visits_of functions after ≡ visits_of functions before
+labels_keep_visits functions before after is = ap (λ visits. visits [])
+    (labels_keep_collected (visits_of_parts functions) (around_monoid lists lists_monoid)
+    (value_laws (visits_of_values functions)) (λ label. refl) before after is)
 
-    opens : (x : ReactiveTerminalStatement) (body : ReactiveBlock) (id : EvaluationOrder)
-        → x.terminal ≡ term.Label body id → block names_measure body ≡ one names_measure (stmt.Terminal x)
-    opens x body id is =
-        sym (block-names body) ∙ sym (terminal-Label body id) ∙ ap names_in_terminal (sym is)
-        ∙ sym (statement-Terminal x) ∙ sym (append-nil (names_in_statement (stmt.Terminal x)))
+-- the scope blocks of a tree stay, and so its scopes
+labels_keep_held : (before after : ReactiveBlock) → IsWithoutUnusedLabels before after → held after ≡ held before
+labels_keep_held =
+    labels_keep_collected held_of_parts held_monoid (nothing_laws (λ id. nothing) nothing) (λ label. refl)
+
+pub labels_keep_scope_blocks : (before after : ReactiveBlock) → IsWithoutUnusedLabels before after
+    → scope_blocks after ≡ scope_blocks before
+labels_keep_scope_blocks before after is = ap (λ (it : Held). it.blocks) (labels_keep_held before after is)
+
+pub labels_keep_scopes : (before after : ReactiveBlock) → IsWithoutUnusedLabels before after
+    → scopes_in after ≡ scopes_in before
+labels_keep_scopes before after is = ap scopes_of (labels_keep_held before after is)

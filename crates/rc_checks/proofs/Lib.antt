@@ -1,25 +1,26 @@
-pub mod BreakTargetsLemmas
+mod BreakTargetsLemmas
+mod NoJumpIsMet
 mod PlainLabels
 mod RebuiltPlainLemmas
 mod TargetsLemmas
 mod PlainLabelsKeepRuns
-pub mod LabelsKeepRuns
+mod LabelsKeepRuns
 mod LabelLemmas
+mod LabelWalkLemmas
 mod OpenedLabels
 mod JudgedLabels
-pub mod LabelsKeep
-pub mod OpenScopesLemmas
-pub mod MembershipWalk
-pub mod MembershipLemmas
-pub mod OperandsKnown
-mod VisitsForms
-pub mod VisitsKnown
-pub mod VisitsStay
+mod LabelsKeep
+mod OpenScopesLemmas
+mod MembershipWalk
+mod MembershipLemmas
+mod FaultNames
+mod UnknownOperands
+mod UnknownVisits
 mod ScopeBlocksLemmas
-pub mod ScopesOfBlocks
-pub mod ScopeBlocksStay
-pub mod NamesStay
-pub mod UsedScopesStay
+mod ScopesOnce
+mod SpelledOnce
+mod NamesStay
+mod UsedScopesStay
 mod UnusedScopesKeepErase
 mod UnusedScopesLemmas
-pub mod UnusedScopesFaults
+mod UnusedScopesFaults

@@ -1,30 +1,31 @@
 -- Pruning unused scopes leaves the numbers of a tree, as label pruning does. So where each of them is in its table,
 -- each still is.
-use Rattle.std.proofs.Common.{◌≡◌, ◌∙◌, Bool, true, false, List, [], ◌∷◌, ◌++◌, Option, None, Some, Result, Ok, Err}
-use Rattle.std.proofs.Common.{All, OnOk, refl, sym, ap, subst, slice_get}
+use Rattle.std.proofs.Common.{◌≡◌, ◌∙◌, Bool, true, false, List, [], ◌∷◌, Option, None, Some, Ok, All}
+use Rattle.std.proofs.Common.{refl, sym, ap, subst, slice_get}
+use Rattle.std.specs.List.{flat_map}
 use Rattle.rc_hir.specs.Names.{IsInTable, lengths}
+use Rattle.rc_hir.specs.PartNames.{parameter_names}
 use Rattle.rc_hir.specs.declared.environment.Environment.{Environment}
-use Rattle.rc_hir.specs.declared.fault.Fault.{Fault}
 use Rattle.rc_hir.specs.declared.scope.ReactiveScope.{ReactiveScope}
 use Rattle.rc_tree.specs.RewriteKeeps.{one}
-use Rattle.rc_tree.specs.TreeNames.{TreeInTables, names_in}
+use Rattle.rc_tree.specs.TreeNames.{TreeInTables, names_in, names_in_list, names_of_parts}
 use Rattle.rc_tree.specs.declared.function.ReactiveFunction.{ReactiveFunction}
 use Rattle.rc_tree.specs.declared.scope.ReactiveScopeBlock.{ReactiveScopeBlock}
 use Rattle.rc_tree.specs.declared.statement.ReactiveBlock.{ReactiveBlock}
 use Rattle.rc_tree.specs.declared.statement.ReactiveStatement.{ReactiveStatement}
 use Rattle.rc_tree.specs.declared.statement.ReactiveStatement.TheVariants as stmt
 use Rattle.rc_tree.proofs.OutcomeLemmas.{Ok-injective}
-use Rattle.rc_tree.proofs.TreeNamesLemmas.{of_list, block-names, names_laws, names_measure, statement-PrunedScope}
-use Rattle.rc_tree.proofs.TreeNamesLemmas.{statement-Scope}
+use Rattle.rc_tree.proofs.CollectedKeeps.{same_alone, same_block}
+use Rattle.rc_tree.proofs.CollectedLemmas.{collected-PrunedScope, collected-Scope}
+use Rattle.rc_tree.proofs.TreeNamesLemmas.{names_laws, names_measure}
 use Rattle.rc_runs.proofs.RebuiltKeeps.{made_answer, only_answer, rebuilt_keeps}
-use Rattle.rc_checks.specs.Labels.{IsWithoutUnusedLabels}
-use Rattle.rc_checks.proofs.LabelsKeep.{labels_keep_names}
 use Rattle.rc_checks.specs.UnusedScopes.{IsWithoutUnusedScopes, as_pruned, is_used, judged, kept_if, unused_scope_rules}
 
 -- the numbers of what stands in the place of a scope block are those of the block
 by_use : (used : Bool) (x : ReactiveScopeBlock) → one names_measure (kept_if used x) ≡ one names_measure (stmt.Scope x)
 by_use true x = refl
-by_use false x = ap (λ names. names ++ []) (statement-PrunedScope (as_pruned x) ∙ sym (statement-Scope x))
+by_use false x = same_alone names_of_parts (stmt.Scope x) (stmt.PrunedScope (as_pruned x))
+    (collected-PrunedScope names_of_parts (as_pruned x) ∙ sym (collected-Scope names_of_parts x))
 
 by_judgement : (found : Option ReactiveScope) (returns : Bool) (x : ReactiveScopeBlock) (after : ReactiveStatement)
     → judged found returns x ≡ Ok after → one names_measure after ≡ one names_measure (stmt.Scope x)
@@ -37,38 +38,27 @@ by_judgement (Some scope) returns x after e =
 pub unused_scopes_keep_names : (env : Environment) (before after : ReactiveBlock)
     → IsWithoutUnusedScopes env before after → names_in after ≡ names_in before
 unused_scopes_keep_names env before after is =
-    block-names after
-    ∙ rebuilt_keeps names_measure names_laws (unused_scope_rules env)
-    (λ x returns a e. only_answer of_list _ (stmt.Instruction x ∷ []) a e)
-    (λ x returns a e. only_answer of_list _ (stmt.Terminal x ∷ []) a e)
-    (λ x returns a e. only_answer of_list _ (stmt.PrunedScope x ∷ []) a e)
-    by_scope before false (is.returns, after) is.rebuilt
-    ∙ sym (block-names before)
+    same_block names_of_parts before after
+    (rebuilt_keeps names_measure names_laws (unused_scope_rules env)
+    (λ x returns a e. only_answer names_in_list _ (stmt.Instruction x ∷ []) a e)
+    (λ x returns a e. only_answer names_in_list _ (stmt.Terminal x ∷ []) a e)
+    (λ x returns a e. only_answer names_in_list _ (stmt.PrunedScope x ∷ []) a e)
+    by_scope before false (is.returns, after) is.rebuilt)
   where
     by_scope : (around : Bool) (x : ReactiveScopeBlock) (returns : Bool) (a : Bool × List ReactiveStatement)
-        → (unused_scope_rules env).scope around x returns ≡ Ok a → of_list a.1 ≡ one names_measure (stmt.Scope x)
+        → (unused_scope_rules env).scope around x returns ≡ Ok a → names_in_list a.1 ≡ one names_measure (stmt.Scope x)
     by_scope around x returns a e =
         let found = slice_get env.scopes x.scope.0 in
         let made = made_answer (judged found returns x) (λ after. (around, after ∷ [])) a e in
-        ap (λ b. of_list b.1) made.2 ∙ by_judgement found returns x made.0 made.1
+        ap (λ b. names_in_list b.1) made.2 ∙ by_judgement found returns x made.0 made.1
 
-module _ (env : Environment) (old new : ReactiveFunction) where
-  -- where the numbers stay, so does that they are in their tables
-  pub still_known : names_in new.body ≡ names_in old.body → TreeInTables old env → TreeInTables new env
-  still_known same known = record {
-    tree = subst (All (IsInTable (lengths env 0))) (sym same) known.tree;
-    environment = known.environment;
-  }
-
-  -- the same of a call that answers with the function without its unused labels, or without its unused scopes
-  pub known_without_labels : (result : Result (Unit {0}) Fault)
-      → OnOk result (IsWithoutUnusedLabels old.body new.body)
-      → OnOk result (TreeInTables old env → TreeInTables new env)
-  known_without_labels (Ok done) pruned = still_known (labels_keep_names old.body new.body pruned)
-  known_without_labels (Err fault) pruned = tt
-
-  pub known_without_scopes : (result : Result (Unit {0}) Fault)
-      → OnOk result (IsWithoutUnusedScopes env old.body new.body)
-      → OnOk result (TreeInTables old env → TreeInTables new env)
-  known_without_scopes (Ok done) pruned = still_known (unused_scopes_keep_names env old.body new.body pruned)
-  known_without_scopes (Err fault) pruned = tt
+-- where a pass changes a body whose numbers stay, they are in their tables as before
+pub still_known : (env : Environment) (old new : ReactiveFunction) → new ≡ record old { body = new.body }
+    → names_in new.body ≡ names_in old.body → TreeInTables old env → TreeInTables new env
+still_known env old new header same known = record {
+  params = subst (λ params. All (IsInTable (lengths env 0)) (flat_map parameter_names params))
+      (sym (ap (λ f. f.params) header)) known.params;
+  body = subst (All (IsInTable (lengths env 0))) (sym same) known.body;
+  functions = known.functions;
+  environment = known.environment;
+}

@@ -89,8 +89,10 @@ module _ (env : Environment) where
 
     pruned_terminal-runs : (terminal : TreeTerminal) (label : Option ReactiveLabel) (targets : Targets) →
         SameRuns env (labeled terminal label) (pruned_statement (TerminalStatement terminal label) targets).1
-    pruned_terminal-runs (Break target kind id) label targets =
-        (break-keeps_runs env target kind id label _, break-keeps_runs env target kind id _ label)
+    pruned_terminal-runs (Break target kind id) label targets = (
+      break-keeps_runs env target kind id label _ (label_after-catches _ label),
+      break-keeps_runs env target kind id _ label (catches-label_after _ label),
+    )
     pruned_terminal-runs (Continue target kind id) label targets =
         same-no_runs (Continue target kind id) _ label _ refl refl
     pruned_terminal-runs (Return value id) label targets =

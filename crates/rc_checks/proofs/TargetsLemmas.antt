@@ -142,9 +142,10 @@ module _ (env : Environment) where
     statement_names targets block (did_row s) e = absurd (let bad : ⊥ = cc in bad)
     statement_names targets block returned e = absurd (let bad : ⊥ = cc in bad)
     statement_names targets block break_implicit e = absurd (let bad : ⊥ = cc in bad)
-    statement_names targets block (break_labeled {target = target}) e =
+    statement_names targets block (break_labeled {target = target} {label = label} q) e =
         let put : is_target (insert_key same_block targets target) target ≡ true = is_target-inserted targets target in
-        subst (λ b. is_target (insert_key same_block targets target) b ≡ true) (same_break target block e) put
+        let same = same_break target block (inner_break label (BreakTo target) block (sym q ∙ e)) in
+        subst (λ b. is_target (insert_key same_block targets target) b ≡ true) same put
     statement_names targets block break_unlabeled e = absurd (let bad : ⊥ = cc in bad)
     statement_names targets block (took_arm {consequent = taken} {alternate = other} {label = label} {inner = o} r q)
         e =

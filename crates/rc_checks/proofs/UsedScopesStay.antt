@@ -11,12 +11,8 @@ use Rattle.std.proofs.lemmas.Bool.{or_parts}
 use Rattle.std.proofs.lemmas.List.Elements.{filter-append, Contains-append_left, Contains-append_right}
 use Rattle.std.specs.List.{filter, Contains}
 use Rattle.std.specs.Option.{option_map_or}
-use Rattle.rc_checks.proofs.ScopeBlocksLemmas.{held_if, held_list, held_list-append, held_statement, held_terminal}
-use Rattle.rc_checks.proofs.ScopeBlocksLemmas.{held_case, held-block, held-case, held-Instruction, held-Terminal}
-use Rattle.rc_checks.proofs.ScopeBlocksLemmas.{held-Scope, held-PrunedScope, held-Break, held-Continue, held-Return}
-use Rattle.rc_checks.proofs.ScopeBlocksLemmas.{held-Throw, held-Switch, held-DoWhile, held-While, held-For, held-ForOf}
-use Rattle.rc_checks.proofs.ScopeBlocksLemmas.{held-ForIn, held-If, held-Label, held-Try, both-nothing}
-use Rattle.rc_checks.specs.ScopeBlocks.{ScopeBlock, Held, IsOutside, nothing, both, all_of, of_scope, held, returns_in}
+use Rattle.rc_checks.proofs.ScopeBlocksLemmas.{held_monoid}
+use Rattle.rc_checks.specs.ScopeBlocks.{ScopeBlock, Held, IsOutside, nothing, both, held_of_parts, held, returns_in}
 use Rattle.rc_checks.specs.ScopeBlocks.{scope_blocks, stays, staying_blocks}
 use Rattle.rc_checks.specs.UnusedScopes.{NamesFirstScopeOutside, IsWithoutUnusedScopes, as_pruned, has_own_output}
 use Rattle.rc_checks.specs.UnusedScopes.{is_return, is_used, judged, kept_if, unused_scope_rules}
@@ -24,6 +20,7 @@ use Rattle.rc_hir.specs.declared.environment.Environment.{Environment}
 use Rattle.rc_hir.specs.declared.fault.Fault.{Fault}
 use Rattle.rc_hir.specs.declared.scope.ReactiveScope.{ReactiveScope}
 use Rattle.rc_hir.specs.declared.place.Place.{Place}
+use Rattle.rc_names.specs.declared.numbers.EvaluationOrder.{EvaluationOrder}
 use Rattle.rc_names.specs.declared.numbers.ScopeId.{ScopeId}
 use Rattle.rc_tree.proofs.PlaceLemmas.{past_end}
 use Rattle.rc_tree.proofs.RebuiltLemmas.{if_some, rebuilt-block, rebuilt-labeled, rebuilt-scope, rebuilt-pruned_scope}
@@ -31,6 +28,14 @@ use Rattle.rc_tree.proofs.RebuiltLemmas.{rebuilt-case, rebuilt-Instruction, rebu
 use Rattle.rc_tree.proofs.RebuiltLemmas.{rebuilt-PrunedScope, rebuilt-Break, rebuilt-Continue, rebuilt-Return}
 use Rattle.rc_tree.proofs.RebuiltLemmas.{rebuilt-Throw, rebuilt-Switch, rebuilt-DoWhile, rebuilt-While, rebuilt-For}
 use Rattle.rc_tree.proofs.RebuiltLemmas.{rebuilt-ForOf, rebuilt-ForIn, rebuilt-If, rebuilt-Label, rebuilt-Try}
+use Rattle.rc_tree.proofs.CollectedKeeps.{collected_list-append}
+use Rattle.rc_tree.proofs.CollectedLemmas.{collected-block, collected-case, collected-Instruction}
+use Rattle.rc_tree.proofs.CollectedLemmas.{collected-Terminal, collected-Scope, collected-PrunedScope, collected-Break}
+use Rattle.rc_tree.proofs.CollectedLemmas.{collected-Continue, collected-Return, collected-Throw, collected-Switch}
+use Rattle.rc_tree.proofs.CollectedLemmas.{collected-DoWhile, collected-While, collected-For, collected-ForOf}
+use Rattle.rc_tree.proofs.CollectedLemmas.{collected-ForIn, collected-If, collected-Label, collected-Try}
+use Rattle.rc_tree.specs.Collected.{collected_case, collected_cases, collected_if, collected_list, collected_statement}
+use Rattle.rc_tree.specs.Collected.{collected_terminal}
 use Rattle.rc_tree.specs.Outcome.{bind}
 use Rattle.rc_tree.specs.Rebuilt.{Rebuilds, Rules, in_order, joined, rebuilt_block, rebuilt_statement, rebuilt_terminal}
 use Rattle.rc_tree.specs.Rebuilt.{rebuilt_case}
@@ -52,6 +57,25 @@ use Rattle.rc_tree.specs.declared.terminal.ReactiveTerminalStatement.{ReactiveTe
 
 first_of_all : {X : Type 0} (x : X) (xs : List X) → Contains (x ∷ xs) x
 first_of_all x xs = (0, omega arith, refl)
+
+-- what the other parts hold
+abbrev held_statement : ReactiveStatement → Held
+held_statement = collected_statement held_of_parts
+
+abbrev held_terminal : ReactiveTerminal → Held
+held_terminal = collected_terminal held_of_parts
+
+abbrev held_list : List ReactiveStatement → Held
+held_list = collected_list held_of_parts
+
+abbrev held_if : Option ReactiveBlock → Held
+held_if = collected_if held_of_parts
+
+abbrev held_case : EvaluationOrder → ReactiveSwitchCase → Held
+held_case id case = collected_case held_of_parts case id
+
+abbrev held_cases : EvaluationOrder → List ReactiveSwitchCase → Held
+held_cases = collected_cases held_of_parts
 
 module _ (env : Environment) where
   abbrev rules : Rules Bool
@@ -122,7 +146,8 @@ module _ (env : Environment) where
   StatementStays x = (met : Bool) → Stays held_list (held_statement x) met (rebuilt_statement rules x met)
 
   abbrev CaseStays : ReactiveSwitchCase → Type 0
-  CaseStays x = (met : Bool) → Stays held_case (held_case x) met (rebuilt_case rules x met)
+  CaseStays x = (id : EvaluationOrder) (met : Bool)
+      → Stays (held_case id) (held_case id x) met (rebuilt_case rules x met)
 
   -- a terminal, with the state behind it
   abbrev noted : Result (Bool × ReactiveTerminal) Fault → Result (Bool × ReactiveTerminal) Fault
@@ -221,20 +246,21 @@ module _ (env : Environment) where
   if_stays (Some x) met =
       made held held_if (λ y. Some y) (λ y. refl) (held x.0) met (rebuilt_block rules x.0 met) (x.1 met)
 
-  cases_stay : (xs : List KnownCase) (met : Bool)
-      → Stays (λ x. all_of (map held_case x)) (all_of (map held_case (bare_cases xs))) met
+  cases_stay : (id : EvaluationOrder) (xs : List KnownCase) (met : Bool)
+      → Stays (held_cases id) (held_cases id (bare_cases xs)) met
       (in_order (map (rebuilt_case rules) (bare_cases xs)) met)
-  cases_stay [] met = as_it_is (λ x. all_of (map held_case x)) nothing met [] refl refl
-  cases_stay (x ∷ xs) met = made_of_two held_case (λ x. all_of (map held_case x)) (λ x. all_of (map held_case x))
-      (λ y ys. y ∷ ys) (λ y ys. refl)
-      (held_case x.0) (all_of (map held_case (bare_cases xs))) met (rebuilt_case rules x.0 met)
-      (in_order (map (rebuilt_case rules) (bare_cases xs))) (x.1 met) (cases_stay xs)
+  cases_stay id [] met = as_it_is (held_cases id) nothing met [] refl refl
+  cases_stay id (x ∷ xs) met = made_of_two (held_case id) (held_cases id) (held_cases id)
+      (λ y ys. y ∷ ys) (λ y ys. refl) (held_case id x.0) (held_cases id (bare_cases xs)) met
+      (rebuilt_case rules x.0 met)
+      (in_order (map (rebuilt_case rules) (bare_cases xs))) (x.1 id met) (cases_stay id xs)
 
   list_stays : (xs : List KnownStatement) (met : Bool)
       → Stays held_list (held_list (bare_statements xs)) met
       (joined (map (rebuilt_statement rules) (bare_statements xs)) met)
   list_stays [] met = as_it_is held_list nothing met [] refl refl
-  list_stays (x ∷ xs) met = made_of_two held_list held_list held_list (λ ys zs. ys ++ zs) held_list-append
+  list_stays (x ∷ xs) met = made_of_two held_list held_list held_list (λ ys zs. ys ++ zs)
+      (collected_list-append held_of_parts held_monoid)
       (held_statement x.0) (held_list (bare_statements xs)) met (rebuilt_statement rules x.0 met)
       (joined (map (rebuilt_statement rules) (bare_statements xs))) (x.1 met) (list_stays xs)
 
@@ -249,17 +275,18 @@ module _ (env : Environment) where
 
     held_by : (used : Bool) → (used ≡ false → before.returns ≡ false) → stays env block_before ≡ used
         → held_list (kept_if used rebuilt_scope_block ∷ [])
-        ≡ staying (of_scope (record { scope = id; instructions = before }))
+        ≡ staying (held_of_parts.scope id before)
     held_by true not_used e =
-        both-nothing (held_statement (stmt.Scope rebuilt_scope_block)) ∙ held-Scope rebuilt_scope_block
-        ∙ ap (λ it. of_scope (record { scope = id; instructions = it })) inside ∙ rw (e) refl
+        held_monoid.behind (held_statement (stmt.Scope rebuilt_scope_block))
+        ∙ collected-Scope held_of_parts rebuilt_scope_block
+        ∙ ap (λ it. held_of_parts.scope id it) inside ∙ rw (e) refl
     held_by false not_used e =
-        both-nothing (held_statement (stmt.PrunedScope (as_pruned rebuilt_scope_block)))
-        ∙ held-PrunedScope (as_pruned rebuilt_scope_block)
+        held_monoid.behind (held_statement (stmt.PrunedScope (as_pruned rebuilt_scope_block)))
+        ∙ collected-PrunedScope held_of_parts (as_pruned rebuilt_scope_block)
         ∙ inside ∙ rw (e, not_used refl) refl
 
     judged_stays : (found : Option ReactiveScope) → slice_get env.scopes id.0 ≡ found
-        → Stays held_list (of_scope (record { scope = id; instructions = before })) met
+        → Stays held_list (held_of_parts.scope id before) met
         (bind (judged found a.0 rebuilt_scope_block) (λ statement. Ok (met, statement ∷ [])))
     unfolding Stays
     judged_stays None e = (block_before, first_of_all block_before before.blocks, (refl, past_end env.scopes id.0 e))
@@ -272,7 +299,7 @@ module _ (env : Environment) where
     )
 
   scope_stays : (met : Bool) (x : KnownScope)
-      → Stays held_list (of_scope (record { scope = x.0.scope; instructions = held x.0.instructions })) met
+      → Stays held_list (held_of_parts.scope x.0.scope (held x.0.instructions)) met
       (bind (rebuilt_block rules x.0.instructions false)
       (λ a. bind (judged (slice_get env.scopes x.0.scope.0) a.0 (record { scope = x.0.scope; instructions = a.1 }))
       (λ statement. Ok (met, statement ∷ []))))
@@ -280,7 +307,7 @@ module _ (env : Environment) where
   scope_stays met x = by (rebuilt_block rules x.0.instructions false) (x.1 false)
     where
       by : (e : Result (Bool × ReactiveBlock) Fault) → Stays held (held x.0.instructions) false e
-          → Stays held_list (of_scope (record { scope = x.0.scope; instructions = held x.0.instructions })) met
+          → Stays held_list (held_of_parts.scope x.0.scope (held x.0.instructions)) met
           (bind {A = Bool × ReactiveBlock} {B = Bool × List ReactiveStatement} e
           (λ a. bind (judged (slice_get env.scopes x.0.scope.0) a.0
           (record { scope = x.0.scope; instructions = a.1 })) (λ statement. Ok (met, statement ∷ []))))
@@ -329,33 +356,35 @@ module _ (env : Environment) where
   statement_stays (layer.Instruction x) = subst StatementStays (sym (stmt.rolls-Instruction x)) (λ met.
       subst (λ e. Stays held_list (held_statement (stmt.Instruction x)) met e) (sym (rebuilt-Instruction rules x met))
       (as_it_is held_list (held_statement (stmt.Instruction x)) met (stmt.Instruction x ∷ [])
-      (both-nothing (held_statement (stmt.Instruction x))) (held-Instruction x)))
+      (held_monoid.behind (held_statement (stmt.Instruction x))) (collected-Instruction held_of_parts x)))
   statement_stays (layer.Terminal x) = subst StatementStays (sym (stmt.rolls-Terminal x.0)) (λ met.
-      subst (λ it. Stays held_list it met (rebuilt_statement rules (stmt.Terminal x.0) met)) (sym (held-Terminal x.0))
+      subst (λ it. Stays held_list it met (rebuilt_statement rules (stmt.Terminal x.0) met))
+      (sym (collected-Terminal held_of_parts x.0))
       (subst (λ e. Stays held_list (held_terminal x.0.terminal) met e)
       (sym (rebuilt-Terminal rules x.0 met ∙ ap (λ e. bind e (λ a. rules.terminal a.1 a.0))
       (rebuilt-labeled rules x.0 met) ∙ after_terminal x.0 (rebuilt_terminal rules x.0.terminal met)))
       (made held_terminal held_list (λ terminal. stmt.Terminal (labeled x.0 terminal) ∷ [])
-      (λ terminal. both-nothing (held_statement (stmt.Terminal (labeled x.0 terminal)))
-      ∙ held-Terminal (labeled x.0 terminal))
+      (λ terminal. held_monoid.behind (held_statement (stmt.Terminal (labeled x.0 terminal)))
+      ∙ collected-Terminal held_of_parts (labeled x.0 terminal))
       (held_terminal x.0.terminal) met (noted (rebuilt_terminal rules x.0.terminal met)) (x.1 met))))
   statement_stays (layer.Scope x) = subst StatementStays (sym (stmt.rolls-Scope x.0)) (λ met.
-      subst (λ it. Stays held_list it met (rebuilt_statement rules (stmt.Scope x.0) met)) (sym (held-Scope x.0))
-      (subst (λ e. Stays held_list (of_scope (record { scope = x.0.scope; instructions = held x.0.instructions })) met
+      subst (λ it. Stays held_list it met (rebuilt_statement rules (stmt.Scope x.0) met))
+      (sym (collected-Scope held_of_parts x.0))
+      (subst (λ e. Stays held_list (held_of_parts.scope x.0.scope (held x.0.instructions)) met
       e)
       (sym (rebuilt-Scope rules x.0 met ∙ ap (λ e. bind e (λ a. rules.scope met a.1 a.0))
       (rebuilt-scope rules x.0 false) ∙ after_scope met x.0.scope (rebuilt_block rules x.0.instructions false)))
       (scope_stays met x)))
   statement_stays (layer.PrunedScope x) = subst StatementStays (sym (stmt.rolls-PrunedScope x.0)) (λ met.
       subst (λ it. Stays held_list it met (rebuilt_statement rules (stmt.PrunedScope x.0) met))
-      (sym (held-PrunedScope x.0))
+      (sym (collected-PrunedScope held_of_parts x.0))
       (subst (λ e. Stays held_list (held x.0.instructions) met e)
       (sym (rebuilt-PrunedScope rules x.0 met ∙ ap (λ e. bind e (λ a. rules.pruned_scope a.1 a.0))
       (rebuilt-pruned_scope rules x.0 met) ∙ after_pruned_scope x.0.scope
       (rebuilt_block rules x.0.instructions met)))
       (made held held_list (λ b. stmt.PrunedScope (record { scope = x.0.scope; instructions = b }) ∷ [])
-      (λ b. both-nothing (held_statement (stmt.PrunedScope (record { scope = x.0.scope; instructions = b })))
-      ∙ held-PrunedScope (record { scope = x.0.scope; instructions = b }))
+      (λ b. held_monoid.behind (held_statement (stmt.PrunedScope (record { scope = x.0.scope; instructions = b })))
+      ∙ collected-PrunedScope held_of_parts (record { scope = x.0.scope; instructions = b }))
       (held x.0.instructions) met (rebuilt_block rules x.0.instructions met) (x.1 met))))
 
   terminal_stays : (y : layer.ReactiveTerminal-F KnownStatement KnownTerminal KnownPrunedScope KnownScope KnownBlock
@@ -368,81 +397,85 @@ module _ (env : Environment) where
       (λ e. e.0) (λ e. e.0) (λ e. e.0) (λ e. e.0) (λ e. e.0) (λ e. e.0) (λ e. e.0) y))
   terminal_stays (layer.Break target kind id) = subst TerminalStays (sym (term.rolls-Break target kind id))
       (without_parts (term.Break target kind id) (nothing) (rebuilt-Break rules target kind id)
-      (held-Break target kind id) (ap is_return (term.outs-Break target kind id)) refl)
+      (collected-Break held_of_parts target kind id) (ap is_return (term.outs-Break target kind id)) refl)
   terminal_stays (layer.Continue target kind id) = subst TerminalStays (sym (term.rolls-Continue target kind id))
       (without_parts (term.Continue target kind id) (nothing) (rebuilt-Continue rules target kind id)
-      (held-Continue target kind id) (ap is_return (term.outs-Continue target kind id)) refl)
+      (collected-Continue held_of_parts target kind id) (ap is_return (term.outs-Continue target kind id)) refl)
   terminal_stays (layer.Return place id) = subst TerminalStays (sym (term.rolls-Return place id))
       (without_parts (term.Return place id) (record { returns = true; blocks = [] }) (rebuilt-Return rules place id)
-      (held-Return place id) (ap is_return (term.outs-Return place id)) refl)
+      (collected-Return held_of_parts place id) (ap is_return (term.outs-Return place id)) refl)
   terminal_stays (layer.Throw place id) = subst TerminalStays (sym (term.rolls-Throw place id))
-      (without_parts (term.Throw place id) (nothing) (rebuilt-Throw rules place id) (held-Throw place id)
+      (without_parts (term.Throw place id) (nothing) (rebuilt-Throw rules place id)
+      (collected-Throw held_of_parts place id)
       (ap is_return (term.outs-Throw place id)) refl)
   terminal_stays (layer.Switch test cases id) = subst TerminalStays (sym (term.rolls-Switch test (bare_cases cases) id))
-      (with_part (λ x. all_of (map held_case x)) (bare_cases cases) (λ x. in_order (map (rebuilt_case rules) x))
-      (cases_stay cases) (λ x. term.Switch test x id) (rebuilt-Switch rules test (bare_cases cases) id)
-      (λ x. held-Switch test x id) (λ x. ap is_return (term.outs-Switch test x id)))
+      (with_part (held_cases id) (bare_cases cases) (λ x. in_order (map (rebuilt_case rules) x))
+      (cases_stay id cases) (λ x. term.Switch test x id) (rebuilt-Switch rules test (bare_cases cases) id)
+      (λ x. collected-Switch held_of_parts test x id) (λ x. ap is_return (term.outs-Switch test x id)))
   terminal_stays (layer.DoWhile body test id) = subst TerminalStays (sym (term.rolls-DoWhile body.0 test id))
       (with_part held body.0 (rebuilt_block rules) body.1 (λ x. term.DoWhile x test id)
-      (rebuilt-DoWhile rules body.0 test id) (λ x. held-DoWhile x test id)
+      (rebuilt-DoWhile rules body.0 test id)
+      (λ x. collected-DoWhile held_of_parts x test id ∙ held_monoid.behind (held x))
       (λ x. ap is_return (term.outs-DoWhile x test id)))
   terminal_stays (layer.While test body id) = subst TerminalStays (sym (term.rolls-While test body.0 id))
       (with_part held body.0 (rebuilt_block rules) body.1 (λ x. term.While test x id)
-      (rebuilt-While rules test body.0 id) (λ x. held-While test x id)
+      (rebuilt-While rules test body.0 id) (λ x. collected-While held_of_parts test x id)
       (λ x. ap is_return (term.outs-While test x id)))
   terminal_stays (layer.For init test update body id) =
       subst TerminalStays (sym (term.rolls-For init test update body.0 id))
       (with_part held body.0 (rebuilt_block rules) body.1 (λ x. term.For init test update x id)
-      (rebuilt-For rules init test update body.0 id) (λ x. held-For init test update x id)
+      (rebuilt-For rules init test update body.0 id) (λ x. collected-For held_of_parts init test update x id
+      ∙ held_monoid.behind (held x))
       (λ x. ap is_return (term.outs-For init test update x id)))
   terminal_stays (layer.ForOf init test body span id) =
       subst TerminalStays (sym (term.rolls-ForOf init test body.0 span id))
       (with_part held body.0 (rebuilt_block rules) body.1 (λ x. term.ForOf init test x span id)
-      (rebuilt-ForOf rules init test body.0 span id) (λ x. held-ForOf init test x span id)
+      (rebuilt-ForOf rules init test body.0 span id) (λ x. collected-ForOf held_of_parts init test x span id)
       (λ x. ap is_return (term.outs-ForOf init test x span id)))
   terminal_stays (layer.ForIn init body span id) = subst TerminalStays (sym (term.rolls-ForIn init body.0 span id))
       (with_part held body.0 (rebuilt_block rules) body.1 (λ x. term.ForIn init x span id)
-      (rebuilt-ForIn rules init body.0 span id) (λ x. held-ForIn init x span id)
+      (rebuilt-ForIn rules init body.0 span id) (λ x. collected-ForIn held_of_parts init x span id)
       (λ x. ap is_return (term.outs-ForIn init x span id)))
   terminal_stays (layer.If test consequent alternate id) = subst TerminalStays
       (sym (term.rolls-If test consequent.0 (bare_if alternate) id))
       (with_two_parts held held_if consequent.0 (bare_if alternate) (rebuilt_block rules)
       (if_some (rebuilt_block rules)) consequent.1 (if_stays alternate) (λ x y. term.If test x y id)
-      (rebuilt-If rules test consequent.0 (bare_if alternate) id) (λ x y. held-If test x y id)
+      (rebuilt-If rules test consequent.0 (bare_if alternate) id) (λ x y. collected-If held_of_parts test x y id)
       (λ x y. ap is_return (term.outs-If test x y id)))
   terminal_stays (layer.Label body id) = subst TerminalStays (sym (term.rolls-Label body.0 id))
       (with_part held body.0 (rebuilt_block rules) body.1 (λ x. term.Label x id) (rebuilt-Label rules body.0 id)
-      (λ x. held-Label x id) (λ x. ap is_return (term.outs-Label x id)))
+      (λ x. collected-Label held_of_parts x id) (λ x. ap is_return (term.outs-Label x id)))
   terminal_stays (layer.Try body binding handler id) =
       subst TerminalStays (sym (term.rolls-Try body.0 binding handler.0 id))
       (with_two_parts held held body.0 handler.0 (rebuilt_block rules) (rebuilt_block rules) body.1 handler.1
       (λ x y. term.Try x binding y id)
-      (rebuilt-Try rules body.0 binding handler.0 id) (λ x y. held-Try x binding y id)
+      (rebuilt-Try rules body.0 binding handler.0 id) (λ x y. collected-Try held_of_parts x binding y id)
       (λ x y. ap is_return (term.outs-Try x binding y id)))
 
   block_stays : (xs : List KnownStatement) → BlockStays (record { statements = bare_statements xs })
   block_stays xs met =
       subst (λ it. Stays held it met (rebuilt_block rules (record { statements = bare_statements xs }) met))
-      (sym (held-block (record { statements = bare_statements xs })))
+      (sym (collected-block held_of_parts (record { statements = bare_statements xs })))
       (subst (λ e. Stays held (held_list (bare_statements xs)) met e)
       (sym (rebuilt-block rules (record { statements = bare_statements xs }) met))
       (made held_list held (λ statements. record { statements = statements })
-      (λ statements. held-block (record { statements = statements }))
+      (λ statements. collected-block held_of_parts (record { statements = statements }))
       (held_list (bare_statements xs)) met (joined (map (rebuilt_statement rules) (bare_statements xs)) met)
       (list_stays xs met)))
 
   case_stays : (test : Option Place) (x : Option KnownBlock)
       → CaseStays (roll-ReactiveSwitchCase (record { test = test; block = bare_if x }))
-  case_stays test x met =
-      subst (λ it. Stays held_case it met
+  case_stays test x id met =
+      subst (λ it. Stays (held_case id) it met
       (rebuilt_case rules (roll-ReactiveSwitchCase (record { test = test; block = bare_if x })) met))
-      (sym (held-case test (bare_if x)))
-      (subst (λ e. Stays held_case (held_if (bare_if x)) met e)
+      (sym (collected-case held_of_parts test (bare_if x) id))
+      (subst (λ e. Stays (held_case id) (held_if (bare_if x)) met e)
       (sym (rebuilt-case rules (roll-ReactiveSwitchCase (record { test = test; block = bare_if x })) met
       ∙ ap (λ c. bind (if_some (rebuilt_block rules) c.block met)
       (λ a. Ok (a.0, roll-ReactiveSwitchCase (record { test = c.test; block = a.1 }))))
       (out-roll-ReactiveSwitchCase (record { test = test; block = bare_if x }))))
-      (made held_if held_case (λ b. roll-ReactiveSwitchCase (record { test = test; block = b })) (λ b. held-case test b)
+      (made held_if (held_case id) (λ b. roll-ReactiveSwitchCase (record { test = test; block = b }))
+      (λ b. collected-case held_of_parts test b id)
       (held_if (bare_if x)) met (if_some (rebuilt_block rules) (bare_if x) met) (if_stays x met)))
 
   every_block_stays : (x : ReactiveBlock) → BlockStays x

@@ -7,6 +7,7 @@ pub mod OpenScopes
 pub mod MembershipSteps
 pub mod Labels
 pub mod LabelPruning
+pub mod LabelSteps
 pub mod UnusedScopes
 pub mod UnusedScopesSteps
 pub mod ScopeBlocks

@@ -2,7 +2,7 @@
 --
 -- A `Return` stands in the innermost scope block around it alone. A pruned block isn't a scope block, so that what
 -- stands in it stands in the block around.
-use Rattle.std.specs.Prelude.{◌≡◌, ◌≤◌, length, Bool, true, false, List, [], ◌∷◌, ◌++◌, Option, None, Some, slice_get}
+use Rattle.std.specs.Prelude.{◌≡◌, ◌≤◌, length, Bool, true, false, List, [], ◌∷◌, ◌++◌, slice_get}
 use Rattle.std.specs.Prelude.{◌||◌}
 use Rattle.std.specs.List.{filter, Contains}
 use Rattle.std.specs.Option.{option_map_or}
@@ -12,12 +12,8 @@ use Rattle.rc_hir.specs.declared.fault.Fault.{Fault}
 use Rattle.rc_hir.specs.declared.fault.Fault.TheVariants.{BadName}
 use Rattle.rc_hir.specs.declared.fault.TableName.TheVariants.{Scopes}
 use Rattle.rc_names.specs.declared.numbers.ScopeId.{ScopeId}
-use Rattle.rc_tree.specs.declared.statement.ReactiveBlock.{ReactiveBlock, fold-ReactiveBlock}
-use Rattle.rc_tree.specs.declared.statement.ReactiveStatement.TheOpen as layer
-use Rattle.rc_tree.specs.declared.statement.ReactiveStatement.TheOpen.{ReactiveStatement-F, ReactiveTerminal-F}
-use Rattle.rc_tree.specs.declared.statement.ReactiveStatement.TheOpen.{PrunedReactiveScopeBlock-F, ReactiveScopeBlock-F}
-use Rattle.rc_tree.specs.declared.statement.ReactiveStatement.TheOpen.{ReactiveBlock-F, ReactiveSwitchCase-F}
-use Rattle.rc_tree.specs.declared.statement.ReactiveStatement.TheOpen.{ReactiveTerminalStatement-F}
+use Rattle.rc_tree.specs.Collected.{OfParts, collected}
+use Rattle.rc_tree.specs.declared.statement.ReactiveBlock.{ReactiveBlock}
 
 -- a scope block: the number of its scope, and whether a `Return` stands in it
 pub record ScopeBlock : Type 0 where
@@ -37,66 +33,26 @@ nothing = record { returns = false; blocks = [] }
 abbrev pub both : Held → Held → Held
 both a b = record { returns = a.returns || b.returns; blocks = a.blocks ++ b.blocks }
 
--- what all parts hold
-abbrev pub all_of : List Held → Held
-all_of [] = nothing
-all_of (part ∷ parts) = both part (all_of parts)
-
--- what a part holds that may be left out
-abbrev pub if_there : Option Held → Held
-if_there None = nothing
-if_there (Some part) = part
-
--- what a statement holds, by what its parts hold
-abbrev pub of_statement : ReactiveStatement-F Held Held Held Held Held Held Held → Held
-of_statement (layer.Instruction row) = nothing
-of_statement (layer.Terminal statement) = statement
-of_statement (layer.Scope block) = block
-of_statement (layer.PrunedScope block) = block
-
--- what a terminal holds: a `Return` is one itself, and others hold what their blocks hold
-abbrev pub of_terminal : ReactiveTerminal-F Held Held Held Held Held Held Held → Held
-of_terminal (layer.Break target kind id) = nothing
-of_terminal (layer.Continue target kind id) = nothing
-of_terminal (layer.Return value id) = record { returns = true; blocks = [] }
-of_terminal (layer.Throw value id) = nothing
-of_terminal (layer.Switch test cases id) = all_of cases
-of_terminal (layer.DoWhile body test id) = body
-of_terminal (layer.While test body id) = body
-of_terminal (layer.For init test update body id) = body
-of_terminal (layer.ForOf init test body span id) = body
-of_terminal (layer.ForIn init body span id) = body
-of_terminal (layer.If test consequent alternate id) = both consequent (if_there alternate)
-of_terminal (layer.Label body id) = body
-of_terminal (layer.Try body binding handler id) = both body handler
-
--- a pruned scope block holds what its statements hold
-abbrev pub of_pruned_scope : PrunedReactiveScopeBlock-F Held Held Held Held Held Held Held → Held
-of_pruned_scope block = block.instructions
-
--- a scope block comes before those in it
-abbrev pub of_scope : ReactiveScopeBlock-F Held Held Held Held Held Held Held → Held
-of_scope block = record {
-  returns = false;
-  blocks = record { scope = block.scope; returns = block.instructions.returns } ∷ block.instructions.blocks;
+-- what a `Return` and a scope block add: a scope block comes before those in it, and a `Return` in it isn't outside
+abbrev pub held_of_parts : OfParts Held
+held_of_parts = record {
+  joining = record { nothing = nothing; both = both };
+  row = λ x. nothing;
+  value = λ id x. nothing;
+  place = λ id x. nothing;
+  returned = λ id x. record { returns = true; blocks = [] };
+  jump = λ target. nothing;
+  label = λ label. nothing;
+  scope = λ scope inside. record {
+    returns = false;
+    blocks = record { scope = scope; returns = inside.returns } ∷ inside.blocks;
+  };
+  pruned_scope = λ scope inside. inside;
 }
 
--- what the statements of a block hold
-abbrev pub of_block : ReactiveBlock-F Held Held Held Held Held Held Held → Held
-of_block block = all_of block.statements
-
--- what the block of a case holds
-abbrev pub of_case : ReactiveSwitchCase-F Held Held Held Held Held Held Held → Held
-of_case case = if_there case.block
-
--- what a terminal with its label holds
-abbrev pub of_labeled : ReactiveTerminalStatement-F Held Held Held Held Held Held Held → Held
-of_labeled statement = statement.terminal
-
 -- what the tree holds
-unfoldable pub held : ReactiveBlock → Held
-held = fold-ReactiveBlock Held Held Held Held Held Held Held of_statement of_terminal of_pruned_scope of_scope of_block
-    of_case of_labeled
+abbrev pub held : ReactiveBlock → Held
+held = collected held_of_parts
 
 -- a `Return` stands in the block outside its scope blocks
 abbrev pub returns_in : ReactiveBlock → Bool

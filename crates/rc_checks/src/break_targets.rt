@@ -8,7 +8,9 @@ ghost use Rattle.std.specs.Prelude.{◌≡◌, ◌⊎◌, IfErr, OnOk};
 ghost use Rattle.rc_checks.specs.BreakTargets as spec;
 ghost use Rattle.rc_checks.specs.BreakTargets.{met_at, met_in, AllTargetsAreMet, IsFirstUnmet};
 ghost use Rattle.rc_checks.specs.TargetSteps.{target_step, terminal_step, with_label};
+ghost use Rattle.rc_hir.specs.declared.function.HirFunction.{HirFunction as Hir};
 ghost use Rattle.rc_names.specs.declared.numbers.BlockId.{BlockId as Block};
+ghost use Rattle.rc_runs.specs.Spelled.{Spells};
 ghost use Rattle.rc_tree.specs.Outcome.{Gives, each};
 ghost use Rattle.rc_tree.specs.declared.terminal.ReactiveTerminal.{out-ReactiveTerminal};
 
@@ -22,8 +24,8 @@ use std::alloc::{AllocError, Global};
 
 /// Whether each break and continue that is met in the body names a label that is met by then, its own included.
 ///
-/// `BadTarget` names the target of the first one that doesn't. `NoMemory` is want of memory. No number is looked up,
-/// so `BadName` never comes.
+/// `BadTarget` names the target of the first one that doesn't, and never comes of the tree that a graph spells.
+/// `NoMemory` is want of memory. No number is looked up, so `BadName` never comes.
 pub fn assert_well_formed_break_targets(
     alloc: Global,
     func: &ReactiveFunction,
@@ -34,6 +36,8 @@ pub fn assert_well_formed_break_targets(
         IsFirstUnmet (met_in func.now.body) target }
     ensures only { IfErr result (λ fault. (fault ≡ Fault.NoMemory)
         ⊎ ((target : Block) × (fault ≡ Fault.BadTarget target))) }
+    ensures spelled { (hir : Hir) → Spells hir env.now func.now →
+        IfErr result (λ fault. fault ≡ Fault.NoMemory) }
 {
     let mut labels = KeySet::new(alloc);
     check_block(&func.body, &mut labels)

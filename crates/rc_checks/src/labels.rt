@@ -13,16 +13,22 @@ ghost use Rattle.std.specs.Prelude.{take, IfErr, IfOk, IsOk, OnOk, List as Event
 ghost use Rattle.rc_checks.specs.Labels.{IsWithoutUnusedLabels, flattened, label_rules};
 ghost use Rattle.rc_checks.specs.LabelPruning.{PutsLast, Statements, added_if, behind, done_before, label_in};
 ghost use Rattle.rc_checks.specs.LabelPruning.{opened, refilled};
+ghost use Rattle.rc_checks.specs.LabelSteps.{IsAfterLabelWalk};
+ghost use Rattle.rc_checks.specs.ScopeBlocks.{scope_blocks};
+ghost use Rattle.rc_checks.specs.ScopesIn.{HasScopesOnce, scopes_in};
+ghost use Rattle.rc_checks.specs.Visits.{visits_of};
 ghost use Rattle.rc_hir.specs.declared.fault.Fault.TheVariants as fault;
 ghost use Rattle.rc_runs.specs.BodyRun.{IsBodyRun};
+ghost use Rattle.rc_runs.specs.EarlyReturns.{NoEarlyReturnSet};
 ghost use Rattle.rc_runs.specs.Event.{End, Event};
 ghost use Rattle.rc_tree.specs.Rebuilt.{if_there, in_order, joined, rebuilt_block, rebuilt_case};
 ghost use Rattle.rc_tree.specs.Rebuilt.{rebuilt_statement, rebuilt_terminal};
 ghost use Rattle.rc_tree.specs.declared.statement.ReactiveStatement.TheVariants as stmts;
-ghost use Rattle.rc_tree.specs.TreeNames.{TreeInTables};
+ghost use Rattle.rc_tree.specs.TreeNames.{TreeInTables, names_in};
 ghost use Rattle.rc_tree.specs.declared.terminal.ReactiveTerminal.{out-ReactiveTerminal};
 
 mod targets;
+mod transform;
 
 use crate::labels::targets::{mark, names_label, note_target};
 use rc_hir::{Environment, Fault};
@@ -32,18 +38,31 @@ use rc_tree::{
     ReactiveTerminalStatement,
 };
 use std::alloc::{AllocError, Global};
+pub use transform::UnusedLabels;
 
-/// Takes out the labels that no labeled break or continue names. The only fault is `NoMemory`.
+/// Takes out the labels that no labeled break or continue names, as the rewriting walk with `UnusedLabels` does. The
+/// only fault is `NoMemory`.
+///
+/// The numbers of the tree, its operands and its scope blocks stay, and so do the runs of its body where no early
+/// return is set. Where one is set, a break to its label counts as a return, and a break of the graph could be read as
+/// one.
 pub fn prune_unused_labels(
     alloc: Global,
     func: &mut ReactiveFunction,
     env: &Environment,
 ) -> Result<(), Fault>
     ensures ok { OnOk result (IsWithoutUnusedLabels func.old.body func.new.body) }
+    ensures walked { OnOk result (IsAfterLabelWalk func.old.body func.new.body) }
     ensures header { func.new ≡ record func.old { body = func.new.body } }
-    ensures kept_runs { OnOk result ((events : Events Event) (end : End)
+    ensures kept_names { OnOk result (names_in func.new.body ≡ names_in func.old.body) }
+    ensures kept_visits { OnOk result
+        (visits_of env.now.functions func.new.body ≡ visits_of env.now.functions func.old.body) }
+    ensures kept_scope_blocks { OnOk result (scope_blocks func.new.body ≡ scope_blocks func.old.body) }
+    ensures kept_scopes { OnOk result (scopes_in func.new.body ≡ scopes_in func.old.body) }
+    ensures kept_runs { NoEarlyReturnSet env.now → OnOk result ((events : Events Event) (end : End)
         → IsBodyRun func.old env.now events end ↔ IsBodyRun func.new env.now events end) }
     ensures known { OnOk result (TreeInTables func.old env.now → TreeInTables func.new env.now) }
+    ensures scopes_once { OnOk result (HasScopesOnce func.old.body → HasScopesOnce func.new.body) }
     ensures only { IfErr result (λ it. it ≡ fault.NoMemory) }
 {
     let mut targets = KeySet::new(alloc);

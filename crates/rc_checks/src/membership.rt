@@ -13,6 +13,7 @@ ghost use Rattle.rc_checks.specs.Visits.{visits_of};
 ghost use Rattle.rc_hir.specs.declared.fault.TableName.{TableName as Table};
 ghost use Rattle.rc_names.specs.declared.numbers.EvaluationOrder.{EvaluationOrder as Order};
 ghost use Rattle.rc_names.specs.declared.numbers.ScopeId.{ScopeId as Scope};
+ghost use Rattle.rc_tree.specs.TreeNames.{TreeInTables, TreeNamesOutside};
 
 use crate::membership::open_scopes::OpenScopes;
 use crate::membership::visitor::{Membership, Seen};
@@ -27,7 +28,7 @@ use std::alloc::{AllocError, Global};
 ///
 /// `ScopeCompleted` names the id and the scope of the last operand of the read walk that doesn't. `BadName` names the
 /// first number that is looked up in vain: of an operand's identifier, of its scope, or of a function whose context is
-/// read. `NoMemory` is want of memory.
+/// read. It never comes where every number is in its table. `NoMemory` is want of memory.
 pub fn assert_scope_instructions_within_scopes(
     alloc: Global,
     func: &ReactiveFunction,
@@ -40,6 +41,10 @@ pub fn assert_scope_instructions_within_scopes(
     ensures bad_name { (table : Table) (index : ℕ) → result ≡ Err (Fault.BadName table index) →
         IsFirstUnknown env.now (spec.scopes_in func.now.body) (visits_of env.now.functions func.now.body)
         (Fault.BadName table index) }
+    ensures named { (table : Table) (index : ℕ) → result ≡ Err (Fault.BadName table index) →
+        TreeNamesOutside func.now env.now (Fault.BadName table index) }
+    ensures sound { TreeInTables func.now env.now →
+        (table : Table) (index : ℕ) → result ≡ Err (Fault.BadName table index) → ⊥ }
     ensures only { IfErr result (λ fault. (fault ≡ Fault.NoMemory)
         ⊎ (((id : Order) × (scope : Scope) × (fault ≡ Fault.ScopeCompleted id scope))
         ⊎ ((table : Table) × (index : ℕ) × (fault ≡ Fault.BadName table index)))) }

@@ -2,18 +2,29 @@
 //!
 //! One pass over the tree puts each scope at the end of one list. Statements that follow each other are a loop, so that
 //! the call stack grows with the nesting alone. Rows and values have no scope block in them.
+#![tactic(auto, using(crate::proofs::ScopeBlocksLemmas::holding))]
 
-ghost use Rattle.std.specs.Prelude.{◌≡◌, ◌++◌, map, IfOk, OnOk, option_map};
-ghost use Rattle.rc_checks.specs.ScopesIn.{scopes_in, scopes_in_statement, scopes_in_terminal};
-ghost use Rattle.rc_checks.specs.ScopesIn.{scopes_in_case, one_by_one, if_there};
+ghost use Rattle.std.specs.Prelude.{◌≡◌, ◌++◌, IfOk, OnOk};
+ghost use Rattle.rc_checks.specs.ScopeBlocks.{held_of_parts as parts};
+ghost use Rattle.rc_checks.specs.ScopesIn.{HasScopesOnce, scopes_in, scopes_of};
+ghost use Rattle.rc_hir.specs.declared.environment.Environment.{Environment};
+ghost use Rattle.rc_hir.specs.declared.function.HirFunction.{HirFunction};
+ghost use Rattle.rc_names.specs.declared.numbers.EvaluationOrder.{EvaluationOrder as Order};
+ghost use Rattle.rc_tree.specs.Collected.{collected_cases, collected_if, collected_list, collected_statement};
+ghost use Rattle.rc_tree.specs.Collected.{collected_terminal};
+ghost use Rattle.rc_tree.specs.declared.function.ReactiveFunction.{ReactiveFunction};
+ghost use Rattle.rc_runs.specs.Spelled.{Spells};
 
 use rc_names::{List, ScopeId};
 use rc_tree::{ReactiveBlock, ReactiveStatement, ReactiveSwitchCase, ReactiveTerminal};
 use std::alloc::{AllocError, Global};
 
-/// The scope of each scope block of the tree. The only error is want of memory.
+/// The scope of each scope block of the tree; each stands there once, where the tree is one that a graph spells. The
+/// only error is want of memory.
 pub fn scopes_in(alloc: Global, block: &ReactiveBlock) -> Result<List<ScopeId>, AllocError>
-    ensures { IfOk result (λ scopes. scopes ≡ scopes_in block.now) }
+    ensures found { IfOk result (λ scopes. scopes ≡ scopes_in block.now) }
+    ensures once { (hir : HirFunction) (env : Environment) (func : ReactiveFunction) → Spells hir env func
+        → block.now ≡ func.body → IfOk result (λ scopes. HasScopesOnce block.now) }
 {
     let mut found = List::new(alloc);
     add_block(&mut found, block)?;
@@ -31,7 +42,7 @@ fn add_block(found: &mut List<ScopeId>, block: &ReactiveBlock) -> Result<(), All
 /// Adds the scopes in statements, one after the other.
 #[cycle(scopes)]
 fn add_statements(found: &mut List<ScopeId>, all: &[ReactiveStatement]) -> Result<(), AllocError>
-    ensures { OnOk result (found.new ≡ found.old ++ one_by_one (map scopes_in_statement all.now)) }
+    ensures { OnOk result (found.new ≡ found.old ++ scopes_of (collected_list parts all.now)) }
 {
     for statement in all {
         add_statement(found, statement)?;
@@ -42,7 +53,7 @@ fn add_statements(found: &mut List<ScopeId>, all: &[ReactiveStatement]) -> Resul
 /// Adds the scopes in a statement: that of a scope block, and then those in its block.
 #[cycle(scopes)]
 fn add_statement(found: &mut List<ScopeId>, statement: &ReactiveStatement) -> Result<(), AllocError>
-    ensures { OnOk result (found.new ≡ found.old ++ scopes_in_statement statement.now) }
+    ensures { OnOk result (found.new ≡ found.old ++ scopes_of (collected_statement parts statement.now)) }
 {
     match statement {
         ReactiveStatement::Instruction(_) => Ok(()),
@@ -58,7 +69,7 @@ fn add_statement(found: &mut List<ScopeId>, statement: &ReactiveStatement) -> Re
 /// Adds the scopes in the blocks of a terminal.
 #[cycle(scopes)]
 fn add_terminal(found: &mut List<ScopeId>, terminal: &ReactiveTerminal) -> Result<(), AllocError>
-    ensures { OnOk result (found.new ≡ found.old ++ scopes_in_terminal terminal.now) }
+    ensures { OnOk result (found.new ≡ found.old ++ scopes_of (collected_terminal parts terminal.now)) }
 {
     match terminal {
         ReactiveTerminal::Break { .. }
@@ -90,7 +101,7 @@ fn add_terminal(found: &mut List<ScopeId>, terminal: &ReactiveTerminal) -> Resul
 /// Adds the scopes in the cases of a switch.
 #[cycle(scopes)]
 fn add_cases(found: &mut List<ScopeId>, cases: &[ReactiveSwitchCase]) -> Result<(), AllocError>
-    ensures { OnOk result (found.new ≡ found.old ++ one_by_one (map scopes_in_case cases.now)) }
+    ensures { OnOk result ((id : Order) → found.new ≡ found.old ++ scopes_of (collected_cases parts id cases.now)) }
 {
     for case in cases {
         add_if_there(found, &case.block)?;
@@ -101,7 +112,7 @@ fn add_cases(found: &mut List<ScopeId>, cases: &[ReactiveSwitchCase]) -> Result<
 /// Adds the scopes in a block that may be left out.
 #[cycle(scopes)]
 fn add_if_there(found: &mut List<ScopeId>, block: &Option<ReactiveBlock>) -> Result<(), AllocError>
-    ensures { OnOk result (found.new ≡ found.old ++ if_there (option_map scopes_in block.now)) }
+    ensures { OnOk result (found.new ≡ found.old ++ scopes_of (collected_if parts block.now)) }
 {
     match block {
         Some(block) => add_block(found, block),

@@ -5,13 +5,14 @@
 //!
 //! After oxc's prune_unused_scopes.
 
-ghost use Rattle.std.specs.Prelude.{◌≡◌, ◌⊎◌, IfErr, OnOk};
+ghost use Rattle.std.specs.Prelude.{◌≡◌, ◌⊎◌, map, IfErr, OnOk};
 ghost use Rattle.std.specs.List.{list_any};
 ghost use Rattle.rc_hir.specs.declared.fault.Fault.TheVariants as faults;
 ghost use Rattle.rc_runs.specs.Erase.{erased};
-ghost use Rattle.rc_tree.specs.TreeNames.{TreeInTables};
+ghost use Rattle.rc_tree.specs.TreeNames.{TreeInTables, TreeNamesOutside, names_in};
 ghost use Rattle.rc_tree.specs.declared.terminal.ReactiveTerminal.{out-ReactiveTerminal};
 ghost use Rattle.rc_checks.specs.ScopeBlocks.{NamesScopeOutside, scope_blocks, staying_blocks};
+ghost use Rattle.rc_checks.specs.ScopesIn.{HasScopesOnce, scopes_in};
 ghost use Rattle.rc_checks.specs.UnusedScopes as spec;
 ghost use Rattle.rc_checks.specs.UnusedScopesSteps as steps;
 
@@ -28,8 +29,11 @@ use std::alloc::{AllocError, Global};
 /// Makes the block of each scope that gives nothing a pruned one: the scope reassigns no name and declares none of its
 /// own, and no `Return` stands in its block outside nested scope blocks.
 ///
+/// The numbers of the tree stay, and so does all that stands in it outside its scopes.
+///
 /// `BadName` comes where the scope of a scope block is outside the table of scopes, and names the first, from the
-/// inside; the body has no stated content then. `NoMemory` is want of memory.
+/// inside; the body has no stated content then. `NoMemory` is want of memory, and the only fault where every number is
+/// in its table.
 pub fn prune_unused_scopes(
     alloc: Global,
     func: &mut ReactiveFunction,
@@ -38,13 +42,20 @@ pub fn prune_unused_scopes(
     ensures ok { OnOk result (spec.IsWithoutUnusedScopes env.now func.old.body func.new.body) }
     ensures header { func.new ≡ record func.old { body = func.new.body } }
     ensures stays { OnOk result (scope_blocks func.new.body ≡ staying_blocks env.now func.old.body) }
+    ensures left { OnOk result
+        (scopes_in func.new.body ≡ map (λ block. block.scope) (staying_blocks env.now func.old.body)) }
+    ensures kept_names { OnOk result (names_in func.new.body ≡ names_in func.old.body) }
     ensures kept_erased { OnOk result (erased func.new ≡ erased func.old) }
     ensures known { OnOk result (TreeInTables func.old env.now → TreeInTables func.new env.now) }
+    ensures scopes_once { OnOk result (HasScopesOnce func.old.body → HasScopesOnce func.new.body) }
 
     ensures refused { IfErr result (λ fault. (fault ≡ faults.NoMemory)
         ⊎ spec.NamesFirstScopeOutside env.now func.old.body fault) }
     ensures bad_name { IfErr result (λ fault. (fault ≡ faults.NoMemory)
         ⊎ NamesScopeOutside env.now func.old.body fault) }
+    ensures named { IfErr result (λ fault. (fault ≡ faults.NoMemory)
+        ⊎ TreeNamesOutside func.old env.now fault) }
+    ensures sound { TreeInTables func.old env.now → IfErr result (λ fault. fault ≡ faults.NoMemory) }
 {
     let mut transform = OverStatements {
         env,

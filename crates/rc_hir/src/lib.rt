@@ -38,6 +38,3 @@ pub use scope::{
 };
 pub use terminal::{Case, GotoVariant, Terminal};
 pub use types::{HirType, Shape, ShapeRow};
-
-#[cfg(test)]
-mod tests;

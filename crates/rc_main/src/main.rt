@@ -1,26 +1,9 @@
 //! `rc tree`: reads a document from standard input and prints its tree, or why its graph is refused.
 #![tactic(auto)]
 
-mod answer;
-mod device;
-mod load;
-mod memory;
-mod printing;
-mod standard;
-mod status;
-mod stop;
-#[cfg(test)]
-mod tests;
-mod top;
-mod words;
-mod write;
-
-use standard::{StdSink, StdSource};
-use status::Status;
+use rc_program::{Status, StdSink, StdSource, program, words};
 use std::process::ExitCode;
 use std::{env, io};
-use top::program;
-use words::words;
 
 /// Runs the program over the real devices, says in one line what was wrong, if anything was, and ends with the status.
 fn main(rt: HostRuntime) -> ExitCode {

@@ -28,6 +28,3 @@ pub use numbers::{
 pub use span::Span;
 pub use table::Table;
 pub use text::Text;
-
-#[cfg(test)]
-mod tests;

@@ -22,7 +22,8 @@ use Rattle.rc_pipe.specs.declared.fates.Fate.TheVariants.{Kept, NotEscaping, Unu
 use Rattle.rc_pipe.specs.declared.fates.Fate.TheVariants.{AlwaysInvalidating}
 use Rattle.rc_pipe.specs.declared.fates.ScopeFate.{ScopeFate}
 use Rattle.rc_checks.specs.ScopesIn.{scopes_in}
-use Rattle.rc_pipe.specs.Fates.{IsFate, HasFate, listed_scopes, AreFates}
+use Rattle.rc_pipe.specs.Fates.{listed_scopes}
+use Rattle.rc_pipe.specs.ListedFates.{IsListedFate, HasListedFate, AreListedFates}
 
 -- the order of scopes is that of their numbers
 abbrev pub scope_cmp : ScopeId → ScopeId → Ordering
@@ -69,7 +70,7 @@ set_has scopes set made scope =
 
 -- what is the fate of a scope by some scopes is its fate by the same ones in another order
 fate_by_same : (left other : List ScopeId) → ((scope : ScopeId) → Contains left scope ↔ Contains other scope)
-    → (scope : ScopeId) (fate : Fate) → IsFate left scope fate → IsFate other scope fate
+    → (scope : ScopeId) (fate : Fate) → IsListedFate left scope fate → IsListedFate other scope fate
 fate_by_same left other same scope Kept is = (same scope).0 is
 fate_by_same left other same scope Unused is = λ there. is ((same scope).1 there)
 fate_by_same left other same scope NotEscaping is = is
@@ -82,7 +83,7 @@ pub fates_told : (scopes : List ScopeId) (body : ReactiveBlock) (ordered left : 
     → IsStrictlyIncreasing (map (λ scope. scope.0) ordered)
     → ((scope : ScopeId) → Contains ordered scope ↔ Contains scopes scope)
     → ((scope : ScopeId) → Contains left scope ↔ Contains (scopes_in body) scope)
-    → (fates : List ScopeFate) → listed_scopes fates ≡ ordered → All (HasFate left) fates → AreFates scopes body fates
+    → (fates : List ScopeFate) → listed_scopes fates ≡ ordered → All (HasListedFate left) fates → AreListedFates scopes body fates
 fates_told scopes body ordered left rising same same_left fates listed told = record {
   rising = rw listed rising;
   listed = λ scope. rw listed (same scope);
@@ -98,18 +99,18 @@ set_contains set scope = btree_set_contains_iff scopes_ordered scopes_exact set 
 
 -- a further entry lists its scope, with its fate
 pub fates_more : (left : List ScopeId) (fates : List ScopeFate) (entry : ScopeFate) (scope : ScopeId)
-    (rest keys : List ScopeId) → entry.scope ≡ scope → HasFate left entry
-    → (listed_scopes fates ++ scope ∷ rest ≡ keys) × All (HasFate left) fates
-    → (listed_scopes (fates ++ entry ∷ []) ++ rest ≡ keys) × All (HasFate left) (fates ++ entry ∷ [])
+    (rest keys : List ScopeId) → entry.scope ≡ scope → HasListedFate left entry
+    → (listed_scopes fates ++ scope ∷ rest ≡ keys) × All (HasListedFate left) fates
+    → (listed_scopes (fates ++ entry ∷ []) ++ rest ≡ keys) × All (HasListedFate left) (fates ++ entry ∷ [])
 fates_more left fates entry scope rest keys same has given =
     let list = ap (λ l. l ++ rest) (map-append (λ e. e.scope) fates (entry ∷ []))
     ∙ append_assoc (listed_scopes fates) (entry.scope ∷ []) rest in (
       list ∙ ap (λ s. listed_scopes fates ++ s ∷ rest) same
           ∙ given.0,
-      All-append (HasFate left) fates (entry ∷ []) given.1 alone,
+      All-append (HasListedFate left) fates (entry ∷ []) given.1 alone,
     )
   where
-    alone : All (HasFate left) (entry ∷ [])
+    alone : All (HasListedFate left) (entry ∷ [])
     alone zero other below = has
     alone (suc place) other below = absurd (let no : ⊥ = omega (arith, below) in no)
 
@@ -119,7 +120,7 @@ pub fates_answered : (scopes : List ScopeId) (body : ReactiveBlock) (found order
     → ((scope : ScopeId) → Contains ordered scope ↔ Contains scopes scope)
     → ((scope : ScopeId) → Contains left scope ↔ Contains found scope)
     → (result : Result (List ScopeFate) AllocError) → IfOk result (λ fates. listed_scopes fates ≡ ordered)
-    → IfOk result (All (HasFate left)) → IfOk result (AreFates scopes body)
+    → IfOk result (All (HasListedFate left)) → IfOk result (AreListedFates scopes body)
 fates_answered scopes body found ordered left all rising same same_left (Ok fates) listed told =
     fates_told scopes body ordered left rising same (λ scope. subst (λ list. Contains left scope ↔ Contains list scope)
     all (same_left scope)) fates listed told

@@ -1,6 +1,6 @@
-pub mod FatesLemmas
-pub mod OutsideLemmas
-pub mod CausesLemmas
-pub mod NoJumpIsMet
-pub mod PassesLemmas
-pub mod HeadlineHolds
+mod FatesLemmas
+mod ListedOnce
+mod FatesHold
+mod OutsideLemmas
+mod CausesLemmas
+mod PassesLemmas

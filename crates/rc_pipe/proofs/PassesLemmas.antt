@@ -1,7 +1,7 @@
--- What the passes refuse of a spelled function: operands outside, and nothing else.
-use Rattle.std.proofs.Common.{◌≡◌, ◌∙◌, ◌⊎◌, inl, inr, ℕ, List, Result, Ok, Err, All, OnOk, ◌↔◌, sym, ap, subst}
+-- From the clauses of the checks and passes to those of what they do one after the other.
+use Rattle.std.proofs.Common.{◌≡◌, ◌∙◌, ◌⊎◌, inl, inr, ℕ, List, Result, Ok, Err, OnOk, ◌↔◌, All, map, refl, sym, ap}
+use Rattle.std.proofs.Common.{subst}
 use Rattle.std.specs.List.{filter}
-use Rattle.rc_hir.specs.Names.{IsInTable, lengths}
 use Rattle.rc_hir.specs.declared.environment.Environment.{Environment}
 use Rattle.rc_hir.specs.declared.fault.Fault.{Fault}
 use Rattle.rc_hir.specs.declared.fault.Fault.TheVariants as faults
@@ -9,31 +9,23 @@ use Rattle.rc_hir.specs.declared.fault.TableName.{TableName}
 use Rattle.rc_hir.specs.declared.function.HirFunction.{HirFunction}
 use Rattle.rc_names.specs.declared.numbers.EvaluationOrder.{EvaluationOrder}
 use Rattle.rc_names.specs.declared.numbers.ScopeId.{ScopeId}
-use Rattle.rc_tree.specs.TreeNames.{names_in}
+use Rattle.rc_tree.specs.TreeNames.{TreeInTables}
 use Rattle.rc_tree.specs.declared.function.ReactiveFunction.{ReactiveFunction}
-use Rattle.rc_tree.specs.declared.statement.ReactiveBlock.{ReactiveBlock}
 use Rattle.rc_runs.specs.BodyRun.{IsBodyRun}
 use Rattle.rc_runs.specs.Erase.{erased}
 use Rattle.rc_runs.specs.Event.{Event, End}
 use Rattle.rc_runs.specs.Spelled.{Spells}
 use Rattle.rc_runs.proofs.ErasedRuns.{same_erased_same_runs}
-use Rattle.rc_runs.proofs.SpelledNames.{spelled_names_held}
+use Rattle.rc_build.specs.BuiltForms.{AreBuilt}
 use Rattle.rc_checks.specs.Labels.{IsWithoutUnusedLabels}
-use Rattle.rc_checks.specs.Membership.{IsFirstUnknown, IsInside, IsLastOutside}
+use Rattle.rc_checks.specs.Membership.{IsInside, IsLastOutside}
 use Rattle.rc_checks.specs.ScopeBlocks.{scope_blocks, staying_blocks}
-use Rattle.rc_checks.specs.ScopeBlocks as spec
+use Rattle.rc_checks.specs.ScopeBlocks as blocks
 use Rattle.rc_checks.specs.ScopesIn.{scopes_in}
 use Rattle.rc_checks.specs.UnusedScopes.{IsWithoutUnusedScopes}
-use Rattle.rc_checks.specs.Visits.{Visit, visits_of}
-use Rattle.rc_checks.proofs.LabelsKeep.{labels_keep_names}
-use Rattle.rc_checks.proofs.ScopeBlocksStay.{labels_keep_scope_blocks, labels_keep_scopes}
-use Rattle.rc_checks.proofs.UnusedScopesFaults.{scopes_are_there}
-use Rattle.rc_checks.proofs.VisitsKnown.{no_unknown}
-use Rattle.rc_checks.proofs.VisitsStay.{labels_keep_visits}
-use Rattle.rc_build.specs.BuiltForms.{AreBuilt}
+use Rattle.rc_checks.specs.Visits.{visits_of}
 use Rattle.rc_pipe.specs.Headline.{IsAccepted, IsCause}
-use Rattle.rc_pipe.specs.Passes.{AreInside, EndsOutside, IsPassFault, IsPruned, LacksNumber}
-use Rattle.rc_pipe.proofs.NoJumpIsMet.{no_jump_is_met}
+use Rattle.rc_pipe.specs.Passes.{AreInside, EndsOutside, IsPassFault, IsPruned, PassState, state}
 
 -- runs that are kept up to a function are kept up to one with the same statements outside its scopes
 pub runs_through : (env : Environment) (first second third : ReactiveFunction) (result : Result (Unit {0}) Fault)
@@ -46,81 +38,90 @@ runs_through env first second third (Ok done) same e = λ events end.
     (λ run. there.1 (here.0 run), λ run. here.1 (there.0 run))
 runs_through env first second third (Err fault) same e = tt
 
--- what holds of the scopes and the operands of a tree without its unused labels holds of those of the tree
-of_spelled : (env : Environment) (body labeled : ReactiveBlock) → IsWithoutUnusedLabels body labeled
-    → (P : List ScopeId → List Visit → Type 0) → P (scopes_in labeled) (visits_of env.functions labeled)
-    → P (scopes_in body) (visits_of env.functions body)
-of_spelled env body labeled labels P holds =
-    subst (P (scopes_in body)) (labels_keep_visits env.functions body labeled labels)
-    (subst (λ scopes. P scopes (visits_of env.functions labeled)) (labels_keep_scopes body labeled labels) holds)
+-- what holds of a function by what held of the one before it
+pub known_through : (env : Environment) (first second third : ReactiveFunction) (result : Result (Unit {0}) Fault)
+    → (TreeInTables first env → TreeInTables second env) → OnOk result (TreeInTables second env → TreeInTables third env)
+    → OnOk result (TreeInTables first env → TreeInTables third env)
+known_through env first second third (Ok done) here there = λ known. there (here known)
+known_through env first second third (Err fault) here there = tt
 
--- a function that lost its unused labels and then its unused scopes is pruned, where no operand was outside between
-pub pruned_by_both : (env : Environment) (first second third : ReactiveFunction) (result : Result (Unit {0}) Fault)
-    → IsWithoutUnusedLabels first.body second.body → second ≡ record first { body = second.body }
-    → AreInside env second.body
-    → OnOk result (IsWithoutUnusedScopes env second.body third.body)
-    → OnOk result (scope_blocks third.body ≡ staying_blocks env second.body)
-    → third ≡ record second { body = third.body } → OnOk result (IsPruned env first third)
-pruned_by_both env first second third (Ok done) labels kept inside scopes stays header = record {
-  labeled = second.body;
-  labels = labels;
-  inside = of_spelled env first.body second.body labels (λ scopes visits. All (IsInside env scopes) visits) inside;
-  scopes = scopes;
-  stays = stays ∙ ap (filter (spec.stays env)) (labels_keep_scope_blocks first.body second.body labels);
-  header = header ∙ (λ i. record (kept i) { body = third.body });
-}
-pruned_by_both env first second third (Err fault) labels kept inside scopes stays header = tt
+module _ (env : Environment) (spelled labeled : ReactiveFunction)
+    (kept_visits : visits_of env.functions labeled.body ≡ visits_of env.functions spelled.body)
+    (kept_scope_blocks : scope_blocks labeled.body ≡ scope_blocks spelled.body)
+    (kept_scopes : scopes_in labeled.body ≡ scopes_in spelled.body) where
+  -- what was inside the scopes of the function without its unused labels was inside those of the spelled one
+  inside_spelled : AreInside env labeled.body → AreInside env spelled.body
+  inside_spelled inside =
+      subst (λ visits. All (IsInside env (scopes_in spelled.body)) visits) kept_visits
+      (subst (λ scopes. All (IsInside env scopes) (visits_of env.functions labeled.body)) kept_scopes inside)
 
-module _ (env : Environment) (func : ReactiveFunction) (labeled : ReactiveBlock)
-    (labels : IsWithoutUnusedLabels func.body labeled) where
+  -- the same of what was outside
+  outside_spelled : (id : EvaluationOrder) (scope : ScopeId) → EndsOutside env labeled.body id scope
+      → EndsOutside env spelled.body id scope
+  outside_spelled id scope last =
+      subst (λ visits. IsLastOutside env (scopes_in spelled.body) visits id scope) kept_visits
+      (subst (λ scopes. IsLastOutside env scopes (visits_of env.functions labeled.body) id scope) kept_scopes last)
+
+  -- a function that lost its unused labels and then its unused scopes is pruned
+  pub pruned_by_both : (pruned : ReactiveFunction) (result : Result (Unit {0}) Fault)
+      → IsWithoutUnusedLabels spelled.body labeled.body → labeled ≡ record spelled { body = labeled.body }
+      → AreInside env labeled.body → OnOk result (IsWithoutUnusedScopes env labeled.body pruned.body)
+      → pruned ≡ record labeled { body = pruned.body }
+      → OnOk result (IsPruned (state spelled env) (state pruned env))
+  pruned_by_both pruned (Ok done) labels kept inside scopes header = record {
+    labeled = state labeled env;
+    labels = record {
+      labels = labels;
+      header = kept;
+      kept_scope_blocks = kept_scope_blocks;
+      kept_environment = refl;
+    };
+    inside = inside_spelled inside;
+    scopes = record { scopes = scopes; header = header; kept_environment = refl };
+  }
+  pruned_by_both pruned (Err fault) labels kept inside scopes header = tt
+
+  -- the scope blocks that are left are those of the spelled function that stay
+  pub left_of_spelled : (pruned : ReactiveFunction) (result : Result (Unit {0}) Fault)
+      → OnOk result (scopes_in pruned.body ≡ map (λ block. block.scope) (staying_blocks env labeled.body))
+      → OnOk result (scopes_in pruned.body ≡ map (λ block. block.scope) (staying_blocks env spelled.body))
+  left_of_spelled pruned (Ok done) left =
+      left ∙ ap (λ all. map (λ block. block.scope) (filter (blocks.stays env) all)) kept_scope_blocks
+  left_of_spelled pruned (Err fault) left = tt
+
   -- what the check of operands refuses, once unused labels are pruned, is a fault of the passes
   pub outside_fault : (fault : Fault)
       → ((id : EvaluationOrder) (scope : ScopeId) → fault ≡ faults.ScopeCompleted id scope
-      → EndsOutside env labeled id scope)
-      → ((table : TableName) (index : ℕ) → fault ≡ faults.BadName table index
-      → IsFirstUnknown env (scopes_in labeled) (visits_of env.functions labeled) (faults.BadName table index))
+      → EndsOutside env labeled.body id scope)
+      → ((table : TableName) (index : ℕ) → fault ≡ faults.BadName table index → ⊥)
       → (fault ≡ faults.NoMemory)
       ⊎ (((id : EvaluationOrder) × (scope : ScopeId) × (fault ≡ faults.ScopeCompleted id scope))
       ⊎ ((table : TableName) × (index : ℕ) × (fault ≡ faults.BadName table index)))
-      → IsPassFault env func fault
-  outside_fault fault completed unknown (inl memory) = subst (IsPassFault env func) (sym memory) tt
-  outside_fault fault completed unknown (inr (inl it)) =
-      subst (IsPassFault env func) (sym it.2)
-      (of_spelled env func.body labeled labels (λ scopes visits. IsLastOutside env scopes visits it.0 it.1)
-      (completed it.0 it.1 it.2))
-  outside_fault fault completed unknown (inr (inr it)) =
-      subst (IsPassFault env func) (sym it.2)
-      (record { labeled = labeled; labels = labels; holds = inl (unknown it.0 it.1 it.2) })
+      → IsPassFault (state spelled env) fault
+  outside_fault fault completed sound (inl memory) = subst (IsPassFault (state spelled env)) (sym memory) tt
+  outside_fault fault completed sound (inr (inl it)) =
+      subst (IsPassFault (state spelled env)) (sym it.2)
+      (outside_spelled it.0 it.1 (completed it.0 it.1 it.2))
+  outside_fault fault completed sound (inr (inr it)) = absurd (sound it.0 it.1 it.2)
 
-module _ (hir : HirFunction) (env : Environment) (accepted : IsAccepted hir env) (forms : AreBuilt hir)
-    (func : ReactiveFunction) (spelled : Spells hir env func) where
-  -- the numbers of the function without its unused labels are in their tables
-  labeled_names : (labeled : ReactiveBlock) → IsWithoutUnusedLabels func.body labeled
-      → All (IsInTable (lengths env 0)) (names_in labeled)
-  labeled_names labeled labels =
-      subst (All (IsInTable (lengths env 0))) (sym (labels_keep_names func.body labeled labels))
-      (spelled_names_held hir env accepted.names.graph func spelled)
+-- want of memory may come from each pass
+pub memory_fault : (spelled : PassState) (fault : Fault) → fault ≡ faults.NoMemory → IsPassFault spelled fault
+memory_fault spelled fault memory = subst (IsPassFault spelled) (sym memory) tt
 
-  nothing_lacks : (fault : Fault) (labeled : ReactiveBlock) → IsWithoutUnusedLabels func.body labeled
-      → LacksNumber env fault labeled → ⊥
-  nothing_lacks fault labeled labels (inl unknown) =
-      no_unknown env 0 (scopes_in labeled) accepted.names.functions accepted.names.environment labeled
-      (labeled_names labeled labels) fault unknown
-  nothing_lacks fault labeled labels (inr missing) =
-      scopes_are_there env 0 fault labeled (labeled_names labeled labels) missing
-
-  -- what a pass refuses of a spelled function has a cause
-  pub pass_cause : (fault : Fault) → IsPassFault env func fault → IsCause hir env fault
-  pass_cause (faults.BadTarget target) unmet = absurd (no_jump_is_met func spelled unmet.place target unmet.jumps)
-  pass_cause (faults.ScopeCompleted id scope) last = (accepted, forms, (func, spelled, last))
-  pass_cause (faults.BadName table index) lacks =
-      absurd (nothing_lacks (faults.BadName table index) lacks.labeled lacks.labels lacks.holds)
-  pass_cause faults.NoMemory fault = tt
-  pass_cause (faults.Malformed block rule) fault = absurd fault
-  pass_cause (faults.Todo block) fault = absurd fault
-  pass_cause (faults.EarlyReturnSet scope) fault = absurd fault
-  pass_cause (faults.Uninitialised declaration) fault = absurd fault
-  pass_cause (faults.NoScopeNode scope) fault = absurd fault
-  pass_cause faults.NoIds fault = absurd fault
-  pass_cause (faults.NotBuilt block) fault = absurd fault
-  pass_cause (faults.FunctionCycle function) fault = absurd fault
+-- what the passes refuse of a spelled function has a cause
+pub pass_cause : (hir : HirFunction) (env : Environment) → IsAccepted hir env → AreBuilt hir
+    → (func : ReactiveFunction) → Spells hir env func → (fault : Fault) → IsPassFault (state func env) fault
+    → IsCause hir env fault
+pass_cause hir env accepted forms func spelled (faults.ScopeCompleted id scope) last =
+    (accepted, forms, (func, spelled, last))
+pass_cause hir env accepted forms func spelled faults.NoMemory fault = tt
+pass_cause hir env accepted forms func spelled (faults.Malformed block rule) fault = absurd fault
+pass_cause hir env accepted forms func spelled (faults.Todo block) fault = absurd fault
+pass_cause hir env accepted forms func spelled (faults.EarlyReturnSet scope) fault = absurd fault
+pass_cause hir env accepted forms func spelled (faults.Uninitialised declaration) fault = absurd fault
+pass_cause hir env accepted forms func spelled (faults.NoScopeNode scope) fault = absurd fault
+pass_cause hir env accepted forms func spelled (faults.BadName table index) fault = absurd fault
+pass_cause hir env accepted forms func spelled faults.NoIds fault = absurd fault
+pass_cause hir env accepted forms func spelled (faults.BadTarget target) fault = absurd fault
+pass_cause hir env accepted forms func spelled (faults.NotBuilt block) fault = absurd fault
+pass_cause hir env accepted forms func spelled (faults.FunctionCycle function) fault = absurd fault

@@ -1,29 +1,45 @@
--- What became of the scope blocks of a spelled tree.
-use Rattle.std.specs.Prelude.{◌↔◌, List, All, Contains, map}
+-- What becomes of the scope blocks of a spelled tree: each fate by its rule, judged on the function and the environment
+-- that the pass received which applies the rule. The first rule that holds, in the order of the passes, gives the fate.
+use Rattle.std.specs.Prelude.{◌≡◌, ◌↔◌, false, List, All, Contains, map}
 use Rattle.std.specs.List.Sorted.{IsStrictlyIncreasing}
 use Rattle.rc_names.specs.declared.numbers.ScopeId.{ScopeId}
 use Rattle.rc_tree.specs.declared.statement.ReactiveBlock.{ReactiveBlock}
 use Rattle.rc_pipe.specs.declared.fates.Fate.{Fate}
-use Rattle.rc_pipe.specs.declared.fates.Fate.TheVariants.{Kept, Unused}
+use Rattle.rc_pipe.specs.declared.fates.Fate.TheVariants.{Kept, NotEscaping, Unused, MergedInto, DissolvedInto}
+use Rattle.rc_pipe.specs.declared.fates.Fate.TheVariants.{AlwaysInvalidating}
 use Rattle.rc_pipe.specs.declared.fates.ScopeFate.{ScopeFate}
+use Rattle.rc_checks.specs.ScopeBlocks.{ScopeBlock, scope_blocks, stays}
 use Rattle.rc_checks.specs.ScopesIn.{scopes_in}
-
--- that fate is the scope's, by the scopes that are left: a kept one is among them, and an unused one isn't
-abbrev pub IsFate : List ScopeId → ScopeId → Fate → Type 0
-IsFate left scope Kept = Contains left scope
-IsFate left scope Unused = ¬ Contains left scope
-IsFate left scope _ = ⊥
-
--- the entry's fate is its scope's
-abbrev pub HasFate : List ScopeId → ScopeFate → Type 0
-HasFate left entry = IsFate left entry.scope entry.fate
+use Rattle.rc_pipe.specs.Passes.{PassState, IsPruned}
 
 -- the scopes that are listed, in the order of the list
 abbrev pub listed_scopes : List ScopeFate → List ScopeId
 listed_scopes fates = map (λ entry. entry.scope) fates
 
--- each of the scopes is listed once, by rising number, with its fate by what has a scope block in the body
-pub record AreFates (scopes : List ScopeId) (body : ReactiveBlock) (fates : List ScopeFate) : Type 0 where
-  pub rising : IsStrictlyIncreasing (map (λ scope. scope.0) (listed_scopes fates))
-  pub listed : (scope : ScopeId) → Contains (listed_scopes fates) scope ↔ Contains scopes scope
-  pub told : All (HasFate (scopes_in body)) fates
+-- unused: the block of the scope reassigns nothing, declares nothing of its own, and no `Return` stands in it outside
+-- nested scope blocks
+pub record IsUnused (received : PassState) (scope : ScopeId) : Type 0 where
+  pub block : ScopeBlock
+  pub among : Contains (scope_blocks received.func.body) block
+  pub is_of : block.scope ≡ scope
+  pub gives_nothing : stays received.env block ≡ false
+
+module _ {spelled pruned : PassState} (passes : IsPruned spelled pruned) where
+  -- the rule of each fate; no pass gives the others yet
+  abbrev pub IsFate : ScopeId → Fate → Type 0
+  IsFate scope Unused = IsUnused passes.labeled scope
+  IsFate scope Kept = ¬ IsUnused passes.labeled scope
+  IsFate scope NotEscaping = ⊥
+  IsFate scope (MergedInto head) = ⊥
+  IsFate scope (DissolvedInto parent) = ⊥
+  IsFate scope AlwaysInvalidating = ⊥
+
+  -- each scope of the spelled tree is listed once, by rising number, with its fate
+  pub record AreFates (fates : List ScopeFate) : Type 0 where
+    pub rising : IsStrictlyIncreasing (map (λ scope. scope.0) (listed_scopes fates))
+    pub listed : (scope : ScopeId) → Contains (listed_scopes fates) scope ↔ Contains (scopes_in spelled.func.body) scope
+    pub told : All (λ entry. IsFate entry.scope entry.fate) fates
+
+-- the scopes that have a scope block in the body are exactly those whose fate is kept
+abbrev pub AreKeptExactly : ReactiveBlock → List ScopeFate → Type 0
+AreKeptExactly body fates = All (λ entry. (entry.fate ≡ Kept) ↔ Contains (scopes_in body) entry.scope) fates

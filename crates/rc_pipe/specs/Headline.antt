@@ -17,8 +17,8 @@ use Rattle.rc_build.specs.BuildCauses.{SpellsNone}
 use Rattle.rc_build.specs.BuiltForms.{AreBuilt, IsFirstUnbuilt}
 use Rattle.rc_build.specs.RuleFacts.{RuleFact}
 use Rattle.rc_pipe.specs.Causes.{HasRoom}
-use Rattle.rc_pipe.specs.Fates.{AreFates}
-use Rattle.rc_pipe.specs.Passes.{AreInside, EndsOutside, IsPruned}
+use Rattle.rc_pipe.specs.Fates.{AreFates, AreKeptExactly}
+use Rattle.rc_pipe.specs.Passes.{AreInside, EndsOutside, IsPruned, state}
 use Rattle.rc_checks.specs.ScopeBlocks.{staying_blocks}
 use Rattle.rc_checks.specs.ScopesIn.{scopes_in}
 
@@ -35,26 +35,29 @@ pub record HasAnswer (hir : HirFunction) (env : Environment) (func : ReactiveFun
   pub spelled : Spells hir env func
   pub inside : AreInside env func.body
 
--- what is answered for a graph with its environment
-pub record IsAnswer (hir : HirFunction) (env : Environment) (pruned : Pruned) : Type 0 where
+-- what is answered for a graph with its environment: a pruned function, its fates, and the environment that the passes
+-- leave
+pub record IsAnswer (hir : HirFunction) (env answered : Environment) (pruned : Pruned) : Type 0 where
   pub accepted : IsAccepted hir env
   pub forms : AreBuilt hir
   -- the graph spells exactly one function, and the answered one is what the passes make of it, with its header
   pub spelled : ReactiveFunction
   pub spells : Spells hir env spelled
   pub one_tree : (func : ReactiveFunction) → Spells hir env func → func ≡ spelled
-  pub passes : IsPruned env spelled pruned.func
+  pub passes : IsPruned (state spelled env) (state pruned.func answered)
   -- every run of the graph is a run of the answered body, and the other way round
   pub graph_to_body : (events : List Event) (end : End) → IsGraphRun hir env events end →
-      IsBodyRun pruned.func env events end
-  pub body_to_graph : (events : List Event) (end : End) → IsBodyRun pruned.func env events end →
+      IsBodyRun pruned.func answered events end
+  pub body_to_graph : (events : List Event) (end : End) → IsBodyRun pruned.func answered events end →
       IsGraphRun hir env events end
-  -- the scope blocks that are left are those whose scopes give something
-  pub left : scopes_in pruned.func.body ≡ map (λ block. block.scope) (staying_blocks env spelled.body)
   -- each scope of the spelled tree is listed once, by rising number, with its fate
-  pub fates : AreFates (scopes_in spelled.body) pruned.func.body pruned.fates
-  -- every number of the answered function and of the environment is in its table
-  pub known : TreeInTables pruned.func env
+  pub fates : AreFates passes pruned.fates
+  -- a scope of the spelled tree has a scope block in the answered one exactly where its fate is kept
+  pub kept : AreKeptExactly pruned.func.body pruned.fates
+  -- every scope block of the answered body is one of the spelled tree, in its order
+  pub left : scopes_in pruned.func.body ≡ map (λ block. block.scope) (staying_blocks env spelled.body)
+  -- every number of the answered function and of the answered environment is in its table
+  pub known : TreeInTables pruned.func answered
 
 -- Why a fault is returned. Each cause but that of `NoMemory` asks that those above it in the order don't hold.
 abbrev pub IsCause : HirFunction → Environment → Fault → Type 0

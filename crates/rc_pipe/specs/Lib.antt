@@ -2,3 +2,4 @@ pub mod Causes
 pub mod Passes
 pub mod Fates
 pub mod Headline
+pub mod ListedFates

@@ -1,5 +1,5 @@
--- What the passes make of a spelled function, in their order, and why they refuse one.
-use Rattle.std.specs.Prelude.{◌≡◌, ◌⊎◌, All, ⊤}
+-- What the passes make of a spelled function and of its environment, one after the other, and why they refuse one.
+use Rattle.std.specs.Prelude.{◌≡◌, All, ⊤}
 use Rattle.rc_hir.specs.declared.environment.Environment.{Environment}
 use Rattle.rc_hir.specs.declared.fault.Fault.{Fault}
 use Rattle.rc_hir.specs.declared.fault.Fault.TheVariants as faults
@@ -7,13 +7,33 @@ use Rattle.rc_names.specs.declared.numbers.EvaluationOrder.{EvaluationOrder}
 use Rattle.rc_names.specs.declared.numbers.ScopeId.{ScopeId}
 use Rattle.rc_tree.specs.declared.function.ReactiveFunction.{ReactiveFunction}
 use Rattle.rc_tree.specs.declared.statement.ReactiveBlock.{ReactiveBlock}
-use Rattle.rc_checks.specs.BreakTargets.{IsFirstUnmet, met_in}
 use Rattle.rc_checks.specs.Labels.{IsWithoutUnusedLabels}
-use Rattle.rc_checks.specs.Membership.{IsFirstUnknown, IsInside, IsLastOutside}
-use Rattle.rc_checks.specs.ScopeBlocks.{scope_blocks, staying_blocks}
+use Rattle.rc_checks.specs.Membership.{IsInside, IsLastOutside}
+use Rattle.rc_checks.specs.ScopeBlocks.{scope_blocks}
 use Rattle.rc_checks.specs.ScopesIn.{scopes_in}
-use Rattle.rc_checks.specs.UnusedScopes.{NamesFirstScopeOutside, IsWithoutUnusedScopes}
+use Rattle.rc_checks.specs.UnusedScopes.{IsWithoutUnusedScopes}
 use Rattle.rc_checks.specs.Visits.{visits_of}
+
+-- a function with its environment, as they stand between two passes
+pub record PassState : Type 0 where
+  pub func : ReactiveFunction
+  pub env : Environment
+
+abbrev pub state : ReactiveFunction → Environment → PassState
+state func env = record { func = func; env = env }
+
+-- label pruning: the function lost its unused labels; its scope blocks and the environment stay
+pub record AfterLabels (before after : PassState) : Type 0 where
+  pub labels : IsWithoutUnusedLabels before.func.body after.func.body
+  pub header : after.func ≡ record before.func { body = after.func.body }
+  pub kept_scope_blocks : scope_blocks after.func.body ≡ scope_blocks before.func.body
+  pub kept_environment : after.env ≡ before.env
+
+-- scope pruning: the function lost its unused scopes, and the environment stays
+pub record AfterUnusedScopes (before after : PassState) : Type 0 where
+  pub scopes : IsWithoutUnusedScopes before.env before.func.body after.func.body
+  pub header : after.func ≡ record before.func { body = after.func.body }
+  pub kept_environment : after.env ≡ before.env
 
 -- no operand of the body is outside the blocks of its scope
 abbrev pub AreInside : Environment → ReactiveBlock → Type 0
@@ -23,31 +43,25 @@ AreInside env body = All (IsInside env (scopes_in body)) (visits_of env.function
 abbrev pub EndsOutside : Environment → ReactiveBlock → EvaluationOrder → ScopeId → Type 0
 EndsOutside env body id scope = IsLastOutside env (scopes_in body) (visits_of env.functions body) id scope
 
--- the function, where no operand is outside, without its unused labels and then without its unused scopes
-pub record IsPruned (env : Environment) (spelled pruned : ReactiveFunction) : Type 0 where
-  pub labeled : ReactiveBlock
-  pub labels : IsWithoutUnusedLabels spelled.body labeled
-  pub inside : AreInside env spelled.body
-  pub scopes : IsWithoutUnusedScopes env labeled pruned.body
-  -- of the scope blocks exactly those stay whose scopes give something
-  pub stays : scope_blocks pruned.body ≡ staying_blocks env spelled.body
-  pub header : pruned ≡ record spelled { body = pruned.body }
+-- the passes lead from the spelled function and its environment to the pruned ones, by the states in between
+pub record IsPruned (spelled pruned : PassState) : Type 0 where
+  pub labeled : PassState
+  pub labels : AfterLabels spelled labeled
+  pub inside : AreInside spelled.env spelled.func.body
+  pub scopes : AfterUnusedScopes labeled pruned
 
--- P holds of the body without its unused labels
-pub record OfLabeled (body : ReactiveBlock) (P : ReactiveBlock → Type 0) : Type 0 where
-  pub labeled : ReactiveBlock
-  pub labels : IsWithoutUnusedLabels body labeled
-  pub holds : P labeled
-
--- a check or a pass has no table entry for the number that the fault names
-abbrev pub LacksNumber : Environment → Fault → ReactiveBlock → Type 0
-LacksNumber env fault body =
-    IsFirstUnknown env (scopes_in body) (visits_of env.functions body) fault ⊎ NamesFirstScopeOutside env body fault
-
--- why the passes refuse a function
-abbrev pub IsPassFault : Environment → ReactiveFunction → Fault → Type 0
-IsPassFault env func (faults.BadTarget target) = IsFirstUnmet (met_in func.body) target
-IsPassFault env func (faults.ScopeCompleted id scope) = EndsOutside env func.body id scope
-IsPassFault env func (faults.BadName table index) = OfLabeled func.body (LacksNumber env (faults.BadName table index))
-IsPassFault env func faults.NoMemory = ⊤
-IsPassFault env func _ = ⊥
+-- Why the passes refuse a function that the graph spells and whose numbers are in their tables.
+abbrev pub IsPassFault : PassState → Fault → Type 0
+IsPassFault spelled (faults.ScopeCompleted id scope) = EndsOutside spelled.env spelled.func.body id scope
+IsPassFault spelled faults.NoMemory = ⊤
+-- faults of the builder, and faults that no spelled function gets
+IsPassFault spelled (faults.Malformed block rule) = ⊥
+IsPassFault spelled (faults.Todo block) = ⊥
+IsPassFault spelled (faults.EarlyReturnSet scope) = ⊥
+IsPassFault spelled (faults.Uninitialised declaration) = ⊥
+IsPassFault spelled (faults.NoScopeNode scope) = ⊥
+IsPassFault spelled (faults.BadName table index) = ⊥
+IsPassFault spelled faults.NoIds = ⊥
+IsPassFault spelled (faults.BadTarget target) = ⊥
+IsPassFault spelled (faults.NotBuilt block) = ⊥
+IsPassFault spelled (faults.FunctionCycle function) = ⊥

@@ -5,7 +5,8 @@
 ghost use Rattle.std.specs.Prelude.{◌≡◌, ◌↔◌, map, All, Contains, IfOk};
 ghost use Rattle.std.specs.List.Sorted.{IsStrictlyIncreasing};
 ghost use Rattle.rc_names.specs.declared.numbers.ScopeId.{ScopeId as Scope};
-ghost use Rattle.rc_pipe.specs.Fates.{AreFates, HasFate, listed_scopes};
+ghost use Rattle.rc_pipe.specs.Fates.{listed_scopes};
+ghost use Rattle.rc_pipe.specs.ListedFates.{AreListedFates, HasListedFate};
 
 use rc_checks::scopes_in;
 use rc_names::{List, ScopeId};
@@ -44,7 +45,7 @@ pub(crate) fn fates_of(
     scopes: &[ScopeId],
     body: &ReactiveBlock,
 ) -> Result<List<ScopeFate>, AllocError>
-    ensures { IfOk result (AreFates scopes.now body.now) }
+    ensures { IfOk result (AreListedFates scopes.now body.now) }
 {
     let scopes = in_order(alloc, scopes)?;
     let left = scopes_in(alloc, body)?;
@@ -68,7 +69,7 @@ fn all_fates(
     left: &BTreeSet<ScopeId>,
 ) -> Result<List<ScopeFate>, AllocError>
     ensures listed { IfOk result (λ fates. listed_scopes fates ≡ scopes.now.keys) }
-    ensures told { IfOk result (All (HasFate left.now.keys)) }
+    ensures told { IfOk result (All (HasListedFate left.now.keys)) }
 {
     let mut fates = List::new(alloc);
     for scope in scopes {
@@ -80,7 +81,7 @@ fn all_fates(
 /// A scope with its fate: kept where it is among those that are left.
 fn fate_of(scope: ScopeId, left: &BTreeSet<ScopeId>) -> ScopeFate
     ensures scope { result.scope ≡ scope }
-    ensures told { HasFate left.now.keys result }
+    ensures told { HasListedFate left.now.keys result }
 {
     let fate = if left.contains(&scope) {
         Fate::Kept

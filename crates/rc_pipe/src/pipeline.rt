@@ -39,7 +39,7 @@ pub fn build_and_prune(
     hir: &HirFunction,
     env: &mut Environment,
 ) -> Result<Pruned, Fault>
-    ensures ok { IfOk result (IsAnswer hir.now env.old) }
+    ensures ok { IfOk result (IsAnswer hir.now env.old env.new) }
     ensures refused { IfErr result (IsCause hir.now env.old) }
     ensures kept_environment { env.new ≡ env.old }
 

@@ -22,16 +22,6 @@ use Rattle.rc_tree.specs.declared.scope.PrunedReactiveScopeBlock.{PrunedReactive
 use Rattle.rc_tree.specs.declared.statement.ReactiveBlock.{ReactiveBlock}
 use Rattle.rc_tree.specs.declared.statement.ReactiveStatement.{ReactiveStatement, roll-ReactiveStatement}
 use Rattle.rc_tree.specs.declared.statement.ReactiveStatement.TheFolds.{map-ReactiveStatement, map-ReactiveTerminal}
-use Rattle.rc_tree.specs.declared.statement.ReactiveStatement.TheFolds.{fold-ReactiveScopeBlock}
-use Rattle.rc_tree.specs.declared.statement.ReactiveStatement.TheFolds.{fold-PrunedReactiveScopeBlock}
-use Rattle.rc_tree.specs.declared.statement.ReactiveStatement.TheFolds.{fold-ReactiveTerminalStatement}
-use Rattle.rc_tree.specs.declared.statement.ReactiveStatement.TheFolds.{fold-roll-ReactiveStatement}
-use Rattle.rc_tree.specs.declared.statement.ReactiveStatement.TheFolds.{fold-roll-ReactiveTerminal}
-use Rattle.rc_tree.specs.declared.statement.ReactiveStatement.TheFolds.{fold-roll-PrunedReactiveScopeBlock}
-use Rattle.rc_tree.specs.declared.statement.ReactiveStatement.TheFolds.{fold-roll-ReactiveBlock}
-use Rattle.rc_tree.specs.declared.statement.ReactiveStatement.TheFolds.{fold-roll-ReactiveScopeBlock}
-use Rattle.rc_tree.specs.declared.statement.ReactiveStatement.TheFolds.{fold-roll-ReactiveSwitchCase}
-use Rattle.rc_tree.specs.declared.statement.ReactiveStatement.TheFolds.{fold-roll-ReactiveTerminalStatement}
 use Rattle.rc_tree.specs.declared.statement.ReactiveStatement.TheOpen as layers
 use Rattle.rc_tree.specs.declared.statement.ReactiveStatement.TheOpen.{ReactiveStatement-F, ReactiveTerminal-F}
 use Rattle.rc_tree.specs.declared.statement.ReactiveStatement.TheShapes as shapes
@@ -40,9 +30,11 @@ use Rattle.rc_tree.specs.declared.terminal.ReactiveSwitchCase.{ReactiveSwitchCas
 use Rattle.rc_tree.specs.declared.terminal.ReactiveTerminal.{ReactiveTerminal, roll-ReactiveTerminal}
 use Rattle.rc_tree.specs.declared.terminal.ReactiveTerminal.TheVariants as terminals
 use Rattle.rc_tree.specs.declared.terminal.ReactiveTerminalStatement.{ReactiveTerminalStatement}
+use Rattle.rc_tree.proofs.TreeFoldLemmas.{over_statement-roll, over_terminal-roll, over_case-roll, over_block-parts}
+use Rattle.rc_tree.proofs.TreeFoldLemmas.{over_labeled-parts, over_scope-parts, over_pruned_scope-parts}
 use Rattle.rc_runs.specs.Erase.{Erased, without_flag, of_value, of_row, erased_value, erased_row, of_statement}
-use Rattle.rc_runs.specs.Erase.{of_terminal, of_pruned_scope, of_scope, of_block, of_case, of_labeled, erased_block}
-use Rattle.rc_runs.specs.Erase.{erased_statement, erased_case, erased_terminal, erased_statements}
+use Rattle.rc_runs.specs.Erase.{of_terminal, erasing, erased_block, erased_statement, erased_case, erased_terminal}
+use Rattle.rc_runs.specs.Erase.{erased_scope, erased_pruned_scope, erased_labeled, erased_statements}
 
 -- values and rows
 abbrev left_value : ReactiveValue-F ReactiveValue ReactiveInstruction
@@ -97,22 +89,6 @@ unfolding erased_value erased_row
 erased-row row = fold-roll-ReactiveInstruction ReactiveValue ReactiveInstruction of_value of_row
     (record { id = row.id; lvalue = row.lvalue; value = row.value; span = row.span })
 
--- the other members of the fold: what a scope block leaves is what its statements leave
-abbrev erased_scope : ReactiveScopeBlock → List ReactiveStatement
-erased_scope = fold-ReactiveScopeBlock (List ReactiveStatement) ReactiveTerminal (List ReactiveStatement)
-    (List ReactiveStatement) ReactiveBlock ReactiveSwitchCase ReactiveTerminalStatement
-    of_statement of_terminal of_pruned_scope of_scope of_block of_case of_labeled
-
-abbrev erased_pruned_scope : PrunedReactiveScopeBlock → List ReactiveStatement
-erased_pruned_scope = fold-PrunedReactiveScopeBlock (List ReactiveStatement) ReactiveTerminal (List ReactiveStatement)
-    (List ReactiveStatement) ReactiveBlock ReactiveSwitchCase ReactiveTerminalStatement
-    of_statement of_terminal of_pruned_scope of_scope of_block of_case of_labeled
-
-abbrev erased_labeled : ReactiveTerminalStatement → ReactiveTerminalStatement
-erased_labeled = fold-ReactiveTerminalStatement (List ReactiveStatement) ReactiveTerminal (List ReactiveStatement)
-    (List ReactiveStatement) ReactiveBlock ReactiveSwitchCase ReactiveTerminalStatement
-    of_statement of_terminal of_pruned_scope of_scope of_block of_case of_labeled
-
 -- statements, cases and terminals, by their first layers
 abbrev left_statement : OpenStatement → Erased ReactiveStatement-F
 left_statement = map-ReactiveStatement ReactiveStatement ReactiveTerminal PrunedReactiveScopeBlock ReactiveScopeBlock
@@ -129,50 +105,33 @@ left_terminal = map-ReactiveTerminal ReactiveStatement ReactiveTerminal PrunedRe
     erased_statement erased_terminal erased_pruned_scope erased_scope erased_block erased_case erased_labeled
 
 rolled_statement : (l : OpenStatement) → erased_statement (roll-ReactiveStatement l) ≡ of_statement (left_statement l)
-unfolding erased_block erased_statement erased_case erased_terminal
-rolled_statement l = fold-roll-ReactiveStatement (List ReactiveStatement) ReactiveTerminal (List ReactiveStatement)
-    (List ReactiveStatement) ReactiveBlock ReactiveSwitchCase ReactiveTerminalStatement
-    of_statement of_terminal of_pruned_scope of_scope of_block of_case of_labeled l
+unfolding erased_block erased_statement erased_case erased_terminal erased_scope erased_pruned_scope erased_labeled
+rolled_statement = over_statement-roll erasing
 
 rolled_terminal : (l : OpenTerminal) → erased_terminal (roll-ReactiveTerminal l) ≡ of_terminal (left_terminal l)
-unfolding erased_block erased_statement erased_case erased_terminal
-rolled_terminal l = fold-roll-ReactiveTerminal (List ReactiveStatement) ReactiveTerminal (List ReactiveStatement)
-    (List ReactiveStatement) ReactiveBlock ReactiveSwitchCase ReactiveTerminalStatement
-    of_statement of_terminal of_pruned_scope of_scope of_block of_case of_labeled l
+unfolding erased_block erased_statement erased_case erased_terminal erased_scope erased_pruned_scope erased_labeled
+rolled_terminal = over_terminal-roll erasing
 
 -- blocks and statements
 pub erased-block : (block : ReactiveBlock) → erased_block block
     ≡ record { statements = erased_statements block.statements }
-unfolding erased_block erased_statement erased_case erased_terminal
-erased-block block =
-    fold-roll-ReactiveBlock (List ReactiveStatement) ReactiveTerminal (List ReactiveStatement) (List ReactiveStatement)
-    ReactiveBlock ReactiveSwitchCase ReactiveTerminalStatement
-    of_statement of_terminal of_pruned_scope of_scope of_block of_case of_labeled
-    (record { statements = block.statements })
+unfolding erased_block erased_statement erased_case erased_terminal erased_scope erased_pruned_scope erased_labeled
+erased-block block = over_block-parts erasing block
     ∙ (λ i. record { statements = flat_map-map (λ statements. statements) erased_statement block.statements i })
 
 left_scope : (scope : ReactiveScopeBlock) → erased_scope scope ≡ (erased_block scope.instructions).statements
-unfolding erased_block erased_statement erased_case erased_terminal
-left_scope scope = fold-roll-ReactiveScopeBlock (List ReactiveStatement) ReactiveTerminal (List ReactiveStatement)
-    (List ReactiveStatement) ReactiveBlock ReactiveSwitchCase ReactiveTerminalStatement
-    of_statement of_terminal of_pruned_scope of_scope of_block of_case of_labeled
-    (record { scope = scope.scope; instructions = scope.instructions })
+unfolding erased_block erased_statement erased_case erased_terminal erased_scope erased_pruned_scope erased_labeled
+left_scope = over_scope-parts erasing
 
 left_pruned_scope : (scope : PrunedReactiveScopeBlock)
     → erased_pruned_scope scope ≡ (erased_block scope.instructions).statements
-unfolding erased_block erased_statement erased_case erased_terminal
-left_pruned_scope scope = fold-roll-PrunedReactiveScopeBlock (List ReactiveStatement) ReactiveTerminal
-    (List ReactiveStatement) (List ReactiveStatement) ReactiveBlock ReactiveSwitchCase ReactiveTerminalStatement
-    of_statement of_terminal of_pruned_scope of_scope of_block of_case of_labeled
-    (record { scope = scope.scope; instructions = scope.instructions })
+unfolding erased_block erased_statement erased_case erased_terminal erased_scope erased_pruned_scope erased_labeled
+left_pruned_scope = over_pruned_scope-parts erasing
 
 left_labeled : (statement : ReactiveTerminalStatement) →
     erased_labeled statement ≡ record { terminal = erased_terminal statement.terminal; label = statement.label }
-unfolding erased_block erased_statement erased_case erased_terminal
-left_labeled statement = fold-roll-ReactiveTerminalStatement (List ReactiveStatement) ReactiveTerminal
-    (List ReactiveStatement) (List ReactiveStatement) ReactiveBlock ReactiveSwitchCase ReactiveTerminalStatement
-    of_statement of_terminal of_pruned_scope of_scope of_block of_case of_labeled
-    (record { terminal = statement.terminal; label = statement.label })
+unfolding erased_block erased_statement erased_case erased_terminal erased_scope erased_pruned_scope erased_labeled
+left_labeled = over_labeled-parts erasing
 
 pub erased-row_statement : (row : ReactiveInstruction)
     → erased_statement (statements.Instruction row) ≡ statements.Instruction (erased_row row) ∷ []
@@ -207,12 +166,8 @@ left_if (Some block) = refl
 pub erased-case : (test : Option Place) (block : Option ReactiveBlock) →
     erased_case (roll-ReactiveSwitchCase (record { test = test; block = block }))
     ≡ roll-ReactiveSwitchCase (record { test = test; block = option_map erased_block block })
-unfolding erased_block erased_statement erased_case erased_terminal
-erased-case test block =
-    fold-roll-ReactiveSwitchCase (List ReactiveStatement) ReactiveTerminal (List ReactiveStatement)
-    (List ReactiveStatement) ReactiveBlock ReactiveSwitchCase ReactiveTerminalStatement
-    of_statement of_terminal of_pruned_scope of_scope of_block of_case of_labeled
-    (record { test = test; block = block })
+unfolding erased_block erased_statement erased_case erased_terminal erased_scope erased_pruned_scope erased_labeled
+erased-case test block = over_case-roll erasing (record { test = test; block = block })
     ∙ ap (λ left. roll-ReactiveSwitchCase (record { test = test; block = left })) (left_if block)
 
 -- terminals

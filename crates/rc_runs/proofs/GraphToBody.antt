@@ -19,11 +19,11 @@ use Rattle.rc_runs.specs.declared.frames.Frame.{Frame}
 use Rattle.rc_runs.specs.declared.frames.Frame.TheVariants as frame
 use Rattle.rc_runs.specs.Event.{Event, Did, Arm, End}
 use Rattle.rc_runs.specs.GraphRun.{Move, then_arm, else_arm, goes_to, into_label, into_scope, into_pruned_scope}
-use Rattle.rc_runs.specs.GraphRun.{GraphRunAt, IsGraphRun}
+use Rattle.rc_runs.specs.GraphRun.{GraphRunAt, arrives, enters, IsGraphRun}
 use Rattle.rc_runs.specs.GraphRun.{GraphRun, stopped, quiet, did, moved, returned, thrown}
 use Rattle.rc_runs.specs.PlainTree.{Statements, Cons, Statement, ScopeStatement, PrunedScopeStatement}
-use Rattle.rc_runs.specs.Grammar.{next_inside, frames_inside, rows_before, SpellsList, SpellsTerminal, SpellsStatement}
-use Rattle.rc_runs.specs.Grammar.{SpellsRest}
+use Rattle.rc_runs.specs.ListContext.{ListContext, outermost, inside}
+use Rattle.rc_runs.specs.Grammar.{rows_before, SpellsList, SpellsTerminal, SpellsStatement, SpellsRest}
 use Rattle.rc_runs.specs.Grammar.{block, returns, unreachable, breaks, and_rest, if_only, if_else, label, scope}
 use Rattle.rc_runs.specs.Grammar.{pruned_scope}
 use Rattle.rc_runs.specs.Grammar.{closed as no_rest, opened as has_rest}
@@ -35,9 +35,8 @@ use Rattle.rc_runs.specs.BodyRun.{returned as returns_here}
 use Rattle.rc_runs.specs.BodyRun.{break_implicit, break_labeled, break_unlabeled, took_arm, took_other, in_label}
 use Rattle.rc_runs.specs.BodyRun.{in_scope, in_pruned_scope, absent, present}
 use Rattle.rc_runs.proofs.GraphLemmas.{same_block-eq, usable_block-at}
-use Rattle.rc_runs.proofs.FramesLemmas.{fall_block, Fits, fits_body, fits_inside, Aims, Aims-leaves, falls_to-next}
-use Rattle.rc_runs.proofs.FramesLemmas.{Passed, to_rest, further, caught-ended, caught-normal, passed_labeled}
-use Rattle.rc_runs.proofs.FramesLemmas.{passed_scope}
+use Rattle.rc_runs.proofs.FramesLemmas.{Fits, fits_body, fits_inside, Aims, Aims-leaves, leaving, falls_to-next}
+use Rattle.rc_runs.proofs.FramesLemmas.{caught-ended, caught-normal, aims_labeled, aims_scope}
 use Rattle.rc_runs.proofs.FramesLemmas.{Jumps, falls_off, breaks_implicit, breaks_labeled, breaks_unlabeled}
 use Rattle.rc_runs.proofs.FramesLemmas.{break_jumps}
 use Rattle.rc_runs.proofs.OneTree.{one_held, terminal_at}
@@ -56,90 +55,75 @@ by_leaves ContinueLoop = inr refl
 by_leaves (Ended end) = inr refl
 
 module _ (hir : HirFunction) (env : Environment) where
-  -- the rows and moves of a run
-  size : {rows : List Instruction} {terminal : Terminal} {events : List Event} {end : End}
-      → GraphRun hir env rows terminal events end → ℕ
-  size stopped = 0
-  size (quiet h run) = suc (size run)
-  size (did h run) = suc (size run)
-  size (moved m found run e) = suc (size run)
-  size returned = 0
-  size thrown = 0
+  mutual
+    -- the rows and moves of a run
+    size : {rows : List Instruction} {terminal : Terminal} {events : List Event} {end : End}
+        → GraphRun hir env rows terminal events end → ℕ
+    size stopped = 0
+    size (quiet h run) = suc (size run)
+    size (did h run) = suc (size run)
+    size (moved m run e) = suc (size_at run)
+    size returned = 0
+    size thrown = 0
 
-  abbrev size_at : {key : BlockId} {events : List Event} {end : End} → GraphRunAt hir env key events end → ℕ
-  size_at run = size run.run
+    size_at : {key : BlockId} {events : List Event} {end : End} → GraphRunAt hir env key events end → ℕ
+    size_at arrives = 0
+    size_at (enters found run) = size run
 
   -- where a run of the graph leads that begins at a part of the tree with the runs `R`: to its end, or out of the part
-  -- to a block, and on from there. The handler is where a throw leads
-  data Leads (next handler : Option BlockId) (frames : List Frame) (bound : ℕ) (R : Runs) (events : List Event)
-      (end : End) : Type 0 where
-    ends : R events (Ended end) → Leads next handler frames bound R events end
-    leads : {front back : List Event} {outcome : Outcome} {key : BlockId} → R front outcome
-        → Aims frames next outcome key →
+  -- to a block, and on from there. The context's handler is where a throw leads
+  data Leads (context : ListContext) (bound : ℕ) (R : Runs) (events : List Event) (end : End) : Type 0 where
+    ends : R events (Ended end) → Leads context bound R events end
+    leads : {front back : List Event} {outcome : Outcome} {key : BlockId} → R front outcome → Aims context outcome key →
         (run : GraphRunAt hir env key back end) → size_at run < bound → events ≡ front ++ back
-        → Leads next handler frames bound R events end
+        → Leads context bound R events end
 
   -- what is known of runs with fewer rows and moves
   record Below (bound : ℕ) : Type 0 where
     -- one from a block on runs in the list that is spelled from there, or leads out of it
-    list : {key : BlockId} {next handler : Option BlockId} {frames : List Frame} {statements : Statements}
-        {used : List BlockId}
-        {events : List Event} {end : End} → SpellsList hir env key next frames handler statements used
-        → Fits hir next frames →
+    list : {key : BlockId} {context : ListContext} {statements : Statements} {used : List BlockId} {events : List Event}
+        {end : End} → SpellsList hir env key context statements used → Fits context →
         (run : GraphRunAt hir env key events end) → size_at run < bound →
-        Leads next handler frames bound (RunsList env statements) events end
+        Leads context bound (RunsList env statements) events end
 
-  -- a run from an equal block
-  run_to : {key other : BlockId} {events : List Event} {end : End} {bound : ℕ} → key ≡ other
-      → (run : GraphRunAt hir env key events end) → size_at run < bound →
-      (from : GraphRunAt hir env other events end) × (size_at from < bound)
-  run_to {events = events} {end} {bound} e run small =
-      subst (λ key. (from : GraphRunAt hir env key events end) × (size_at from < bound)) e (run, small)
-
-  module _ {next handler : Option BlockId} {frames : List Frame} {bound : ℕ} where
-    more_room : {R : Runs} {events : List Event} {end : End} → Leads next handler frames bound R events end
-        → Leads next handler frames (suc bound) R events end
+  module _ {context : ListContext} {bound : ℕ} where
+    more_room : {R : Runs} {events : List Event} {end : End} → Leads context bound R events end
+        → Leads context (suc bound) R events end
     more_room (ends here) = ends here
     more_room (leads here aim run small e) = leads here aim run (omega arith) e
 
     -- the same events in other words
-    lead_events : {R : Runs} {events all : List Event} {end : End} → all ≡ events →
-        Leads next handler frames bound R events end → Leads next handler frames bound R all end
-    lead_events {R} {end = end} e d = subst (λ v. Leads next handler frames bound R v end) (sym e) d
+    lead_events : {R : Runs} {events all : List Event} {end : End} → all ≡ events → Leads context bound R events end
+        → Leads context bound R all end
+    lead_events {R} {end = end} e d = subst (λ v. Leads context bound R v end) (sym e) d
 
     -- something runs in front of the part
     lead_behind : {R S : Runs} {events : List Event} {end : End} (before : List Event) →
         ((events : List Event) (outcome : Outcome) → R events outcome → S (before ++ events) outcome) →
-        Leads next handler frames bound R events end → Leads next handler frames bound S (before ++ events) end
+        Leads context bound R events end → Leads context bound S (before ++ events) end
     lead_behind {events = events} {end} before put (ends here) = ends (put events (Ended end) here)
     lead_behind before put (leads {front = front} {back} {outcome} here aim run small e) =
         leads (put front outcome here) aim run small (ap (λ v. before ++ v) e ∙ sym (append_assoc before front back))
 
     -- the part stands in a statement with that label
-    lead_out : {inner : List Frame} {R S : Runs} {events : List Event} {end : End} (name : Option ReactiveLabel)
+    lead_out : {within : ListContext} {R S : Runs} {events : List Event} {end : End} (name : Option ReactiveLabel)
         (before : List Event) →
-        ((outcome : Outcome) (key : BlockId) → Aims inner next outcome key → Passed name outcome next frames key) →
-        ((events : List Event) (inside outside : Outcome) → R events inside → outside ≡ caught name inside
-        → S (before ++ events) outside) →
-        Leads next handler inner bound R events end → Leads next handler frames bound S (before ++ events) end
-    lead_out {events = events} {end} name before pass put (ends here) =
+        ((outcome : Outcome) (key : BlockId) → Aims within outcome key → Aims context (caught name outcome) key) →
+        ((events : List Event) (inner outer : Outcome) → R events inner → outer ≡ caught name inner
+        → S (before ++ events) outer) →
+        Leads within bound R events end → Leads context bound S (before ++ events) end
+    lead_out {events = events} {end} name before aims put (ends here) =
         ends (put events (Ended end) (Ended end) here (sym (caught-ended name end)))
-    lead_out {S = S} {events} {end} name before pass put (leads {front = front} {back} {outcome} {key} here aim run
-        small e) = go (pass outcome key aim)
-      where
-        all : before ++ events ≡ (before ++ front) ++ back
-        all = ap (λ v. before ++ v) e ∙ sym (append_assoc before front back)
-
-        go : Passed name outcome next frames key → Leads next handler frames bound S (before ++ events) end
-        go (to_rest c n) = leads (put front outcome Normal here (sym c)) n run small all
-        go (further c l a) = leads (put front outcome outcome here (sym c)) a run small all
+    lead_out name before aims put (leads {front = front} {back} {outcome} {key} here aim run small e) =
+        leads (put front outcome (caught name outcome) here refl) (aims outcome key aim) run small
+        (ap (λ v. before ++ v) e ∙ sym (append_assoc before front back))
 
     -- the rows of a block, and then what its terminal spells
     rows_lead : {rows : List Instruction} {terminal : Terminal} {rest : Statements} {events : List Event} {end : End} →
         (run : GraphRun hir env rows terminal events end) → size run < bound →
         ((events : List Event) (run : GraphRun hir env [] terminal events end) → size run < bound →
-        Leads next handler frames bound (RunsList env rest) events end) →
-        Leads next handler frames bound (RunsList env (rows_before rows rest)) events end
+        Leads context bound (RunsList env rest) events end) →
+        Leads context bound (RunsList env (rows_before rows rest)) events end
     unfolding size
     rows_lead stopped small go = ends stops
     rows_lead (quiet h run) small go = lead_behind [] (λ events outcome after. and_then (quiet_row h) (goes_on after)
@@ -147,147 +131,134 @@ module _ (hir : HirFunction) (env : Environment) where
     rows_lead (did {row = row} h run) small go =
         lead_behind (Did row.value ∷ []) (λ events outcome after. and_then (did_row h) (goes_on after) refl)
         (rows_lead run (omega arith) go)
-    rows_lead (moved m found run e) small go = go _ (moved m found run e) small
+    rows_lead (moved m run e) small go = go _ (moved m run e) small
     rows_lead returned small go = go _ returned small
     rows_lead thrown small go = go _ thrown small
 
     -- the statements of a jump
     jump_leads : {key : BlockId} {statements : Statements} {events : List Event} {end : End}
-        → Jumps frames next key statements →
-        (run : GraphRunAt hir env key events end) → size_at run < bound
-        → Leads next handler frames bound (RunsList env statements) events end
+        → Jumps context key statements → (run : GraphRunAt hir env key events end) → size_at run < bound
+        → Leads context bound (RunsList env statements) events end
     jump_leads (falls_off n) run small = leads nothing n run small refl
     jump_leads (breaks_implicit n) run small = leads (and_then break_implicit (goes_on nothing) refl) n run small refl
     jump_leads (breaks_labeled e t) run small =
-        leads (and_then break_labeled (leaves_list refl) refl) (e, t) run small refl
+        leads (and_then (break_labeled refl) (leaves_list refl) refl) (e, t) run small refl
     jump_leads (breaks_unlabeled n) run small =
         leads (and_then break_unlabeled (leaves_list refl) refl) n run small refl
 
-  module _ {bound : ℕ} (below : Below bound) {next handler : Option BlockId} {frames : List Frame}
-      (fits : Fits hir next frames) where
+  module _ {bound : ℕ} (below : Below bound) {context : ListContext} (fits : Fits context) where
     -- a statement is done, and what is behind it runs
     done_leads : {opened : Bool} {fallthrough key : BlockId} {statement : Statement} {rest : Statements}
-        {used : List BlockId}
-        {front back : List Event} {end : End} → SpellsRest hir env opened fallthrough next frames handler rest used →
-        RunsStatement env statement front Normal → next_inside opened fallthrough next ≡ Some key →
+        {used : List BlockId} {front back : List Event} {end : End}
+        → SpellsRest hir env opened fallthrough context rest used → RunsStatement env statement front Normal
+        → Aims (leaving opened fallthrough context) Normal key →
         (run : GraphRunAt hir env key back end) → size_at run < bound →
-        Leads next handler frames bound (RunsList env (Cons statement rest)) (front ++ back) end
+        Leads context bound (RunsList env (Cons statement rest)) (front ++ back) end
     done_leads {front = front} no_rest here n run small =
         leads (and_then here (goes_on nothing) (sym (append-nil front))) n run small refl
-    done_leads {fallthrough = fallthrough} {key} {front = front} (has_rest d) here n run small =
-        let from = run_to (let same : key ≡ fallthrough = cc in same) run small in
-        lead_behind front (λ events outcome after. and_then here (goes_on after) refl) (below.list d fits from.0 from.1)
+    done_leads {fallthrough = fallthrough} {key} {statement} {rest} {front = front} {back} {end} (has_rest d) here n run
+        small =
+        let same : fallthrough ≡ key = cc in
+        subst (λ k. (run : GraphRunAt hir env k back end) → size_at run < bound →
+        Leads context bound (RunsList env (Cons statement rest)) (front ++ back) end) same
+        (λ run small. lead_behind front (λ events outcome after. and_then here (goes_on after) refl)
+        (below.list d fits run small)) run small
 
     -- a statement, and what is behind it
     then_leads : {opened : Bool} {fallthrough : BlockId} {statement : Statement} {rest : Statements}
-        {used : List BlockId} {events : List Event} {end : End} →
-        SpellsRest hir env opened fallthrough next frames handler rest used →
-        Leads (next_inside opened fallthrough next) handler frames bound (RunsStatement env statement) events end →
-        Leads next handler frames bound (RunsList env (Cons statement rest)) events end
+        {used : List BlockId} {events : List Event} {end : End}
+        → SpellsRest hir env opened fallthrough context rest used
+        → Leads (leaving opened fallthrough context) bound (RunsStatement env statement) events end
+        → Leads context bound (RunsList env (Cons statement rest)) events end
     then_leads {events = events} rest (ends here) = ends (and_then here (leaves_list refl) (sym (append-nil events)))
     then_leads {opened} {fallthrough} {statement} {rest} {events = events} {end} r
         (leads {front = front} {outcome = outcome} {key} here aim run small e) =
         go (by_leaves outcome)
       where
-        inside : Option BlockId
-        inside = next_inside opened fallthrough next
-
-        go : (outcome ≡ Normal) ⊎ (leaves outcome ≡ true) → Leads next handler frames bound
-            (RunsList env (Cons statement rest)) events end
+        go : (outcome ≡ Normal) ⊎ (leaves outcome ≡ true) → Leads context bound (RunsList env (Cons statement rest))
+            events end
         go (inl n) = lead_events e (done_leads r (subst (RunsStatement env statement front) n here)
-            (subst (λ o. Aims frames inside o key) n aim) run small)
+            (subst (λ o. Aims (leaving opened fallthrough context) o key) n aim) run small)
         go (inr l) = leads (and_then here (leaves_list l) (sym (append-nil front)))
-            (Aims-leaves frames inside next outcome key l aim) run small e
+            (Aims-leaves context _ outcome key l aim) run small e
 
     -- a part of a statement, inside the frame of the statement's fallthrough
-    part_leads : {key : BlockId} {part rest : Statements} {used rest_used : List BlockId} {events : List Event}
-        {end : End} {S : Runs}
-        (opened : Bool) (inner : Frame) (name : Option ReactiveLabel) (before : List Event) →
-        ((outcome : Outcome) (key : BlockId) → Aims (frames_inside opened inner frames)
-        (next_inside opened (fall_block inner) next) outcome key →
-        Passed name outcome (next_inside opened (fall_block inner) next) frames key) →
-        ((events : List Event) (inside outside : Outcome) → RunsList env part events inside
-        → outside ≡ caught name inside → S (before ++ events) outside) →
-        SpellsList hir env key (next_inside opened (fall_block inner) next) (frames_inside opened inner frames) handler
-        part used →
-        SpellsRest hir env opened (fall_block inner) next frames handler rest rest_used
-        → (run : GraphRunAt hir env key events end) → size_at run < bound →
-        Leads (next_inside opened (fall_block inner) next) handler frames bound S (before ++ events) end
-    part_leads opened inner name before pass put d rest run small =
-        lead_out name before pass put (below.list d (fits_inside opened inner fits rest) run small)
+    part_leads : {key : BlockId} {part : Statements} {used : List BlockId} {events : List Event} {end : End} {S : Runs}
+        {behind : ListContext} (opened : Bool) (own : Frame) (name : Option ReactiveLabel) (before : List Event) →
+        ((outcome : Outcome) (key : BlockId) → Aims (inside opened own context) outcome key
+        → Aims behind (caught name outcome) key) →
+        ((events : List Event) (inner outer : Outcome) → RunsList env part events inner → outer ≡ caught name inner
+        → S (before ++ events) outer) →
+        SpellsList hir env key (inside opened own context) part used
+        → (run : GraphRunAt hir env key events end) → size_at run < bound → Leads behind bound S (before ++ events) end
+    part_leads opened own name before aims put d run small =
+        lead_out name before aims put (below.list d (fits_inside opened own fits) run small)
 
     -- a move from a terminal that has a fallthrough
     statement_leads : {terminal : Terminal} {step : List Event} {key : BlockId} {opened : Bool} {fallthrough : BlockId}
-        {statement : Statement} {rest : Statements} {used rest_used : List BlockId} {events : List Event} {end : End} →
-        SpellsStatement hir env terminal next frames handler opened fallthrough statement used →
-        SpellsRest hir env opened fallthrough next frames handler rest rest_used →
-        Move terminal step key → (run : GraphRunAt hir env key events end) → size_at run < bound →
-        Leads (next_inside opened fallthrough next) handler frames bound (RunsStatement env statement) (step ++ events)
-        end
-    statement_leads (if_only {fallthrough = f} {opened = o} {label = l} i j x y d) rest then_arm run small =
-        part_leads o (frame.If f) l (Arm true ∷ []) (passed_labeled o (frame.If f) next frames l refl refl j)
-        (λ events inside outside p q. took_arm p q) d rest run small
-    statement_leads (if_only {alternate = a} {fallthrough = f} {opened = o} {label = l} i j x y d) rest else_arm run
-        small =
-        leads (took_other absent (sym (caught-normal l))) (falls_to-next o f next y
-        ∙ ap Some (sym (same_block-eq a f x))) run small refl
-    statement_leads (if_else {fallthrough = f} {opened = o} {label = l} i j x d a w) rest then_arm run small =
-        part_leads o (frame.If f) l (Arm true ∷ []) (passed_labeled o (frame.If f) next frames l refl refl j)
-        (λ events inside outside p q. took_arm p q) d rest run small
-    statement_leads (if_else {fallthrough = f} {opened = o} {label = l} i j x d a w) rest else_arm run small =
-        part_leads o (frame.If f) l (Arm false ∷ []) (passed_labeled o (frame.If f) next frames l refl refl j)
-        (λ events inside outside p q. took_other (present p) q) a rest run small
-    statement_leads (label {fallthrough = f} {opened = o} {label = l} i j d) rest into_label run small =
-        part_leads o (frame.If f) l [] (passed_labeled o (frame.If f) next frames l refl refl j)
-        (λ events inside outside p q. in_label p q) d rest run small
-    statement_leads (scope {fallthrough = f} {scope = number} {opened = o} {part = part} i d) rest into_scope run
-        small =
-        part_leads o (frame.Scope f) None [] (passed_scope o f next frames)
-        (λ events inside outside p q. subst (RunsStatement env (ScopeStatement number part) events) (sym q)
-        (in_scope p)) d rest run small
-    statement_leads (pruned_scope {fallthrough = f} {scope = number} {opened = o} {part = part} i d) rest
-        into_pruned_scope run small =
-        part_leads o (frame.Scope f) None [] (passed_scope o f next frames)
-        (λ events inside outside p q. subst (RunsStatement env (PrunedScopeStatement number part) events) (sym q)
-        (in_pruned_scope p)) d rest run small
+        {statement : Statement} {used : List BlockId} {events : List Event} {end : End} →
+        SpellsStatement hir env terminal context opened fallthrough statement used → Move terminal step key →
+        (run : GraphRunAt hir env key events end) → size_at run < bound →
+        Leads (leaving opened fallthrough context) bound (RunsStatement env statement) (step ++ events) end
+    statement_leads (if_only {fallthrough = f} {opened = o} {label = l} i j x y d) then_arm run small =
+        part_leads o (frame.If f) l (Arm true ∷ []) (aims_labeled o (frame.If f) context l refl refl j)
+        (λ events inner outer p q. took_arm p q) d run small
+    statement_leads (if_only {alternate = a} {fallthrough = f} {opened = o} {label = l} i j x y d) else_arm run small =
+        leads (took_other absent (sym (caught-normal l)))
+        (falls_to-next o f context.next y ∙ ap Some (sym (same_block-eq a f x))) run small refl
+    statement_leads (if_else {fallthrough = f} {opened = o} {label = l} i j x d a w) then_arm run small =
+        part_leads o (frame.If f) l (Arm true ∷ []) (aims_labeled o (frame.If f) context l refl refl j)
+        (λ events inner outer p q. took_arm p q) d run small
+    statement_leads (if_else {fallthrough = f} {opened = o} {label = l} i j x d a w) else_arm run small =
+        part_leads o (frame.If f) l (Arm false ∷ []) (aims_labeled o (frame.If f) context l refl refl j)
+        (λ events inner outer p q. took_other (present p) q) a run small
+    statement_leads (label {fallthrough = f} {opened = o} {label = l} i j d) into_label run small =
+        part_leads o (frame.If f) l [] (aims_labeled o (frame.If f) context l refl refl j)
+        (λ events inner outer p q. in_label p q) d run small
+    statement_leads (scope {fallthrough = f} {scope = number} {opened = o} {part = part} i d) into_scope run small =
+        part_leads o (frame.Scope f) None [] (aims_scope o f context)
+        (λ events inner outer p q. subst (RunsStatement env (ScopeStatement number part) events) (sym q)
+        (in_scope p)) d run small
+    statement_leads (pruned_scope {fallthrough = f} {scope = number} {opened = o} {part = part} i d) into_pruned_scope
+        run small =
+        part_leads o (frame.Scope f) None [] (aims_scope o f context)
+        (λ events inner outer p q. subst (RunsStatement env (PrunedScopeStatement number part) events) (sym q)
+        (in_pruned_scope p)) d run small
 
     -- a terminal, and what it spells
     terminal_leads : {terminal : Terminal} {statements : Statements} {used : List BlockId} {events : List Event}
-        {end : End} →
-        SpellsTerminal hir env terminal next frames handler statements used
+        {end : End} → SpellsTerminal hir env terminal context statements used
         → (run : GraphRun hir env [] terminal events end) → size run ≤ bound →
-        Leads next handler frames bound (RunsList env statements) events end
+        Leads context bound (RunsList env statements) events end
     unfolding size
     terminal_leads returns stopped small = ends stops
     terminal_leads returns returned small = ends (and_then returns_here (leaves_list refl) refl)
-    terminal_leads returns (moved m found run e) small = elim m [ ]
+    terminal_leads returns (moved m run e) small = elim m [ ]
     terminal_leads unreachable stopped small = ends stops
-    terminal_leads unreachable (moved m found run e) small = elim m [ ]
+    terminal_leads unreachable (moved m run e) small = elim m [ ]
     terminal_leads (breaks j) stopped small = ends stops
-    terminal_leads {statements = statements} (breaks {target = target} {id = id} j)
-        (moved {block = b} goes_to found run e) small =
-        lead_events e (jump_leads (break_jumps hir next frames target id statements fits j)
-        (record { block = b; found = found; run = run }) (omega arith))
+    terminal_leads {statements = statements} (breaks {target = target} {id = id} j) (moved goes_to run e) small =
+        lead_events e (jump_leads (break_jumps context target id statements fits j) run (omega arith))
     terminal_leads (and_rest d rest w) stopped small = ends stops
     terminal_leads (and_rest d rest w) returned small = elim d [ ]
     terminal_leads (and_rest d rest w) thrown small = elim d [ ]
-    terminal_leads (and_rest d rest w) (moved {block = b} m found run e) small =
-        lead_events e (then_leads rest (statement_leads d rest m (record { block = b; found = found; run = run })
-        (omega arith)))
+    terminal_leads (and_rest d rest w) (moved m run e) small =
+        lead_events e (then_leads rest (statement_leads d m run (omega arith)))
 
   -- a block's rows, and then its terminal, which takes a move
-  list_leads : {bound : ℕ} {key : BlockId} {next handler : Option BlockId} {frames : List Frame}
-      {statements : Statements}
-      {used : List BlockId} {events : List Event} {end : End} →
-      Below bound → SpellsList hir env key next frames handler statements used → Fits hir next frames →
+  list_leads : {bound : ℕ} {key : BlockId} {context : ListContext} {statements : Statements} {used : List BlockId}
+      {events : List Event} {end : End} →
+      Below bound → SpellsList hir env key context statements used → Fits context →
       (run : GraphRunAt hir env key events end) → size_at run < suc bound
-      → Leads next handler frames (suc bound) (RunsList env statements) events end
-  list_leads {bound} {key} {next} {handler} {frames} {events = events} {end} below
-      (block {rest = rest} {block = b} found live d w) fits run small =
-      let same : b ≡ run.block = one_held run.found (usable_block-at hir key b found) in
-      subst (λ s. Leads next handler frames (suc bound) (RunsList env s) events end)
+      → Leads context (suc bound) (RunsList env statements) events end
+  unfolding size_at
+  list_leads below d fits arrives small = ends stops
+  list_leads {bound} {key} {context} {events = events} {end} below (block {rest = rest} {block = b} found live d w) fits
+      (enters {block = other} at run) small =
+      let same : b ≡ other = one_held at (usable_block-at hir key b found) in
+      subst (λ s. Leads context (suc bound) (RunsList env s) events end)
       (sym (w ∙ ap (λ v. rows_before v.rows rest) same))
-      (rows_lead run.run small (λ events run small. more_room
+      (rows_lead run small (λ events run small. more_room
       (terminal_leads below fits (terminal_at same d) run (omega arith))))
 
   every_run : (bound : ℕ) → Below bound
@@ -295,13 +266,12 @@ module _ (hir : HirFunction) (env : Environment) where
   every_run (suc bound) = record { list = λ d fits run small. list_leads (every_run bound) d fits run small }
 
 -- nothing leads out of a body
-stays : {hir : HirFunction} {env : Environment} {handler : Option BlockId} {bound : ℕ} {R : Runs} {events : List Event}
-    {end : End} →
-    Leads hir env None handler [] bound R events end → R events (Ended end)
+stays : {hir : HirFunction} {env : Environment} {bound : ℕ} {R : Runs} {events : List Event} {end : End}
+    → Leads hir env outermost bound R events end → R events (Ended end)
 stays (ends here) = here
 stays (leads {outcome = outcome} {key} here aim run small e) = absurd (nowhere outcome key aim)
   where
-    nowhere : (outcome : Outcome) (key : BlockId) → Aims [] None outcome key → ⊥
+    nowhere : (outcome : Outcome) (key : BlockId) → Aims outermost outcome key → ⊥
     nowhere Normal key a = let bad : ⊥ = cc in bad
     nowhere (BreakTo target) key a = let bad : ⊥ = cc (a.1) in bad
     nowhere BreakLoop key a = let bad : ⊥ = cc in bad
@@ -314,7 +284,7 @@ pub graph_to_body : {hir : HirFunction} {env : Environment} {statements : Statem
     (events : List Event) (end : End) → IsGraphRun hir env events end → RunsList env statements events (Ended end)
 graph_to_body {hir} {env} spelled events end run =
     let all : Below hir env (suc (size_at hir env run)) = every_run hir env (suc (size_at hir env run)) in
-    stays (all.list spelled.list (fits_body hir) run (omega arith))
+    stays (all.list spelled.list fits_body run (omega arith))
 
 -- every run of the graph is a run of the function that it spells
 pub graph_to_function : {hir : HirFunction} {env : Environment} {func : ReactiveFunction} → Spells hir env func →

@@ -189,18 +189,21 @@ module _ (env : Environment) where
       StatementKeepsRuns (TerminalStatement from label) (TerminalStatement to label')
 
   relabeled_break : (target : BlockId) (kind : ReactiveTerminalTargetKind) (id : EvaluationOrder)
-      (label label' : Option ReactiveLabel) →
+      (label label' : Option ReactiveLabel) → CatchAlike label label' →
       TerminalKeepsRuns (Break target kind id) label (Break target kind id) label'
-  relabeled_break target kind id label label' events outcome break_implicit = break_implicit
-  relabeled_break target kind id label label' events outcome break_labeled = break_labeled
-  relabeled_break target kind id label label' events outcome break_unlabeled = break_unlabeled
+  relabeled_break target kind id label label' alike events outcome break_implicit = break_implicit
+  relabeled_break target kind id label label' alike events outcome (break_labeled q) =
+      break_labeled (q ∙ alike (BreakTo target))
+  relabeled_break target kind id label label' alike events outcome break_unlabeled = break_unlabeled
 
-  -- a jump and a return, whose own label no run meets
+  -- a break, which its own label catches
   pub break-keeps_runs : (target : BlockId) (kind : ReactiveTerminalTargetKind) (id : EvaluationOrder)
-      (label label' : Option ReactiveLabel) →
+      (label label' : Option ReactiveLabel) → CatchAlike label label' →
       KeepsRuns (labeled (Break target kind id) label) (labeled (Break target kind id) label')
-  break-keeps_runs target kind id label label' = statement-keeps_runs _ _ (relabeled_break target kind id label label')
+  break-keeps_runs target kind id label label' alike =
+      statement-keeps_runs _ _ (relabeled_break target kind id label label' alike)
 
+  -- a return, whose own label no run meets
   pub return-keeps_runs : (value : Place) (id : EvaluationOrder) (label label' : Option ReactiveLabel) →
       KeepsRuns (labeled (Return value id) label) (labeled (Return value id) label')
   return-keeps_runs value id label label' = statement-keeps_runs _ _ inside
@@ -256,7 +259,7 @@ module _ (env : Environment) where
       has_no_runs terminal ≡ true → RunsStatement env (TerminalStatement terminal label) events outcome → ⊥
   never_runs none returned = cc
   never_runs none break_implicit = cc
-  never_runs none break_labeled = cc
+  never_runs none (break_labeled q) = cc
   never_runs none break_unlabeled = cc
   never_runs none (took_arm r q) = cc
   never_runs none (took_other r q) = cc

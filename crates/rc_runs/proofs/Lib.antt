@@ -1,4 +1,5 @@
 pub mod AllLemmas
+pub mod AnyLemmas
 pub mod GraphLemmas
 pub mod FramesLemmas
 pub mod RowsLemmas
@@ -10,6 +11,7 @@ pub mod BodyToGraph
 pub mod NamesOutsideLemmas
 mod NoRowNamed
 pub mod SpelledNames
+pub mod SpelledInTables
 pub mod RebuiltFaults
 pub mod RebuiltKeeps
 pub mod PlainLists
@@ -18,3 +20,4 @@ pub mod ErasedPartLemmas
 pub mod EraseLemmas
 pub mod ErasedTreeLemmas
 pub mod ErasedRuns
+mod Examples

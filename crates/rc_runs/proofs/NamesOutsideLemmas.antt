@@ -1,5 +1,5 @@
 -- Where every number is in its table, no fault names one that is outside.
-use Rattle.std.proofs.Common.{◌⊎◌, inl, inr, ℕ, List, length, subst, arith}
+use Rattle.std.proofs.Common.{inl, inr, ℕ, List, length, subst, arith}
 use Rattle.std.specs.List.{All, Any}
 use Rattle.rc_hir.specs.declared.fault.Fault.{Fault}
 use Rattle.rc_hir.specs.declared.function.HirFunction.{HirFunction}

@@ -1,7 +1,7 @@
 -- A graph spells at most one tree, and the tree's blocks are used in one order.
 --
--- Two derivations over the same graph, frames, next and handler are compared; a terminal adds one case of
--- `one_statement`, or of `one_terminal` where it ends its list.
+-- Two derivations over the same graph and context are compared; a terminal adds one case of `one_statement`, or of
+-- `one_terminal` where it ends its list.
 use Rattle.std.proofs.Common.{◌≡◌, List, ◌∷◌, Option, Some, Bool, refl, sym, ap, ◌∙◌, subst}
 use Rattle.rc_names.specs.declared.numbers.BlockId.{BlockId}
 use Rattle.rc_hir.specs.declared.terminal.Terminal.{Terminal}
@@ -13,7 +13,8 @@ use Rattle.rc_runs.specs.declared.frames.Frame.TheVariants as frame
 use Rattle.rc_runs.specs.Graph.{Block}
 use Rattle.rc_runs.specs.PlainTree.{Statements, Statement}
 use Rattle.rc_runs.specs.TreeOf.{block_of}
-use Rattle.rc_runs.specs.Grammar.{next_inside, frames_inside, SpellsList, SpellsTerminal, SpellsStatement, SpellsRest}
+use Rattle.rc_runs.specs.ListContext.{ListContext, inside}
+use Rattle.rc_runs.specs.Grammar.{SpellsList, SpellsTerminal, SpellsStatement, SpellsRest}
 use Rattle.rc_runs.specs.Grammar.{block, returns, unreachable, breaks, and_rest, if_only, if_else, label, scope}
 use Rattle.rc_runs.specs.Grammar.{pruned_scope, closed, opened}
 use Rattle.rc_runs.specs.Spelled.{with_header, SpellsBody, Spells}
@@ -28,44 +29,34 @@ one_held e f = cc
 
 module _ {hir : HirFunction} {env : Environment} where
   -- a terminal's derivation at an equal block
-  pub terminal_at : {next handler : Option BlockId} {frames : List Frame} {rest : Statements} {used : List BlockId}
-      {a b : Block} → b ≡ a →
-      SpellsTerminal hir env b.terminal next frames handler rest used
-      → SpellsTerminal hir env a.terminal next frames handler rest used
-  terminal_at {next} {handler} {frames} {rest} {used} e d =
-      subst (λ v. SpellsTerminal hir env v.terminal next frames handler rest used) e d
+  pub terminal_at : {context : ListContext} {rest : Statements} {used : List BlockId} {a b : Block} → b ≡ a
+      → SpellsTerminal hir env b.terminal context rest used → SpellsTerminal hir env a.terminal context rest used
+  terminal_at {context} {rest} {used} e d = subst (λ v. SpellsTerminal hir env v.terminal context rest used) e d
 
   -- a part's derivation where the same is opened
-  pub part_at : {key : BlockId} {handler : Option BlockId} {part : Statements} {used : List BlockId}
-      (fallthrough : BlockId) (next : Option BlockId) (inner : Frame) (frames : List Frame) (a b : Bool) → b ≡ a →
-      SpellsList hir env key (next_inside b fallthrough next) (frames_inside b inner frames) handler part used →
-      SpellsList hir env key (next_inside a fallthrough next) (frames_inside a inner frames) handler part used
-  part_at {key} {handler} {part} {used} fallthrough next inner frames a b e d =
-      subst (λ v. SpellsList hir env key (next_inside v fallthrough next) (frames_inside v inner frames) handler part
-      used) e d
+  pub part_at : {key : BlockId} {part : Statements} {used : List BlockId} (frame : Frame) (context : ListContext)
+      (a b : Bool) → b ≡ a → SpellsList hir env key (inside b frame context) part used
+      → SpellsList hir env key (inside a frame context) part used
+  part_at {key} {part} {used} frame context a b e d =
+      subst (λ v. SpellsList hir env key (inside v frame context) part used) e d
 
   -- the derivation of a rest where the same fallthrough is opened
-  pub rest_at : {f g : BlockId} {next handler : Option BlockId} {frames : List Frame} {rest : Statements}
-      {used : List BlockId} {a b : Bool} →
-      g ≡ f → b ≡ a → SpellsRest hir env b g next frames handler rest used
-      → SpellsRest hir env a f next frames handler rest used
-  rest_at {f} {g} {next} {handler} {frames} {rest} {used} {a} {b} h e d =
-      subst (λ w. SpellsRest hir env a w next frames handler rest used) h
-      (subst (λ v. SpellsRest hir env v g next frames handler rest used) e d)
+  pub rest_at : {f g : BlockId} {context : ListContext} {rest : Statements} {used : List BlockId} {a b : Bool} → g ≡ f
+      → b ≡ a → SpellsRest hir env b g context rest used → SpellsRest hir env a f context rest used
+  rest_at {f} {g} {context} {rest} {used} {a} {b} h e d =
+      subst (λ w. SpellsRest hir env a w context rest used) h
+      (subst (λ v. SpellsRest hir env v g context rest used) e d)
 
   mutual
-    pub one_list : {key : BlockId} {next handler : Option BlockId} {frames : List Frame} {a b : Statements}
-        {u v : List BlockId} →
-        SpellsList hir env key next frames handler a u → SpellsList hir env key next frames handler b v → Same a u b v
+    pub one_list : {key : BlockId} {context : ListContext} {a b : Statements} {u v : List BlockId}
+        → SpellsList hir env key context a u → SpellsList hir env key context b v → Same a u b v
     one_list (block {key = key} {block = p} found live d w) (block {block = q} found' live' d' w') =
         let same : q ≡ p = one_held found found' in
         let h = one_terminal d (terminal_at same d') in
         (cc, ap (λ used. key ∷ used) h.1)
 
-    pub one_terminal : {terminal : Terminal} {next handler : Option BlockId} {frames : List Frame} {a b : Statements}
-        {u v : List BlockId} →
-        SpellsTerminal hir env terminal next frames handler a u
-        → SpellsTerminal hir env terminal next frames handler b v → Same a u b v
+    pub one_terminal : {terminal : Terminal} {context : ListContext} {a b : Statements} {u v : List BlockId}
+        → SpellsTerminal hir env terminal context a u → SpellsTerminal hir env terminal context b v → Same a u b v
     one_terminal returns returns = (refl, refl)
     one_terminal unreachable unreachable = (refl, refl)
     one_terminal (breaks e) (breaks f) = (one_held f e, refl)
@@ -81,41 +72,38 @@ module _ {hir : HirFunction} {env : Environment} where
         (cc, cc)
 
     -- the fallthrough, and whether it is opened, are one too
-    pub one_statement : {terminal : Terminal} {next handler : Option BlockId} {frames : List Frame}
-        {o p : Bool} {f g : BlockId} {s t : Statement} {u v : List BlockId} →
-        SpellsStatement hir env terminal next frames handler o f s u
-        → SpellsStatement hir env terminal next frames handler p g t v →
-        (o ≡ p) × (f ≡ g) × (s ≡ t) × (u ≡ v)
-    one_statement (if_only {fallthrough = f} {next = n} {frames = fs} {opened = o} i l x y d)
+    pub one_statement : {terminal : Terminal} {context : ListContext} {o p : Bool} {f g : BlockId} {s t : Statement}
+        {u v : List BlockId} → SpellsStatement hir env terminal context o f s u
+        → SpellsStatement hir env terminal context p g t v → (o ≡ p) × (f ≡ g) × (s ≡ t) × (u ≡ v)
+    one_statement (if_only {fallthrough = f} {context = around} {opened = o} i l x y d)
         (if_only {opened = p} i' l' x' y' d') =
         let same : p ≡ o = i' ∙ sym i in
-        let h = one_list d (part_at f n (frame.If f) fs o p same d') in
+        let h = one_list d (part_at (frame.If f) around o p same d') in
         (sym same, refl, cc, h.1)
     one_statement (if_only i l x y d) (if_else i' l' x' d' a' w') = absurd (let bad : ⊥ = cc in bad)
     one_statement (if_else i l x d a w) (if_only i' l' x' y' d') = absurd (let bad : ⊥ = cc in bad)
-    one_statement (if_else {fallthrough = f} {next = n} {frames = fs} {opened = o} i l x d a w)
+    one_statement (if_else {fallthrough = f} {context = around} {opened = o} i l x d a w)
         (if_else {opened = p} i' l' x' d' a' w') =
         let same : p ≡ o = i' ∙ sym i in
-        let h = one_list d (part_at f n (frame.If f) fs o p same d') in
-        let k = one_list a (part_at f n (frame.If f) fs o p same a') in
+        let h = one_list d (part_at (frame.If f) around o p same d') in
+        let k = one_list a (part_at (frame.If f) around o p same a') in
         (sym same, refl, cc, cc)
-    one_statement (label {fallthrough = f} {next = n} {frames = fs} {opened = o} i l d) (label {opened = p} i' l' d') =
+    one_statement (label {fallthrough = f} {context = around} {opened = o} i l d) (label {opened = p} i' l' d') =
         let same : p ≡ o = i' ∙ sym i in
-        let h = one_list d (part_at f n (frame.If f) fs o p same d') in
+        let h = one_list d (part_at (frame.If f) around o p same d') in
         (sym same, refl, cc, h.1)
-    one_statement (scope {fallthrough = f} {next = n} {frames = fs} {opened = o} i d) (scope {opened = p} i' d') =
+    one_statement (scope {fallthrough = f} {context = around} {opened = o} i d) (scope {opened = p} i' d') =
         let same : p ≡ o = i' ∙ sym i in
-        let h = one_list d (part_at f n (frame.Scope f) fs o p same d') in
+        let h = one_list d (part_at (frame.Scope f) around o p same d') in
         (sym same, refl, cc, h.1)
-    one_statement (pruned_scope {fallthrough = f} {next = n} {frames = fs} {opened = o} i d)
+    one_statement (pruned_scope {fallthrough = f} {context = around} {opened = o} i d)
         (pruned_scope {opened = p} i' d') =
         let same : p ≡ o = i' ∙ sym i in
-        let h = one_list d (part_at f n (frame.Scope f) fs o p same d') in
+        let h = one_list d (part_at (frame.Scope f) around o p same d') in
         (sym same, refl, cc, h.1)
 
-    pub one_rest : {o : Bool} {f : BlockId} {next handler : Option BlockId} {frames : List Frame} {a b : Statements}
-        {u v : List BlockId} →
-        SpellsRest hir env o f next frames handler a u → SpellsRest hir env o f next frames handler b v → Same a u b v
+    pub one_rest : {o : Bool} {f : BlockId} {context : ListContext} {a b : Statements} {u v : List BlockId}
+        → SpellsRest hir env o f context a u → SpellsRest hir env o f context b v → Same a u b v
     one_rest closed closed = (refl, refl)
     one_rest (opened d) (opened d') = one_list d d'
 

@@ -1,17 +1,18 @@
 -- Where rules fault at the scope blocks alone, the fault of a rebuilt tree is one of a number that stands in the tree.
-use Rattle.std.proofs.Common.{◌≡◌, ◌∙◌, ◌⊎◌, inl, inr, ◌+◌, List, ◌++◌, length, length-append}
-use Rattle.std.proofs.Common.{option_map, map, Result, Ok, Err, arith, refl, sym, ap, subst}
+use Rattle.std.proofs.Common.{◌≡◌, ◌∙◌, ◌⊎◌, inl, inr, List, ◌++◌, Option, option_map, map, Result, Ok, Err, refl}
+use Rattle.std.proofs.Common.{sym, ap, subst}
 use Rattle.std.specs.List.{Any}
-use Rattle.std.proofs.Math.ListN.{get_or-append}
-use Rattle.std.proofs.lemmas.List.{get_or-append-add}
 use Rattle.rc_hir.specs.PartNames.{Name, perhaps, place_names, scope_name}
+use Rattle.rc_names.specs.declared.numbers.EvaluationOrder.{EvaluationOrder}
 use Rattle.rc_names.specs.declared.numbers.ScopeId.{ScopeId}
 use Rattle.rc_hir.specs.declared.fault.Fault.{Fault}
 use Rattle.rc_tree.specs.Outcome.{bind}
 use Rattle.rc_tree.specs.Rebuilt.{Rules, joined, in_order, rebuilt_block, rebuilt_case, rebuilt_labeled}
 use Rattle.rc_tree.specs.Rebuilt.{rebuilt_pruned_scope, rebuilt_scope, rebuilt_statement, rebuilt_terminal}
-use Rattle.rc_tree.specs.TreeNames.{if_there, names_in, names_in_case, names_in_statement, names_in_terminal}
-use Rattle.rc_tree.specs.TreeNames.{names_in_value, one_by_one}
+use Rattle.rc_tree.specs.Collected.{collected_case, collected_cases, collected_if}
+use Rattle.rc_tree.specs.CollectedValues.{collected_value}
+use Rattle.rc_tree.specs.TreeNames.{Names, names_in, names_in_list, names_in_statement, names_in_terminal}
+use Rattle.rc_tree.specs.TreeNames.{names_of_parts, names_of_values}
 use Rattle.rc_tree.specs.declared.scope.PrunedReactiveScopeBlock.{PrunedReactiveScopeBlock}
 use Rattle.rc_tree.specs.declared.scope.ReactiveScopeBlock.{ReactiveScopeBlock}
 use Rattle.rc_tree.specs.declared.statement.ReactiveBlock.{ReactiveBlock}
@@ -21,43 +22,23 @@ use Rattle.rc_tree.specs.declared.terminal.ReactiveSwitchCase.{ReactiveSwitchCas
 use Rattle.rc_tree.specs.declared.terminal.ReactiveSwitchCase.{out-roll-ReactiveSwitchCase}
 use Rattle.rc_tree.specs.declared.terminal.ReactiveTerminalStatement.{ReactiveTerminalStatement}
 use Rattle.rc_tree.specs.declared.value.ReactiveInstruction.{ReactiveInstruction}
+use Rattle.rc_tree.specs.declared.value.ReactiveValue.{ReactiveValue}
 use Rattle.rc_tree.proofs.RebuiltLemmas.{if_some, rebuilt-block, rebuilt-labeled, rebuilt-scope, rebuilt-pruned_scope}
 use Rattle.rc_tree.proofs.RebuiltLemmas.{rebuilt-case, rebuilt-Instruction, rebuilt-Terminal, rebuilt-Scope}
 use Rattle.rc_tree.proofs.RebuiltLemmas.{rebuilt-PrunedScope, rebuilt-Break, rebuilt-Continue, rebuilt-Return}
 use Rattle.rc_tree.proofs.RebuiltLemmas.{rebuilt-Throw, rebuilt-Switch, rebuilt-DoWhile, rebuilt-While, rebuilt-For}
 use Rattle.rc_tree.proofs.RebuiltLemmas.{rebuilt-ForOf, rebuilt-ForIn, rebuilt-If, rebuilt-Label, rebuilt-Try}
-use Rattle.rc_tree.proofs.TreeNamesLemmas.{of_list, block-names, case-names, statement-Terminal, statement-Scope}
-use Rattle.rc_tree.proofs.TreeNamesLemmas.{statement-PrunedScope, terminal-Switch, terminal-DoWhile, terminal-While}
-use Rattle.rc_tree.proofs.TreeNamesLemmas.{terminal-For, terminal-ForOf, terminal-ForIn, terminal-If, terminal-Label}
-use Rattle.rc_tree.proofs.TreeNamesLemmas.{terminal-Try}
+use Rattle.rc_tree.proofs.CollectedLemmas.{collected-block, collected-case, collected-Terminal}
+use Rattle.rc_tree.proofs.CollectedLemmas.{collected-Scope, collected-PrunedScope, collected-Switch, collected-DoWhile}
+use Rattle.rc_tree.proofs.CollectedLemmas.{collected-While, collected-For, collected-ForOf, collected-ForIn}
+use Rattle.rc_tree.proofs.CollectedLemmas.{collected-If, collected-Label, collected-Try}
 use Rattle.rc_runs.specs.PlainTree.{Statements, Nil, Cons, Statement, RowStatement, TerminalStatement, ScopeStatement}
 use Rattle.rc_runs.specs.PlainTree.{PrunedScopeStatement, TreeTerminal, Break, Continue, Return, Throw, Switch, DoWhile}
 use Rattle.rc_runs.specs.PlainTree.{While, For, ForOf, ForIn, If, Label, Try, Alternate, Absent, Present, Cases}
 use Rattle.rc_runs.specs.PlainTree.{NoCases, Case}
 use Rattle.rc_runs.specs.TreeOf.{alternate_of, block_of, cases_of, statement_of, statements_of, terminal_of, value_of}
+use Rattle.rc_runs.proofs.AnyLemmas.{Any-left, Any-right}
 use Rattle.rc_runs.proofs.EveryBlockIsPlain.{every_block_is_plain}
-
--- one of two lists has what both together have
-module _ {X : Type 0} (P : X → Type 0) where
-  Any-left : (xs ys : List X) → Any P xs → Any P (xs ++ ys)
-  Any-left xs ys some = (
-    some.0,
-    some.1,
-    omega (arith, length-append xs ys, some.2),
-    get_or-append xs ys some.1 some.0 some.2
-        ∙ some.3,
-    some.4,
-  )
-
-  Any-right : (xs ys : List X) → Any P ys → Any P (xs ++ ys)
-  Any-right xs ys some = (
-    length xs + some.0,
-    some.1,
-    omega (arith, length-append xs ys, some.2),
-    get_or-append-add xs ys some.0 some.1
-        ∙ some.3,
-    some.4,
-  )
 
 -- no answer is a fault
 pub answered : {A : Type 0} (a : A) (fault : Fault) → ◌≡◌ {A = Result A Fault} (Ok a) (Err fault) → ⊥
@@ -89,15 +70,29 @@ module _ {S : Type 0} (rules : Rules S) (fault : Fault) (Q : Name → Type 0)
     (pruned_scope : (x : PrunedReactiveScopeBlock) (s : S) → rules.pruned_scope x s ≡ Err fault → ⊥)
     (scope : (met : S) (x : ReactiveScopeBlock) (s : S) → rules.scope met x s ≡ Err fault → Any Q (scope_name x.scope))
   where
+    -- the numbers of a block that may be left out, of a value, of a case, and of cases
+    abbrev names_in_if : Option ReactiveBlock → Names
+    names_in_if = collected_if names_of_parts
+
+    abbrev names_in_value : ReactiveValue → EvaluationOrder → Names
+    names_in_value = collected_value names_of_values
+
+    abbrev names_in_case : ReactiveSwitchCase → EvaluationOrder → Names
+    names_in_case = collected_case names_of_parts
+
+    abbrev names_in_cases : EvaluationOrder → List ReactiveSwitchCase → Names
+    names_in_cases = collected_cases names_of_parts
+
     -- these numbers, which are those, have it
     by_same : (names others : List Name) → names ≡ others → Any Q others → Any Q names
     by_same names others e some = subst (Any Q) (sym e) some
 
     -- what a block's statements have, the block has
     within : (p : Statements) → ((s : S) → joined (map (rebuilt_statement rules) (statements_of p)) s ≡ Err fault
-        → Any Q (of_list (statements_of p)))
+        → Any Q (names_in_list (statements_of p)))
         → (s : S) → rebuilt_block rules (block_of p) s ≡ Err fault → Any Q (names_in (block_of p))
-    within p claim s e = by_same (names_in (block_of p)) (of_list (statements_of p)) (block-names (block_of p))
+    within p claim s e = by_same (names_in (block_of p)) (names_in_list (statements_of p))
+        (collected-block names_of_parts (block_of p))
         (claim s (made_of fault (joined (map (rebuilt_statement rules) (statements_of p)) s) _
         (sym (rebuilt-block rules (block_of p) s) ∙ e)))
 
@@ -141,11 +136,11 @@ module _ {S : Type 0} (rules : Rules S) (fault : Fault) (Q : Name → Type 0)
 
     mutual
       list_faults : (p : Statements) (s : S) → joined (map (rebuilt_statement rules) (statements_of p)) s ≡ Err fault
-          → Any Q (of_list (statements_of p))
+          → Any Q (names_in_list (statements_of p))
       list_faults Nil s e = absurd (answered _ fault e)
       list_faults (Cons x rest) s e =
           either (rebuilt_statement rules (statement_of x) s) _ (names_in_statement (statement_of x))
-          (of_list (statements_of rest)) e (statement_faults x s)
+          (names_in_list (statements_of rest)) e (statement_faults x s)
           (λ a is later. list_faults rest a.0 (made_of fault
           (joined (map (rebuilt_statement rules) (statements_of rest))
           a.0) _ later))
@@ -157,7 +152,8 @@ module _ {S : Type 0} (rules : Rules S) (fault : Fault) (Q : Name → Type 0)
           absurd (row x s (sym (rebuilt-Instruction rules x s) ∙ e))
       statement_faults (TerminalStatement t own) s e =
           let x : ReactiveTerminalStatement = record { terminal = terminal_of t; label = own } in
-          by_same (names_in_statement (stmt.Terminal x)) (names_in_terminal (terminal_of t)) (statement-Terminal x)
+          by_same (names_in_statement (stmt.Terminal x)) (names_in_terminal (terminal_of t))
+          (collected-Terminal names_of_parts x)
           (before_rule (rebuilt_labeled rules x s) (λ a. rules.terminal a.1 a.0) (names_in_terminal (terminal_of t))
           (sym (rebuilt-Terminal rules x s) ∙ e)
           (λ is. terminal_faults t s (made_of fault (rebuilt_terminal rules (terminal_of t) s) _
@@ -165,7 +161,8 @@ module _ {S : Type 0} (rules : Rules S) (fault : Fault) (Q : Name → Type 0)
       statement_faults (ScopeStatement of body) s e =
           let x : ReactiveScopeBlock = record { scope = of; instructions = block_of body } in
           let inner = rules.into_scope s in
-          by_same (names_in_statement (stmt.Scope x)) (scope_name of ++ names_in (block_of body)) (statement-Scope x)
+          by_same (names_in_statement (stmt.Scope x)) (scope_name of ++ names_in (block_of body))
+          (collected-Scope names_of_parts x)
           (split of (names_in (block_of body)) (fault_of fault (rebuilt_scope rules x inner)
           (λ a. rules.scope s a.1 a.0)
           (sym (rebuilt-Scope rules x s) ∙ e))
@@ -183,7 +180,7 @@ module _ {S : Type 0} (rules : Rules S) (fault : Fault) (Q : Name → Type 0)
       statement_faults (PrunedScopeStatement of body) s e =
           let x : PrunedReactiveScopeBlock = record { scope = of; instructions = block_of body } in
           by_same (names_in_statement (stmt.PrunedScope x)) (scope_name of ++ names_in (block_of body))
-          (statement-PrunedScope x)
+          (collected-PrunedScope names_of_parts x)
           (Any-right Q (scope_name of) (names_in (block_of body))
           (before_rule (rebuilt_pruned_scope rules x s) (λ a. rules.pruned_scope a.1 a.0) (names_in (block_of body))
           (sym (rebuilt-PrunedScope rules x s) ∙ e)
@@ -191,28 +188,28 @@ module _ {S : Type 0} (rules : Rules S) (fault : Fault) (Q : Name → Type 0)
           (sym (rebuilt-pruned_scope rules x s) ∙ is))) (λ a is. pruned_scope a.1 a.0 is)))
 
       alternate_faults : (x : Alternate) (s : S) → if_some (rebuilt_block rules) (alternate_of x) s ≡ Err fault
-          → Any Q (if_there (option_map names_in (alternate_of x)))
+          → Any Q (names_in_if (alternate_of x))
       alternate_faults Absent s e = absurd (answered _ fault e)
       alternate_faults (Present body) s e =
           within body (list_faults body) s (made_of fault (rebuilt_block rules (block_of body) s) _ e)
 
-      cases_faults : (x : Cases) (s : S) → in_order (map (rebuilt_case rules) (cases_of x)) s ≡ Err fault
-          → Any Q (one_by_one (map names_in_case (cases_of x)))
-      cases_faults NoCases s e = absurd (answered _ fault e)
-      cases_faults (Case test body rest) s e =
+      cases_faults : (id : EvaluationOrder) (x : Cases) (s : S)
+          → in_order (map (rebuilt_case rules) (cases_of x)) s ≡ Err fault
+          → Any Q (names_in_cases id (cases_of x))
+      cases_faults id NoCases s e = absurd (answered _ fault e)
+      cases_faults id (Case test body rest) s e =
           let x : ReactiveSwitchCase = roll-ReactiveSwitchCase (record { test = test; block = alternate_of body }) in
-          either (rebuilt_case rules x s) _ (names_in_case x) (one_by_one (map names_in_case (cases_of rest))) e
-          (λ is. by_same (names_in_case x) (perhaps place_names test
-          ++ if_there (option_map names_in (alternate_of body))) (case-names test (alternate_of body))
-          (Any-right Q (perhaps place_names test) (if_there (option_map names_in (alternate_of body)))
+          either (rebuilt_case rules x s) _ (names_in_case x id) (names_in_cases id (cases_of rest)) e
+          (λ is. by_same (names_in_case x id) (perhaps place_names test ++ names_in_if (alternate_of body))
+          (collected-case names_of_parts test (alternate_of body) id)
+          (Any-right Q (perhaps place_names test) (names_in_if (alternate_of body))
           (alternate_faults body s (made_of fault (if_some (rebuilt_block rules) (alternate_of body) s) _
           (ap (λ c. bind (if_some (rebuilt_block rules) c.block s)
           (λ a. Ok (a.0, roll-ReactiveSwitchCase (record { test = c.test; block = a.1 }))))
           (sym (out-roll-ReactiveSwitchCase (record { test = test; block = alternate_of body })))
           ∙ sym (rebuilt-case rules x s) ∙ is)))))
-          (λ a is later. cases_faults rest a.0 (made_of fault (in_order (map (rebuilt_case rules) (cases_of rest)) a.0)
-          _
-          later))
+          (λ a is later. cases_faults id rest a.0
+          (made_of fault (in_order (map (rebuilt_case rules) (cases_of rest)) a.0) _ later))
 
       terminal_faults : (t : TreeTerminal) (s : S) → rebuilt_terminal rules (terminal_of t) s ≡ Err fault
           → Any Q (names_in_terminal (terminal_of t))
@@ -223,58 +220,60 @@ module _ {S : Type 0} (rules : Rules S) (fault : Fault) (Q : Name → Type 0)
       terminal_faults (Return value id) s e = absurd (answered _ fault (sym (rebuilt-Return rules value id s) ∙ e))
       terminal_faults (Throw value id) s e = absurd (answered _ fault (sym (rebuilt-Throw rules value id s) ∙ e))
       terminal_faults (Switch test cases id) s e =
-          by_same (names_in_terminal (terminal_of (Switch test cases id))) _ (terminal-Switch test (cases_of cases) id)
-          (Any-right Q (place_names test) _ (cases_faults cases s
+          by_same (names_in_terminal (terminal_of (Switch test cases id))) _
+          (collected-Switch names_of_parts test (cases_of cases) id)
+          (Any-right Q (place_names test) _ (cases_faults id cases s
           (made_of fault (in_order (map (rebuilt_case rules) (cases_of cases)) s) _
           (sym (rebuilt-Switch rules test (cases_of cases) id s) ∙ e))))
       terminal_faults (DoWhile body test id) s e =
           by_same (names_in_terminal (terminal_of (DoWhile body test id))) _
-          (terminal-DoWhile (block_of body) (value_of test) id)
+          (collected-DoWhile names_of_parts (block_of body) (value_of test) id)
           (Any-left Q (names_in (block_of body)) _ (within body (list_faults body) s
           (made_of fault (rebuilt_block rules (block_of body) s) _
           (sym (rebuilt-DoWhile rules (block_of body) (value_of test) id s) ∙ e))))
       terminal_faults (While test body id) s e =
           by_same (names_in_terminal (terminal_of (While test body id))) _
-          (terminal-While (value_of test) (block_of body) id)
-          (Any-right Q (names_in_value (value_of test)) _ (within body (list_faults body) s
+          (collected-While names_of_parts (value_of test) (block_of body) id)
+          (Any-right Q _ _ (within body (list_faults body) s
           (made_of fault (rebuilt_block rules (block_of body) s) _
           (sym (rebuilt-While rules (value_of test) (block_of body) id s) ∙ e))))
       terminal_faults (For init test update body id) s e =
           by_same (names_in_terminal (terminal_of (For init test update body id))) _
-          (terminal-For (value_of init) (value_of test) (option_map value_of update) (block_of body) id)
-          (Any-right Q (names_in_value (value_of init)) _ (Any-right Q (names_in_value (value_of test)) _
-          (Any-right Q (perhaps names_in_value (option_map value_of update)) _
+          (collected-For names_of_parts (value_of init) (value_of test) (option_map value_of update) (block_of body) id)
+          (Any-right Q (names_in_value (value_of init) id) _ (Any-right Q (names_in_value (value_of test) id) _
+          (Any-left Q (names_in (block_of body)) _
           (within body (list_faults body) s (made_of fault (rebuilt_block rules (block_of body) s) _
           (sym (rebuilt-For rules (value_of init) (value_of test) (option_map value_of update) (block_of body) id s)
           ∙ e))))))
       terminal_faults (ForOf init test body span id) s e =
           by_same (names_in_terminal (terminal_of (ForOf init test body span id))) _
-          (terminal-ForOf (value_of init) (value_of test) (block_of body) span id)
-          (Any-right Q (names_in_value (value_of init)) _ (Any-right Q (names_in_value (value_of test)) _
+          (collected-ForOf names_of_parts (value_of init) (value_of test) (block_of body) span id)
+          (Any-right Q (names_in_value (value_of init) id) _ (Any-right Q (names_in_value (value_of test) id) _
           (within body (list_faults body) s (made_of fault (rebuilt_block rules (block_of body) s) _
           (sym (rebuilt-ForOf rules (value_of init) (value_of test) (block_of body) span id s) ∙ e)))))
       terminal_faults (ForIn init body span id) s e =
           by_same (names_in_terminal (terminal_of (ForIn init body span id))) _
-          (terminal-ForIn (value_of init) (block_of body) span id)
-          (Any-right Q (names_in_value (value_of init)) _ (within body (list_faults body) s
+          (collected-ForIn names_of_parts (value_of init) (block_of body) span id)
+          (Any-right Q _ _ (within body (list_faults body) s
           (made_of fault (rebuilt_block rules (block_of body) s) _
           (sym (rebuilt-ForIn rules (value_of init) (block_of body) span id s) ∙ e))))
       terminal_faults (If test consequent alternate id) s e =
           by_same (names_in_terminal (terminal_of (If test consequent alternate id))) _
-          (terminal-If test (block_of consequent) (alternate_of alternate) id)
+          (collected-If names_of_parts test (block_of consequent) (alternate_of alternate) id)
           (Any-right Q (place_names test) _ (either (rebuilt_block rules (block_of consequent) s) _
-          (names_in (block_of consequent)) (if_there (option_map names_in (alternate_of alternate)))
+          (names_in (block_of consequent)) (names_in_if (alternate_of alternate))
           (sym (rebuilt-If rules test (block_of consequent) (alternate_of alternate) id s) ∙ e)
           (within consequent (list_faults consequent) s)
           (λ a is later. alternate_faults alternate a.0 (made_of fault
           (if_some (rebuilt_block rules) (alternate_of alternate) a.0) _ later))))
       terminal_faults (Label body id) s e =
-          by_same (names_in_terminal (terminal_of (Label body id))) _ (terminal-Label (block_of body) id)
+          by_same (names_in_terminal (terminal_of (Label body id))) _
+          (collected-Label names_of_parts (block_of body) id)
           (within body (list_faults body) s (made_of fault (rebuilt_block rules (block_of body) s) _
           (sym (rebuilt-Label rules (block_of body) id s) ∙ e)))
       terminal_faults (Try body binding handler id) s e =
           by_same (names_in_terminal (terminal_of (Try body binding handler id))) _
-          (terminal-Try (block_of body) binding (block_of handler) id)
+          (collected-Try names_of_parts (block_of body) binding (block_of handler) id)
           (either (rebuilt_block rules (block_of body) s) _ (names_in (block_of body)) _
           (sym (rebuilt-Try rules (block_of body) binding (block_of handler) id s) ∙ e)
           (within body (list_faults body) s)

@@ -1,32 +1,28 @@
 -- The statements of a block row by row: first those of its rows, then those of its terminal.
-use Rattle.std.proofs.Common.{List, [], ◌∷◌, Option, Some}
+use Rattle.std.proofs.Common.{List, [], ◌∷◌, Some}
 use Rattle.rc_names.specs.declared.numbers.BlockId.{BlockId}
 use Rattle.rc_hir.specs.declared.terminal.Terminal.{Terminal}
 use Rattle.rc_hir.specs.declared.function.Instruction.{Instruction}
 use Rattle.rc_hir.specs.declared.function.HirFunction.{HirFunction}
 use Rattle.rc_hir.specs.declared.environment.Environment.{Environment}
-use Rattle.rc_runs.specs.declared.frames.Frame.{Frame}
 use Rattle.rc_runs.specs.PlainTree.{Base, Statements, Cons, RowStatement}
+use Rattle.rc_runs.specs.ListContext.{ListContext}
 use Rattle.rc_runs.specs.Grammar.{rows_before, SpellsTerminal}
 
 -- the statements of the rows that are left of a block, and of its terminal
-pub data SpellsRows (hir : HirFunction) (env : Environment) : List Instruction → Terminal → Option BlockId → List Frame
-    → Option BlockId → Statements →
-    List BlockId → Type 0 where
-  row_then : {row : Instruction} {rows : List Instruction} {terminal : Terminal} {next handler : Option BlockId}
-      {frames : List Frame} {rest : Statements}
-      {used : List BlockId} → SpellsRows hir env rows terminal next frames handler rest used →
-      SpellsRows hir env (row ∷ rows) terminal next frames handler
+pub data SpellsRows (hir : HirFunction) (env : Environment) : List Instruction → Terminal → ListContext → Statements
+    → List BlockId → Type 0 where
+  row_then : {row : Instruction} {rows : List Instruction} {terminal : Terminal} {context : ListContext}
+      {rest : Statements} {used : List BlockId} → SpellsRows hir env rows terminal context rest used
+      → SpellsRows hir env (row ∷ rows) terminal context
       (Cons (RowStatement row.id (Some row.lvalue) (Base row.value) row.span) rest) used
-  rows_done : {terminal : Terminal} {next handler : Option BlockId} {frames : List Frame} {statements : Statements}
-      {used : List BlockId} →
-      SpellsTerminal hir env terminal next frames handler statements used
-      → SpellsRows hir env [] terminal next frames handler statements used
+  rows_done : {terminal : Terminal} {context : ListContext} {statements : Statements} {used : List BlockId}
+      → SpellsTerminal hir env terminal context statements used → SpellsRows hir env [] terminal context statements used
 
 -- the rows of a block stand before what its terminal spells
-pub rows_spelled : {hir : HirFunction} {env : Environment} {terminal : Terminal} {next handler : Option BlockId}
-    {frames : List Frame} {rest : Statements}
-    {used : List BlockId} (rows : List Instruction) → SpellsTerminal hir env terminal next frames handler rest used →
-    SpellsRows hir env rows terminal next frames handler (rows_before rows rest) used
+pub rows_spelled : {hir : HirFunction} {env : Environment} {terminal : Terminal} {context : ListContext}
+    {rest : Statements} {used : List BlockId} (rows : List Instruction)
+    → SpellsTerminal hir env terminal context rest used
+    → SpellsRows hir env rows terminal context (rows_before rows rest) used
 rows_spelled [] d = rows_done d
 rows_spelled (first ∷ rows) d = row_then (rows_spelled rows d)

@@ -29,6 +29,7 @@ use Rattle.rc_tree.specs.declared.terminal.ReactiveTerminalStatement.{ReactiveTe
 use Rattle.rc_tree.specs.declared.value.ReactiveInstruction.{ReactiveInstruction}
 use Rattle.rc_tree.specs.declared.value.ReactiveValue.TheVariants as val
 use Rattle.rc_runs.specs.Graph.{Block, basic_block, block_at, rows_of, with_rows}
+use Rattle.rc_runs.specs.ListContext.{ListContext}
 use Rattle.rc_runs.specs.Grammar.{SpellsList, SpellsRest, SpellsStatement, SpellsTerminal, break_statements}
 use Rattle.rc_runs.specs.Grammar.{rows_before, unlabeled}
 use Rattle.rc_runs.specs.Grammar.{block, returns, unreachable, breaks, and_rest, if_only, if_else, label, scope}
@@ -38,16 +39,16 @@ use Rattle.rc_runs.specs.PlainTree.{TreeTerminal, Break, Return, If, Label, Abse
 use Rattle.rc_runs.specs.Spelled.{Spells}
 use Rattle.rc_runs.specs.TreeOf.{block_of, statement_of, statements_of, terminal_of}
 use Rattle.rc_runs.specs.Frames.{break_way}
-use Rattle.rc_runs.specs.declared.frames.Frame.{Frame}
 use Rattle.rc_runs.specs.declared.frames.Way.{Way}
 use Rattle.rc_runs.specs.declared.frames.Way.TheVariants.{NoFrame, LeavesScope, LeavesCase, FallsOff, Breaks}
 use Rattle.rc_runs.proofs.GraphLemmas.{same_block-eq, usable_block-at}
-use Rattle.rc_tree.specs.TreeNames.{names_in, names_in_statement, names_in_terminal}
+use Rattle.rc_tree.specs.TreeNames.{names_in, names_in_list, names_in_statement, names_in_terminal, names_of_parts}
+use Rattle.rc_tree.specs.TreeNames.{names_of_values}
 use Rattle.rc_runs.proofs.AllLemmas.{All-left, All-right, All-flat_map}
 use Rattle.rc_runs.proofs.NoRowNamed.{IsNoRow, NoRows, all_in_environment, place_no_row, scope_no_row, value_no_row}
-use Rattle.rc_tree.proofs.TreeNamesLemmas.{of_list, block-names, row-names, value-Instruction, statement-Instruction}
-use Rattle.rc_tree.proofs.TreeNamesLemmas.{statement-Terminal, statement-Scope, statement-PrunedScope, terminal-Break}
-use Rattle.rc_tree.proofs.TreeNamesLemmas.{terminal-Return, terminal-If, terminal-Label}
+use Rattle.rc_tree.proofs.CollectedLemmas.{collected-block, collected-row, collected-Base, collected-Instruction}
+use Rattle.rc_tree.proofs.CollectedLemmas.{collected-Terminal, collected-Scope, collected-PrunedScope, collected-Break}
+use Rattle.rc_tree.proofs.CollectedLemmas.{collected-Return, collected-If, collected-Label}
 
 module _ (hir : HirFunction) (env : Environment) (named : FunctionInTables env hir) where
   -- the number is in its table
@@ -161,19 +162,19 @@ module _ (hir : HirFunction) (env : Environment) (named : FunctionInTables env h
   by_same names others e held = subst Held (sym e) held
 
   one_statement : (statement : Statement) (rest : Statements) → Held (names_in_statement (statement_of statement))
-      → Held (of_list (statements_of rest)) → Held (of_list (statements_of (Cons statement rest)))
+      → Held (names_in_list (statements_of rest)) → Held (names_in_list (statements_of (Cons statement rest)))
   one_statement statement rest held later =
-      All-append InTable (names_in_statement (statement_of statement)) (of_list (statements_of rest)) held later
+      All-append InTable (names_in_statement (statement_of statement)) (names_in_list (statements_of rest)) held later
 
-  rows_first : (rows : List Instruction) (rest : Statements) → RowsHeld rows → Held (of_list (statements_of rest))
-      → Held (of_list (statements_of (rows_before rows rest)))
+  rows_first : (rows : List Instruction) (rest : Statements) → RowsHeld rows → Held (names_in_list (statements_of rest))
+      → Held (names_in_list (statements_of (rows_before rows rest)))
   rows_first [] rest held later = later
   rows_first (row ∷ rows) rest held later =
       let x : ReactiveInstruction =
       record { id = row.id; lvalue = Some row.lvalue; value = val.Instruction row.value; span = row.span } in
       let names : names_in_statement (stmt.Instruction x) ≡ instruction_names row =
-      statement-Instruction x ∙ row-names x ∙ ap (λ names. place_names row.lvalue ++ names)
-      (value-Instruction row.value)
+      collected-Instruction names_of_parts x ∙ collected-row names_of_values x
+      ∙ ap (λ names. place_names row.lvalue ++ names) (collected-Base names_of_values row.value row.id)
       in
       one_statement (RowStatement row.id (Some row.lvalue) (Base row.value) row.span) (rows_before rows rest)
       (by_same (names_in_statement (stmt.Instruction x)) (instruction_names row) names held.0)
@@ -185,85 +186,85 @@ module _ (hir : HirFunction) (env : Environment) (named : FunctionInTables env h
       → Held (names_in_statement (statement_of (TerminalStatement terminal own)))
   terminal_first terminal own names e held =
       let x : ReactiveTerminalStatement = record { terminal = terminal_of terminal; label = own } in
-      by_same (names_in_statement (stmt.Terminal x)) names (statement-Terminal x ∙ e) held
+      by_same (names_in_statement (stmt.Terminal x)) names (collected-Terminal names_of_parts x ∙ e) held
 
   -- a break names nothing of a table
   break_held : (way : Way) (target : BlockId) (id : EvaluationOrder) (statements : Statements)
-      → break_statements way target id ≡ Some statements → Held (of_list (statements_of statements))
+      → break_statements way target id ≡ Some statements → Held (names_in_list (statements_of statements))
   break_held NoFrame target id statements e = absurd (let no : ⊥ = cc in no)
   break_held LeavesScope target id statements e = absurd (let no : ⊥ = cc in no)
   break_held LeavesCase target id statements e = absurd (let no : ⊥ = cc in no)
   break_held FallsOff target id statements e =
-      subst (λ s. Held (of_list (statements_of s))) (let same : Nil ≡ statements = cc in same) (All-nil InTable)
+      subst (λ s. Held (names_in_list (statements_of s))) (let same : Nil ≡ statements = cc in same) (All-nil InTable)
   break_held (Breaks kind) target id statements e =
-      subst (λ s. Held (of_list (statements_of s))) (let same : unlabeled (Break target kind id) ≡ statements = cc in
-      same)
+      let same : unlabeled (Break target kind id) ≡ statements = cc in
+      subst (λ s. Held (names_in_list (statements_of s))) same
       (one_statement (TerminalStatement (Break target kind id) None) Nil
-      (terminal_first (Break target kind id) None [] (terminal-Break target kind id) (All-nil InTable))
+      (terminal_first (Break target kind id) None [] (collected-Break names_of_parts target kind id) (All-nil InTable))
       (All-nil InTable))
 
   -- a block has the numbers of its statements
-  block_first : (part : Statements) → Held (of_list (statements_of part)) → Held (names_in (block_of part))
+  block_first : (part : Statements) → Held (names_in_list (statements_of part)) → Held (names_in (block_of part))
   block_first part held =
-      by_same (names_in (block_of part)) (of_list (statements_of part)) (block-names (block_of part)) held
+      by_same (names_in (block_of part)) (names_in_list (statements_of part))
+      (collected-block names_of_parts (block_of part)) held
 
   mutual
-    held_list : {key : BlockId} {next handler : Option BlockId} {frames : List Frame} {statements : Statements}
-        {used : List BlockId} →
-        SpellsList hir env key next frames handler statements used → Held (of_list (statements_of statements))
+    held_list : {key : BlockId} {context : ListContext} {statements : Statements} {used : List BlockId} →
+        SpellsList hir env key context statements used → Held (names_in_list (statements_of statements))
     held_list (block {key = key} {rest = rest} {block = b} usable live d w) =
         let here = block_held key b (usable_block-at hir key b usable) in
-        subst (λ s. Held (of_list (statements_of s))) (sym w) (rows_first b.rows rest here.0 (held_terminal here.1 d))
+        subst (λ s. Held (names_in_list (statements_of s))) (sym w)
+        (rows_first b.rows rest here.0 (held_terminal here.1 d))
 
-    held_terminal : {terminal : Terminal} {next handler : Option BlockId} {frames : List Frame}
-        {statements : Statements} {used : List BlockId} →
-        HeldByGraph (terminal_names terminal) → SpellsTerminal hir env terminal next frames handler statements used →
-        Held (of_list (statements_of statements))
+    held_terminal : {terminal : Terminal} {context : ListContext} {statements : Statements} {used : List BlockId} →
+        HeldByGraph (terminal_names terminal) → SpellsTerminal hir env terminal context statements used →
+        Held (names_in_list (statements_of statements))
     held_terminal held (returns {value = value} {id = id}) =
         one_statement (TerminalStatement (Return value id) None) Nil
-        (terminal_first (Return value id) None (place_names value) (terminal-Return value id) (place_held value held))
+        (terminal_first (Return value id) None (place_names value) (collected-Return names_of_parts value id)
+        (place_held value held))
         (All-nil InTable)
     held_terminal held unreachable = All-nil InTable
-    held_terminal held (breaks {target = target} {id = id} {frames = frames} {statements = statements} e) =
-        break_held (break_way frames target) target id statements e
+    held_terminal held (breaks {target = target} {id = id} {context = around} {statements = statements} e) =
+        break_held (break_way around.frames target) target id statements e
     held_terminal held (and_rest {statement = statement} {rest = rest} d r w) =
         one_statement statement rest (held_statement held d) (held_rest r)
 
-    held_statement : {terminal : Terminal} {next handler : Option BlockId} {frames : List Frame} {o : Bool}
-        {f : BlockId} {statement : Statement} {used : List BlockId} →
-        HeldByGraph (terminal_names terminal) →
-        SpellsStatement hir env terminal next frames handler o f statement used →
-        Held (names_in_statement (statement_of statement))
+    held_statement : {terminal : Terminal} {context : ListContext} {o : Bool} {f : BlockId} {statement : Statement}
+        {used : List BlockId} → HeldByGraph (terminal_names terminal) →
+        SpellsStatement hir env terminal context o f statement used → Held (names_in_statement (statement_of statement))
     held_statement held (if_only {test = test} {id = id} {label = own} {part = part} i l s falls d) =
         terminal_first (If test part Absent id) own (place_names test ++ (names_in (block_of part) ++ []))
-        (terminal-If test (block_of part) None id)
+        (collected-If names_of_parts test (block_of part) None id)
         (All-append InTable (place_names test) _ (place_held test held)
         (All-append InTable (names_in (block_of part)) [] (block_first part (held_list d)) (All-nil InTable)))
     held_statement held (if_else {test = test} {id = id} {label = own} {part = part} {other = other} i l s d e w) =
         terminal_first (If test part (Present other) id) own
         (place_names test ++ (names_in (block_of part) ++ names_in (block_of other)))
-        (terminal-If test (block_of part) (Some (block_of other)) id)
+        (collected-If names_of_parts test (block_of part) (Some (block_of other)) id)
         (All-append InTable (place_names test) _ (place_held test held)
         (All-append InTable (names_in (block_of part)) (names_in (block_of other)) (block_first part (held_list d))
         (block_first other (held_list e))))
     held_statement held (label {id = id} {label = own} {part = part} i l d) =
-        terminal_first (Label part id) own (names_in (block_of part)) (terminal-Label (block_of part) id)
+        terminal_first (Label part id) own (names_in (block_of part))
+        (collected-Label names_of_parts (block_of part) id)
         (block_first part (held_list d))
     held_statement held (scope {scope = of} {part = part} i d) =
         let x : ReactiveScopeBlock = record { scope = of; instructions = block_of part } in
-        by_same (names_in_statement (stmt.Scope x)) (scope_name of ++ names_in (block_of part)) (statement-Scope x)
+        by_same (names_in_statement (stmt.Scope x)) (scope_name of ++ names_in (block_of part))
+        (collected-Scope names_of_parts x)
         (All-append InTable (scope_name of) (names_in (block_of part)) (scope_held of held)
         (block_first part (held_list d)))
     held_statement held (pruned_scope {scope = of} {part = part} i d) =
         let x : PrunedReactiveScopeBlock = record { scope = of; instructions = block_of part } in
         by_same (names_in_statement (stmt.PrunedScope x)) (scope_name of ++ names_in (block_of part))
-        (statement-PrunedScope x)
+        (collected-PrunedScope names_of_parts x)
         (All-append InTable (scope_name of) (names_in (block_of part)) (scope_held of held)
         (block_first part (held_list d)))
 
-    held_rest : {o : Bool} {f : BlockId} {next handler : Option BlockId} {frames : List Frame} {statements : Statements}
-        {used : List BlockId} →
-        SpellsRest hir env o f next frames handler statements used → Held (of_list (statements_of statements))
+    held_rest : {o : Bool} {f : BlockId} {context : ListContext} {statements : Statements} {used : List BlockId} →
+        SpellsRest hir env o f context statements used → Held (names_in_list (statements_of statements))
     held_rest closed = All-nil InTable
     held_rest (opened d) = held_list d
 

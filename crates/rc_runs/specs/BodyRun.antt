@@ -68,8 +68,10 @@ mutual
         RunsStatement env (TerminalStatement (Return value id) label) [] (Ended (Returned value))
     break_implicit : {target : BlockId} {id : EvaluationOrder} {label : Option ReactiveLabel} →
         RunsStatement env (TerminalStatement (Break target Implicit id) label) [] Normal
-    break_labeled : {target : BlockId} {id : EvaluationOrder} {label : Option ReactiveLabel} →
-        RunsStatement env (TerminalStatement (Break target Labeled id) label) [] (BreakTo target)
+    -- the statement's own label catches it too
+    break_labeled : {target : BlockId} {id : EvaluationOrder} {label : Option ReactiveLabel} {outcome : Outcome} →
+        outcome ≡ caught label (BreakTo target) →
+        RunsStatement env (TerminalStatement (Break target Labeled id) label) [] outcome
     break_unlabeled : {target : BlockId} {id : EvaluationOrder} {label : Option ReactiveLabel} →
         RunsStatement env (TerminalStatement (Break target Unlabeled id) label) [] BreakLoop
     took_arm : {test : Place} {consequent : Statements} {alternate : Alternate} {id : EvaluationOrder}

@@ -1,4 +1,4 @@
--- Frames: which blocks are live, and what becomes of a break. The innermost frame stands first.
+-- Frames: which blocks are live, what falling off reaches, what a break does. The innermost frame stands first.
 use Rattle.std.specs.Prelude.{Bool, true, false, List, [], ◌∷◌, Option, Some, None, if◌then◌else◌, ◌||◌}
 use Rattle.rc_names.specs.declared.numbers.BlockId.{BlockId}
 use Rattle.rc_tree.specs.declared.kind.ReactiveTerminalTargetKind.TheVariants.{Implicit, Labeled, Unlabeled}
@@ -20,6 +20,11 @@ break_block (frame.Loop block continue_block) = block
 abbrev pub continue_block : Frame → Option BlockId
 continue_block (frame.Loop block again) = Some again
 continue_block _ = None
+
+-- the block that falling off a part of the frame reaches
+abbrev pub fall_block : Frame → BlockId
+fall_block (frame.Loop block again) = again
+fall_block frame = break_block frame
 
 -- a jump can name the block at this frame
 abbrev pub is_live_at : Frame → BlockId → Bool

@@ -1,8 +1,12 @@
 -- Which statements a graph asks for from a block on, and which blocks they use.
 --
--- Every family has the indices: what it speaks of (a block or a terminal), the block that falling off
--- reaches, the frames, the current handler, the statements, and the used blocks in the order in which they
--- are marked.
+-- A fallthrough is the block where the parts of a statement meet again. To open it is to let the parts fall off to it
+-- and jumps in them name it, and to spell it once, behind the statement. One that a jump can name already is spelled
+-- further out, so it isn't opened again, and the list ends with the statement.
+-- No rule reads `env` or the handler yet: `env` waits for nested values, and the handler for throws.
+--
+-- Every family has the indices: what it speaks of (a block or a terminal), what stands around the list, the
+-- statements, and the used blocks in the order in which they are marked.
 use Rattle.std.specs.Prelude.{◌≡◌, Bool, true, false, List, [], ◌∷◌, ◌++◌, Option, Some, None, not, if◌then◌else◌}
 use Rattle.rc_names.specs.declared.numbers.BlockId.{BlockId}
 use Rattle.rc_names.specs.declared.numbers.ScopeId.{ScopeId}
@@ -22,6 +26,7 @@ use Rattle.rc_runs.specs.declared.frames.Way.{Way}
 use Rattle.rc_runs.specs.declared.frames.Way.TheVariants.{NoFrame, LeavesScope, LeavesCase, FallsOff, Breaks}
 use Rattle.rc_runs.specs.Graph.{Block, same_block, usable_block, is_dead}
 use Rattle.rc_runs.specs.Frames.{is_live, break_way}
+use Rattle.rc_runs.specs.ListContext.{ListContext, inside}
 use Rattle.rc_runs.specs.PlainTree.{Base, Statements, Nil, Cons, Statement, RowStatement, TerminalStatement}
 use Rattle.rc_runs.specs.PlainTree.{ScopeStatement, PrunedScopeStatement, TreeTerminal, Break, Return, If, Label}
 use Rattle.rc_runs.specs.PlainTree.{Absent, Present}
@@ -34,14 +39,6 @@ opens frames fallthrough = not (is_live frames fallthrough)
 abbrev pub opens_reachable : HirFunction → List Frame → BlockId → Bool
 opens_reachable hir frames fallthrough =
     if is_live frames fallthrough then false else not (is_dead hir fallthrough)
-
--- what falling off the parts of a statement reaches: its fallthrough where that is opened
-abbrev pub next_inside : Bool → BlockId → Option BlockId → Option BlockId
-next_inside opened fallthrough next = if opened then Some fallthrough else next
-
--- the frames of the parts of a statement: one more where its fallthrough is opened
-abbrev pub frames_inside : Bool → Frame → List Frame → List Frame
-frames_inside opened frame frames = if opened then frame ∷ frames else frames
 
 -- the label of a statement: its fallthrough where that is opened
 abbrev pub label_of : Bool → BlockId → Option ReactiveLabel
@@ -76,99 +73,78 @@ break_statements (Breaks kind) target id = Some (unlabeled (Break target kind id
 
 mutual
   -- the statements from a block on
-  pub data SpellsList (hir : HirFunction) (env : Environment) : BlockId → Option BlockId → List Frame →
-      Option BlockId → Statements → List BlockId → Type 0 where
-    block : {key : BlockId} {next handler : Option BlockId} {frames : List Frame}
-        {rest statements : Statements} {used : List BlockId} {block : Block} →
-        usable_block hir key ≡ Some block → is_live frames key ≡ false →
-        SpellsTerminal hir env block.terminal next frames handler rest used →
-        statements ≡ rows_before block.rows rest →
-        SpellsList hir env key next frames handler statements (key ∷ used)
+  pub data SpellsList (hir : HirFunction) (env : Environment) : BlockId → ListContext → Statements →
+      List BlockId → Type 0 where
+    block : {key : BlockId} {context : ListContext} {rest statements : Statements} {used : List BlockId}
+        {block : Block} →
+        usable_block hir key ≡ Some block → is_live context.frames key ≡ false →
+        SpellsTerminal hir env block.terminal context rest used → statements ≡ rows_before block.rows rest →
+        SpellsList hir env key context statements (key ∷ used)
 
   -- the statements of a terminal, and of what follows it
-  pub data SpellsTerminal (hir : HirFunction) (env : Environment) : Terminal → Option BlockId →
-      List Frame → Option BlockId → Statements → List BlockId → Type 0 where
-    returns : {value : Place} {id : EvaluationOrder} {span : Option Span} {next handler : Option BlockId}
-        {frames : List Frame} →
-        SpellsTerminal hir env (terminals.Return value id span)
-        next frames handler (unlabeled (Return value id)) []
+  pub data SpellsTerminal (hir : HirFunction) (env : Environment) : Terminal → ListContext → Statements →
+      List BlockId → Type 0 where
+    returns : {value : Place} {id : EvaluationOrder} {span : Option Span} {context : ListContext} →
+        SpellsTerminal hir env (terminals.Return value id span) context (unlabeled (Return value id)) []
     -- nothing is written for a block that is never left
-    unreachable : {id : EvaluationOrder} {span : Option Span} {next handler : Option BlockId}
-        {frames : List Frame} →
-        SpellsTerminal hir env (terminals.Unreachable id span) next frames handler Nil []
-    breaks : {target : BlockId} {id : EvaluationOrder} {span : Option Span} {next handler : Option BlockId}
-        {frames : List Frame} {statements : Statements} →
-        break_statements (break_way frames target) target id ≡ Some statements →
-        SpellsTerminal hir env (terminals.Goto target variants.Break id span)
-        next frames handler statements []
+    unreachable : {id : EvaluationOrder} {span : Option Span} {context : ListContext} →
+        SpellsTerminal hir env (terminals.Unreachable id span) context Nil []
+    breaks : {target : BlockId} {id : EvaluationOrder} {span : Option Span} {context : ListContext}
+        {statements : Statements} → break_statements (break_way context.frames target) target id ≡ Some statements →
+        SpellsTerminal hir env (terminals.Goto target variants.Break id span) context statements []
     -- a statement with parts, and then what its fallthrough spells, where that is opened
-    and_rest : {terminal : Terminal} {opened : Bool} {fallthrough : BlockId}
-        {next handler : Option BlockId} {frames : List Frame}
+    and_rest : {terminal : Terminal} {opened : Bool} {fallthrough : BlockId} {context : ListContext}
         {statement : Statement} {rest : Statements} {part_used rest_used used : List BlockId} →
-        SpellsStatement hir env terminal next frames handler opened fallthrough statement part_used →
-        SpellsRest hir env opened fallthrough next frames handler rest rest_used →
-        used ≡ part_used ++ rest_used →
-        SpellsTerminal hir env terminal next frames handler (Cons statement rest) used
+        SpellsStatement hir env terminal context opened fallthrough statement part_used →
+        SpellsRest hir env opened fallthrough context rest rest_used → used ≡ part_used ++ rest_used →
+        SpellsTerminal hir env terminal context (Cons statement rest) used
 
   -- the statement of a terminal that has a fallthrough, which is opened or not
-  pub data SpellsStatement (hir : HirFunction) (env : Environment) : Terminal → Option BlockId →
-      List Frame → Option BlockId → Bool → BlockId → Statement → List BlockId → Type 0 where
+  pub data SpellsStatement (hir : HirFunction) (env : Environment) : Terminal → ListContext → Bool →
+      BlockId → Statement → List BlockId → Type 0 where
     -- an alternate that is the fallthrough gives none; then leaving the statement leads there
     if_only : {test : Place} {consequent alternate fallthrough : BlockId} {id : EvaluationOrder}
-        {span : Option Span} {next handler : Option BlockId} {frames : List Frame}
-        {opened : Bool} {label : Option ReactiveLabel} {part : Statements} {used : List BlockId} →
-        opened ≡ opens_reachable hir frames fallthrough → label ≡ label_of opened fallthrough →
-        same_block alternate fallthrough ≡ true → falls_to opened fallthrough next ≡ true →
-        SpellsList hir env consequent (next_inside opened fallthrough next)
-        (frames_inside opened (frame.If fallthrough) frames) handler part used →
-        SpellsStatement hir env (terminals.If test consequent alternate fallthrough id span)
-        next frames handler opened fallthrough (TerminalStatement (If test part Absent id) label) used
+        {span : Option Span} {context : ListContext} {opened : Bool} {label : Option ReactiveLabel}
+        {part : Statements} {used : List BlockId} →
+        opened ≡ opens_reachable hir context.frames fallthrough → label ≡ label_of opened fallthrough →
+        same_block alternate fallthrough ≡ true → falls_to opened fallthrough context.next ≡ true →
+        SpellsList hir env consequent (inside opened (frame.If fallthrough) context) part used →
+        SpellsStatement hir env (terminals.If test consequent alternate fallthrough id span) context
+        opened fallthrough (TerminalStatement (If test part Absent id) label) used
     if_else : {test : Place} {consequent alternate fallthrough : BlockId} {id : EvaluationOrder}
-        {span : Option Span} {next handler : Option BlockId} {frames : List Frame}
-        {opened : Bool} {label : Option ReactiveLabel} {part other : Statements}
-        {part_used other_used used : List BlockId} →
-        opened ≡ opens_reachable hir frames fallthrough → label ≡ label_of opened fallthrough →
+        {span : Option Span} {context : ListContext} {opened : Bool} {label : Option ReactiveLabel}
+        {part other : Statements} {part_used other_used used : List BlockId} →
+        opened ≡ opens_reachable hir context.frames fallthrough → label ≡ label_of opened fallthrough →
         same_block alternate fallthrough ≡ false →
-        SpellsList hir env consequent (next_inside opened fallthrough next)
-        (frames_inside opened (frame.If fallthrough) frames) handler part part_used →
-        SpellsList hir env alternate (next_inside opened fallthrough next)
-        (frames_inside opened (frame.If fallthrough) frames) handler other other_used →
+        SpellsList hir env consequent (inside opened (frame.If fallthrough) context) part part_used →
+        SpellsList hir env alternate (inside opened (frame.If fallthrough) context) other other_used →
         used ≡ part_used ++ other_used →
-        SpellsStatement hir env (terminals.If test consequent alternate fallthrough id span)
-        next frames handler opened fallthrough
-        (TerminalStatement (If test part (Present other) id) label) used
-    label : {inner fallthrough : BlockId} {id : EvaluationOrder} {span : Option Span}
-        {next handler : Option BlockId} {frames : List Frame}
+        SpellsStatement hir env (terminals.If test consequent alternate fallthrough id span) context
+        opened fallthrough (TerminalStatement (If test part (Present other) id) label) used
+    label : {inner fallthrough : BlockId} {id : EvaluationOrder} {span : Option Span} {context : ListContext}
         {opened : Bool} {label : Option ReactiveLabel} {part : Statements} {used : List BlockId} →
-        opened ≡ opens_reachable hir frames fallthrough → label ≡ label_of opened fallthrough →
-        SpellsList hir env inner (next_inside opened fallthrough next)
-        (frames_inside opened (frame.If fallthrough) frames) handler part used →
-        SpellsStatement hir env (terminals.Label inner fallthrough id span)
-        next frames handler opened fallthrough (TerminalStatement (Label part id) label) used
+        opened ≡ opens_reachable hir context.frames fallthrough → label ≡ label_of opened fallthrough →
+        SpellsList hir env inner (inside opened (frame.If fallthrough) context) part used →
+        SpellsStatement hir env (terminals.Label inner fallthrough id span) context
+        opened fallthrough (TerminalStatement (Label part id) label) used
     -- scopes have no label, and open an `Unreachable` fallthrough like any other
     scope : {inner fallthrough : BlockId} {scope : ScopeId} {id : EvaluationOrder} {span : Option Span}
-        {next handler : Option BlockId} {frames : List Frame}
-        {opened : Bool} {part : Statements} {used : List BlockId} →
-        opened ≡ opens frames fallthrough →
-        SpellsList hir env inner (next_inside opened fallthrough next)
-        (frames_inside opened (frame.Scope fallthrough) frames) handler part used →
-        SpellsStatement hir env (terminals.Scope fallthrough inner scope id span)
-        next frames handler opened fallthrough (ScopeStatement scope part) used
+        {context : ListContext} {opened : Bool} {part : Statements} {used : List BlockId} →
+        opened ≡ opens context.frames fallthrough →
+        SpellsList hir env inner (inside opened (frame.Scope fallthrough) context) part used →
+        SpellsStatement hir env (terminals.Scope fallthrough inner scope id span) context
+        opened fallthrough (ScopeStatement scope part) used
     pruned_scope : {inner fallthrough : BlockId} {scope : ScopeId} {id : EvaluationOrder}
-        {span : Option Span} {next handler : Option BlockId} {frames : List Frame}
-        {opened : Bool} {part : Statements} {used : List BlockId} →
-        opened ≡ opens frames fallthrough →
-        SpellsList hir env inner (next_inside opened fallthrough next)
-        (frames_inside opened (frame.Scope fallthrough) frames) handler part used →
-        SpellsStatement hir env (terminals.PrunedScope fallthrough inner scope id span)
-        next frames handler opened fallthrough (PrunedScopeStatement scope part) used
+        {span : Option Span} {context : ListContext} {opened : Bool} {part : Statements} {used : List BlockId} →
+        opened ≡ opens context.frames fallthrough →
+        SpellsList hir env inner (inside opened (frame.Scope fallthrough) context) part used →
+        SpellsStatement hir env (terminals.PrunedScope fallthrough inner scope id span) context
+        opened fallthrough (PrunedScopeStatement scope part) used
 
   -- the statements behind a statement: those of its fallthrough where that is opened
-  pub data SpellsRest (hir : HirFunction) (env : Environment) : Bool → BlockId → Option BlockId →
-      List Frame → Option BlockId → Statements → List BlockId → Type 0 where
-    closed : {fallthrough : BlockId} {next handler : Option BlockId} {frames : List Frame} →
-        SpellsRest hir env false fallthrough next frames handler Nil []
-    opened : {fallthrough : BlockId} {next handler : Option BlockId} {frames : List Frame}
-        {statements : Statements} {used : List BlockId} →
-        SpellsList hir env fallthrough next frames handler statements used →
-        SpellsRest hir env true fallthrough next frames handler statements used
+  pub data SpellsRest (hir : HirFunction) (env : Environment) : Bool → BlockId → ListContext →
+      Statements → List BlockId → Type 0 where
+    closed : {fallthrough : BlockId} {context : ListContext} → SpellsRest hir env false fallthrough context Nil []
+    opened : {fallthrough : BlockId} {context : ListContext} {statements : Statements} {used : List BlockId} →
+        SpellsList hir env fallthrough context statements used →
+        SpellsRest hir env true fallthrough context statements used

@@ -7,6 +7,7 @@ pub mod Frames
 pub mod PlainTree
 pub mod TreeOf
 pub mod Erase
+pub mod ListContext
 pub mod Grammar
 pub mod Spelled
 pub mod BodyRun

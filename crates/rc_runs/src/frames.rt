@@ -68,6 +68,19 @@ impl Frame {
         }
     }
 
+    /// The block that falling off a part of the frame reaches.
+    pub fn fall_block(self) -> BlockId
+        ensures { result ≡ spec.fall_block self }
+    {
+        match self {
+            Frame::If { block }
+            | Frame::Switch { block }
+            | Frame::Case { block }
+            | Frame::Scope { block } => block,
+            Frame::Loop { continue_block, .. } => continue_block,
+        }
+    }
+
     /// Whether an unlabeled break leaves it.
     pub fn is_loop(self) -> bool
         ensures { result ≡ spec.is_loop self }

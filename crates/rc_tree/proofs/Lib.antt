@@ -11,6 +11,13 @@ pub mod ReadLemmas
 pub mod ReadStatementLemmas
 pub mod ReadFunctionLemmas
 pub mod NestedLemmas
+pub mod TreeFoldLemmas
+pub mod JoiningLemmas
+pub mod CollectedLemmas
+pub mod CollectedRelated
+pub mod CollectedKeeps
+pub mod ReadFollowedValues
+pub mod ReadFollowed
 pub mod TreeNamesLemmas
 pub mod RebuiltLemmas
 pub mod FollowsLemmas

@@ -29,7 +29,7 @@ module _ {S : Type 0} (v : ReadSteps S) (functions : List HirFunction) where
   read_instruction-around x s = refl
 
   -- the inside of a value is the step of its layer, each part with the walk of its own inside
-  opened : (x : value.ReactiveValue-F ReactiveValue ReactiveInstruction) (id : EvaluationOrder) (s : S)
+  pub opened : (x : value.ReactiveValue-F ReactiveValue ReactiveInstruction) (id : EvaluationOrder) (s : S)
       → inside_value v functions (roll-ReactiveValue x) id s
       ≡ value_step v functions (map-ReactiveValue ReactiveValue ReactiveInstruction (ReactiveValue × WalkAt v functions)
       (ReactiveInstruction × Walk S) (λ y. (y, inside_value v functions y))

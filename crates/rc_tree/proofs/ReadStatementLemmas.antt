@@ -69,7 +69,7 @@ module _ {S : Type 0} (v : ReadSteps S) (functions : List HirFunction) where
   read_terminal-around x s = refl
 
   -- a layer, each part in it with the walk of its inside
-  abbrev walked_parts : OpenTerminal
+  abbrev pub walked_parts : OpenTerminal
       → layer.ReactiveTerminal-F (OfStatement v functions) (OfParts v functions) (OfPruned v functions)
       (OfScope v functions) (OfBlock v functions) (OfCase v functions) (OfTerminal v functions)
   walked_parts = map-ReactiveTerminal ReactiveStatement ReactiveTerminal PrunedReactiveScopeBlock ReactiveScopeBlock
@@ -81,7 +81,7 @@ module _ {S : Type 0} (v : ReadSteps S) (functions : List HirFunction) where
       (λ y. (y, inside_block v functions y)) (λ y. (y, read_case v functions y))
       (λ y. (y, inside_terminal v functions y))
 
-  abbrev walked_statement : OpenStatement
+  abbrev pub walked_statement : OpenStatement
       → layer.ReactiveStatement-F (OfStatement v functions) (OfParts v functions) (OfPruned v functions)
       (OfScope v functions) (OfBlock v functions) (OfCase v functions) (OfTerminal v functions)
   walked_statement = map-ReactiveStatement ReactiveStatement ReactiveTerminal PrunedReactiveScopeBlock
@@ -94,14 +94,14 @@ module _ {S : Type 0} (v : ReadSteps S) (functions : List HirFunction) where
       (λ y. (y, inside_terminal v functions y))
 
   -- the walk of a part is the step of its layer
-  opened_parts : (x : OpenTerminal) (s : S) → read_parts v functions (roll-ReactiveTerminal x) s
+  pub opened_parts : (x : OpenTerminal) (s : S) → read_parts v functions (roll-ReactiveTerminal x) s
       ≡ parts_step v functions (walked_parts x) s
   unfolding read_statement read_parts inside_pruned_scope inside_scope inside_block read_case inside_terminal
   opened_parts x s = ap (λ f. f s) (para-roll-ReactiveTerminal (Walk S) (Walk S) (Walk S) (Walk S) (Walk S)
       (WalkAt v functions) (Walk S) (statement_step v functions) (parts_step v functions) (pruned_step v functions)
       (scope_step v functions) (block_step v functions) (case_step v functions) (terminal_step v functions) x)
 
-  opened_statement : (x : OpenStatement) (s : S) → read_statement v functions (roll-ReactiveStatement x) s
+  pub opened_statement : (x : OpenStatement) (s : S) → read_statement v functions (roll-ReactiveStatement x) s
       ≡ statement_step v functions (walked_statement x) s
   unfolding read_statement read_parts inside_pruned_scope inside_scope inside_block read_case inside_terminal
   opened_statement x s = ap (λ f. f s) (para-roll-ReactiveStatement (Walk S) (Walk S) (Walk S) (Walk S) (Walk S)

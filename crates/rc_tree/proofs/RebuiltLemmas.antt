@@ -5,10 +5,12 @@ use Rattle.rc_names.specs.declared.numbers.BlockId.{BlockId}
 use Rattle.rc_names.specs.declared.numbers.EvaluationOrder.{EvaluationOrder}
 use Rattle.rc_names.specs.declared.span.Span.{Span}
 use Rattle.rc_tree.proofs.OutcomeLemmas.{same_rest}
+use Rattle.rc_tree.proofs.TreeFoldLemmas.{over_statement-roll, over_terminal-roll, over_case-roll, over_block-parts}
+use Rattle.rc_tree.proofs.TreeFoldLemmas.{over_labeled-parts, over_scope-parts, over_pruned_scope-parts}
 use Rattle.rc_tree.specs.Opened.{OpenStatement, OpenTerminal, OpenCase}
 use Rattle.rc_tree.specs.Outcome.{bind}
-use Rattle.rc_tree.specs.Rebuilt.{Rebuilds, Rules, in_order, joined, if_there, of_terminal, of_statement, of_labeled}
-use Rattle.rc_tree.specs.Rebuilt.{of_scope, of_pruned_scope, of_block, of_case, rebuilt_block, rebuilt_statement}
+use Rattle.rc_tree.specs.Rebuilt.{Rebuilds, Rules, in_order, joined, if_there, Layer, of_terminal, of_statement}
+use Rattle.rc_tree.specs.Rebuilt.{rebuilding, rebuilt_block, rebuilt_statement}
 use Rattle.rc_tree.specs.Rebuilt.{rebuilt_terminal, rebuilt_labeled, rebuilt_scope, rebuilt_pruned_scope, rebuilt_case}
 use Rattle.rc_tree.specs.declared.kind.ReactiveTerminalTargetKind.{ReactiveTerminalTargetKind}
 use Rattle.rc_tree.specs.declared.scope.PrunedReactiveScopeBlock.{PrunedReactiveScopeBlock}
@@ -16,13 +18,6 @@ use Rattle.rc_tree.specs.declared.scope.ReactiveScopeBlock.{ReactiveScopeBlock}
 use Rattle.rc_tree.specs.declared.statement.ReactiveBlock.{ReactiveBlock}
 use Rattle.rc_tree.specs.declared.statement.ReactiveStatement.{ReactiveStatement}
 use Rattle.rc_tree.specs.declared.statement.ReactiveStatement.TheFolds.{map-ReactiveTerminal, map-ReactiveStatement}
-use Rattle.rc_tree.specs.declared.statement.ReactiveStatement.TheFolds.{fold-roll-ReactiveStatement}
-use Rattle.rc_tree.specs.declared.statement.ReactiveStatement.TheFolds.{fold-roll-ReactiveTerminal}
-use Rattle.rc_tree.specs.declared.statement.ReactiveStatement.TheFolds.{fold-roll-PrunedReactiveScopeBlock}
-use Rattle.rc_tree.specs.declared.statement.ReactiveStatement.TheFolds.{fold-roll-ReactiveBlock}
-use Rattle.rc_tree.specs.declared.statement.ReactiveStatement.TheFolds.{fold-roll-ReactiveScopeBlock}
-use Rattle.rc_tree.specs.declared.statement.ReactiveStatement.TheFolds.{fold-roll-ReactiveSwitchCase}
-use Rattle.rc_tree.specs.declared.statement.ReactiveStatement.TheFolds.{fold-roll-ReactiveTerminalStatement}
 use Rattle.rc_tree.specs.declared.statement.ReactiveStatement.TheOpen as layer
 use Rattle.rc_tree.specs.declared.statement.ReactiveStatement.TheShapes.{former-ReactiveTerminal-If-2}
 use Rattle.rc_tree.specs.declared.statement.ReactiveStatement.TheVariants as stmt
@@ -49,10 +44,7 @@ module _ {S X Y : Type 0} (rebuilt : X → Rebuilds S Y) where
 
 module _ {S : Type 0} (rules : Rules S) where
   -- a layer, each part in it with what it is rebuilt to
-  abbrev pub terminal_rebuilt : OpenTerminal → layer.ReactiveTerminal-F (Rebuilds S (List ReactiveStatement))
-      (Rebuilds S ReactiveTerminal) (Rebuilds S PrunedReactiveScopeBlock) (Rebuilds S ReactiveScopeBlock)
-      (Rebuilds S ReactiveBlock) (Rebuilds S ReactiveSwitchCase)
-      (Rebuilds S ReactiveTerminalStatement)
+  abbrev pub terminal_rebuilt : OpenTerminal → Layer S layer.ReactiveTerminal-F
   terminal_rebuilt = map-ReactiveTerminal ReactiveStatement ReactiveTerminal PrunedReactiveScopeBlock ReactiveScopeBlock
       ReactiveBlock ReactiveSwitchCase ReactiveTerminalStatement
       (Rebuilds S (List ReactiveStatement)) (Rebuilds S ReactiveTerminal) (Rebuilds S PrunedReactiveScopeBlock)
@@ -61,10 +53,7 @@ module _ {S : Type 0} (rules : Rules S) where
       (rebuilt_statement rules) (rebuilt_terminal rules) (rebuilt_pruned_scope rules) (rebuilt_scope rules)
       (rebuilt_block rules) (rebuilt_case rules) (rebuilt_labeled rules)
 
-  abbrev pub statement_rebuilt : OpenStatement → layer.ReactiveStatement-F (Rebuilds S (List ReactiveStatement))
-      (Rebuilds S ReactiveTerminal) (Rebuilds S PrunedReactiveScopeBlock) (Rebuilds S ReactiveScopeBlock)
-      (Rebuilds S ReactiveBlock) (Rebuilds S ReactiveSwitchCase)
-      (Rebuilds S ReactiveTerminalStatement)
+  abbrev pub statement_rebuilt : OpenStatement → Layer S layer.ReactiveStatement-F
   statement_rebuilt = map-ReactiveStatement ReactiveStatement ReactiveTerminal PrunedReactiveScopeBlock
       ReactiveScopeBlock ReactiveBlock ReactiveSwitchCase ReactiveTerminalStatement
       (Rebuilds S (List ReactiveStatement)) (Rebuilds S ReactiveTerminal) (Rebuilds S PrunedReactiveScopeBlock)
@@ -77,66 +66,39 @@ module _ {S : Type 0} (rules : Rules S) where
       ≡ of_terminal rules (terminal_rebuilt x) s
   unfolding rebuilt_statement rebuilt_terminal rebuilt_pruned_scope rebuilt_scope rebuilt_block rebuilt_case
       rebuilt_labeled
-  opened_terminal x s = ap (λ f. f s) (fold-roll-ReactiveTerminal (Rebuilds S (List ReactiveStatement))
-      (Rebuilds S ReactiveTerminal) (Rebuilds S PrunedReactiveScopeBlock) (Rebuilds S ReactiveScopeBlock)
-      (Rebuilds S ReactiveBlock) (Rebuilds S ReactiveSwitchCase)
-      (Rebuilds S ReactiveTerminalStatement) (of_statement rules) (of_terminal rules) (of_pruned_scope rules)
-      (of_scope rules) (of_block rules) (of_case rules) (of_labeled rules) x)
+  opened_terminal x s = ap (λ f. f s) (over_terminal-roll (rebuilding rules) x)
 
   pub opened_statement : (x : OpenStatement) (s : S) → rebuilt_statement rules (roll-ReactiveStatement x) s
       ≡ of_statement rules (statement_rebuilt x) s
   unfolding rebuilt_statement rebuilt_terminal rebuilt_pruned_scope rebuilt_scope rebuilt_block rebuilt_case
       rebuilt_labeled
-  opened_statement x s = ap (λ f. f s) (fold-roll-ReactiveStatement (Rebuilds S (List ReactiveStatement))
-      (Rebuilds S ReactiveTerminal) (Rebuilds S PrunedReactiveScopeBlock) (Rebuilds S ReactiveScopeBlock)
-      (Rebuilds S ReactiveBlock) (Rebuilds S ReactiveSwitchCase)
-      (Rebuilds S ReactiveTerminalStatement) (of_statement rules) (of_terminal rules) (of_pruned_scope rules)
-      (of_scope rules) (of_block rules) (of_case rules) (of_labeled rules) x)
+  opened_statement x s = ap (λ f. f s) (over_statement-roll (rebuilding rules) x)
 
   pub rebuilt-block : (x : ReactiveBlock) (s : S) → rebuilt_block rules x s
       ≡ bind (joined (map (rebuilt_statement rules) x.statements) s) (λ a. Ok (a.0, record { statements = a.1 }))
   unfolding rebuilt_statement rebuilt_terminal rebuilt_pruned_scope rebuilt_scope rebuilt_block rebuilt_case
       rebuilt_labeled
-  rebuilt-block x s = ap (λ f. f s) (fold-roll-ReactiveBlock (Rebuilds S (List ReactiveStatement))
-      (Rebuilds S ReactiveTerminal) (Rebuilds S PrunedReactiveScopeBlock) (Rebuilds S ReactiveScopeBlock)
-      (Rebuilds S ReactiveBlock) (Rebuilds S ReactiveSwitchCase)
-      (Rebuilds S ReactiveTerminalStatement) (of_statement rules) (of_terminal rules) (of_pruned_scope rules)
-      (of_scope rules) (of_block rules) (of_case rules) (of_labeled rules) (record { statements = x.statements }))
+  rebuilt-block x s = ap (λ f. f s) (over_block-parts (rebuilding rules) x)
 
   pub rebuilt-labeled : (x : ReactiveTerminalStatement) (s : S)
       → rebuilt_labeled rules x s ≡ bind (rebuilt_terminal rules x.terminal s)
       (λ a. Ok (a.0, record { terminal = a.1; label = x.label }))
   unfolding rebuilt_statement rebuilt_terminal rebuilt_pruned_scope rebuilt_scope rebuilt_block rebuilt_case
       rebuilt_labeled
-  rebuilt-labeled x s = ap (λ f. f s) (fold-roll-ReactiveTerminalStatement (Rebuilds S (List ReactiveStatement))
-      (Rebuilds S ReactiveTerminal) (Rebuilds S PrunedReactiveScopeBlock) (Rebuilds S ReactiveScopeBlock)
-      (Rebuilds S ReactiveBlock) (Rebuilds S ReactiveSwitchCase)
-      (Rebuilds S ReactiveTerminalStatement) (of_statement rules) (of_terminal rules) (of_pruned_scope rules)
-      (of_scope rules) (of_block rules) (of_case rules) (of_labeled rules)
-      (record { terminal = x.terminal; label = x.label }))
+  rebuilt-labeled x s = ap (λ f. f s) (over_labeled-parts (rebuilding rules) x)
 
   pub rebuilt-scope : (x : ReactiveScopeBlock) (s : S) → rebuilt_scope rules x s
       ≡ bind (rebuilt_block rules x.instructions s) (λ a. Ok (a.0, record { scope = x.scope; instructions = a.1 }))
   unfolding rebuilt_statement rebuilt_terminal rebuilt_pruned_scope rebuilt_scope rebuilt_block rebuilt_case
       rebuilt_labeled
-  rebuilt-scope x s = ap (λ f. f s) (fold-roll-ReactiveScopeBlock (Rebuilds S (List ReactiveStatement))
-      (Rebuilds S ReactiveTerminal) (Rebuilds S PrunedReactiveScopeBlock) (Rebuilds S ReactiveScopeBlock)
-      (Rebuilds S ReactiveBlock) (Rebuilds S ReactiveSwitchCase)
-      (Rebuilds S ReactiveTerminalStatement) (of_statement rules) (of_terminal rules) (of_pruned_scope rules)
-      (of_scope rules) (of_block rules) (of_case rules) (of_labeled rules)
-      (record { scope = x.scope; instructions = x.instructions }))
+  rebuilt-scope x s = ap (λ f. f s) (over_scope-parts (rebuilding rules) x)
 
   pub rebuilt-pruned_scope : (x : PrunedReactiveScopeBlock) (s : S)
       → rebuilt_pruned_scope rules x s ≡ bind (rebuilt_block rules x.instructions s)
       (λ a. Ok (a.0, record { scope = x.scope; instructions = a.1 }))
   unfolding rebuilt_statement rebuilt_terminal rebuilt_pruned_scope rebuilt_scope rebuilt_block rebuilt_case
       rebuilt_labeled
-  rebuilt-pruned_scope x s = ap (λ f. f s) (fold-roll-PrunedReactiveScopeBlock (Rebuilds S (List ReactiveStatement))
-      (Rebuilds S ReactiveTerminal) (Rebuilds S PrunedReactiveScopeBlock) (Rebuilds S ReactiveScopeBlock)
-      (Rebuilds S ReactiveBlock) (Rebuilds S ReactiveSwitchCase)
-      (Rebuilds S ReactiveTerminalStatement) (of_statement rules) (of_terminal rules) (of_pruned_scope rules)
-      (of_scope rules) (of_block rules) (of_case rules) (of_labeled rules)
-      (record { scope = x.scope; instructions = x.instructions }))
+  rebuilt-pruned_scope x s = ap (λ f. f s) (over_pruned_scope-parts (rebuilding rules) x)
 
   pub opened_case : (x : OpenCase) (s : S) → rebuilt_case rules (roll-ReactiveSwitchCase x) s
       ≡ bind (if_some (rebuilt_block rules) x.block s) (λ a. Ok
@@ -144,11 +106,7 @@ module _ {S : Type 0} (rules : Rules S) where
   unfolding rebuilt_statement rebuilt_terminal rebuilt_pruned_scope rebuilt_scope rebuilt_block rebuilt_case
       rebuilt_labeled
   opened_case x s =
-      ap (λ f. f s) (fold-roll-ReactiveSwitchCase (Rebuilds S (List ReactiveStatement)) (Rebuilds S ReactiveTerminal)
-      (Rebuilds S PrunedReactiveScopeBlock) (Rebuilds S ReactiveScopeBlock) (Rebuilds S ReactiveBlock)
-      (Rebuilds S ReactiveSwitchCase)
-      (Rebuilds S ReactiveTerminalStatement) (of_statement rules) (of_terminal rules) (of_pruned_scope rules)
-      (of_scope rules) (of_block rules) (of_case rules) (of_labeled rules) x)
+      ap (λ f. f s) (over_case-roll (rebuilding rules) x)
       ∙ ap (λ e. bind e (λ a. Ok (a.0, roll-ReactiveSwitchCase (record { test = x.test; block = a.1 }))))
       (if_there-map (rebuilt_block rules) x.block s)
 

@@ -13,6 +13,10 @@ pub mod StatementsNoDeeper
 pub mod Rewrite
 pub mod RewriteInPlace
 pub mod RewriteKeeps
+pub mod TreeFold
+pub mod Joining
+pub mod CollectedValues
+pub mod Collected
 pub mod Rebuilt
 pub mod TreeNames
 pub mod Follows

@@ -5,22 +5,22 @@
 use Rattle.std.specs.Prelude.{List, [], ◌∷◌, ◌++◌, Option, None, Some, Result, Ok, IfErr}
 use Rattle.rc_hir.specs.declared.fault.Fault.{Fault}
 use Rattle.rc_tree.specs.Outcome.{bind}
+use Rattle.rc_tree.specs.TreeFold.{TreeFold, over_block, over_case, over_labeled, over_pruned_scope, over_scope}
+use Rattle.rc_tree.specs.TreeFold.{over_statement, over_terminal}
 use Rattle.rc_tree.specs.declared.scope.PrunedReactiveScopeBlock.{PrunedReactiveScopeBlock}
-use Rattle.rc_tree.specs.declared.scope.PrunedReactiveScopeBlock.{fold-PrunedReactiveScopeBlock}
-use Rattle.rc_tree.specs.declared.scope.ReactiveScopeBlock.{ReactiveScopeBlock, fold-ReactiveScopeBlock}
-use Rattle.rc_tree.specs.declared.statement.ReactiveBlock.{ReactiveBlock, fold-ReactiveBlock}
-use Rattle.rc_tree.specs.declared.statement.ReactiveStatement.{ReactiveStatement, fold-ReactiveStatement}
+use Rattle.rc_tree.specs.declared.scope.ReactiveScopeBlock.{ReactiveScopeBlock}
+use Rattle.rc_tree.specs.declared.statement.ReactiveBlock.{ReactiveBlock}
+use Rattle.rc_tree.specs.declared.statement.ReactiveStatement.{ReactiveStatement}
 use Rattle.rc_tree.specs.declared.statement.ReactiveStatement.TheOpen as layer
 use Rattle.rc_tree.specs.declared.statement.ReactiveStatement.TheOpen.{ReactiveStatement-F, ReactiveTerminal-F}
 use Rattle.rc_tree.specs.declared.statement.ReactiveStatement.TheOpen.{PrunedReactiveScopeBlock-F, ReactiveScopeBlock-F}
 use Rattle.rc_tree.specs.declared.statement.ReactiveStatement.TheOpen.{ReactiveBlock-F, ReactiveSwitchCase-F}
 use Rattle.rc_tree.specs.declared.statement.ReactiveStatement.TheOpen.{ReactiveTerminalStatement-F}
-use Rattle.rc_tree.specs.declared.terminal.ReactiveSwitchCase.{ReactiveSwitchCase, fold-ReactiveSwitchCase}
+use Rattle.rc_tree.specs.declared.terminal.ReactiveSwitchCase.{ReactiveSwitchCase}
 use Rattle.rc_tree.specs.declared.terminal.ReactiveSwitchCase.{roll-ReactiveSwitchCase}
-use Rattle.rc_tree.specs.declared.terminal.ReactiveTerminal.{ReactiveTerminal, fold-ReactiveTerminal}
+use Rattle.rc_tree.specs.declared.terminal.ReactiveTerminal.{ReactiveTerminal}
 use Rattle.rc_tree.specs.declared.terminal.ReactiveTerminal.TheVariants as term
 use Rattle.rc_tree.specs.declared.terminal.ReactiveTerminalStatement.{ReactiveTerminalStatement}
-use Rattle.rc_tree.specs.declared.terminal.ReactiveTerminalStatement.{fold-ReactiveTerminalStatement}
 use Rattle.rc_tree.specs.declared.value.ReactiveInstruction.{ReactiveInstruction}
 
 -- what is made of a state: the state behind a part with what stands in that part's place, or a fault
@@ -60,11 +60,15 @@ module _ {S X : Type 0} where
   if_there None s = Ok (s, None)
   if_there (Some x) s = bind (x s) (λ a. Ok (a.0, Some a.1))
 
+-- a part by its variant, each of its own parts rebuilt; `F` is the kind of part
+abbrev pub Layer : (S : Type 0) → (Type 0 → Type 0 → Type 0 → Type 0 → Type 0 → Type 0 → Type 0 → Type 0) → Type 0
+Layer S F = F (Rebuilds S (List ReactiveStatement)) (Rebuilds S ReactiveTerminal)
+    (Rebuilds S PrunedReactiveScopeBlock) (Rebuilds S ReactiveScopeBlock) (Rebuilds S ReactiveBlock)
+    (Rebuilds S ReactiveSwitchCase) (Rebuilds S ReactiveTerminalStatement)
+
 module _ {S : Type 0} (rules : Rules S) where
   -- a terminal, from its blocks
-  abbrev pub of_terminal : ReactiveTerminal-F (Rebuilds S (List ReactiveStatement)) (Rebuilds S ReactiveTerminal)
-      (Rebuilds S PrunedReactiveScopeBlock) (Rebuilds S ReactiveScopeBlock) (Rebuilds S ReactiveBlock)
-      (Rebuilds S ReactiveSwitchCase) (Rebuilds S ReactiveTerminalStatement) → Rebuilds S ReactiveTerminal
+  abbrev pub of_terminal : Layer S ReactiveTerminal-F → Rebuilds S ReactiveTerminal
   of_terminal (layer.Break target kind id) s = Ok (s, term.Break target kind id)
   of_terminal (layer.Continue target kind id) s = Ok (s, term.Continue target kind id)
   of_terminal (layer.Return value id) s = Ok (s, term.Return value id)
@@ -82,83 +86,62 @@ module _ {S : Type 0} (rules : Rules S) where
       bind (body s) (λ a. bind (handler a.0) (λ b. Ok (b.0, term.Try a.1 binding b.1 id)))
 
   -- a statement, by the rule for it
-  abbrev pub of_statement : ReactiveStatement-F (Rebuilds S (List ReactiveStatement)) (Rebuilds S ReactiveTerminal)
-      (Rebuilds S PrunedReactiveScopeBlock) (Rebuilds S ReactiveScopeBlock) (Rebuilds S ReactiveBlock)
-      (Rebuilds S ReactiveSwitchCase) (Rebuilds S ReactiveTerminalStatement) → Rebuilds S (List ReactiveStatement)
+  abbrev pub of_statement : Layer S ReactiveStatement-F → Rebuilds S (List ReactiveStatement)
   of_statement (layer.Instruction x) s = rules.row x s
   of_statement (layer.Terminal x) s = bind (x s) (λ a. rules.terminal a.1 a.0)
   of_statement (layer.Scope x) s = bind (x (rules.into_scope s)) (λ a. rules.scope s a.1 a.0)
   of_statement (layer.PrunedScope x) s = bind (x s) (λ a. rules.pruned_scope a.1 a.0)
 
   -- the other parts, from what is inside them
-  abbrev pub of_labeled : ReactiveTerminalStatement-F (Rebuilds S (List ReactiveStatement))
-      (Rebuilds S ReactiveTerminal) (Rebuilds S PrunedReactiveScopeBlock) (Rebuilds S ReactiveScopeBlock)
-      (Rebuilds S ReactiveBlock) (Rebuilds S ReactiveSwitchCase) (Rebuilds S ReactiveTerminalStatement)
-      → Rebuilds S ReactiveTerminalStatement
+  abbrev pub of_labeled : Layer S ReactiveTerminalStatement-F → Rebuilds S ReactiveTerminalStatement
   of_labeled x s = bind (x.terminal s) (λ a. Ok (a.0, record { terminal = a.1; label = x.label }))
 
-  abbrev pub of_scope : ReactiveScopeBlock-F (Rebuilds S (List ReactiveStatement)) (Rebuilds S ReactiveTerminal)
-      (Rebuilds S PrunedReactiveScopeBlock) (Rebuilds S ReactiveScopeBlock) (Rebuilds S ReactiveBlock)
-      (Rebuilds S ReactiveSwitchCase) (Rebuilds S ReactiveTerminalStatement) → Rebuilds S ReactiveScopeBlock
+  abbrev pub of_scope : Layer S ReactiveScopeBlock-F → Rebuilds S ReactiveScopeBlock
   of_scope x s = bind (x.instructions s) (λ a. Ok (a.0, record { scope = x.scope; instructions = a.1 }))
 
-  abbrev pub of_pruned_scope : PrunedReactiveScopeBlock-F (Rebuilds S (List ReactiveStatement))
-      (Rebuilds S ReactiveTerminal) (Rebuilds S PrunedReactiveScopeBlock) (Rebuilds S ReactiveScopeBlock)
-      (Rebuilds S ReactiveBlock) (Rebuilds S ReactiveSwitchCase) (Rebuilds S ReactiveTerminalStatement)
-      → Rebuilds S PrunedReactiveScopeBlock
+  abbrev pub of_pruned_scope : Layer S PrunedReactiveScopeBlock-F → Rebuilds S PrunedReactiveScopeBlock
   of_pruned_scope x s = bind (x.instructions s) (λ a. Ok (a.0, record { scope = x.scope; instructions = a.1 }))
 
-  abbrev pub of_block : ReactiveBlock-F (Rebuilds S (List ReactiveStatement)) (Rebuilds S ReactiveTerminal)
-      (Rebuilds S PrunedReactiveScopeBlock) (Rebuilds S ReactiveScopeBlock) (Rebuilds S ReactiveBlock)
-      (Rebuilds S ReactiveSwitchCase) (Rebuilds S ReactiveTerminalStatement) → Rebuilds S ReactiveBlock
+  abbrev pub of_block : Layer S ReactiveBlock-F → Rebuilds S ReactiveBlock
   of_block x s = bind (joined x.statements s) (λ a. Ok (a.0, record { statements = a.1 }))
 
-  abbrev pub of_case : ReactiveSwitchCase-F (Rebuilds S (List ReactiveStatement)) (Rebuilds S ReactiveTerminal)
-      (Rebuilds S PrunedReactiveScopeBlock) (Rebuilds S ReactiveScopeBlock) (Rebuilds S ReactiveBlock)
-      (Rebuilds S ReactiveSwitchCase) (Rebuilds S ReactiveTerminalStatement) → Rebuilds S ReactiveSwitchCase
+  abbrev pub of_case : Layer S ReactiveSwitchCase-F → Rebuilds S ReactiveSwitchCase
   of_case x s = bind (if_there x.block s)
       (λ a. Ok (a.0, roll-ReactiveSwitchCase (record { test = x.test; block = a.1 })))
 
+  -- the rebuilding of all kinds of parts
+  abbrev pub rebuilding : TreeFold (Rebuilds S (List ReactiveStatement)) (Rebuilds S ReactiveTerminal)
+      (Rebuilds S PrunedReactiveScopeBlock) (Rebuilds S ReactiveScopeBlock) (Rebuilds S ReactiveBlock)
+      (Rebuilds S ReactiveSwitchCase) (Rebuilds S ReactiveTerminalStatement)
+  rebuilding = record {
+    statement = of_statement;
+    terminal = of_terminal;
+    pruned_scope = of_pruned_scope;
+    scope = of_scope;
+    block = of_block;
+    case = of_case;
+    labeled = of_labeled;
+  }
+
   -- the block rebuilt, and what stands in the place of one statement
   unfoldable pub rebuilt_block : ReactiveBlock → Rebuilds S ReactiveBlock
-  rebuilt_block = fold-ReactiveBlock (Rebuilds S (List ReactiveStatement)) (Rebuilds S ReactiveTerminal)
-      (Rebuilds S PrunedReactiveScopeBlock) (Rebuilds S ReactiveScopeBlock) (Rebuilds S ReactiveBlock)
-      (Rebuilds S ReactiveSwitchCase) (Rebuilds S ReactiveTerminalStatement) of_statement of_terminal of_pruned_scope
-      of_scope of_block of_case of_labeled
+  rebuilt_block = over_block rebuilding
 
   unfoldable pub rebuilt_statement : ReactiveStatement → Rebuilds S (List ReactiveStatement)
-  rebuilt_statement = fold-ReactiveStatement (Rebuilds S (List ReactiveStatement)) (Rebuilds S ReactiveTerminal)
-      (Rebuilds S PrunedReactiveScopeBlock) (Rebuilds S ReactiveScopeBlock) (Rebuilds S ReactiveBlock)
-      (Rebuilds S ReactiveSwitchCase) (Rebuilds S ReactiveTerminalStatement) of_statement of_terminal of_pruned_scope
-      of_scope of_block of_case of_labeled
+  rebuilt_statement = over_statement rebuilding
 
   -- the other parts with their insides rebuilt
   unfoldable pub rebuilt_terminal : ReactiveTerminal → Rebuilds S ReactiveTerminal
-  rebuilt_terminal = fold-ReactiveTerminal (Rebuilds S (List ReactiveStatement)) (Rebuilds S ReactiveTerminal)
-      (Rebuilds S PrunedReactiveScopeBlock) (Rebuilds S ReactiveScopeBlock) (Rebuilds S ReactiveBlock)
-      (Rebuilds S ReactiveSwitchCase) (Rebuilds S ReactiveTerminalStatement) of_statement of_terminal of_pruned_scope
-      of_scope of_block of_case of_labeled
+  rebuilt_terminal = over_terminal rebuilding
 
   unfoldable pub rebuilt_labeled : ReactiveTerminalStatement → Rebuilds S ReactiveTerminalStatement
-  rebuilt_labeled = fold-ReactiveTerminalStatement (Rebuilds S (List ReactiveStatement)) (Rebuilds S ReactiveTerminal)
-      (Rebuilds S PrunedReactiveScopeBlock) (Rebuilds S ReactiveScopeBlock) (Rebuilds S ReactiveBlock)
-      (Rebuilds S ReactiveSwitchCase) (Rebuilds S ReactiveTerminalStatement) of_statement of_terminal of_pruned_scope
-      of_scope of_block of_case of_labeled
+  rebuilt_labeled = over_labeled rebuilding
 
   unfoldable pub rebuilt_scope : ReactiveScopeBlock → Rebuilds S ReactiveScopeBlock
-  rebuilt_scope = fold-ReactiveScopeBlock (Rebuilds S (List ReactiveStatement)) (Rebuilds S ReactiveTerminal)
-      (Rebuilds S PrunedReactiveScopeBlock) (Rebuilds S ReactiveScopeBlock) (Rebuilds S ReactiveBlock)
-      (Rebuilds S ReactiveSwitchCase) (Rebuilds S ReactiveTerminalStatement) of_statement of_terminal of_pruned_scope
-      of_scope of_block of_case of_labeled
+  rebuilt_scope = over_scope rebuilding
 
   unfoldable pub rebuilt_pruned_scope : PrunedReactiveScopeBlock → Rebuilds S PrunedReactiveScopeBlock
-  rebuilt_pruned_scope = fold-PrunedReactiveScopeBlock (Rebuilds S (List ReactiveStatement))
-      (Rebuilds S ReactiveTerminal) (Rebuilds S PrunedReactiveScopeBlock) (Rebuilds S ReactiveScopeBlock)
-      (Rebuilds S ReactiveBlock) (Rebuilds S ReactiveSwitchCase) (Rebuilds S ReactiveTerminalStatement) of_statement
-      of_terminal of_pruned_scope of_scope of_block of_case of_labeled
+  rebuilt_pruned_scope = over_pruned_scope rebuilding
 
   unfoldable pub rebuilt_case : ReactiveSwitchCase → Rebuilds S ReactiveSwitchCase
-  rebuilt_case = fold-ReactiveSwitchCase (Rebuilds S (List ReactiveStatement)) (Rebuilds S ReactiveTerminal)
-      (Rebuilds S PrunedReactiveScopeBlock) (Rebuilds S ReactiveScopeBlock) (Rebuilds S ReactiveBlock)
-      (Rebuilds S ReactiveSwitchCase) (Rebuilds S ReactiveTerminalStatement) of_statement of_terminal of_pruned_scope
-      of_scope of_block of_case of_labeled
+  rebuilt_case = over_case rebuilding

@@ -1,7 +1,7 @@
 //! The check of jumps: which jumps are looked at, and which labels are met by then.
 
 use crate::tests::trees::{
-    both, break_to, continue_to, function, if_then, label_around, only, pruned_scope_around,
+    behind, break_to, continue_to, function, if_then, label_around, only, pruned_scope_around,
     scope_around, statement,
 };
 use rc_checks::assert_well_formed_break_targets;
@@ -61,13 +61,15 @@ fn check_in_if(alloc: Global) -> Result<(), Fault> {
 
 /// A break behind the label that it names.
 fn check_behind_label(alloc: Global) -> Result<(), Fault> {
-    let body = both(alloc, labeling(alloc, 7)?, breaking(alloc, 7)?)?;
+    let body = only(alloc, labeling(alloc, 7)?)?;
+    let body = behind(body, breaking(alloc, 7)?)?;
     check(alloc, body)
 }
 
 /// A break before the label that it names.
 fn check_before_label(alloc: Global) -> Result<(), Fault> {
-    let body = both(alloc, breaking(alloc, 7)?, labeling(alloc, 7)?)?;
+    let body = only(alloc, breaking(alloc, 7)?)?;
+    let body = behind(body, labeling(alloc, 7)?)?;
     check(alloc, body)
 }
 
@@ -81,15 +83,14 @@ fn check_in_scopes(alloc: Global) -> Result<(), Fault> {
 /// A break behind the scope block that has its label.
 fn check_behind_scope(alloc: Global) -> Result<(), Fault> {
     let scope = scope_around(0, only(alloc, labeling(alloc, 7)?)?);
-    check(alloc, both(alloc, scope, breaking(alloc, 7)?)?)
+    let body = only(alloc, scope)?;
+    check(alloc, behind(body, breaking(alloc, 7)?)?)
 }
 
 /// Two breaks to no label.
 fn check_two(alloc: Global) -> Result<(), Fault> {
-    check(
-        alloc,
-        both(alloc, breaking(alloc, 7)?, breaking(alloc, 8)?)?,
-    )
+    let body = only(alloc, breaking(alloc, 7)?)?;
+    check(alloc, behind(body, breaking(alloc, 8)?)?)
 }
 
 #[test]

@@ -2,14 +2,14 @@
 
 use crate::tests::outline::{Line, outline};
 use crate::tests::trees::{
-    both, break_to, continue_to, function, if_then, label_around, only, return_at, row,
+    behind, both, break_to, continue_to, function, if_then, label_around, only, return_at, row,
     scope_around, switch_around, while_around,
 };
 use rc_checks::prune_unused_labels;
 use rc_hir::{Environment, Fault};
 use rc_names::List;
-use rc_tree::ReactiveStatement;
 use rc_tree::ReactiveTerminalTargetKind::{Implicit, Labeled};
+use rc_tree::{ReactiveStatement, ReactiveTerminalTargetKind};
 use std::alloc::{AllocError, Global};
 use std::test::Fail;
 
@@ -20,16 +20,36 @@ fn pruned(alloc: Global, statements: List<ReactiveStatement>) -> Result<List<Lin
     Ok(outline(alloc, &func.body)?)
 }
 
+/// Whether a body without its unused labels has these lines.
+fn is_pruned_to(
+    alloc: Global,
+    statements: List<ReactiveStatement>,
+    expected: &[Line],
+) -> Result<bool, Fault> {
+    let lines = pruned(alloc, statements)?;
+    Ok(lines.as_slice() == expected)
+}
+
+/// A row, and a break behind it.
+fn row_and_break(
+    alloc: Global,
+    id: u32,
+    break_id: u32,
+    target: u32,
+    target_kind: ReactiveTerminalTargetKind,
+) -> Result<List<ReactiveStatement>, AllocError> {
+    let leave = break_to(alloc, break_id, target, target_kind)?;
+    both(alloc, row(id), leave)
+}
+
 /// A `Label` whose inside is an if with a labeled break to it, a row and an implicit break.
 fn labeled_break(alloc: Global) -> Result<List<ReactiveStatement>, AllocError> {
     let inside = only(alloc, break_to(alloc, 3, 2, Labeled)?)?;
-    let mut labeled = both(alloc, if_then(alloc, 2, Some(4), inside)?, row(4))?;
-    labeled.push(break_to(alloc, 5, 2, Implicit)?)?;
-    both(
-        alloc,
-        label_around(alloc, 1, Some(2), labeled)?,
-        return_at(alloc, 6)?,
-    )
+    let branch = if_then(alloc, 2, Some(4), inside)?;
+    let labeled = both(alloc, branch, row(4))?;
+    let labeled = behind(labeled, break_to(alloc, 5, 2, Implicit)?)?;
+    let body = only(alloc, label_around(alloc, 1, Some(2), labeled)?)?;
+    behind(body, return_at(alloc, 6)?)
 }
 
 #[test]
@@ -45,21 +65,15 @@ fn a_labeled_break_names_its_label(rt: HostRuntime) -> Result<(), Fail> {
         Line::End,
         Line::Return(6),
     ];
-    assert_eq!(rt;
-        pruned(alloc, labeled_break(alloc)?)?.as_slice(),
-        expected.as_slice()
-    );
+    assert!(rt; is_pruned_to(alloc, labeled_break(alloc)?, &expected)?);
     Ok(())
 }
 
 /// A `Label` that only an implicit break leaves.
 fn unnamed_label(alloc: Global) -> Result<List<ReactiveStatement>, AllocError> {
-    let inside = both(alloc, row(2), break_to(alloc, 3, 2, Implicit)?)?;
-    both(
-        alloc,
-        label_around(alloc, 1, Some(2), inside)?,
-        return_at(alloc, 4)?,
-    )
+    let inside = row_and_break(alloc, 2, 3, 2, Implicit)?;
+    let body = only(alloc, label_around(alloc, 1, Some(2), inside)?)?;
+    behind(body, return_at(alloc, 4)?)
 }
 
 #[test]
@@ -67,10 +81,7 @@ fn an_unnamed_label_gives_way_to_its_statements(rt: HostRuntime) -> Result<(), F
     let alloc = rt.alloc();
     // The trailing implicit break stays.
     let expected = [Line::Row(2), Line::Break(2, Implicit), Line::Return(4)];
-    assert_eq!(rt;
-        pruned(alloc, unnamed_label(alloc)?)?.as_slice(),
-        expected.as_slice()
-    );
+    assert!(rt; is_pruned_to(alloc, unnamed_label(alloc)?, &expected)?);
     Ok(())
 }
 
@@ -82,21 +93,15 @@ fn no_label(alloc: Global) -> Result<List<ReactiveStatement>, AllocError> {
 #[test]
 fn a_label_statement_without_a_label_gives_way_too(rt: HostRuntime) -> Result<(), Fail> {
     let alloc = rt.alloc();
-    assert_eq!(rt;
-        pruned(alloc, no_label(alloc)?)?.as_slice(),
-        [Line::Row(2)].as_slice()
-    );
+    assert!(rt; is_pruned_to(alloc, no_label(alloc)?, &[Line::Row(2)])?);
     Ok(())
 }
 
 /// An if that only an implicit break leaves.
 fn unnamed_if(alloc: Global) -> Result<List<ReactiveStatement>, AllocError> {
-    let inside = both(alloc, row(2), break_to(alloc, 3, 2, Implicit)?)?;
-    both(
-        alloc,
-        if_then(alloc, 1, Some(2), inside)?,
-        return_at(alloc, 4)?,
-    )
+    let inside = row_and_break(alloc, 2, 3, 2, Implicit)?;
+    let body = only(alloc, if_then(alloc, 1, Some(2), inside)?)?;
+    behind(body, return_at(alloc, 4)?)
 }
 
 #[test]
@@ -109,10 +114,7 @@ fn the_label_of_an_if_becomes_implicit(rt: HostRuntime) -> Result<(), Fail> {
         Line::End,
         Line::Return(4),
     ];
-    assert_eq!(rt;
-        pruned(alloc, unnamed_if(alloc)?)?.as_slice(),
-        expected.as_slice()
-    );
+    assert!(rt; is_pruned_to(alloc, unnamed_if(alloc)?, &expected)?);
     Ok(())
 }
 
@@ -132,23 +134,23 @@ fn a_labeled_continue_names_its_loop(rt: HostRuntime) -> Result<(), Fail> {
         Line::End,
         Line::End,
     ];
-    assert_eq!(rt;
-        pruned(alloc, labeled_continue(alloc)?)?.as_slice(),
-        expected.as_slice()
-    );
+    assert!(rt; is_pruned_to(alloc, labeled_continue(alloc)?, &expected)?);
     Ok(())
 }
 
 /// A `Label` in a scope block, and one in a case beside a labeled break out of the switch.
 fn labels_inside(alloc: Global) -> Result<List<ReactiveStatement>, AllocError> {
-    let first = label_around(alloc, 1, Some(2), only(alloc, row(3))?)?;
-    let second = label_around(alloc, 5, Some(6), only(alloc, row(7))?)?;
-    let case = both(alloc, second, break_to(alloc, 8, 9, Labeled)?)?;
-    both(
+    let first = only(
         alloc,
-        scope_around(0, only(alloc, first)?),
-        switch_around(alloc, 4, 9, case)?,
-    )
+        label_around(alloc, 1, Some(2), only(alloc, row(3))?)?,
+    )?;
+    let body = only(alloc, scope_around(0, first))?;
+    let second = only(
+        alloc,
+        label_around(alloc, 5, Some(6), only(alloc, row(7))?)?,
+    )?;
+    let case = behind(second, break_to(alloc, 8, 9, Labeled)?)?;
+    behind(body, switch_around(alloc, 4, 9, case)?)
 }
 
 #[test]
@@ -163,16 +165,13 @@ fn labels_inside_scopes_and_cases_give_way(rt: HostRuntime) -> Result<(), Fail> 
         Line::Break(9, Labeled),
         Line::End,
     ];
-    assert_eq!(rt;
-        pruned(alloc, labels_inside(alloc)?)?.as_slice(),
-        expected.as_slice()
-    );
+    assert!(rt; is_pruned_to(alloc, labels_inside(alloc)?, &expected)?);
     Ok(())
 }
 
 /// A `Label` in a `Label`, with a labeled break to the outer one.
-fn label_in_label(alloc: Global) -> Result<List<ReactiveStatement>, AllocError> {
-    let inside = both(alloc, row(3), break_to(alloc, 4, 2, Labeled)?)?;
+pub(super) fn label_in_label(alloc: Global) -> Result<List<ReactiveStatement>, AllocError> {
+    let inside = row_and_break(alloc, 3, 4, 2, Labeled)?;
     let inner = label_around(alloc, 2, Some(5), inside)?;
     only(alloc, label_around(alloc, 1, Some(2), only(alloc, inner)?)?)
 }
@@ -186,19 +185,15 @@ fn a_label_in_a_label_gives_way_alone(rt: HostRuntime) -> Result<(), Fail> {
         Line::Break(2, Labeled),
         Line::End,
     ];
-    assert_eq!(rt;
-        pruned(alloc, label_in_label(alloc)?)?.as_slice(),
-        expected.as_slice()
-    );
+    assert!(rt; is_pruned_to(alloc, label_in_label(alloc)?, &expected)?);
     Ok(())
 }
 
 /// A row, a `Label` that nothing names, and a row.
 fn label_between_rows(alloc: Global) -> Result<List<ReactiveStatement>, AllocError> {
-    let inside = both(alloc, row(3), break_to(alloc, 4, 6, Implicit)?)?;
-    let mut statements = both(alloc, row(1), label_around(alloc, 2, Some(6), inside)?)?;
-    statements.push(row(5))?;
-    Ok(statements)
+    let inside = row_and_break(alloc, 3, 4, 6, Implicit)?;
+    let label = label_around(alloc, 2, Some(6), inside)?;
+    behind(both(alloc, row(1), label)?, row(5))
 }
 
 #[test]
@@ -210,20 +205,17 @@ fn the_statements_of_an_unnamed_label_stand_in_its_place(rt: HostRuntime) -> Res
         Line::Break(6, Implicit),
         Line::Row(5),
     ];
-    assert_eq!(rt;
-        pruned(alloc, label_between_rows(alloc)?)?.as_slice(),
-        expected.as_slice()
-    );
+    assert!(rt; is_pruned_to(alloc, label_between_rows(alloc)?, &expected)?);
     Ok(())
 }
 
 /// Behind a row, a `Label` that nothing names; in it, behind a row, one with a labeled break to it; and a row.
 fn named_in_unnamed(alloc: Global) -> Result<List<ReactiveStatement>, AllocError> {
-    let inside = both(alloc, row(5), break_to(alloc, 6, 8, Labeled)?)?;
+    let inside = row_and_break(alloc, 5, 6, 8, Labeled)?;
     let named = label_around(alloc, 4, Some(8), inside)?;
-    let mut around = both(alloc, row(3), named)?;
-    around.push(row(7))?;
-    both(alloc, row(1), label_around(alloc, 2, Some(9), around)?)
+    let around = behind(both(alloc, row(3), named)?, row(7))?;
+    let unnamed = label_around(alloc, 2, Some(9), around)?;
+    both(alloc, row(1), unnamed)
 }
 
 #[test]
@@ -238,9 +230,6 @@ fn a_named_label_keeps_its_own_statements(rt: HostRuntime) -> Result<(), Fail> {
         Line::End,
         Line::Row(7),
     ];
-    assert_eq!(rt;
-        pruned(alloc, named_in_unnamed(alloc)?)?.as_slice(),
-        expected.as_slice()
-    );
+    assert!(rt; is_pruned_to(alloc, named_in_unnamed(alloc)?, &expected)?);
     Ok(())
 }

@@ -1,134 +1,18 @@
-//! Label pruning as a transform of the rewriting walk, which is another way to the tree of its definition.
+//! Label pruning as a transform of the rewriting walk.
 
-ghost use Rattle.std.specs.Prelude.{◌≡◌, OnOk};
-ghost use Rattle.rc_checks.specs.Labels.{is_named, label_after, targets_behind, with_jump};
-ghost use Rattle.rc_checks_tests.specs.LabelSteps.{label_steps, taken, without};
-ghost use Rattle.rc_tree.specs.declared.terminal.ReactiveTerminal.{out-ReactiveTerminal};
-
+use crate::tests::labels::label_in_label;
 use crate::tests::outline::{Line, outline};
-use crate::tests::trees::{block, both, break_to, label_around, row};
+use crate::tests::trees::{block, both, break_to, function, label_around, row};
+use rc_checks::UnusedLabels;
 use rc_hir::{Environment, Fault};
-use rc_names::{BlockId, KeySet, List};
-use rc_tree::ReactiveTerminalTargetKind::Implicit;
+use rc_names::{KeySet, List};
+use rc_tree::ReactiveTerminalTargetKind::{Implicit, Labeled};
 use rc_tree::rewrite::transform_stmt;
 use rc_tree::{
-    OverStatements, ReactiveLabel, ReactiveScopeBlock, ReactiveStatement, ReactiveTerminal,
-    ReactiveTerminalStatement, ReactiveTerminalTargetKind, StatementTransform, Transformed,
+    OverStatements, ReactiveFunction, ReactiveStatement, Transformed, transform_reactive_function,
 };
-use std::alloc::AllocError;
+use std::alloc::Global;
 use std::test::Fail;
-
-/// The transform; its state is the set of targets.
-#[derive(Clone, Copy)]
-struct UnusedLabels;
-
-impl StatementTransform for UnusedLabels {
-    type State = KeySet<BlockId>;
-
-    ghost steps = { λ it. label_steps };
-
-    fn enter_scope(
-        &self,
-        _scope: &ReactiveScopeBlock,
-        _targets: &mut KeySet<BlockId>,
-    ) -> Result<(), Fault> {
-        Ok(())
-    }
-
-    fn transform_terminal(
-        &self,
-        stmt: &mut ReactiveTerminalStatement,
-        targets: &mut KeySet<BlockId>,
-    ) -> Result<Transformed<ReactiveStatement>, Fault> {
-        note_target(&stmt.terminal, targets)?;
-        match flatten(stmt, targets) {
-            Some(statements) => Ok(Transformed::ReplaceMany(statements)),
-            None => {
-                mark(stmt, targets);
-                Ok(Transformed::Keep)
-            }
-        }
-    }
-
-    fn transform_scope(
-        &self,
-        _scope: &mut ReactiveScopeBlock,
-        _targets: &mut KeySet<BlockId>,
-    ) -> Result<Transformed<ReactiveStatement>, Fault> {
-        Ok(Transformed::Keep)
-    }
-}
-
-/// Notes the target of a labeled break or continue.
-fn note_target(terminal: &ReactiveTerminal, targets: &mut KeySet<BlockId>) -> Result<(), AllocError>
-    ensures { OnOk result (targets.new ≡ targets_behind (out-ReactiveTerminal terminal.now) targets.old) }
-{
-    match terminal {
-        ReactiveTerminal::Break {
-            target,
-            target_kind,
-            id: _,
-        } => note_jump(*target_kind, *target, targets),
-        ReactiveTerminal::Continue {
-            target,
-            target_kind,
-            id: _,
-        } => note_jump(*target_kind, *target, targets),
-        _ => Ok(()),
-    }
-}
-
-/// Notes a target, where the jump is labeled.
-fn note_jump(
-    kind: ReactiveTerminalTargetKind,
-    target: BlockId,
-    targets: &mut KeySet<BlockId>,
-) -> Result<(), AllocError>
-    ensures { OnOk result (targets.new ≡ with_jump kind target targets.old) }
-{
-    if let ReactiveTerminalTargetKind::Labeled = kind {
-        targets.insert(target)?;
-    }
-    Ok(())
-}
-
-/// Takes the statements of a `Label` that nothing names.
-fn flatten(
-    stmt: &mut ReactiveTerminalStatement,
-    targets: &KeySet<BlockId>,
-) -> Option<List<ReactiveStatement>>
-    ensures taken { result ≡ taken targets.now stmt.old }
-    ensures left { stmt.new ≡ without result stmt.old }
-{
-    if names_label(targets, &stmt.label) {
-        return None;
-    }
-    match &mut stmt.terminal {
-        ReactiveTerminal::Label { block, id: _ } => Some(block.statements.take()),
-        _ => None,
-    }
-}
-
-/// Whether a target is the label, where there is one.
-fn names_label(targets: &KeySet<BlockId>, label: &Option<ReactiveLabel>) -> bool
-    ensures { result ≡ is_named targets.now label.now }
-{
-    match label {
-        Some(label) => targets.contains(label.id),
-        None => false,
-    }
-}
-
-/// Makes a label that nothing names implicit.
-fn mark(stmt: &mut ReactiveTerminalStatement, targets: &KeySet<BlockId>)
-    ensures { stmt.new ≡ record { terminal = stmt.old.terminal; label = label_after targets.now stmt.old.label } }
-{
-    if let Some(label) = &mut stmt.label {
-        if !targets.contains(label.id) {
-            label.implicit = true;
-        }
-    }
-}
 
 #[test]
 fn an_unnamed_label_is_replaced_by_many(rt: HostRuntime) -> Result<(), Fail> {
@@ -153,6 +37,43 @@ fn an_unnamed_label_is_replaced_by_many(rt: HostRuntime) -> Result<(), Fail> {
     let expected = [Line::Row(2), Line::Break(2, Implicit)];
     assert_eq!(rt;
         outline(alloc, &block(statements))?.as_slice(),
+        expected.as_slice()
+    );
+    Ok(())
+}
+
+/// Takes out the unused labels by the walk.
+fn prune_by_walk(
+    alloc: Global,
+    func: &mut ReactiveFunction,
+    env: &Environment,
+) -> Result<(), Fault> {
+    let mut transform = OverStatements {
+        env,
+        pass: UnusedLabels,
+    };
+    let mut targets = KeySet::new(alloc);
+    transform_reactive_function(alloc, func, &mut transform, &mut targets)
+}
+
+/// The lines of a body that the walk has pruned.
+fn walked(alloc: Global, statements: List<ReactiveStatement>) -> Result<List<Line>, Fault> {
+    let mut func = function(alloc, statements);
+    prune_by_walk(alloc, &mut func, &Environment::empty(alloc))?;
+    Ok(outline(alloc, &func.body)?)
+}
+
+#[test]
+fn the_walk_of_a_body_takes_out_its_unused_labels(rt: HostRuntime) -> Result<(), Fail> {
+    let alloc = rt.alloc();
+    let expected = [
+        Line::Label(1, Some((2, false))),
+        Line::Row(3),
+        Line::Break(2, Labeled),
+        Line::End,
+    ];
+    assert_eq!(rt;
+        walked(alloc, label_in_label(alloc)?)?.as_slice(),
         expected.as_slice()
     );
     Ok(())

@@ -199,15 +199,22 @@ pub fn only(
     Ok(statements)
 }
 
+/// A list with one more statement behind the others.
+pub fn behind(
+    mut statements: List<ReactiveStatement>,
+    last: ReactiveStatement,
+) -> Result<List<ReactiveStatement>, AllocError> {
+    statements.push(last)?;
+    Ok(statements)
+}
+
 /// A list of two statements.
 pub fn both(
     alloc: Global,
     first: ReactiveStatement,
     second: ReactiveStatement,
 ) -> Result<List<ReactiveStatement>, AllocError> {
-    let mut statements = only(alloc, first)?;
-    statements.push(second)?;
-    Ok(statements)
+    behind(only(alloc, first)?, second)
 }
 
 /// A function with that body and nothing else.

@@ -59,12 +59,27 @@ fn pruned(
     Ok(outline(alloc, &func.body)?)
 }
 
+/// Whether a body after the pass has these lines.
+fn is_pruned_to(
+    alloc: Global,
+    first: ReactiveScope,
+    statements: List<ReactiveStatement>,
+    expected: &[Line],
+) -> Result<bool, Fault> {
+    let lines = pruned(alloc, first, statements)?;
+    Ok(lines.as_slice() == expected)
+}
+
+/// A row and a scope block in a scope block, with a return in the inner one.
+fn return_in_inner(alloc: Global) -> Result<List<ReactiveStatement>, AllocError> {
+    let end = return_at(alloc, 5)?;
+    let inner = scope_around(1, both(alloc, row(4), end)?);
+    only(alloc, scope_around(0, both(alloc, row(2), inner)?))
+}
+
 #[test]
 fn a_return_in_a_nested_scope_keeps_that_scope_alone(rt: HostRuntime) -> Result<(), Fail> {
     let alloc = rt.alloc();
-    let inner = scope_around(1, both(alloc, row(4), return_at(alloc, 5)?)?);
-    let outer = scope_around(0, both(alloc, row(2), inner)?);
-    let lines = pruned(alloc, unused(alloc), only(alloc, outer)?)?;
     let expected = [
         Line::PrunedScope(0),
         Line::Row(2),
@@ -74,17 +89,20 @@ fn a_return_in_a_nested_scope_keeps_that_scope_alone(rt: HostRuntime) -> Result<
         Line::End,
         Line::End,
     ];
-    assert_eq!(rt; lines.as_slice(), expected.as_slice());
+    assert!(rt; is_pruned_to(alloc, unused(alloc), return_in_inner(alloc)?, &expected)?);
     Ok(())
+}
+
+/// Three scope blocks, one in the other, with a return in the innermost.
+fn return_in_innermost(alloc: Global) -> Result<List<ReactiveStatement>, AllocError> {
+    let innermost = scope_around(2, only(alloc, return_at(alloc, 5)?)?);
+    let inner = scope_around(1, only(alloc, innermost)?);
+    only(alloc, scope_around(0, only(alloc, inner)?))
 }
 
 #[test]
 fn a_return_does_not_count_through_two_scopes(rt: HostRuntime) -> Result<(), Fail> {
     let alloc = rt.alloc();
-    let innermost = scope_around(2, only(alloc, return_at(alloc, 5)?)?);
-    let inner = scope_around(1, only(alloc, innermost)?);
-    let outer = scope_around(0, only(alloc, inner)?);
-    let lines = pruned(alloc, unused(alloc), only(alloc, outer)?)?;
     let expected = [
         Line::PrunedScope(0),
         Line::PrunedScope(1),
@@ -94,16 +112,19 @@ fn a_return_does_not_count_through_two_scopes(rt: HostRuntime) -> Result<(), Fai
         Line::End,
         Line::End,
     ];
-    assert_eq!(rt; lines.as_slice(), expected.as_slice());
+    assert!(rt; is_pruned_to(alloc, unused(alloc), return_in_innermost(alloc)?, &expected)?);
     Ok(())
+}
+
+/// A pruned scope block in a scope block, with a return in it.
+fn return_in_pruned(alloc: Global) -> Result<List<ReactiveStatement>, AllocError> {
+    let inner = pruned_scope_around(1, only(alloc, return_at(alloc, 5)?)?);
+    only(alloc, scope_around(0, only(alloc, inner)?))
 }
 
 #[test]
 fn a_return_in_a_pruned_scope_counts(rt: HostRuntime) -> Result<(), Fail> {
     let alloc = rt.alloc();
-    let inner = pruned_scope_around(1, only(alloc, return_at(alloc, 5)?)?);
-    let outer = scope_around(0, only(alloc, inner)?);
-    let lines = pruned(alloc, unused(alloc), only(alloc, outer)?)?;
     let expected = [
         Line::Scope(0),
         Line::PrunedScope(1),
@@ -111,16 +132,20 @@ fn a_return_in_a_pruned_scope_counts(rt: HostRuntime) -> Result<(), Fail> {
         Line::End,
         Line::End,
     ];
-    assert_eq!(rt; lines.as_slice(), expected.as_slice());
+    assert!(rt; is_pruned_to(alloc, unused(alloc), return_in_pruned(alloc)?, &expected)?);
     Ok(())
+}
+
+/// A return and a scope block in a scope block.
+fn return_before_inner(alloc: Global) -> Result<List<ReactiveStatement>, AllocError> {
+    let end = return_at(alloc, 5)?;
+    let inside = both(alloc, end, scope_around(1, List::new(alloc)))?;
+    only(alloc, scope_around(0, inside))
 }
 
 #[test]
 fn a_return_before_a_nested_scope_counts(rt: HostRuntime) -> Result<(), Fail> {
     let alloc = rt.alloc();
-    let inner = scope_around(1, List::new(alloc));
-    let outer = scope_around(0, both(alloc, return_at(alloc, 5)?, inner)?);
-    let lines = pruned(alloc, unused(alloc), only(alloc, outer)?)?;
     let expected = [
         Line::Scope(0),
         Line::Return(5),
@@ -128,68 +153,81 @@ fn a_return_before_a_nested_scope_counts(rt: HostRuntime) -> Result<(), Fail> {
         Line::End,
         Line::End,
     ];
-    assert_eq!(rt; lines.as_slice(), expected.as_slice());
+    assert!(rt; is_pruned_to(alloc, unused(alloc), return_before_inner(alloc)?, &expected)?);
     Ok(())
+}
+
+/// An empty block of scope 0.
+fn empty_scope(alloc: Global) -> ReactiveStatement {
+    scope_around(0, List::new(alloc))
+}
+
+/// A return, and that block.
+fn return_before_scope(alloc: Global) -> Result<List<ReactiveStatement>, AllocError> {
+    both(alloc, return_at(alloc, 5)?, empty_scope(alloc))
 }
 
 #[test]
 fn a_return_before_a_scope_does_not_count(rt: HostRuntime) -> Result<(), Fail> {
     let alloc = rt.alloc();
-    let body = both(
-        alloc,
-        return_at(alloc, 5)?,
-        scope_around(0, List::new(alloc)),
-    )?;
-    let lines = pruned(alloc, unused(alloc), body)?;
     let expected = [Line::Return(5), Line::PrunedScope(0), Line::End];
-    assert_eq!(rt; lines.as_slice(), expected.as_slice());
+    assert!(rt; is_pruned_to(alloc, unused(alloc), return_before_scope(alloc)?, &expected)?);
     Ok(())
+}
+
+/// Whether an empty block of a scope has these lines after the pass.
+fn is_empty_pruned_to(
+    alloc: Global,
+    scope: ReactiveScope,
+    expected: &[Line],
+) -> Result<bool, Fault> {
+    is_pruned_to(alloc, scope, only(alloc, empty_scope(alloc))?, expected)
 }
 
 #[test]
 fn a_declaration_of_another_scope_does_not_count(rt: HostRuntime) -> Result<(), Fail> {
     let alloc = rt.alloc();
-    let body = only(alloc, scope_around(0, List::new(alloc)))?;
-    let lines = pruned(alloc, declaring(alloc, 1)?, body)?;
-    assert_eq!(rt;
-        lines.as_slice(),
-        [Line::PrunedScope(0), Line::End].as_slice()
-    );
+    let expected = [Line::PrunedScope(0), Line::End];
+    assert!(rt; is_empty_pruned_to(alloc, declaring(alloc, 1)?, &expected)?);
     Ok(())
 }
 
 #[test]
 fn a_declaration_of_its_own_keeps_a_scope(rt: HostRuntime) -> Result<(), Fail> {
     let alloc = rt.alloc();
-    let body = only(alloc, scope_around(0, List::new(alloc)))?;
-    let lines = pruned(alloc, declaring(alloc, 0)?, body)?;
-    assert_eq!(rt; lines.as_slice(), [Line::Scope(0), Line::End].as_slice());
+    let expected = [Line::Scope(0), Line::End];
+    assert!(rt; is_empty_pruned_to(alloc, declaring(alloc, 0)?, &expected)?);
     Ok(())
+}
+
+/// A scope with one reassignment.
+fn reassigning(alloc: Global) -> Result<ReactiveScope, AllocError> {
+    let mut scope = unused(alloc);
+    scope.reassignments.push(IdentifierId(1))?;
+    Ok(scope)
 }
 
 #[test]
 fn a_reassignment_keeps_a_scope(rt: HostRuntime) -> Result<(), Fail> {
     let alloc = rt.alloc();
-    let mut reassigning = unused(alloc);
-    reassigning.reassignments.push(IdentifierId(1))?;
-    let body = only(alloc, scope_around(0, List::new(alloc)))?;
-    let lines = pruned(alloc, reassigning, body)?;
-    assert_eq!(rt; lines.as_slice(), [Line::Scope(0), Line::End].as_slice());
+    let expected = [Line::Scope(0), Line::End];
+    assert!(rt; is_empty_pruned_to(alloc, reassigning(alloc)?, &expected)?);
     Ok(())
+}
+
+/// Why the pass refuses a block of scope 3 in one of scope 4, if it does.
+fn fault_outside_table(alloc: Global) -> Result<Option<Fault>, AllocError> {
+    let inner = scope_around(3, List::new(alloc));
+    let outer = scope_around(4, only(alloc, inner)?);
+    Ok(pruned(alloc, unused(alloc), only(alloc, outer)?).err())
 }
 
 #[test]
 fn the_innermost_scope_outside_the_table_is_named(rt: HostRuntime) -> Result<(), Fail> {
-    let alloc = rt.alloc();
-    let inner = scope_around(3, List::new(alloc));
-    let outer = scope_around(4, only(alloc, inner)?);
     let refused = Fault::BadName {
         table: TableName::Scopes,
         index: 3,
     };
-    match pruned(alloc, unused(alloc), only(alloc, outer)?) {
-        Ok(_) => panic!(rt; "scope 3 is outside its table"),
-        Err(fault) => assert_eq!(rt; fault, refused),
-    }
+    assert_eq!(rt; fault_outside_table(rt.alloc())?, Some(refused));
     Ok(())
 }

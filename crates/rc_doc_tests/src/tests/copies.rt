@@ -11,19 +11,33 @@ use alike::Alike;
 use rc_doc::{Doc, read_doc};
 use rc_names::CloneIn;
 use serde_json::Value;
-use std::alloc::Global;
+use std::alloc::{AllocError, Global};
 use std::test::Fail;
+
+/// What is read of the value.
+fn read(alloc: Global, value: &Value) -> Result<Doc, Fail> {
+    match read_doc(alloc, value)? {
+        Some(doc) => Ok(doc),
+        None => Err(Fail::new("the component is no document")),
+    }
+}
+
+/// Whether copies of a document's graph and environment are like their sources.
+fn are_copies_alike(alloc: Global, doc: &Doc) -> Result<bool, AllocError> {
+    let graph = doc.hir.clone_in(alloc)?;
+    let environment = doc.env.clone_in(alloc)?;
+    Ok(graph.is_like(&doc.hir, alloc)? && environment.is_like(&doc.env, alloc)?)
+}
+
+/// Whether that holds of the component.
+fn is_component_copied(alloc: Global) -> Result<bool, Fail> {
+    let doc = read(alloc, &Value::from_str(alloc, COMPONENT)?)?;
+    Ok(are_copies_alike(alloc, &doc)?)
+}
 
 #[test]
 fn copies_of_a_component_are_like_their_sources(rt: HostRuntime) -> Result<(), Fail> {
-    let alloc = rt.alloc();
-    let Some(doc) = read_doc(alloc, &Value::from_str(alloc, COMPONENT)?)? else {
-        panic!(rt; "the component is no document");
-    };
-    let graph = doc.hir.clone_in(alloc)?;
-    let environment = doc.env.clone_in(alloc)?;
-    assert!(rt; graph.is_like(&doc.hir, alloc)?);
-    assert!(rt; environment.is_like(&doc.env, alloc)?);
+    assert!(rt; is_component_copied(rt.alloc())?);
     Ok(())
 }
 
@@ -52,17 +66,21 @@ fn are_changes_seen(
     Ok(are_seen)
 }
 
-#[test]
-fn a_component_with_another_part_is_not_like_it(rt: HostRuntime) -> Result<(), Fail> {
-    let alloc = rt.alloc();
+/// Where a part of the component stands of which a change isn't seen; none where each is seen.
+fn unseen_part(alloc: Global) -> Result<Option<String>, Fail> {
     let types = Value::from_str(alloc, TYPES)?;
     let mut document = Value::from_str(alloc, COMPONENT)?;
-    let Some(source) = read_doc(alloc, &document)? else {
-        panic!(rt; "the component is no document");
-    };
+    let source = read(alloc, &document)?;
     for part in parts(alloc, &types, "Doc", &document)?.as_slice() {
-        let are_seen = are_changes_seen(alloc, &mut document, &source, &types, part)?;
-        assert!(rt; are_seen, "at {}", part.path);
+        if !are_changes_seen(alloc, &mut document, &source, &types, part)? {
+            return Ok(Some(part.path.clone()?));
+        }
     }
+    Ok(None)
+}
+
+#[test]
+fn a_component_with_another_part_is_not_like_it(rt: HostRuntime) -> Result<(), Fail> {
+    assert_eq!(rt; unseen_part(rt.alloc())?, None);
     Ok(())
 }

@@ -22,9 +22,14 @@ fn nested(alloc: Global, levels: u32) -> Result<ReactiveBlock, AllocError> {
     Ok(block)
 }
 
+/// How many statements stand outermost in a hundred thousand levels, which are let go.
+fn outermost(alloc: Global) -> Result<usize, AllocError> {
+    let block = nested(alloc, 100_000)?;
+    Ok(block.statements.len())
+}
+
 #[test]
 fn a_hundred_thousand_levels_are_let_go(rt: HostRuntime) -> Result<(), Fail> {
-    let block = nested(rt.alloc(), 100_000)?;
-    assert_eq!(rt; block.statements.len(), 1);
+    assert_eq!(rt; outermost(rt.alloc())?, 1);
     Ok(())
 }

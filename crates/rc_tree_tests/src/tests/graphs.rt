@@ -111,11 +111,18 @@ fn over(
     Ok(recorder)
 }
 
-/// How the walk of a function ends, with its visits.
-fn walk(alloc: Global, recorder: &Recorder, function: u32) -> (Result<(), Fault>, List<Visit>) {
+/// The visits of the walk of the first function, which holds the second as often as told.
+fn walk_of_both(alloc: Global, named: &[InstructionId]) -> Result<List<Visit>, Fault> {
+    let recorder = over(alloc, holding(1), named, quiet())?;
     let mut visits = List::new(alloc);
-    let end = visit_hir_function(alloc, recorder, FunctionId(function), &mut visits);
-    (end, visits)
+    visit_hir_function(alloc, &recorder, FunctionId(0), &mut visits)?;
+    Ok(visits)
+}
+
+/// Why the walk of a function of such a table stops, if it does.
+fn fault_of(alloc: Global, recorder: &Recorder, function: u32) -> Option<Fault> {
+    let mut visits = List::new(alloc);
+    visit_hir_function(alloc, recorder, FunctionId(function), &mut visits).err()
 }
 
 /// The visits of the row that holds the second function, and of that function's inside.
@@ -138,57 +145,73 @@ const HELD: [Visit; 16] = [
     Visit::Operand(7, 5),
 ];
 
-#[test]
-fn a_function_is_walked_behind_the_row_that_holds_it(rt: HostRuntime) -> Result<(), Fail> {
-    let alloc = rt.alloc();
-    let recorder = over(alloc, holding(1), &[InstructionId(0)], quiet())?;
-    let (end, visits) = walk(alloc, &recorder, 0);
-    assert_eq!(rt; end, Ok(()));
+/// Whether the walk of the first function has its own visits, and those of the second behind the row that holds it.
+fn is_walked_behind_its_row(alloc: Global) -> Result<bool, Fault> {
+    let visits = walk_of_both(alloc, &[InstructionId(0)])?;
     let mut expected = List::from_slice(alloc, &[Visit::Param(10), Visit::Param(4)])?;
     expected.append(List::from_slice(alloc, HELD.as_slice())?)?;
     expected.push(Visit::Operand(7, 5))?;
-    assert_eq!(rt; visits.as_slice(), expected.as_slice());
+    Ok(visits.as_slice() == expected.as_slice())
+}
+
+#[test]
+fn a_function_is_walked_behind_the_row_that_holds_it(rt: HostRuntime) -> Result<(), Fail> {
+    assert!(rt; is_walked_behind_its_row(rt.alloc())?);
     Ok(())
+}
+
+/// How many visits the walk of a function has that holds the second twice.
+fn visits_of_two(alloc: Global) -> Result<usize, Fault> {
+    Ok(walk_of_both(alloc, &[InstructionId(0), InstructionId(0)])?.len())
 }
 
 #[test]
 fn a_function_may_be_met_again_behind_itself(rt: HostRuntime) -> Result<(), Fail> {
-    let alloc = rt.alloc();
-    let twice = [InstructionId(0), InstructionId(0)];
-    let recorder = over(alloc, holding(1), &twice, quiet())?;
-    let (end, visits) = walk(alloc, &recorder, 0);
-    assert_eq!(rt; end, Ok(()));
-    assert_eq!(rt; visits.len(), 35);
+    assert_eq!(rt; visits_of_two(rt.alloc())?, 35);
     Ok(())
+}
+
+/// Why the walk of a function that holds itself stops.
+fn fault_of_itself(alloc: Global) -> Result<Option<Fault>, AllocError> {
+    let recorder = over(alloc, holding(0), &[InstructionId(0)], quiet())?;
+    Ok(fault_of(alloc, &recorder, 0))
+}
+
+/// Why the walk of a function stops that holds one that holds it.
+fn fault_of_each_other(alloc: Global) -> Result<Option<Fault>, AllocError> {
+    let recorder = over(alloc, holding(1), &[InstructionId(0)], holding(0))?;
+    Ok(fault_of(alloc, &recorder, 0))
 }
 
 #[test]
 fn a_function_inside_itself_is_a_cycle(rt: HostRuntime) -> Result<(), Fail> {
     let alloc = rt.alloc();
-    let named = [InstructionId(0)];
-    let recorder = over(alloc, holding(0), &named, quiet())?;
     let cycle = Fault::FunctionCycle {
         function: FunctionId(0),
     };
-    assert_eq!(rt; walk(alloc, &recorder, 0).0, Err(cycle));
-    let recorder = over(alloc, holding(1), &named, holding(0))?;
-    assert_eq!(rt; walk(alloc, &recorder, 0).0, Err(cycle));
+    assert_eq!(rt; fault_of_itself(alloc)?, Some(cycle));
+    assert_eq!(rt; fault_of_each_other(alloc)?, Some(cycle));
     Ok(())
+}
+
+/// Why the walk of a function of two quiet ones stops, whose first names row 4.
+fn fault_outside_table(alloc: Global, function: u32) -> Result<Option<Fault>, AllocError> {
+    let recorder = over(alloc, quiet(), &[InstructionId(4)], quiet())?;
+    Ok(fault_of(alloc, &recorder, function))
 }
 
 #[test]
 fn a_number_outside_its_table_is_a_bad_name(rt: HostRuntime) -> Result<(), Fail> {
     let alloc = rt.alloc();
-    let recorder = over(alloc, quiet(), &[InstructionId(4)], quiet())?;
     let row = Fault::BadName {
         table: TableName::Instructions,
         index: 4,
     };
-    assert_eq!(rt; walk(alloc, &recorder, 0).0, Err(row));
+    assert_eq!(rt; fault_outside_table(alloc, 0)?, Some(row));
     let function = Fault::BadName {
         table: TableName::Functions,
         index: 2,
     };
-    assert_eq!(rt; walk(alloc, &recorder, 2).0, Err(function));
+    assert_eq!(rt; fault_outside_table(alloc, 2)?, Some(function));
     Ok(())
 }

@@ -62,15 +62,19 @@ pub fn as_body(alloc: Global, inside: &List<Visit>) -> Result<List<Visit>, Alloc
     Ok(visits)
 }
 
-/// The operands among visits.
-pub fn operands(alloc: Global, visits: &List<Visit>) -> Result<List<Visit>, AllocError> {
+/// Whether the operands among visits are these.
+pub fn has_operands(
+    alloc: Global,
+    visits: &List<Visit>,
+    expected: &[Visit],
+) -> Result<bool, AllocError> {
     let mut operands = List::new(alloc);
     for visit in visits.as_slice() {
         if let Visit::Operand(_, _) = visit {
             operands.push(*visit)?;
         }
     }
-    Ok(operands)
+    Ok(operands.as_slice() == expected)
 }
 
 /// The operands of the `for`: its update comes last.
@@ -81,37 +85,44 @@ const FOR_OPERANDS: [Visit; 4] = [
     Visit::Operand(5, 2),
 ];
 
+/// Whether a body is walked by the visits beside it.
+fn is_walked_as_written(alloc: Global, written: Written) -> Result<bool, Fault> {
+    let Written { body, visits } = written;
+    let expected = as_body(alloc, &visits)?;
+    let walked = walked(alloc, body)?;
+    Ok(walked.as_slice() == expected.as_slice())
+}
+
 #[test]
 fn every_statement_is_walked_in_the_order_of_the_table(rt: HostRuntime) -> Result<(), Fail> {
     let alloc = rt.alloc();
-    let Written { body, visits } = statements(alloc, ForOrder::BodyFirst)?;
-    let expected = as_body(alloc, &visits)?;
-    assert_eq!(rt; walked(alloc, body)?.as_slice(), expected.as_slice());
+    assert!(rt; is_walked_as_written(alloc, statements(alloc, ForOrder::BodyFirst)?)?);
     Ok(())
 }
 
 #[test]
 fn every_value_is_walked_in_the_order_of_the_table(rt: HostRuntime) -> Result<(), Fail> {
     let alloc = rt.alloc();
-    let Written { body, visits } = rows(alloc)?;
-    let expected = as_body(alloc, &visits)?;
-    assert_eq!(rt; walked(alloc, body)?.as_slice(), expected.as_slice());
+    assert!(rt; is_walked_as_written(alloc, rows(alloc)?)?);
     Ok(())
+}
+
+/// The visits of a body that is the `for`.
+fn for_visits(alloc: Global) -> Result<List<Visit>, Fault> {
+    let mut body = empty(alloc);
+    body.statements.push(statement(alloc, for_loop(alloc)?)?)?;
+    walked(alloc, body)
 }
 
 #[test]
 fn a_for_reads_its_update_last(rt: HostRuntime) -> Result<(), Fail> {
     let alloc = rt.alloc();
-    let mut body = empty(alloc);
-    body.statements.push(statement(alloc, for_loop(alloc)?)?)?;
-    let read = operands(alloc, &walked(alloc, body)?)?;
-    assert_eq!(rt; read.as_slice(), FOR_OPERANDS.as_slice());
+    assert!(rt; has_operands(alloc, &for_visits(alloc)?, &FOR_OPERANDS)?);
     Ok(())
 }
 
-#[test]
-fn the_inside_of_a_for_reads_the_same(rt: HostRuntime) -> Result<(), Fail> {
-    let alloc = rt.alloc();
+/// The visits of the inside of the `for`.
+fn inside_visits(alloc: Global) -> Result<List<Visit>, Fault> {
     let recorder = Recorder {
         env: Environment::empty(alloc),
     };
@@ -121,8 +132,13 @@ fn the_inside_of_a_for_reads_the_same(rt: HostRuntime) -> Result<(), Fail> {
     };
     let mut visits = List::new(alloc);
     traverse_terminal(alloc, &recorder, &stmt, &mut visits)?;
-    let read = operands(alloc, &visits)?;
-    assert_eq!(rt; read.as_slice(), FOR_OPERANDS.as_slice());
+    Ok(visits)
+}
+
+#[test]
+fn the_inside_of_a_for_reads_the_same(rt: HostRuntime) -> Result<(), Fail> {
+    let alloc = rt.alloc();
+    assert!(rt; has_operands(alloc, &inside_visits(alloc)?, &FOR_OPERANDS)?);
     Ok(())
 }
 
@@ -137,11 +153,15 @@ pub fn long(alloc: Global, length: u32) -> Result<ReactiveBlock, AllocError> {
     Ok(block)
 }
 
+/// How many visits the walk of a body has.
+fn visit_count(alloc: Global, body: ReactiveBlock) -> Result<usize, Fault> {
+    Ok(walked(alloc, body)?.len())
+}
+
 #[test]
 fn a_long_list_takes_no_stack(rt: HostRuntime) -> Result<(), Fail> {
     let alloc = rt.alloc();
-    let visits = walked(alloc, long(alloc, 100_000)?)?;
     // Each row is entered and left, and has its id and a value of three visits.
-    assert_eq!(rt; visits.len(), 600_002);
+    assert_eq!(rt; visit_count(alloc, long(alloc, 100_000)?)?, 600_002);
     Ok(())
 }

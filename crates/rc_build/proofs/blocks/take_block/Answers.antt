@@ -4,7 +4,8 @@ use Rattle.rc_build.specs.declared.state.Marks.{Marks}
 use Rattle.rc_runs.specs.Spelled.{scope_named}
 use Rattle.rc_build.specs.Namings.{is_among}
 use Rattle.rc_build.specs.RuleFacts.{FaultFact}
-use Rattle.rc_build.specs.Built.{live_blocks, listed_scope, is_fresh_scope}
+use Rattle.rc_build.specs.BuiltFrom.{pending_blocks}
+use Rattle.rc_build.specs.Taken.{listed_scope, is_fresh_scope}
 use Rattle.rc_build.proofs.FaultLemmas.{passed_on}
 use Rattle.rc_build.proofs.MarksLemmas.{named_once}
 use Rattle.rc_build.proofs.UsableLemmas.{usable_made, usable_ids}
@@ -14,7 +15,7 @@ use Rattle.rc_build.proofs.blocks.take_block.Goals as goal
 
 pub find_block-requires : goal.find_block-requires
 find_block-requires c = named_once c.args.hir.now c.args.state.now.marks.used c.args.key
-    (live_blocks c.args.state.now.frames) c.requires.named
+    (pending_blocks c.args.state.now.frames) c.requires.named
 
 pub returns-then-is_live-clause-facts : goal.returns-then-is_live-clause-facts
 returns-then-is_live-clause-facts c =

@@ -4,7 +4,7 @@ use Rattle.rc_tree.specs.declared.statement.ReactiveStatement.{ReactiveStatement
 use Rattle.rc_runs.specs.PlainTree.{Nil, Break}
 use Rattle.rc_runs.specs.Grammar.{break_statements, unlabeled}
 use Rattle.rc_build.specs.RuleFacts.{FaultFact}
-use Rattle.rc_build.specs.Built.{IsUsedApart}
+use Rattle.rc_build.specs.BuiltFrom.{IsUsedApart}
 use Rattle.rc_build.proofs.OwnersLemmas.{leaves_scope, leaves_case, jump_at}
 use Rattle.rc_build.proofs.jumps.put_break.Goals as goal
 

@@ -1,10 +1,10 @@
 -- Each fault has its cause, and what is built is the one function that the graph spells, with the graph's runs.
-use Rattle.std.proofs.Common.{◌≡◌, inr, ap, Err}
+use Rattle.std.proofs.Common.{inr, ap, Err}
 use Rattle.std.proofs.lemmas.Result.{err_from_is_err_and}
 use Rattle.rc_runs.proofs.BodyToGraph.{function_to_graph}
 use Rattle.rc_runs.proofs.GraphToBody.{graph_to_function}
 use Rattle.rc_runs.proofs.OneTree.{spells_one_function}
-use Rattle.rc_runs.proofs.SpelledNames.{spelled_names_held}
+use Rattle.rc_runs.proofs.SpelledInTables.{spelled_in_tables}
 use Rattle.rc_build.proofs.BuildCausesLemmas.{cause_of, only_memory}
 use Rattle.rc_build.proofs.reactive_function.build_reactive_function.Goals as goal
 
@@ -12,11 +12,9 @@ pub returns-clause-one_tree : goal.returns-clause-one_tree
 returns-clause-one_tree c = λ func spelled. spells_one_function spelled c.in_ok-built.ensures.ok
 
 pub returns-clause-known : goal.returns-clause-known
-returns-clause-known c = record {
-  tree = spelled_names_held c.args.hir.now c.args.env.now c.in_ok-accept.ensures.ok.names.graph c.in_ok-built.built
-      c.in_ok-built.ensures.ok;
-  environment = c.in_ok-accept.ensures.ok.names.environment;
-}
+returns-clause-known c =
+    spelled_in_tables c.args.hir.now c.args.env.now c.in_ok-built.built c.in_ok-accept.ensures.ok.names
+    c.in_ok-built.ensures.ok
 
 pub returns-clause-graph_to_body : goal.returns-clause-graph_to_body
 returns-clause-graph_to_body c = λ none events end run. graph_to_function c.in_ok-built.ensures.ok events end run

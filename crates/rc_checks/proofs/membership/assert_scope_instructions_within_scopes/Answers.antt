@@ -1,8 +1,12 @@
 -- Each answer is that of the walk, which starts with no scope around.
 use Rattle.std.proofs.Common.{◌∙◌, ap, Err}
 use Rattle.std.proofs.lemmas.Result.{err_from_is_err_and}
+use Rattle.rc_hir.specs.declared.fault.Fault.TheVariants.{BadName}
+use Rattle.rc_checks.specs.ScopesIn.{scopes_in}
+use Rattle.rc_checks.proofs.FaultNames.{no_name_outside}
 use Rattle.rc_checks.proofs.MembershipLemmas.{failed_bad_name, failed_completed, failed_only, found_completed}
 use Rattle.rc_checks.proofs.MembershipLemmas.{none_outside}
+use Rattle.rc_checks.proofs.UnknownVisits.{first_unknown_outside}
 use Rattle.rc_checks.proofs.membership.assert_scope_instructions_within_scopes.Goals as goal
 
 pub returns-in_err-visit_reactive_function-clause-scope_completed :
@@ -23,6 +27,16 @@ returns-in_err-visit_reactive_function-clause-bad_name c =
     c.from_residual-in_err-visit_reactive_function.result
     c.visit_reactive_function.new.state c.in_err-visit_reactive_function.field-0.0 (p.1 ∙ ap (λ f. Err f) p.2)
     (rw c.new.ensures at c.in_err-visit_reactive_function.ensures)
+
+pub returns-in_err-visit_reactive_function-clause-named : goal.returns-in_err-visit_reactive_function-clause-named
+returns-in_err-visit_reactive_function-clause-named c = λ table index is.
+    first_unknown_outside c.args.env.now (BadName table index) (scopes_in c.args.func.now.body) c.args.func.now
+    (returns-in_err-visit_reactive_function-clause-bad_name c table index is)
+
+pub returns-in_err-visit_reactive_function-clause-sound : goal.returns-in_err-visit_reactive_function-clause-sound
+returns-in_err-visit_reactive_function-clause-sound c = λ known table index is.
+    no_name_outside c.args.func.now c.args.env.now (BadName table index) known
+    (returns-in_err-visit_reactive_function-clause-named c table index is)
 
 pub returns-in_err-visit_reactive_function-clause-only : goal.returns-in_err-visit_reactive_function-clause-only
 returns-in_err-visit_reactive_function-clause-only c =

@@ -1,8 +1,7 @@
 //! Spellings of single parts of the document, those among them that are easily mistaken for one.
 
-use super::changes::is_document_with;
+use super::changes::{is_document, is_document_with};
 use super::document::DOCUMENT;
-use rc_doc::read_doc;
 use serde_json::Value;
 use std::alloc::Global;
 use std::test::Fail;
@@ -103,6 +102,6 @@ fn no_key_of_a_block_stands_twice(rt: HostRuntime) -> Result<(), Fail> {
 fn the_document_with_every_form_is_read(rt: HostRuntime) -> Result<(), Fail> {
     let alloc = rt.alloc();
     let document = Value::from_str(alloc, DOCUMENT)?;
-    assert!(rt; read_doc(alloc, &document)?.is_some());
+    assert!(rt; is_document(alloc, &document)?);
     Ok(())
 }

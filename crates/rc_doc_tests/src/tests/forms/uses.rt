@@ -86,45 +86,62 @@ fn are_variants_used(
     Ok(true)
 }
 
+/// The types of that name, `structs` or `enums`, each with its fields or its variants.
+fn types_of<'t>(types: &'t Value, name: &str) -> Option<&'t Map<String, Value>> {
+    types.get(name)?.as_object()
+}
+
+/// The forms that stand in the document with every form.
+fn forms_of_document(alloc: Global, types: &Value) -> Result<Vec<String>, Fail> {
+    let document = Value::from_str(alloc, DOCUMENT)?;
+    Ok(forms_used(alloc, types, &document)?)
+}
+
+/// A struct of which not each field is used; none where each is.
+fn unused_struct(alloc: Global) -> Result<Option<String>, Fail> {
+    let types = Value::from_str(alloc, TYPES)?;
+    let forms = forms_of_document(alloc, &types)?;
+    for (type_, fields) in types_of(&types, "structs").ok_or("no structs")? {
+        let fields = fields.as_object().ok_or("no fields")?;
+        if !are_used(alloc, forms.as_slice(), type_.as_str(), fields)? {
+            return Ok(Some(type_.clone()?));
+        }
+    }
+    Ok(None)
+}
+
+/// An enum of which not each variant is used with each field; none where each is.
+fn unused_enum(alloc: Global) -> Result<Option<String>, Fail> {
+    let types = Value::from_str(alloc, TYPES)?;
+    let forms = forms_of_document(alloc, &types)?;
+    for (type_, variants) in types_of(&types, "enums").ok_or("no enums")? {
+        let variants = variants.as_object().ok_or("no variants")?;
+        if !are_variants_used(alloc, forms.as_slice(), type_.as_str(), variants)? {
+            return Ok(Some(type_.clone()?));
+        }
+    }
+    Ok(None)
+}
+
+/// Whether that form stands in the document.
+fn is_form_used(alloc: Global, form: &str) -> Result<bool, Fail> {
+    let types = Value::from_str(alloc, TYPES)?;
+    let forms = forms_of_document(alloc, &types)?;
+    Ok(is_used(forms.as_slice(), form))
+}
+
 #[test]
 fn the_document_has_each_struct_with_each_field(rt: HostRuntime) -> Result<(), Fail> {
     let alloc = rt.alloc();
-    let types = Value::from_str(alloc, TYPES)?;
-    let document = Value::from_str(alloc, DOCUMENT)?;
-    let forms = forms_used(alloc, &types, &document)?;
-    let structs = types
-        .get("structs")
-        .and_then(Value::as_object)
-        .ok_or("no structs")?;
-    for (type_, fields) in structs {
-        let fields = fields.as_object().ok_or("no fields")?;
-        assert!(rt;
-            are_used(alloc, forms.as_slice(), type_.as_str(), fields)?,
-            "of {type_}"
-        );
-    }
+    assert_eq!(rt; unused_struct(alloc)?, None);
     for form in ["Place", "Place.3", "Place.4", "Span.2"] {
-        assert!(rt; is_used(forms.as_slice(), form), "of {form}");
+        assert!(rt; is_form_used(alloc, form)?, "of {form}");
     }
     Ok(())
 }
 
 #[test]
 fn the_document_has_each_variant_with_each_field(rt: HostRuntime) -> Result<(), Fail> {
-    let alloc = rt.alloc();
-    let types = Value::from_str(alloc, TYPES)?;
-    let document = Value::from_str(alloc, DOCUMENT)?;
-    let forms = forms_used(alloc, &types, &document)?;
-    let enums = types
-        .get("enums")
-        .and_then(Value::as_object)
-        .ok_or("no enums")?;
-    for (type_, variants) in enums {
-        let variants = variants.as_object().ok_or("no variants")?;
-        assert!(rt;
-            are_variants_used(alloc, forms.as_slice(), type_.as_str(), variants)?,
-            "of {type_}"
-        );
-    }
+    assert_eq!(rt; unused_enum(rt.alloc())?, None);
     Ok(())
 }

@@ -7,7 +7,7 @@ use super::types::TYPES;
 use rc_doc::{read_instruction_value, value_json};
 use rc_hir::InstructionValue;
 use serde_json::Value;
-use std::alloc::Global;
+use std::alloc::{AllocError, Global};
 use std::test::Fail;
 
 /// What is printed of the instruction value that was read; nothing where it isn't one.
@@ -98,20 +98,55 @@ fn is_printed_as_it_stands(alloc: Global, value: &Value) -> Result<bool, Fail> {
     Ok(first == text && second == text)
 }
 
+/// The instruction value that is read of a text.
+fn read(alloc: Global, text: &str) -> Result<Option<InstructionValue>, Fail> {
+    Ok(read_instruction_value(alloc, &Value::from_str(alloc, text)?)?)
+}
+
+/// Whether that is a debugger without a span.
+fn is_debugger(value: Option<InstructionValue>) -> bool {
+    match &value {
+        Some(InstructionValue::Debugger { span }) => span.is_none(),
+        _ => false,
+    }
+}
+
+/// Whether it is none.
+fn is_none(value: Option<InstructionValue>) -> bool {
+    value.is_none()
+}
+
 #[test]
 fn a_debugger_is_an_instruction_value_and_an_empty_object_is_none(
     rt: HostRuntime,
 ) -> Result<(), Fail> {
     let alloc = rt.alloc();
-    let debugger = read_instruction_value(alloc, &Value::from_str(alloc, r#"{"k":"Debugger"}"#)?)?;
-    let is_debugger = match debugger {
-        Some(InstructionValue::Debugger { span }) => span.is_none(),
-        _ => false,
-    };
-    assert!(rt; is_debugger);
-    let empty = read_instruction_value(alloc, &Value::from_str(alloc, "{}")?)?;
-    assert!(rt; empty.is_none());
+    assert!(rt; is_debugger(read(alloc, r#"{"k":"Debugger"}"#)?));
+    assert!(rt; is_none(read(alloc, "{}")?));
     Ok(())
+}
+
+/// Takes the instruction value of that row out of the document.
+fn take_value(alloc: Global, document: &mut Value, row: usize) -> Result<Value, AllocError> {
+    let path = format!(in alloc; "/hir/instructions/{row}/value")?;
+    let mut value = Value::Null;
+    exchange(document, path.as_str(), &mut value);
+    Ok(value)
+}
+
+/// Where a part of an instruction value stands of which a spelling is printed in another form; none where each is
+/// printed in one.
+fn misprinted_part(
+    alloc: Global,
+    types: &Value,
+    value: &mut Value,
+) -> Result<Option<String>, Fail> {
+    for part in parts(alloc, types, "InstructionValue", value)?.as_slice() {
+        if !is_printed_alike(alloc, value, part)? {
+            return Ok(Some(part.path.clone()?));
+        }
+    }
+    Ok(None)
 }
 
 #[test]
@@ -120,17 +155,13 @@ fn each_value_is_printed_in_one_form_in_each_spelling(rt: HostRuntime) -> Result
     let types = Value::from_str(alloc, TYPES)?;
     let mut document = Value::from_str(alloc, DOCUMENT)?;
     for row in 0..53 {
-        let path = format!(in alloc; "/hir/instructions/{row}/value")?;
-        let mut value = Value::Null;
-        exchange(&mut document, path.as_str(), &mut value);
-        assert!(rt; is_printed_as_it_stands(alloc, &value)?, "of {path}");
-        for part in parts(alloc, &types, "InstructionValue", &value)?.as_slice() {
-            assert!(rt;
-                is_printed_alike(alloc, &mut value, part)?,
-                "of {path} at {}",
-                part.path
-            );
-        }
+        let mut value = take_value(alloc, &mut document, row)?;
+        assert!(rt; is_printed_as_it_stands(alloc, &value)?, "of row {row}");
+        assert_eq!(rt;
+            misprinted_part(alloc, &types, &mut value)?,
+            None,
+            "of row {row}"
+        );
     }
     Ok(())
 }

@@ -1,21 +1,38 @@
 -- Each end of the call has its cause, or the headline.
-use Rattle.std.proofs.Common.{◌≡◌, rules, ap, subst, inr, Err}
+use Rattle.std.proofs.Common.{◌≡◌, rules, refl, subst, inr, ap, Err}
 use Rattle.std.proofs.lemmas.Result.{err_from_is_err_and}
 use Rattle.rc_checks.specs.ScopesIn.{scopes_in}
-use Rattle.rc_pipe.specs.Fates.{AreFates}
-use Rattle.rc_pipe.specs.declared.pipeline.Pruned.{Pruned}
+use Rattle.rc_pipe.specs.ListedFates.{AreListedFates}
 use Rattle.rc_pipe.proofs.CausesLemmas.{build_cause, only_memory}
-use Rattle.rc_pipe.proofs.HeadlineHolds.{headline_holds}
+use Rattle.rc_pipe.proofs.FatesHold.{fates_hold, kept_exactly}
 use Rattle.rc_pipe.proofs.PassesLemmas.{pass_cause}
 use Rattle.rc_pipe.proofs.pipeline.build_and_prune.Goals as goal
 
 pub returns-clause-ok : goal.returns-clause-ok
 returns-clause-ok c =
-    let pruned : Pruned = record { func = c.prune.new.func; fates = c.in_ok-fates.fates } in
-    let all : c.as_slice.result.now ≡ scopes_in c.in_ok-func.func.body = search rules in
-    headline_holds c.args.hir.now c.args.env.now pruned c.in_ok-accept.ensures.ok c.in_ok-func.ensures.accepted.forms
-    c.in_ok-func.func c.in_ok-func.ensures.ok c.in_ok-prune.ensures.ok c.in_ok-prune.ensures.kept_runs
-    (subst (λ scopes. AreFates scopes pruned.func.body pruned.fates) all c.in_ok-fates.ensures)
+    let built = c.in_ok-func.ensures in
+    let passes = c.in_ok-prune.ensures.ok in
+    let none = c.in_ok-accept.ensures.ok.no_early_return in
+    let runs = c.in_ok-prune.ensures.kept_runs none in
+    let body = c.in_ok-func.func.body in
+    let once = c.in_ok-scopes.ensures.once c.args.hir.now c.args.env.now c.in_ok-func.func built.ok refl in
+    let all : c.as_slice.result.now ≡ scopes_in body = search rules in
+    let listed : AreListedFates (scopes_in body) c.prune.new.func.body c.in_ok-fates.fates =
+    subst (λ scopes. AreListedFates scopes c.prune.new.func.body c.in_ok-fates.fates) all c.in_ok-fates.ensures in
+    record {
+      accepted = c.in_ok-accept.ensures.ok;
+      forms = built.accepted.forms;
+      spelled = c.in_ok-func.func;
+      spells = built.ok;
+      one_tree = built.one_tree;
+      passes = passes;
+      graph_to_body = λ events end run. (runs events end).0 (built.graph_to_body none events end run);
+      body_to_graph = λ events end run. built.body_to_graph none events end ((runs events end).1 run);
+      fates = fates_hold passes once c.in_ok-prune.ensures.left c.in_ok-fates.fates listed;
+      kept = kept_exactly passes once c.in_ok-prune.ensures.left c.in_ok-fates.fates listed;
+      left = c.in_ok-prune.ensures.left;
+      known = c.in_ok-prune.ensures.known built.known;
+    }
 
 pub returns-in_err-accept-clause-complete : goal.returns-in_err-accept-clause-complete
 returns-in_err-accept-clause-complete c =
@@ -44,13 +61,18 @@ returns-in_err-func-clause-complete c =
 pub returns-in_err-prune-clause-refused : goal.returns-in_err-prune-clause-refused
 returns-in_err-prune-clause-refused c =
     let p = err_from_is_err_and c.from_residual-in_err-prune.result c.from_residual-in_err-prune.ensures.1 in
-    rw (p.1, p.2) (pass_cause c.args.hir.now c.args.env.now c.in_ok-accept.ensures.ok c.in_ok-func.ensures.accepted.forms
-    c.in_ok-func.func c.in_ok-func.ensures.ok c.in_err-prune.field-0.0 c.in_err-prune.ensures.refused)
+    let built = c.in_ok-func.ensures in
+    rw (p.1, p.2) (pass_cause c.args.hir.now c.args.env.now c.in_ok-accept.ensures.ok built.accepted.forms
+    c.in_ok-func.func built.ok c.in_err-prune.field-0.0
+    (c.in_err-prune.ensures.refused c.args.hir.now built.ok built.known))
 
 pub returns-in_err-prune-clause-complete : goal.returns-in_err-prune-clause-complete
 returns-in_err-prune-clause-complete c =
     let p = err_from_is_err_and c.from_residual-in_err-prune.result c.from_residual-in_err-prune.ensures.1 in
-    let cause = pass_cause c.args.hir.now c.args.env.now c.in_ok-accept.ensures.ok c.in_ok-func.ensures.accepted.forms
-    c.in_ok-func.func c.in_ok-func.ensures.ok c.in_err-prune.field-0.0 c.in_err-prune.ensures.refused in
+    let built = c.in_ok-func.ensures in
+    let cause = pass_cause c.args.hir.now c.args.env.now c.in_ok-accept.ensures.ok built.accepted.forms
+    c.in_ok-func.func built.ok c.in_err-prune.field-0.0
+    (c.in_err-prune.ensures.refused c.args.hir.now built.ok built.known)
+    in
     rw (p.1, p.2) (λ func accepted answer. inr (ap Err (only_memory c.args.hir.now c.args.env.now accepted func answer
     c.in_err-prune.field-0.0 cause)))

@@ -1,0 +1,58 @@
+use Rattle.std.proofs.Common.{◌∙◌, [], ◌∷◌, sym, ap}
+use Rattle.std.proofs.lemmas.Result.{on_ok_weaker}
+use Rattle.rc_tree.proofs.CollectedLemmas.{collected-If, collected-Scope, collected-Switch, collected-Try}
+use Rattle.rc_tree.specs.Collected.{collected_cases, collected_if, collected_statement, collected_terminal}
+use Rattle.rc_checks.specs.ScopeBlocks.{held, held_of_parts as parts}
+use Rattle.rc_checks.specs.ScopesIn.{scopes_in, scopes_of}
+use Rattle.rc_checks.proofs.ScopeBlocksLemmas.{added, added-case, added-cases, scopes_of-both}
+use Rattle.rc_checks.proofs.scope_blocks.+scopes.Goals as goal
+
+pub add_cases-loop-case-preserved : goal.add_cases-loop-case-preserved
+add_cases-loop-case-preserved t c id =
+    added-case c.loop-case.found c.add_if_there.new.found _ c.args.cases.now c.loop-case.case-index c.case-item.result
+    id c.loop-case-test.true c.case-item.is c.in_ok-add_if_there.ensures (c.loop-case.invariant id)
+
+pub add_statement-returns-in_ok-push-in-Scope : goal.add_statement-returns-in_ok-push-in-Scope
+add_statement-returns-in_ok-push-in-Scope t c =
+    let block = c.in-Scope.block in
+    on_ok_weaker c.add_block.result
+    (added c.args.found.now c.push.new.self c.add_block.new.found (block.scope ∷ []) (scopes_in block.instructions)
+    (scopes_of (collected_statement parts c.args.statement.now)) c.in_ok-push-in-Scope.ensures.ok
+    (ap (λ x. scopes_of (collected_statement parts x)) c.in-Scope.is ∙ ap scopes_of (collected-Scope parts block)))
+    c.add_block.ensures
+
+pub add_terminal-returns-in-Switch : goal.add_terminal-returns-in-Switch
+add_terminal-returns-in-Switch t c =
+    let id = c.in-Switch.id in
+    on_ok_weaker c.add_cases.result
+    (added-cases c.args.found.now c.add_cases.new.found id c.as_slice.result.now
+    (collected_terminal parts c.args.terminal.now)
+    (ap (collected_terminal parts) c.in-Switch.is ∙ collected-Switch parts c.in-Switch.test c.in-Switch.cases id
+    ∙ ap (collected_cases parts id) (sym c.as_slice.ensures)))
+    c.add_cases.ensures
+
+pub add_terminal-returns-in_ok-add_block-in-If : goal.add_terminal-returns-in_ok-add_block-in-If
+add_terminal-returns-in_ok-add_block-in-If t c =
+    let first = c.in-If.consequent in
+    let second = c.in-If.alternate in
+    on_ok_weaker c.add_if_there.result
+    (added c.args.found.now c.add_block.new.found c.add_if_there.new.found (scopes_in first)
+    (scopes_of (collected_if parts second)) (scopes_of (collected_terminal parts c.args.terminal.now))
+    c.in_ok-add_block-in-If.ensures
+    (ap (λ x. scopes_of (collected_terminal parts x)) c.in-If.is
+    ∙ ap scopes_of (collected-If parts c.in-If.test first second c.in-If.id)
+    ∙ scopes_of-both (held first) (collected_if parts second)))
+    c.add_if_there.ensures
+
+pub add_terminal-returns-in_ok-add_block-in-Try : goal.add_terminal-returns-in_ok-add_block-in-Try
+add_terminal-returns-in_ok-add_block-in-Try t c =
+    let first = c.in-Try.block in
+    let second = c.in-Try.handler in
+    on_ok_weaker c.add_block-in-Try-2.result
+    (added c.args.found.now c.add_block-in-Try.new.found c.add_block-in-Try-2.new.found (scopes_in first)
+    (scopes_in second) (scopes_of (collected_terminal parts c.args.terminal.now))
+    c.in_ok-add_block-in-Try.ensures
+    (ap (λ x. scopes_of (collected_terminal parts x)) c.in-Try.is
+    ∙ ap scopes_of (collected-Try parts first c.in-Try.handler_binding second c.in-Try.id)
+    ∙ scopes_of-both (held first) (held second)))
+    c.add_block-in-Try-2.ensures

@@ -1,0 +1,8 @@
+-- the scopes of a spelled tree stand once in it
+use Rattle.std.proofs.Common.{sym, subst}
+use Rattle.rc_checks.specs.ScopesIn.{HasScopesOnce}
+use Rattle.rc_checks.proofs.SpelledOnce.{spelled_once}
+use Rattle.rc_checks.proofs.scope_blocks.scopes_in.Goals as goal
+
+pub returns-clause-once : goal.returns-clause-once
+returns-clause-once c = λ hir env func spelled same. subst HasScopesOnce (sym same) (spelled_once hir env func spelled)

@@ -1,0 +1,72 @@
+//! Label pruning as a transform of the rewriting walk.
+
+ghost use Rattle.std.specs.Prelude.{◌≡◌};
+ghost use Rattle.rc_checks.specs.LabelSteps.{label_steps, taken, without};
+
+use crate::labels::targets::{mark, names_label, note_target};
+use rc_hir::Fault;
+use rc_names::{BlockId, KeySet, List};
+use rc_tree::{
+    ReactiveScopeBlock, ReactiveStatement, ReactiveTerminal, ReactiveTerminalStatement,
+    StatementTransform, Transformed,
+};
+
+/// Label pruning as a pass over statements; its state is the set of targets. The rewriting walk with it, from no
+/// targets on, gives the same tree as `prune_unused_labels`. Where unused labels stand one in the other, the walk moves
+/// their statements once for each level.
+#[derive(Clone, Copy)]
+pub struct UnusedLabels;
+
+impl StatementTransform for UnusedLabels {
+    type State = KeySet<BlockId>;
+
+    ghost steps = { λ pass. label_steps };
+
+    fn enter_scope(
+        &self,
+        _scope: &ReactiveScopeBlock,
+        _targets: &mut KeySet<BlockId>,
+    ) -> Result<(), Fault> {
+        Ok(())
+    }
+
+    fn transform_terminal(
+        &self,
+        stmt: &mut ReactiveTerminalStatement,
+        targets: &mut KeySet<BlockId>,
+    ) -> Result<Transformed<ReactiveStatement>, Fault> {
+        note_target(&stmt.terminal, targets)?;
+        match take_statements(stmt, targets) {
+            Some(statements) => Ok(Transformed::ReplaceMany(statements)),
+            None => {
+                mark(stmt, targets);
+                Ok(Transformed::Keep)
+            }
+        }
+    }
+
+    fn transform_scope(
+        &self,
+        _scope: &mut ReactiveScopeBlock,
+        _targets: &mut KeySet<BlockId>,
+    ) -> Result<Transformed<ReactiveStatement>, Fault> {
+        Ok(Transformed::Keep)
+    }
+}
+
+/// Takes the statements of a `Label` that nothing names.
+fn take_statements(
+    stmt: &mut ReactiveTerminalStatement,
+    targets: &KeySet<BlockId>,
+) -> Option<List<ReactiveStatement>>
+    ensures taken { result ≡ taken targets.now stmt.old }
+    ensures left { stmt.new ≡ without result stmt.old }
+{
+    if names_label(targets, &stmt.label) {
+        return None;
+    }
+    match &mut stmt.terminal {
+        ReactiveTerminal::Label { block, id: _ } => Some(block.statements.take()),
+        _ => None,
+    }
+}

@@ -1,0 +1,147 @@
+//! The operands of some values, patterns and terminals.
+
+use super::graphs::{debugger, nested, one_block, one_function, read, with_row};
+use rc_hir::{
+    ArrayPatternElement, Case, Effect, Environment, Fault, InstructionKind, InstructionValue,
+    LValue, Pattern, Place, PlaceOrSpread, SpreadPattern, TableName, Terminal,
+    each_instruction_value_lvalue, each_instruction_value_operand, each_pattern_operand,
+    each_terminal_operand,
+};
+use rc_names::{BlockId, EvaluationOrder, List};
+use std::alloc::{AllocError, Global};
+use std::test::Fail;
+
+// The places' numbers are these, in order.
+fn are(places: &List<Place>, numbers: &[u32]) -> bool {
+    places.len() == numbers.len()
+        && places
+            .as_slice()
+            .iter()
+            .zip(numbers)
+            .all(|(place, number)| place.identifier.0 == *number)
+}
+
+/// The operands of a call of place 1 with place 2 and, spread out, place 3.
+fn call_operands(alloc: Global) -> Result<List<Place>, Fault> {
+    let args = [
+        PlaceOrSpread::Place(read(2)),
+        PlaceOrSpread::Spread(SpreadPattern { place: read(3) }),
+    ];
+    let call = InstructionValue::CallExpression {
+        callee: read(1),
+        args: List::from_slice(alloc, &args)?,
+        span: None,
+    };
+    each_instruction_value_operand(alloc, &call, &Environment::empty(alloc))
+}
+
+#[test]
+fn a_spread_counts_as_its_place(rt: HostRuntime) -> Result<(), Fail> {
+    assert!(rt; are(&call_operands(rt.alloc())?, &[1, 2, 3]));
+    Ok(())
+}
+
+/// The targets of a store of place 2 into place 4.
+fn store_targets(alloc: Global) -> Result<List<Place>, Fault> {
+    let store = InstructionValue::StoreLocal {
+        lvalue: LValue {
+            kind: InstructionKind::Const,
+            place: read(4),
+        },
+        value: read(2),
+        span: None,
+    };
+    each_instruction_value_lvalue(alloc, &store)
+}
+
+#[test]
+fn a_store_writes_its_target(rt: HostRuntime) -> Result<(), Fail> {
+    assert!(rt; are(&store_targets(rt.alloc())?, &[4]));
+    Ok(())
+}
+
+/// The places of a pattern of place 4, a hole and, for the rest, place 5.
+fn pattern_places(alloc: Global) -> Result<List<Place>, Fault> {
+    let items = [
+        ArrayPatternElement::Place(read(4)),
+        ArrayPatternElement::Hole,
+        ArrayPatternElement::Spread(SpreadPattern { place: read(5) }),
+    ];
+    let pattern = Pattern::Array {
+        items: List::from_slice(alloc, &items)?,
+    };
+    each_pattern_operand(alloc, &pattern)
+}
+
+#[test]
+fn a_hole_counts_for_nothing(rt: HostRuntime) -> Result<(), Fail> {
+    assert!(rt; are(&pattern_places(rt.alloc())?, &[4, 5]));
+    Ok(())
+}
+
+/// A switch over place 0 with a case of place 1 and a default.
+fn switch(alloc: Global) -> Result<Terminal, AllocError> {
+    let cases = [
+        Case {
+            test: Some(read(1)),
+            block: BlockId(1),
+        },
+        Case {
+            test: None,
+            block: BlockId(2),
+        },
+    ];
+    Ok(Terminal::Switch {
+        test: read(0),
+        cases: List::from_slice(alloc, &cases)?,
+        fallthrough: BlockId(3),
+        id: EvaluationOrder(9),
+        span: None,
+    })
+}
+
+/// The operands of that switch.
+fn switch_operands(alloc: Global) -> Result<List<Place>, Fault> {
+    each_terminal_operand(alloc, &switch(alloc)?)
+}
+
+/// Its place in the order of evaluation.
+fn switch_order(alloc: Global) -> Result<EvaluationOrder, AllocError> {
+    Ok(switch(alloc)?.evaluation_order())
+}
+
+#[test]
+fn a_default_has_no_test(rt: HostRuntime) -> Result<(), Fail> {
+    let alloc = rt.alloc();
+    assert!(rt; are(&switch_operands(alloc)?, &[0, 1]));
+    assert_eq!(rt; switch_order(alloc)?, EvaluationOrder(9));
+    Ok(())
+}
+
+/// The operands of a function as a value, where a table of one function with that context is at hand.
+fn function_operands(alloc: Global, context: &[Place], number: u32) -> Result<List<Place>, Fault> {
+    let function = with_row(one_block(alloc, context)?, debugger())?;
+    let env = one_function(alloc, function)?;
+    each_instruction_value_operand(alloc, &nested(number), &env)
+}
+
+#[test]
+fn a_function_reads_its_context(rt: HostRuntime) -> Result<(), Fail> {
+    assert!(rt; are(&function_operands(rt.alloc(), &[read(6)], 0)?, &[6]));
+    Ok(())
+}
+
+#[test]
+fn a_function_outside_its_table_is_a_bad_name(rt: HostRuntime) {
+    let refused = Fault::BadName {
+        table: TableName::Functions,
+        index: 1,
+    };
+    assert_eq!(rt; function_operands(rt.alloc(), &[], 1).err(), Some(refused));
+}
+
+#[test]
+fn a_capture_may_change_its_value(rt: HostRuntime) {
+    assert!(rt; Effect::Capture.is_mutable());
+    assert!(rt; !Effect::Read.is_mutable());
+}

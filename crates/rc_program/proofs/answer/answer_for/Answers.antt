@@ -1,0 +1,20 @@
+-- What is refused for another cause than want of memory has no answer, and its fault has a line.
+use Rattle.std.proofs.Common.{◌≡◌, refl, Err, true, false}
+use Rattle.rc_hir.specs.declared.fault.Fault.TheVariants as faults
+use Rattle.rc_program.proofs.RefusalLemmas.{line_of_cause, no_answer_of}
+use Rattle.rc_program.proofs.answer.answer_for.Goals as goal
+
+pub returns : goal.returns
+returns c = record {
+  fault = c.in-Err.fault;
+  named = line_of_cause c.args.doc c.in-Err.fault c.in-Err.ensures.refused other;
+  cause = c.in-Err.ensures.refused;
+  no_answer = no_answer_of c.args.doc (Err c.in-Err.fault) c.in-Err.fault refl other c.in-Err.ensures.complete;
+  line = c.in_ok-fault_line-in-Err.ensures;
+}
+  where
+    other : c.in-Err.fault ≡ faults.NoMemory → ⊥
+    other same =
+        let yes : c.is_want_of_memory.result ≡ true = c.is_want_of_memory.ensures.1 same in
+        let no : c.is_want_of_memory.result ≡ false = c.if-is_want_of_memory.false in
+        cc

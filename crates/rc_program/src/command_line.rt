@@ -1,0 +1,59 @@
+//! The words of the command line.
+
+ghost use Rattle.std.specs.Prelude.{◌≡◌, ◌↔◌, ◌⊎◌, Err, IfErr, IfOk, IsErr, IsTrue, MatchResult, drop, map, string_bytes};
+ghost use Rattle.std.specs.Vec.Iter.{into_iter_items};
+ghost use Rattle.rc_program.specs.Outcome.{IsTree};
+
+use crate::stop::Stop;
+use rc_names::{List, Text};
+use std::alloc::{AllocError, Global};
+use std::env::Args;
+use std::io;
+
+/// The command line without the program's name.
+pub type Words = List<Text>;
+
+/// The words of a command line: `Usage` where one isn't UTF-8, and `NoMemory` where memory is wanting.
+pub fn words(alloc: Global, args: io::Result<Args>) -> Result<Words, Stop>
+    ensures ok { MatchResult args
+        (λ args. IfOk result (λ words. words ≡ map string_bytes (drop 1 (into_iter_items args)))) (λ _. IsErr result) }
+    ensures usage { result ≡ Err Stop.Usage → IsErr args }
+    ensures only { IfErr result (λ stop. (stop ≡ Stop.Usage) ⊎ (stop ≡ Stop.NoMemory)) }
+{
+    match args {
+        Ok(args) => Ok(words_after_name(alloc, args)?),
+        Err(error) if error.kind() == io::ErrorKind::OutOfMemory => Err(Stop::NoMemory),
+        Err(_) => Err(Stop::Usage),
+    }
+}
+
+/// The words behind the first, which is the program's name. The only error is want of memory.
+fn words_after_name(alloc: Global, args: Args) -> Result<Words, AllocError>
+    ensures { IfOk result (λ words. words ≡ map string_bytes (drop 1 (into_iter_items args))) }
+{
+    let mut words = List::new(alloc);
+    let mut rest = args;
+    rest.next();
+    while let Some(word) = rest.next() {
+        words.push(Text::from(word))?;
+    }
+    Ok(words)
+}
+
+/// Whether the words are the one word `tree`.
+#[tactic(auto, using(crate::proofs::OneWord::one_word))]
+pub fn is_tree(words: &Words) -> bool
+    ensures { IsTrue result ↔ IsTree words.now }
+{
+    match words.as_slice() {
+        [word] => is_word(word, "tree"),
+        _ => false,
+    }
+}
+
+/// Whether a word is that one.
+fn is_word(word: &Text, name: &str) -> bool
+    ensures { IsTrue result ↔ (word.now ≡ name.now) }
+{
+    word.as_str() == name
+}

@@ -1,0 +1,51 @@
+//! What became of each scope, a line each.
+
+ghost use Rattle.std.specs.Prelude.{◌≡◌, ◌++◌, OnOk, decimal};
+ghost use Rattle.rc_program.specs.FunctionLines.{fate_text, scope_fate_text, fate_lines};
+
+use crate::printing::page::Page;
+use rc_names::ScopeId;
+use rc_pipe::{Fate, ScopeFate};
+use std::alloc::AllocError;
+
+/// A line for each scope, behind so many spaces.
+pub fn write_fates(page: &mut Page, fates: &[ScopeFate], indent: usize) -> Result<(), AllocError>
+    ensures { OnOk result (page.new ≡ page.old ++ fate_lines fates.now indent) }
+{
+    for scope in fates {
+        page.indent(indent)?;
+        write_scope_fate(page, *scope)?;
+        page.push("\n")?;
+    }
+    Ok(())
+}
+
+fn write_scope_fate(page: &mut Page, scope: ScopeFate) -> Result<(), AllocError>
+    ensures { OnOk result (page.new ≡ page.old ++ scope_fate_text scope) }
+{
+    page.push("scope ")?;
+    page.number(scope.scope.0)?;
+    page.push(" ")?;
+    write_fate(page, scope.fate)
+}
+
+fn write_fate(page: &mut Page, fate: Fate) -> Result<(), AllocError>
+    ensures { OnOk result (page.new ≡ page.old ++ fate_text fate) }
+{
+    match fate {
+        Fate::Kept => page.push("kept"),
+        Fate::NotEscaping => page.push("not-escaping"),
+        Fate::Unused => page.push("unused"),
+        Fate::MergedInto(scope) => write_into(page, "merged into ", scope),
+        Fate::DissolvedInto(scope) => write_into(page, "dissolved into ", scope),
+        Fate::AlwaysInvalidating => page.push("always-invalidating"),
+    }
+}
+
+/// A name with the scope that another one went into.
+fn write_into(page: &mut Page, name: &str, scope: ScopeId) -> Result<(), AllocError>
+    ensures { OnOk result (page.new ≡ page.old ++ (name.now ++ decimal scope.0)) }
+{
+    page.push(name)?;
+    page.number(scope.0)
+}

@@ -1,0 +1,104 @@
+//! The text that is being written.
+//!
+//! Lines begin with spaces, more of them the deeper they stand. The page keeps as many spaces as its deepest line
+//! began with, so that a line's spaces are one copy and a step down takes no memory.
+
+ghost use Rattle.std.specs.Prelude.{◌≡◌, [], ◌++◌, replicate, decimal, IfOk, OnOk, ◌≤◌, string_bytes, length};
+ghost use Rattle.rc_program.specs.LineText.{deeper};
+ghost use Rattle.rc_program.specs.Blank.{IsBlank};
+
+use rc_names::Text;
+use std::alloc::{AllocError, Global};
+use std::fmt::Write;
+use std::marker::Model;
+
+/// A text that grows, which contracts see as its bytes.
+#[derive(Drop)]
+pub struct Page {
+    text: String,
+    spaces: String,
+}
+
+impl Model for Page {
+    ghost use Rattle.std.specs.Prelude.{List, ℕ, string_bytes};
+    ghost use Rattle.rc_program.specs.LineText.{deeper};
+    ghost use Rattle.rc_program.specs.Blank.{IsBlank};
+
+    ghost Value = { List ℕ };
+
+    ghost view = { λ page. string_bytes page.text };
+
+    ghost invariant = { λ page. IsBlank (string_bytes page.spaces) };
+}
+
+impl Page {
+    /// An empty page, which takes no memory.
+    #[tactic(auto, unfolding(crate::specs::Blank::IsBlank))]
+    pub fn new(alloc: Global) -> Page
+        ensures { result ≡ [] }
+    {
+        Page {
+            text: String::new(alloc),
+            spaces: String::new(alloc),
+        }
+    }
+
+    /// The allocator of the text.
+    pub fn allocator(&self) -> Global {
+        *self.text.allocator()
+    }
+
+    /// Writes a text.
+    pub fn push(&mut self, piece: &str) -> Result<(), AllocError>
+        ensures { OnOk result (self.new ≡ self.old ++ piece.now) }
+    {
+        self.text.push_str(piece)
+    }
+
+    /// Writes a number's digits.
+    pub fn number(&mut self, n: u32) -> Result<(), AllocError>
+        ensures { OnOk result (self.new ≡ self.old ++ decimal n) }
+    {
+        match write!(self.text, "{n}") {
+            Ok(()) => Ok(()),
+            Err(_) => Err(AllocError),
+        }
+    }
+
+    /// Writes the spaces that a line begins with.
+    #[tactic(auto, using(crate::proofs::BlankLemmas::take_blank, crate::proofs::BlankLemmas::blank_splits))]
+    pub fn indent(&mut self, width: usize) -> Result<(), AllocError>
+        ensures { OnOk result (self.new ≡ self.old ++ replicate width 32) }
+    {
+        widen(&mut self.spaces, width)?;
+        let spaces = self.spaces.as_str();
+        self.text.push_str(&spaces[..width])
+    }
+
+    /// The text, without a copy.
+    pub fn finish(self) -> Text
+        ensures { result ≡ self }
+    {
+        Text::from(self.text)
+    }
+}
+
+/// The spaces of a line one level below. The only error is want of memory: no line has more than 2^64 spaces.
+pub fn deeper(indent: usize) -> Result<usize, AllocError>
+    ensures { IfOk result (λ width. width ≡ deeper indent) }
+{
+    indent.checked_add(2).ok_or(AllocError)
+}
+
+/// Adds spaces up to a width.
+#[tactic(auto, using(crate::proofs::BlankLemmas::blank_longer))]
+fn widen(spaces: &mut String, width: usize) -> Result<(), AllocError>
+    requires { IsBlank (string_bytes spaces.old) }
+    ensures blank { IsBlank (string_bytes spaces.new) }
+    ensures wide { OnOk result (width ≤ length (string_bytes spaces.new)) }
+{
+    while spaces.len() < width {
+        spaces.push_str("  ")?;
+    }
+    Ok(())
+}

@@ -1,0 +1,143 @@
+//! Graphs of several blocks, with the trees that are printed for them.
+
+use super::{HEAD, is_answered, replaced};
+use rc_program::Status;
+use std::alloc::{AllocError, Global};
+use std::test::Fail;
+
+/// A document of two parameters, whose one row has the number `ROW` in the order of evaluation, and whose blocks stand
+/// where `BLOCKS` does.
+const DOCUMENT: &str = r#"{"hir":{"params":[{"k":"Place","v":0},{"k":"Place","v":1}],
+"body":{"entry":0,"blocks":[BLOCKS]},
+"instructions":[{"id":ROW,"lvalue":2,"value":{"k":"Debugger"}}]},
+"env":{"identifiers":[{"declaration_id":0,"type_":0},{"declaration_id":1,"type_":0},{"declaration_id":2,"type_":0}],
+"types":["Other"],"scopes":[{"range":{"start":1,"end":4}}],"config":{},"next_block":5}}"#;
+
+/// An `If` whose alternate is its fallthrough.
+const IF: &str = r#"
+{"id":0,"terminal":{"k":"If","test":0,"consequent":1,"alternate":2,"fallthrough":2,"id":1}},
+{"id":1,"instructions":[0],"terminal":{"k":"Goto","variant":"Break","block":2,"id":3}},
+{"id":2,"terminal":{"k":"Return","value":1,"id":4}}"#;
+
+/// What is printed for it.
+const IF_TEXT: &str = r#"  if 0 id 1 as bb2 implicit
+    then
+      2 2 = {"k":"Debugger"}
+      break bb2 implicit id 3
+  return 1 id 4
+fates
+"#;
+
+/// A `Label` around an `If` that breaks out of both.
+const LABEL: &str = r#"
+{"id":0,"terminal":{"k":"Label","block":1,"fallthrough":2,"id":1}},
+{"id":1,"terminal":{"k":"If","test":0,"consequent":3,"alternate":4,"fallthrough":4,"id":2}},
+{"id":3,"terminal":{"k":"Goto","variant":"Break","block":2,"id":3}},
+{"id":4,"instructions":[0],"terminal":{"k":"Goto","variant":"Break","block":2,"id":5}},
+{"id":2,"terminal":{"k":"Return","value":0,"id":6}}"#;
+
+/// What is printed for it.
+const LABEL_TEXT: &str = r#"  label id 1 as bb2
+    body
+      if 0 id 2 as bb4 implicit
+        then
+          break bb2 labeled id 3
+      4 2 = {"k":"Debugger"}
+      break bb2 implicit id 5
+  return 0 id 6
+fates
+"#;
+
+/// A `Label` that no labeled jump names.
+const UNUSED_LABEL: &str = r#"
+{"id":0,"terminal":{"k":"Label","block":1,"fallthrough":2,"id":1}},
+{"id":1,"instructions":[0],"terminal":{"k":"Goto","variant":"Break","block":2,"id":3}},
+{"id":2,"terminal":{"k":"Return","value":0,"id":4}}"#;
+
+/// What is printed for it: its statements stand in its place.
+const UNUSED_LABEL_TEXT: &str = r#"  2 2 = {"k":"Debugger"}
+  break bb2 implicit id 3
+  return 0 id 4
+fates
+"#;
+
+/// A `Scope` around the row.
+const SCOPE: &str = r#"
+{"id":0,"terminal":{"k":"Scope","fallthrough":2,"block":1,"scope":0,"id":1}},
+{"id":1,"instructions":[0],"terminal":{"k":"Goto","variant":"Break","block":2,"id":3}},
+{"id":2,"terminal":{"k":"Return","value":0,"id":4}}"#;
+
+/// What is printed for it where the scope declares nothing of its own.
+const UNUSED_SCOPE_TEXT: &str = r#"  pruned 0
+    2 2 = {"k":"Debugger"}
+  return 0 id 4
+fates
+  scope 0 unused
+"#;
+
+/// What is printed for it where the scope declares the target of the row.
+const KEPT_SCOPE_TEXT: &str = r#"  scope 0
+    2 2 = {"k":"Debugger"}
+  return 0 id 4
+fates
+  scope 0 kept
+"#;
+
+/// The scopes of the document.
+const SCOPES: &str = r#""scopes":[{"range":{"start":1,"end":4}}]"#;
+
+/// Two scopes, of which the first has the target of the row as a declaration of the scope `OWNER`.
+const DECLARED: &str = r#""scopes":[{"range":{"start":1,"end":4},
+"declarations":[{"key":2,"value":{"identifier":2,"scope":OWNER}}]},{"range":{"start":1,"end":4}}]"#;
+
+/// The document of these blocks, whose row has that number in the order of evaluation.
+fn document(alloc: Global, row: &str, blocks: &str) -> Result<String, AllocError> {
+    let numbered = replaced(alloc, DOCUMENT, "ROW", row)?;
+    replaced(alloc, numbered.as_str(), "BLOCKS", blocks)
+}
+
+/// Whether these statements are printed for a document.
+fn has_statements(alloc: Global, document: &str, statements: &str) -> Result<bool, AllocError> {
+    let text = format!(in alloc; "{HEAD}{statements}")?;
+    is_answered(alloc, document.as_bytes(), Status::Done, text.as_str())
+}
+
+#[test]
+fn graphs_of_several_blocks_have_their_statements(rt: HostRuntime) -> Result<(), Fail> {
+    let alloc = rt.alloc();
+    let cases = [
+        ("2", IF, IF_TEXT),
+        ("4", LABEL, LABEL_TEXT),
+        ("2", UNUSED_LABEL, UNUSED_LABEL_TEXT),
+        ("2", SCOPE, UNUSED_SCOPE_TEXT),
+    ];
+    for (row, blocks, statements) in cases {
+        let document = document(alloc, row, blocks)?;
+        assert!(rt;
+            has_statements(alloc, document.as_str(), statements)?,
+            "of {blocks}"
+        );
+    }
+    Ok(())
+}
+
+/// The document of the scope, of which the target of the row is a declaration where it is the owner.
+fn declared_by(alloc: Global, owner: &str) -> Result<String, AllocError> {
+    let scopes = replaced(alloc, DECLARED, "OWNER", owner)?;
+    let document = document(alloc, "2", SCOPE)?;
+    replaced(alloc, document.as_str(), SCOPES, scopes.as_str())
+}
+
+#[test]
+fn a_scope_is_kept_for_a_declaration_of_its_own(rt: HostRuntime) -> Result<(), Fail> {
+    let alloc = rt.alloc();
+    let cases = [("0", KEPT_SCOPE_TEXT), ("1", UNUSED_SCOPE_TEXT)];
+    for (owner, statements) in cases {
+        let document = declared_by(alloc, owner)?;
+        assert!(rt;
+            has_statements(alloc, document.as_str(), statements)?,
+            "declared by {owner}"
+        );
+    }
+    Ok(())
+}
