@@ -6,27 +6,22 @@ use Rattle.std.proofs.lemmas.Bool.{or_cases}
 use Rattle.std.proofs.lemmas.Map.Views.{Contains-from_lookup}
 use Rattle.std.specs.List.{All, flat_map, list_any, find}
 use Rattle.std.specs.Prelude.{nat_eq, option_map}
-use Rattle.rc_names.specs.declared.numbers.BlockId.{BlockId}
-use Rattle.rc_names.specs.declared.numbers.InstructionId.{InstructionId}
-use Rattle.rc_hir.specs.declared.fault.Fault.{Fault}
+use Rattle.rc_names.specs.Numbers.{BlockId, InstructionId}
+use Rattle.rc_hir.specs.Model.{Fault, Rule, BasicBlock, HirFunction, Environment}
 use Rattle.rc_hir.specs.declared.fault.Fault.TheVariants as faults
-use Rattle.rc_hir.specs.declared.fault.Rule.{Rule}
-use Rattle.rc_hir.specs.declared.fault.TableName.TheVariants as tables
-use Rattle.rc_hir.specs.declared.function.BasicBlock.{BasicBlock}
-use Rattle.rc_hir.specs.declared.function.HirFunction.{HirFunction}
-use Rattle.rc_hir.specs.declared.environment.Environment.{Environment}
+use Rattle.rc_hir.specs.declared.fault.TableName.TheVariants as table_names
 use Rattle.rc_hir.specs.GraphNames.{Name, row_name, block_names, under_key, parameter_names}
 use Rattle.rc_hir.specs.GraphNames.{place_names, instruction_names, terminal_names}
 use Rattle.rc_hir.specs.Names.{IsInTable, lengths, FunctionInTables}
-use Rattle.rc_tree.specs.declared.function.ReactiveFunction.{ReactiveFunction}
+use Rattle.rc_tree.specs.Model.{ReactiveFunction}
 use Rattle.rc_tree.proofs.PlaceLemmas.{past_end}
 use Rattle.rc_runs.specs.Spelled.{Spells}
 use Rattle.rc_runs.proofs.AllLemmas.{All-left, All-right, All-flat_map}
-use Rattle.rc_runs.proofs.GraphLemmas.{same_block-eq}
+use Rattle.rc_names.proofs.NumbersLemmas.{same_id-eq}
 use Rattle.rc_runs.proofs.NamesOutsideLemmas.{no_name_outside}
 use Rattle.rc_build.specs.BuiltForms.{is_built, first_unbuilt}
 use Rattle.rc_build.specs.BuildCauses.{CanBeBuilt, IsBuildCause, SpellsNone}
-use Rattle.rc_build.specs.RuleFacts.{At, LacksRow, FaultFact}
+use Rattle.rc_build.specs.RuleFacts.{BlockIs, LacksRow, FaultFact}
 
 module _ (hir : HirFunction) (env : Environment) where
   -- the number is in its table, where the function's rows count
@@ -40,7 +35,7 @@ module _ (hir : HirFunction) (env : Environment) where
   none_past index [] all past any = let no : ⊥ = cc in no
   none_past index (n ∷ ns) all past any =
       let here : n.0 < length hir.instructions = All-left Held (row_name n) (flat_map row_name ns) all 0
-      (tables.Instructions, 0) (omega arith) in
+      (table_names.Instructions, 0) (omega arith) in
       split here (λ any. none_past index ns (All-right Held (row_name n) (flat_map row_name ns) all) past any)
       (or_cases (nat_eq index n.0) _ any)
     where
@@ -51,9 +46,9 @@ module _ (hir : HirFunction) (env : Environment) where
 
   -- a block of a named function names no row that isn't there
   no_row_lacks : FunctionInTables env hir → (key : BlockId) (index : ℕ) → slice_get hir.instructions index ≡ None
-      → At hir key (LacksRow hir index) → ⊥
+      → BlockIs hir key (LacksRow hir index) → ⊥
   no_row_lacks names key index none at =
-      let held = Contains-from_lookup same_block-eq key at.block hir.body.blocks at.found in
+      let held = Contains-from_lookup same_id-eq key at.block hir.body.blocks at.found in
       let later : All Held (flat_map place_names hir.context
       ++ (flat_map (under_key block_names) hir.body.blocks ++ flat_map instruction_names hir.instructions)) =
       All-right Held (flat_map parameter_names hir.params) _ names
@@ -113,18 +108,18 @@ module _ (hir : HirFunction) (env : Environment) (can : CanBeBuilt hir env) wher
       ((block : BlockId) (rule : Rule) → fault ≡ faults.Malformed block rule → SpellsNone hir env)
       → IsBuildCause hir env fault
   cause_of (faults.Malformed block rule) fact none = (can, none block rule refl, fact)
-  cause_of (faults.BadName tables.Instructions index) fact none =
+  cause_of (faults.BadName table_names.Instructions index) fact none =
       absurd (no_row_lacks hir env can.names.graph fact.1.0 index fact.0 fact.1.1)
   cause_of (faults.NotBuilt key) fact none =
-      let held = Contains-from_lookup same_block-eq key fact.block hir.body.blocks fact.found in
+      let held = Contains-from_lookup same_id-eq key fact.block hir.body.blocks fact.found in
       absurd (none_unbuilt hir.body.blocks can.forms held.0 (key, fact.block) held.1 held.2 fact.holds)
   cause_of faults.NoMemory fact none = tt
-  cause_of (faults.BadName tables.Identifiers index) fact none = absurd fact
-  cause_of (faults.BadName tables.Declarations index) fact none = absurd fact
-  cause_of (faults.BadName tables.Types index) fact none = absurd fact
-  cause_of (faults.BadName tables.Scopes index) fact none = absurd fact
-  cause_of (faults.BadName tables.Functions index) fact none = absurd fact
-  cause_of (faults.BadName tables.Shapes index) fact none = absurd fact
+  cause_of (faults.BadName table_names.Identifiers index) fact none = absurd fact
+  cause_of (faults.BadName table_names.Declarations index) fact none = absurd fact
+  cause_of (faults.BadName table_names.Types index) fact none = absurd fact
+  cause_of (faults.BadName table_names.Scopes index) fact none = absurd fact
+  cause_of (faults.BadName table_names.Functions index) fact none = absurd fact
+  cause_of (faults.BadName table_names.Shapes index) fact none = absurd fact
   cause_of (faults.Todo block) fact none = absurd fact
   cause_of (faults.EarlyReturnSet scope) fact none = absurd fact
   cause_of (faults.ScopeCompleted id scope) fact none = absurd fact

@@ -1,54 +1,79 @@
 -- The whole builder: from where it starts to the function, or to none.
-use Rattle.std.proofs.Common.{◌≡◌, List, [], ◌∷◌, ◌++◌, refl, sym, ap, ◌∙◌, subst, arith}
+use Rattle.std.proofs.Common.{◌≡◌, List, None, [], ◌∷◌, ◌++◌, refl, sym, ap, ◌∙◌, subst, arith}
 use Rattle.std.specs.List.{IsDistinct}
-use Rattle.rc_names.specs.declared.numbers.BlockId.{BlockId}
-use Rattle.rc_names.specs.declared.numbers.ScopeId.{ScopeId}
-use Rattle.rc_hir.specs.declared.function.HirFunction.{HirFunction}
-use Rattle.rc_hir.specs.declared.environment.Environment.{Environment}
-use Rattle.rc_tree.specs.declared.function.ReactiveFunction.{ReactiveFunction}
+use Rattle.rc_hir.specs.Model.{HirFunction, Environment}
+use Rattle.rc_tree.specs.Model.{ReactiveFunction, ReactiveStatement}
 use Rattle.rc_runs.specs.declared.frames.Frame.{Frame}
-use Rattle.rc_build.specs.declared.state.Marks.{Marks}
-use Rattle.rc_runs.specs.ListContext.{ListContext, outermost}
-use Rattle.rc_runs.specs.Grammar.{SpellsList}
-use Rattle.rc_runs.specs.Spelled.{AreSound, Spells}
-use Rattle.rc_build.specs.BuiltFrom.{Marked, AtList, AreNamed, AreUsed, IsUsed, AreOwned, pending_blocks, used_blocks}
-use Rattle.rc_build.specs.Built.{NoList}
+use Rattle.rc_names.specs.Numbers.{BlockId}
+use Rattle.rc_build.specs.declared.builder.Builder.{Builder}
+use Rattle.rc_build.specs.declared.builder.Marks.{Marks}
+use Rattle.rc_runs.specs.ListContext.{outermost}
+use Rattle.rc_runs.specs.Spelled.{AreSound, Spells as SpellsFunction, with_header}
+use Rattle.rc_build.specs.inside.CanBuild.{AreMarked, CanBuildList, AreReferenced}
+use Rattle.rc_build.specs.inside.Setting.{Setting, setting_of}
+use Rattle.rc_build.specs.inside.Task.{FromBlock, Nothing, Progress, Spells, no_progress}
+use Rattle.rc_build.specs.inside.Built.{BuiltPrefix, Refused}
+use Rattle.rc_build.proofs.BuiltLemmas.{whole_list}
 
-no_marks : Marks
+abbrev no_marks : Marks
 no_marks = record { used = []; scopes = [] }
 
-nothing_marked : (hir : HirFunction) → Marked hir no_marks
-unfolding no_marks IsDistinct
+-- nothing stands around the entry's list
+pub at_outermost : (builder : Builder) (block : BlockId) {hir : HirFunction} {env : Environment}
+    → builder.hir.now ≡ hir → builder.env.now ≡ env → builder.frames ≡ []
+    → setting_of builder (record { block = block; next = None; handler = None })
+    ≡ record { hir = hir; env = env; context = outermost }
+at_outermost builder block h e f = cc
+
+nothing_marked : (hir : HirFunction) → AreMarked hir no_marks
+unfolding IsDistinct
 nothing_marked hir = record {
   sound = record { distinct = tt; alive = λ key c. absurd (omega arith); scopes_once = tt };
   known = λ key h. absurd (let bad : ⊥ = cc in bad);
   scopes = refl;
 }
 
-entry_named : (hir : HirFunction) → AreNamed hir [] (hir.body.entry ∷ [])
-entry_named hir key = omega arith
+entry_referenced : (hir : HirFunction) → AreReferenced hir [] (hir.body.entry ∷ [])
+entry_referenced hir key = omega arith
 
--- nothing is used yet, and the entry is named
-pub at_entry : (hir : HirFunction) (marks : Marks) (frames : List Frame) → marks.used ≡ [] → marks.scopes ≡ []
-    → frames ≡ [] → AtList hir marks frames hir.body.entry
-unfolding no_marks
-at_entry hir marks frames u s f =
-    let used_so : List BlockId → Marks = λ z. record { used = z; scopes = [] } in
-    let opened_so : List ScopeId → Marks = λ z. record { used = marks.used; scopes = z } in
-    let empty : no_marks ≡ marks = ap used_so (sym u) ∙ ap opened_so (sym s) in
+-- nothing is used yet, and the entry is referred to
+pub at_entry : (hir : HirFunction) (marks : Marks) (frames : List Frame) → marks ≡ no_marks → frames ≡ []
+    → CanBuildList hir marks frames hir.body.entry
+at_entry hir marks frames m f =
+    subst (λ z. CanBuildList hir z frames hir.body.entry) (sym m)
+    (subst (λ z. CanBuildList hir no_marks z hir.body.entry) (sym f) (record {
+      marked = nothing_marked hir;
+      referenced = entry_referenced hir;
+      used_before = λ key h. absurd (let bad : ⊥ = cc in bad);
+      owned = tt;
+    }))
+
+-- the entry's list, built to its end from nothing, is the body of the function
+pub function_built : {hir : HirFunction} {env : Environment} {s : Setting} {old new : Progress}
+    {func : ReactiveFunction} {list : List ReactiveStatement} →
+    s ≡ record { hir = hir; env = env; context = outermost } → old ≡ no_progress → list ≡ new.out →
+    BuiltPrefix s (FromBlock hir.body.entry) Nothing old new
+    → func ≡ with_header hir (record { statements = list }) → SpellsFunction hir env func
+function_built {hir} {env} {s} {old} {new} {func} {list} is none l p e =
+    let q = subst (λ z. BuiltPrefix z (FromBlock hir.body.entry) Nothing old new) is p in
+    let r = subst (λ z. BuiltPrefix (record { hir = hir; env = env; context = outermost }) (FromBlock hir.body.entry)
+    Nothing z new) none q in
+    let b = whole_list {outer = []} {kept = []} r refl l refl in
     record {
-      marked = subst (Marked hir) empty (nothing_marked hir);
-      named = subst (λ z. AreNamed hir z (hir.body.entry ∷ pending_blocks frames)) (sym u)
-          (subst (λ z. AreNamed hir [] (hir.body.entry ∷ pending_blocks z)) (sym f) (entry_named hir));
-      used_before = subst (λ z. AreUsed marks (used_blocks z)) (sym f) (λ key h. absurd (let bad : ⊥ = cc in bad));
-      owned = subst (AreOwned hir (IsUsed marks)) (sym f) tt;
+      statements = b.value;
+      body = record {
+        used = b.newly;
+        list = b.spelled;
+        sound = subst (AreSound hir) b.marking.used b.marking.marked.sound;
+      };
+      whole = e ∙ ap (λ z. with_header hir (record { statements = z })) b.is;
     }
 
 -- where the entry's list is refused, no function is spelled
-pub none_spelled : (hir : HirFunction) (env : Environment) (context : ListContext) (marks : Marks) → marks.used ≡ []
-    → context ≡ outermost → NoList hir env hir.body.entry context marks → (func : ReactiveFunction)
-    → Spells hir env func → ⊥
-none_spelled hir env context marks u e none func s =
-    none s.statements s.body.used
-    (subst (λ z. SpellsList hir env hir.body.entry z s.statements s.body.used) (sym e) s.body.list)
-    (subst (λ z. AreSound hir (z ++ s.body.used)) (sym u) s.body.sound)
+pub none_spelled : {hir : HirFunction} {env : Environment} {s : Setting} {marks : Marks} →
+    s ≡ record { hir = hir; env = env; context = outermost } → marks ≡ no_marks →
+    Refused s.hir (Spells s (FromBlock hir.body.entry)) marks.used → (func : ReactiveFunction) → SpellsFunction hir env func → ⊥
+none_spelled {hir} {env} {s} {marks} is none refused func f =
+    subst (λ (z : Setting). Refused z.hir (Spells z (FromBlock hir.body.entry)) marks.used) is refused
+    f.statements f.body.used f.body.list
+    (subst (λ (z : Marks). AreSound hir (z.used ++ f.body.used)) (sym none) f.body.sound)

@@ -1,29 +1,28 @@
 -- What the builder's parts give together, whatever they are parts of.
-use Rattle.std.proofs.Common.{◌≡◌, ◌≤◌, Bool, true, false, List, [], ◌∷◌, ◌++◌, Option, Some, None, refl, sym, ap, ◌∙◌}
-use Rattle.std.proofs.Common.{subst, append_assoc, arith, map}
+use Rattle.std.proofs.Common.{◌≡◌, ◌≤◌, Bool, true, false, List, [], ◌∷◌, ◌++◌, Option, Some, refl, sym, ap, ◌∙◌, subst}
+use Rattle.std.proofs.Common.{append_assoc, arith, map}
+use Rattle.std.specs.Prelude.{is_some}
 use Rattle.std.proofs.lemmas.List.{append-nil}
-use Rattle.rc_names.specs.declared.numbers.BlockId.{BlockId}
-use Rattle.rc_hir.specs.declared.terminal.Terminal.{Terminal}
-use Rattle.rc_hir.specs.declared.function.Instruction.{Instruction}
-use Rattle.rc_hir.specs.declared.function.BasicBlock.{BasicBlock}
-use Rattle.rc_hir.specs.declared.function.HirFunction.{HirFunction}
-use Rattle.rc_hir.specs.declared.environment.Environment.{Environment}
-use Rattle.rc_tree.specs.declared.statement.ReactiveStatement.{ReactiveStatement}
-use Rattle.rc_build.specs.declared.state.Marks.{Marks}
+use Rattle.rc_names.specs.Numbers.{BlockId, times}
+use Rattle.rc_hir.specs.Model.{Terminal, Instruction, BasicBlock, HirFunction}
+use Rattle.rc_tree.specs.Model.{ReactiveStatement}
+use Rattle.rc_build.specs.declared.builder.Marks.{Marks}
 use Rattle.rc_runs.specs.PlainTree.{Statements, Nil, Cons, Statement, RowStatement, Base}
-use Rattle.rc_runs.specs.ListContext.{ListContext}
+use Rattle.rc_runs.specs.Frames.{is_jump_target}
+use Rattle.rc_runs.specs.Graph.{usable_block}
 use Rattle.rc_runs.specs.TreeOf.{statements_of, statement_of}
 use Rattle.rc_runs.specs.Grammar.{SpellsList, SpellsTerminal, SpellsStatement, SpellsRest, rows_before, block, and_rest}
 use Rattle.rc_runs.specs.Grammar.{opened, closed, returns, unreachable, breaks}
 use Rattle.rc_runs.specs.Spelled.{AreSound}
-use Rattle.rc_build.specs.Rows.{row_statement_of}
-use Rattle.rc_build.specs.Namings.{named_blocks, listed, times}
-use Rattle.rc_build.specs.BuiltFrom.{Marked, AreNamed}
-use Rattle.rc_build.specs.Built.{join, MarksBlocks, MadeList, NoList, Refused, Partly, Rest, ListGoesOn, GoesOn}
-use Rattle.rc_build.specs.Built.{rest_of}
-use Rattle.rc_build.specs.Taken.{IsTaken, IsUnusable}
-use Rattle.rc_build.proofs.MarksLemmas.{front_sound, named_fewer, times_append}
-use Rattle.rc_build.proofs.UsableLemmas.{filled}
+use Rattle.rc_build.specs.References.{referenced_blocks}
+use Rattle.rc_build.specs.inside.Rows.{row_statement_of}
+use Rattle.rc_build.specs.inside.CanBuild.{AreMarked, AreReferenced}
+use Rattle.rc_build.specs.inside.Marks.{MarksBlocks}
+use Rattle.rc_build.specs.inside.Setting.{Setting, open_block}
+use Rattle.rc_build.specs.inside.Task.{join, Progress, Task, FromBlock, FromTerminal, Nothing, left, pending, Spells}
+use Rattle.rc_build.specs.inside.Built.{BuiltPrefix, BuiltList, Refused}
+use Rattle.rc_build.proofs.MarksLemmas.{front_sound, referenced_fewer, times_append}
+use Rattle.rc_build.proofs.UsableLemmas.{IsUnusable, filled}
 use Rattle.rc_runs.proofs.OneTree.{one_terminal, one_statement, rest_at, terminal_at}
 
 -- statements behind others, and none behind them
@@ -41,9 +40,9 @@ statements_of-join (Cons s a) b = ap (λ z. statement_of s ∷ z) (statements_of
 
 module _ (hir : HirFunction) where
   -- nothing is marked yet
-  pub marking_none : (pending : List BlockId) (marks : Marks) → Marked hir marks
-      → MarksBlocks hir pending pending marks marks []
-  marking_none pending marks m = record { used = sym (append-nil marks.used); marked = m; named = λ more h. h }
+  pub marking_none : (waiting : List BlockId) (marks : Marks) → AreMarked hir marks
+      → MarksBlocks hir waiting waiting marks marks []
+  marking_none waiting marks m = record { used = sym (append-nil marks.used); marked = m; referenced = λ more h. h }
 
   -- blocks are marked, and then further ones
   pub marking_then : {a b c : List BlockId} {old mid new : Marks} {xs ys : List BlockId}
@@ -51,36 +50,36 @@ module _ (hir : HirFunction) where
   marking_then {old = old} {xs = xs} {ys = ys} f g = record {
     used = g.used ∙ ap (λ z. z ++ ys) f.used ∙ append_assoc old.used xs ys;
     marked = g.marked;
-    named = λ more h. g.named more (f.named more h);
+    referenced = λ more h. g.referenced more (f.referenced more h);
   }
 
-  -- fewer of the pending namings are left
+  -- fewer of the pending references are left
   pub marking_drop : {a b c : List BlockId} {old new : Marks} {xs : List BlockId}
       → ((key : BlockId) → times key c ≤ times key b) → MarksBlocks hir a b old new xs → MarksBlocks hir a c old new xs
   marking_drop {b = b} {c = c} {new = new} d f = record {
     used = f.used;
     marked = f.marked;
-    named = λ more h. named_fewer hir new.used (c ++ more) (b ++ more)
-        (λ key. omega (arith, d key, times_append key b more, times_append key c more)) (f.named more h);
+    referenced = λ more h. referenced_fewer hir new.used (c ++ more) (b ++ more)
+        (λ key. omega (arith, d key, times_append key b more, times_append key c more)) (f.referenced more h);
   }
 
-  -- more namings were pending
+  -- more references were pending
   pub marking_more : {a b c : List BlockId} {old new : Marks} {xs : List BlockId}
       → ((key : BlockId) → times key b ≤ times key a) → MarksBlocks hir b c old new xs → MarksBlocks hir a c old new xs
   marking_more {a = a} {b = b} {old = old} d f = record {
     used = f.used;
     marked = f.marked;
-    named = λ more h. f.named more (named_fewer hir old.used (b ++ more) (a ++ more)
+    referenced = λ more h. f.referenced more (referenced_fewer hir old.used (b ++ more) (a ++ more)
         (λ key. omega (arith, d key, times_append key a more, times_append key b more)) h);
   }
 
-  -- further namings stay pending beside those of the marked blocks
+  -- further references stay pending beside those of the marked blocks
   pub marking_beside : {before more : List BlockId} {old new : Marks} {xs : List BlockId}
       → MarksBlocks hir before [] old new xs → MarksBlocks hir (before ++ more) more old new xs
   marking_beside {before = before} {more = more} {old = old} f = record {
     used = f.used;
     marked = f.marked;
-    named = λ others h. f.named (more ++ others) (subst (AreNamed hir old.used) (append_assoc before more others) h);
+    referenced = λ others h. f.referenced (more ++ others) (subst (AreReferenced hir old.used) (append_assoc before more others) h);
   }
 
   -- refused in front is refused
@@ -95,33 +94,54 @@ module _ (hir : HirFunction) where
   refused_back used front back s e l =
       subst (AreSound hir) (ap (λ z. used ++ z) e ∙ sym (append_assoc used front back) ∙ ap (λ z. z ++ back) (sym l)) s
 
-  -- nothing stands in `out` yet
-  pub partly_none : (S : Statements → List BlockId → Type 0) (pending : List BlockId) (out : List ReactiveStatement)
-      (marks : Marks) → Marked hir marks → Partly S S hir pending pending out out marks marks
-  partly_none S pending out marks m = record {
+-- the statements of rows
+rows_join : (rows : List Instruction) (rest : Statements) → rows_before rows rest ≡ join (rows_before rows Nil) rest
+rows_join [] rest = refl
+rows_join (row ∷ rows) rest =
+    ap (Cons (RowStatement row.id (Some row.lvalue) (Base row.value) row.span)) (rows_join rows rest)
+
+rows_put : (rows : List Instruction) → statements_of (rows_before rows Nil) ≡ map row_statement_of rows
+rows_put [] = refl
+rows_put (row ∷ rows) = ap (λ z. row_statement_of row ∷ z) (rows_put rows)
+
+-- a fallthrough is there where it is opened
+pub is_some-opened : {at : Option BlockId} (is_open : Bool) (fallthrough : BlockId) → at ≡ open_block is_open fallthrough
+    → is_some at ≡ is_open
+is_some-opened true fallthrough is = ap is_some is
+is_some-opened false fallthrough is = ap is_some is
+
+-- where a list goes on is at most its fallthrough
+pending_le : (is_open : Bool) (fallthrough key : BlockId)
+    → times key (pending (left (open_block is_open fallthrough))) ≤ times key (fallthrough ∷ [])
+pending_le true fallthrough key = omega arith
+pending_le false fallthrough key = omega arith
+
+module _ {s : Setting} where
+  -- nothing is built yet
+  pub prefix_none : (task : Task) (at : Progress) → AreMarked s.hir at.marks → BuiltPrefix s task task at at
+  prefix_none task at m = record {
     statements = Nil;
     newly = [];
-    put = sym (append-nil out);
-    marking = marking_none pending marks m;
-    onward = λ rest used d. d;
+    put = sym (append-nil at.out);
+    marking = marking_none s.hir (pending task) at.marks m;
+    onward = λ later used d. d;
     only = λ all used d. (all, used, d, refl);
   }
 
   -- one after the other
-  pub partly_then : (S R T : Statements → List BlockId → Type 0) {a b c : List BlockId}
-      {out mid whole : List ReactiveStatement} {old now new : Marks} →
-      Partly S R hir a b out mid old now → Partly R T hir b c mid whole now new → Partly S T hir a c out whole old new
-  partly_then S R T {out = out} p q = record {
+  pub prefix_then : {a b c : Task} {x y z : Progress} → BuiltPrefix s a b x y → BuiltPrefix s b c y z
+      → BuiltPrefix s a c x z
+  prefix_then {a = a} {x = x} p q = record {
     statements = join p.statements q.statements;
     newly = p.newly ++ q.newly;
     put = q.put ∙ ap (λ z. z ++ statements_of q.statements) p.put
-        ∙ append_assoc out (statements_of p.statements) (statements_of q.statements)
-        ∙ ap (λ z. out ++ z) (sym (statements_of-join p.statements q.statements));
-    marking = marking_then p.marking q.marking;
-    onward = λ rest used d. subst (λ z. S z ((p.newly ++ q.newly) ++ used))
-        (sym (join-append p.statements q.statements rest))
-        (subst (S (join p.statements (join q.statements rest))) (sym (append_assoc p.newly q.newly used))
-        (p.onward (join q.statements rest) (q.newly ++ used) (q.onward rest used d)));
+        ∙ append_assoc x.out (statements_of p.statements) (statements_of q.statements)
+        ∙ ap (λ z. x.out ++ z) (sym (statements_of-join p.statements q.statements));
+    marking = marking_then s.hir p.marking q.marking;
+    onward = λ later used d. subst (λ z. Spells s a z ((p.newly ++ q.newly) ++ used))
+        (sym (join-append p.statements q.statements later))
+        (subst (Spells s a (join p.statements (join q.statements later))) (sym (append_assoc p.newly q.newly used))
+        (p.onward (join q.statements later) (q.newly ++ used) (q.onward later used d)));
     only = λ all used d.
         let h = p.only all used d in
         let k = q.only h.0 h.1 h.2 in
@@ -129,101 +149,92 @@ module _ (hir : HirFunction) where
   }
 
   -- what is left is refused
-  pub partly_refused : (S R : Statements → List BlockId → Type 0) {a b : List BlockId}
-      {out whole : List ReactiveStatement} {old new : Marks} →
-      Partly S R hir a b out whole old new → Refused hir R new.used → Refused hir S old.used
-  partly_refused S R {old = old} p none all used d s =
+  pub prefix_refused : {a b : Task} {x y : Progress} → BuiltPrefix s a b x y → Refused s.hir (Spells s b) y.marks.used
+      → Refused s.hir (Spells s a) x.marks.used
+  prefix_refused {x = x} p none all used d sound =
       let h = p.only all used d in
-      none h.0 h.1 h.2 (refused_back old.used p.newly h.1 s h.3 p.marking.used)
+      none h.0 h.1 h.2 (refused_back s.hir x.marks.used p.newly h.1 sound h.3 p.marking.used)
 
-module _ (hir : HirFunction) (env : Environment) (context : ListContext) where
-  -- nothing is left
-  pub partly_done : (key : BlockId) (at : Option BlockId) (out : List ReactiveStatement) (old new : Marks) → at ≡ None →
-      ListGoesOn hir env key context at [] out old new → MadeList hir env key context out old new
-  partly_done key at out old new e p =
-      let q = subst (λ z. ListGoesOn hir env key context z [] out old new) e p in
-      record {
-        value = q.statements;
-        newly = q.newly;
-        is = q.put;
-        spelled = subst (λ z. SpellsList hir env key context z q.newly) (join-nil q.statements)
-            (subst (SpellsList hir env key context (join q.statements Nil)) (append-nil q.newly)
-            (q.onward Nil [] (refl, refl)));
-        marking = q.marking;
-      }
-
-  rows_join : (rows : List Instruction) (rest : Statements) → rows_before rows rest ≡ join (rows_before rows Nil) rest
-  rows_join [] rest = refl
-  rows_join (row ∷ rows) rest =
-      ap (Cons (RowStatement row.id (Some row.lvalue) (Base row.value) row.span)) (rows_join rows rest)
-
-  rows_put : (rows : List Instruction) → statements_of (rows_before rows Nil) ≡ map row_statement_of rows
-  rows_put [] = refl
-  rows_put (row ∷ rows) = ap (λ z. row_statement_of row ∷ z) (rows_put rows)
+  -- a list that is built to its end, where no statement stood in front of it
+  pub whole_list : {key : BlockId} {marks : Marks} {start outer kept list : List ReactiveStatement} {y : Progress}
+      → BuiltPrefix s (FromBlock key) Nothing (record { marks = marks; out = start }) y → start ≡ [] → list ≡ y.out
+      → kept ≡ outer
+      → BuiltList s key list (record { marks = marks; out = outer }) (record { marks = y.marks; out = kept })
+  whole_list {key = key} p none is same = record {
+    value = p.statements;
+    newly = p.newly;
+    is = is ∙ p.put ∙ ap (λ z. z ++ statements_of p.statements) none;
+    spelled = subst (λ z. Spells s (FromBlock key) z p.newly) (join-nil p.statements)
+        (subst (Spells s (FromBlock key) (join p.statements Nil)) (append-nil p.newly) (p.onward Nil [] (refl, refl)));
+    marking = p.marking;
+    kept = same;
+  }
 
   -- a block: its rows, and then its terminal
-  pub block_partly : (key : BlockId) (found : BasicBlock) {out mid : List ReactiveStatement} {old new : Marks}
-      → (t : IsTaken hir context.frames key found old new) → mid ≡ out ++ map row_statement_of t.rows →
-      Partly (SpellsList hir env key context) (SpellsTerminal hir env found.terminal context) hir
-      (key ∷ []) (named_blocks found.terminal) out mid old new
-  block_partly key found {out} t e = record {
-    statements = rows_before t.rows Nil;
+  pub block_prefix : (key : BlockId) (found : BasicBlock) (rows : List Instruction) {old new : Progress}
+      → usable_block s.hir key ≡ Some (filled found rows) → is_jump_target s.context.frames key ≡ false
+      → new.out ≡ old.out ++ map row_statement_of rows
+      → MarksBlocks s.hir (key ∷ []) (referenced_blocks found.terminal) old.marks new.marks (key ∷ [])
+      → BuiltPrefix s (FromBlock key) (FromTerminal found.terminal) old new
+  block_prefix key found rows {old = old} usable apart e marking = record {
+    statements = rows_before rows Nil;
     newly = key ∷ [];
-    put = e ∙ ap (λ z. out ++ z) (sym (rows_put t.rows));
-    marking = t.marking;
-    onward = λ rest used d. block t.usable t.apart d (sym (rows_join t.rows rest));
+    put = e ∙ ap (λ z. old.out ++ z) (sym (rows_put rows));
+    marking = marking;
+    onward = λ rest used d. block usable apart d (sym (rows_join rows rest));
     only = only;
   }
     where
-      only : (all : Statements) (used : List BlockId) → SpellsList hir env key context all used →
-          (rest : Statements) × (later : List BlockId) × SpellsTerminal hir env found.terminal context rest
+      only : (all : Statements) (used : List BlockId) → SpellsList s.hir s.env key s.context all used →
+          (rest : Statements) × (later : List BlockId) × SpellsTerminal s.hir s.env found.terminal s.context rest
           later × (used ≡ key ∷ later)
       only all used (block {rest = rest} {used = later} {block = other} u l d w) =
-          let same : other ≡ filled found t.rows = (let z = t.usable in cc) in
+          let same : other ≡ filled found rows = cc in
           (rest, later, terminal_at same d, refl)
 
   -- a block that no tree may use there
-  pub block_refused : (key : BlockId) (marks : Marks) → IsUnusable hir context.frames key marks
-      → NoList hir env key context marks
-  block_refused key marks none all used (block {used = later} {block = found} u l d w) s =
-      none found u l (refused_front hir marks.used (key ∷ []) later s refl)
+  pub block_refused : (key : BlockId) (marks : Marks) → IsUnusable s.hir s.context.frames key marks
+      → Refused s.hir (Spells s (FromBlock key)) marks.used
+  block_refused key marks none all used (block {used = later} {block = found} u l d w) sound =
+      none found u l (refused_front s.hir marks.used (key ∷ []) later sound refl)
 
   -- a terminal that ends its list
-  pub leaf_partly : (terminal : Terminal) (statements : Statements) (out whole : List ReactiveStatement) (marks : Marks)
-      → Marked hir marks → whole ≡ out ++ statements_of statements →
-      SpellsTerminal hir env terminal context statements []
-      → GoesOn hir env terminal context None out whole marks marks
-  leaf_partly terminal statements out whole marks m e d = record {
+  pub leaf_prefix : (terminal : Terminal) (statements : Statements) {out whole : List ReactiveStatement} (marks : Marks)
+      → AreMarked s.hir marks → whole ≡ out ++ statements_of statements →
+      SpellsTerminal s.hir s.env terminal s.context statements []
+      → BuiltPrefix s (FromTerminal terminal) Nothing (record { marks = marks; out = out })
+      (record { marks = marks; out = whole })
+  leaf_prefix terminal statements marks m e d = record {
     statements = statements;
     newly = [];
     put = e;
-    marking = marking_drop hir (λ key. omega arith) (marking_none hir (named_blocks terminal) marks m);
-    onward = λ rest used h. subst (λ z. SpellsTerminal hir env terminal context (join statements z) used)
+    marking = marking_drop s.hir (λ key. omega arith) (marking_none s.hir (referenced_blocks terminal) marks m);
+    onward = λ later used h. subst (λ z. SpellsTerminal s.hir s.env terminal s.context (join statements z) used)
         (sym h.0)
-        (subst (SpellsTerminal hir env terminal context (join statements Nil)) (sym h.1)
-        (subst (λ z. SpellsTerminal hir env terminal context z []) (sym (join-nil statements)) d));
+        (subst (SpellsTerminal s.hir s.env terminal s.context (join statements Nil)) (sym h.1)
+        (subst (λ z. SpellsTerminal s.hir s.env terminal s.context z []) (sym (join-nil statements)) d));
     only = λ all used h. (Nil, [], (refl, refl), (one_terminal h d).1);
   }
 
   rest_left : (is_open : Bool) (fallthrough : BlockId) (rest : Statements) (used : List BlockId)
-      → Rest hir env context (rest_of is_open fallthrough) rest used
-      → SpellsRest hir env is_open fallthrough context rest used
+      → Spells s (left (open_block is_open fallthrough)) rest used
+      → SpellsRest s.hir s.env is_open fallthrough s.context rest used
   rest_left true fallthrough rest used d = opened d
   rest_left false fallthrough rest used d =
-      subst (λ z. SpellsRest hir env false fallthrough context z used) (sym d.0)
-      (subst (SpellsRest hir env false fallthrough context Nil) (sym d.1) closed)
+      subst (λ z. SpellsRest s.hir s.env false fallthrough s.context z used) (sym d.0)
+      (subst (SpellsRest s.hir s.env false fallthrough s.context Nil) (sym d.1) closed)
 
   left_rest : (is_open : Bool) (fallthrough : BlockId) (rest : Statements) (used : List BlockId)
-      → SpellsRest hir env is_open fallthrough context rest used
-      → Rest hir env context (rest_of is_open fallthrough) rest used
+      → SpellsRest s.hir s.env is_open fallthrough s.context rest used
+      → Spells s (left (open_block is_open fallthrough)) rest used
   left_rest true fallthrough rest used (opened d) = d
   left_rest false fallthrough rest used closed = (refl, refl)
 
   -- what follows a statement
   after_statement : {terminal : Terminal} {is_open : Bool} {fallthrough : BlockId} {statement : Statement}
-      {blocks : List BlockId} → SpellsStatement hir env terminal context is_open fallthrough statement blocks →
-      (all : Statements) (used : List BlockId) → SpellsTerminal hir env terminal context all used →
-      (rest : Statements) × (later : List BlockId) × SpellsRest hir env is_open fallthrough context rest later
+      {blocks : List BlockId} → SpellsStatement s.hir s.env terminal s.context is_open fallthrough statement blocks →
+      (all : Statements) (used : List BlockId) → SpellsTerminal s.hir s.env terminal s.context all used →
+      (rest : Statements) × (later : List BlockId) × SpellsRest s.hir s.env is_open fallthrough s.context rest later
       × (used ≡ blocks ++ later)
   after_statement d all used returns = elim d [ ]
   after_statement d all used unreachable = elim d [ ]
@@ -233,33 +244,23 @@ module _ (hir : HirFunction) (env : Environment) (context : ListContext) where
       (rest, later, rest_at (sym h.1) (sym h.0) r, w ∙ ap (λ z. z ++ later) (sym h.3))
 
   -- a statement, and then what its fallthrough spells
-  statement_before : (terminal : Terminal) (is_open : Bool) (fallthrough : BlockId) (statement : Statement)
-      (blocks : List BlockId) {out whole : List ReactiveStatement} {old new : Marks} →
-      SpellsStatement hir env terminal context is_open fallthrough statement blocks
-      → whole ≡ out ++ statement_of statement ∷ [] →
-      MarksBlocks hir (named_blocks terminal) (fallthrough ∷ []) old new blocks
-      → GoesOn hir env terminal context (rest_of is_open fallthrough) out whole old new
-  statement_before terminal is_open fallthrough statement blocks d e f = record {
-    statements = Cons statement Nil;
-    newly = blocks;
-    put = e;
-    marking = marking_drop hir (rest_le is_open) f;
-    onward = λ rest used h. and_rest d (rest_left is_open fallthrough rest used h) refl;
-    only = λ all used h. let k = after_statement d all used h in
-        (k.0, k.1, left_rest is_open fallthrough k.0 k.1 k.2, k.3);
-  }
+  pub statement_prefix : {terminal : Terminal} {at : Option BlockId} (is_open : Bool) {fallthrough : BlockId}
+      {statement : Statement} {blocks : List BlockId} {old new : Progress} → at ≡ open_block is_open fallthrough
+      → SpellsStatement s.hir s.env terminal s.context (is_some at) fallthrough statement blocks
+      → new.out ≡ old.out ++ statement_of statement ∷ []
+      → MarksBlocks s.hir (referenced_blocks terminal) (fallthrough ∷ []) old.marks new.marks blocks
+      → BuiltPrefix s (FromTerminal terminal) (left at) old new
+  statement_prefix {terminal} {at} is_open {fallthrough} {statement} {blocks} {old} {new} o d e f =
+      subst (λ z. BuiltPrefix s (FromTerminal terminal) (left z) old new) (sym o) (record {
+        statements = Cons statement Nil;
+        newly = blocks;
+        put = e;
+        marking = marking_drop s.hir (pending_le is_open fallthrough) f;
+        onward = λ later used h. and_rest spelled (rest_left is_open fallthrough later used h) refl;
+        only = λ all used h. let k = after_statement spelled all used h in
+            (k.0, k.1, left_rest is_open fallthrough k.0 k.1 k.2, k.3);
+      })
     where
-      rest_le : (b : Bool) (key : BlockId) → times key (listed (rest_of b fallthrough)) ≤ times key (fallthrough ∷ [])
-      rest_le true key = omega arith
-      rest_le false key = omega arith
-
-  -- the same where the list goes on at `rest`
-  pub statement_partly : (terminal : Terminal) (is_open : Bool) (fallthrough : BlockId) (statement : Statement)
-      (blocks : List BlockId) {rest : Option BlockId} {out whole : List ReactiveStatement} {old new : Marks} →
-      rest ≡ rest_of is_open fallthrough → SpellsStatement hir env terminal context is_open fallthrough statement blocks
-      → whole ≡ out ++ statement_of statement ∷ [] →
-      MarksBlocks hir (named_blocks terminal) (fallthrough ∷ []) old new blocks
-      → GoesOn hir env terminal context rest out whole old new
-  statement_partly terminal is_open fallthrough statement blocks {out = out} {whole} {old} {new} r d e f =
-      subst (λ z. GoesOn hir env terminal context z out whole old new) (sym r)
-      (statement_before terminal is_open fallthrough statement blocks d e f)
+      spelled : SpellsStatement s.hir s.env terminal s.context is_open fallthrough statement blocks
+      spelled = subst (λ z. SpellsStatement s.hir s.env terminal s.context z fallthrough statement blocks)
+          (is_some-opened is_open fallthrough o) d

@@ -9,16 +9,17 @@ use Rattle.std.proofs.lemmas.Option.{slice_get_past}
 use Rattle.std.specs.Map.{lookup, set_value}
 use Rattle.std.proofs.lemmas.Map.{lookup-set_value}
 use Rattle.indexmap.specs.IndexMap.{insert_entry}
-use Rattle.rc_names.specs.declared.numbers.BlockId.{BlockId}
+use Rattle.rc_names.specs.Numbers.{BlockId, same_id}
 use Rattle.rc_runs.specs.declared.frames.Frame.{Frame}
-use Rattle.rc_runs.specs.declared.frames.Frame.TheVariants as kinds
-use Rattle.rc_build.specs.declared.frames.stack.Held.{Held}
-use Rattle.rc_runs.specs.declared.frames.Way.TheVariants.{NoFrame}
-use Rattle.rc_runs.specs.Graph.{same_block}
-use Rattle.rc_runs.specs.Frames.{break_block, is_live, is_live_at, is_loop, way_out_of, way_from, break_way}
+use Rattle.rc_runs.specs.declared.frames.Frame.TheVariants as frame_kinds
+use Rattle.rc_build.specs.declared.frames.stack.Entry.{Entry}
+use Rattle.rc_runs.specs.declared.frames.BreakResult.TheVariants.{NoFrame}
+use Rattle.rc_runs.specs.Frames.{break_block, is_jump_target, is_jump_target_at, is_loop, resolve_at, resolve_from}
+use Rattle.rc_runs.specs.Frames.{resolve_break}
 use Rattle.rc_runs.specs.Frames.{continue_block}
-use Rattle.rc_build.specs.Depths.{is_block, depth_where, break_depth, continue_depth, loop_depth, frame_of}
-use Rattle.rc_runs.proofs.GraphLemmas.{same_block-eq, blocks_equivalence}
+use Rattle.rc_build.specs.inside.Depths.{is_block, depth_where, break_depth, continue_depth, loop_depth, frame_of}
+use Rattle.rc_names.proofs.KeyedLemmas.{lookup-insert_there, lookup-insert_other}
+use Rattle.rc_names.proofs.NumbersLemmas.{ids_equivalence, same_id-eq}
 
 -- what a map has under a block
 
@@ -27,58 +28,29 @@ if_some true w old = refl
 if_some false w old = refl
 
 pub depth-set : (depths : List (BlockId × ℕ)) (block : BlockId) (w : ℕ) (key : BlockId)
-    → IsSome (lookup (same_block block) depths) →
-    unwrap_or (lookup (same_block key) (set_value (same_block block) depths w)) 0
-    ≡ (if same_block block key then w else unwrap_or (lookup (same_block key) depths) 0)
+    → IsSome (lookup (same_id block) depths) →
+    unwrap_or (lookup (same_id key) (set_value (same_id block) depths w)) 0
+    ≡ (if same_id block key then w else unwrap_or (lookup (same_id key) depths) 0)
 depth-set depths block w key there =
-    ap (λ o. unwrap_or o 0) (lookup-set_value blocks_equivalence (same_block block) (blocks_equivalence.congr block) key
+    ap (λ o. unwrap_or o 0) (lookup-set_value ids_equivalence (same_id block) (ids_equivalence.congr block) key
     w depths there)
-    ∙ if_some (same_block block key) w (lookup (same_block key) depths)
+    ∙ if_some (same_id block key) w (lookup (same_id key) depths)
 
 -- a key that is inserted with what it has already
-module _ (block : BlockId) (w : ℕ) where
-  pub lookup-insert_there : (depths : List (BlockId × ℕ))
-      → lookup (same_block block) (insert_entry same_block depths block w) ≡ Some w
-  lookup-insert_there [] = ap (λ b. cond b (Some w) None) (blocks_equivalence.refl block)
-  lookup-insert_there (e ∷ es) = go (same_block block e.0) refl (lookup-insert_there es)
-    where
-      go : (b : Bool) → same_block block e.0 ≡ b → lookup (same_block block) (insert_entry same_block es block w)
-          ≡ Some w →
-          lookup (same_block block) (if b then (e.0, w) ∷ es else e ∷ insert_entry same_block es block w) ≡ Some w
-      go true is later = ap (λ b. cond b (Some w) (lookup (same_block block) es)) is
-      go false is later = ap (λ b. cond b (Some e.1) (lookup (same_block block) (insert_entry same_block es block w)))
-          is ∙ later
-
-  pub lookup-insert_other : (depths : List (BlockId × ℕ)) (key : BlockId) → same_block block key ≡ false →
-      lookup (same_block key) (insert_entry same_block depths block w) ≡ lookup (same_block key) depths
-  lookup-insert_other [] key apart = ap (λ b. cond b (Some w) None) (blocks_equivalence.symm key block ∙ apart)
-  lookup-insert_other (e ∷ es) key apart = go (same_block block e.0) refl (lookup-insert_other es key apart)
-    where
-      go : (b : Bool) → same_block block e.0 ≡ b → lookup (same_block key) (insert_entry same_block es block w)
-          ≡ lookup (same_block key) es →
-          lookup (same_block key) (if b then (e.0, w) ∷ es else e ∷ insert_entry same_block es block w)
-          ≡ lookup (same_block key) (e ∷ es)
-      go true is later =
-          let other : same_block key e.0 ≡ false = blocks_equivalence.symm key e.0
-          ∙ sym (blocks_equivalence.congr block e.0 key is) ∙ apart in
-          ap (λ b. cond b (Some w) (lookup (same_block key) es)) other
-          ∙ sym (ap (λ b. cond b (Some e.1) (lookup (same_block key) es)) other)
-      go false is later = ap (λ z. cond (same_block key e.0) (Some e.1) z) later
-
 pub depth-kept : (depths : List (BlockId × ℕ)) (block : BlockId) (w : ℕ) (key : BlockId)
-    → w ≡ unwrap_or (lookup (same_block block) depths) 0 →
-    unwrap_or (lookup (same_block key) (insert_entry same_block depths block w)) 0
-    ≡ unwrap_or (lookup (same_block key) depths) 0
-depth-kept depths block w key is = go (same_block block key) refl
+    → w ≡ unwrap_or (lookup (same_id block) depths) 0 →
+    unwrap_or (lookup (same_id key) (insert_entry same_id depths block w)) 0
+    ≡ unwrap_or (lookup (same_id key) depths) 0
+depth-kept depths block w key is = go (same_id block key) refl
   where
-    go : (b : Bool) → same_block block key ≡ b → unwrap_or
-        (lookup (same_block key) (insert_entry same_block depths block w)) 0
-        ≡ unwrap_or (lookup (same_block key) depths) 0
+    go : (b : Bool) → same_id block key ≡ b → unwrap_or
+        (lookup (same_id key) (insert_entry same_id depths block w)) 0
+        ≡ unwrap_or (lookup (same_id key) depths) 0
     go true e =
-        subst (λ (k : BlockId). unwrap_or (lookup (same_block k) (insert_entry same_block depths block w)) 0
-        ≡ unwrap_or (lookup (same_block k) depths) 0) (same_block-eq block key e)
-        (ap (λ o. unwrap_or o 0) (lookup-insert_there block w depths) ∙ is)
-    go false e = ap (λ o. unwrap_or o 0) (lookup-insert_other block w depths key e)
+        subst (λ (k : BlockId). unwrap_or (lookup (same_id k) (insert_entry same_id depths block w)) 0
+        ≡ unwrap_or (lookup (same_id k) depths) 0) (same_id-eq block key e)
+        (ap (λ o. unwrap_or o 0) (lookup-insert_there ids_equivalence block w depths) ∙ is)
+    go false e = ap (λ o. unwrap_or o 0) (lookup-insert_other ids_equivalence block w depths key e)
 
 -- a depth is at most how many frames there are
 pub depth-le : (test : Frame → Bool) (frames : List Frame) → depth_where test frames ≤ length frames
@@ -127,22 +99,22 @@ loops_outside in_loop depth frame outer le = go (is_loop frame)
     go false = ap (λ z. if nat_lt depth (loop_depth outer) then true else z) (or-false in_loop)
 
 -- the frame that decides of a break stands at the depth of its block
-pub way_found : (frames : List Frame) (innermost in_loop : Bool) (key : BlockId) (found : Frame)
+pub resolved_at : (frames : List Frame) (innermost in_loop : Bool) (key : BlockId) (found : Frame)
     → frame_at frames (break_depth frames key) ≡ Some found →
-    way_from innermost in_loop frames key
-    ≡ way_out_of (is_innermost innermost (break_depth frames key) frames)
+    resolve_from innermost in_loop frames key
+    ≡ resolve_at (is_innermost innermost (break_depth frames key) frames)
     (has_loop in_loop (break_depth frames key) frames) found
-way_found [] innermost in_loop key found is = let bad : ⊥ = cc in absurd bad
-way_found (frame ∷ outer) innermost in_loop key found is =
-    go (same_block (break_block frame) key) is (way_found outer false (in_loop || is_loop frame) key found)
+resolved_at [] innermost in_loop key found is = let bad : ⊥ = cc in absurd bad
+resolved_at (frame ∷ outer) innermost in_loop key found is =
+    go (same_id (break_block frame) key) is (resolved_at outer false (in_loop || is_loop frame) key found)
   where
     go : (b : Bool) → frame_at (frame ∷ outer) (if b then length outer + 1 else break_depth outer key) ≡ Some found →
         (frame_at outer (break_depth outer key) ≡ Some found →
-        way_from false (in_loop || is_loop frame) outer key
-        ≡ way_out_of (is_innermost false (break_depth outer key) outer)
+        resolve_from false (in_loop || is_loop frame) outer key
+        ≡ resolve_at (is_innermost false (break_depth outer key) outer)
         (has_loop (in_loop || is_loop frame) (break_depth outer key) outer) found) →
-        (if b then way_out_of innermost in_loop frame else way_from false (in_loop || is_loop frame) outer key)
-        ≡ way_out_of (is_innermost innermost (if b then length outer + 1 else break_depth outer key) (frame ∷ outer))
+        (if b then resolve_at innermost in_loop frame else resolve_from false (in_loop || is_loop frame) outer key)
+        ≡ resolve_at (is_innermost innermost (if b then length outer + 1 else break_depth outer key) (frame ∷ outer))
         (has_loop in_loop (if b then length outer + 1 else break_depth outer key) (frame ∷ outer)) found
     go true at later =
         let depth = length outer + 1 in
@@ -151,31 +123,31 @@ way_found (frame ∷ outer) innermost in_loop key found is =
         let top = ap (λ b. if b then innermost else false) (eq-eqb depth (length (frame ∷ outer)) (omega arith)) in
         let none = ap (λ b. if b then true else in_loop) (le-ltb depth (loop_depth (frame ∷ outer))
         (omega (arith, depth-le is_loop (frame ∷ outer)))) in
-        sym (ap (λ b. way_out_of b (has_loop in_loop depth (frame ∷ outer)) found) top
-        ∙ ap (λ b. way_out_of innermost b found) none ∙ ap (λ (f : Frame). way_out_of innermost in_loop f)
+        sym (ap (λ b. resolve_at b (has_loop in_loop depth (frame ∷ outer)) found) top
+        ∙ ap (λ b. resolve_at innermost b found) none ∙ ap (λ (f : Frame). resolve_at innermost in_loop f)
         (sym here))
     go false at later =
         let depth = break_depth outer key in
-        let le = depth-le (λ f. same_block (break_block f) key) outer in
+        let le = depth-le (λ f. same_id (break_block f) key) outer in
         let outside : nat_eq depth (length outer + 1) ≡ false = not_eq depth (length outer + 1) (omega (arith, le)) in
         let inner = ap (λ b. if b then innermost else false) (not_eq depth (length (frame ∷ outer)) (omega (arith, le)))
         in
         later (sym (ap (λ b. if b then Some frame else frame_at outer depth) outside) ∙ at)
-        ∙ ap (λ b. way_out_of b (has_loop (in_loop || is_loop frame) depth outer) found)
+        ∙ ap (λ b. resolve_at b (has_loop (in_loop || is_loop frame) depth outer) found)
         (same_either (nat_eq depth (length outer)) ∙ sym inner)
-        ∙ ap (λ b. way_out_of (is_innermost innermost depth (frame ∷ outer)) b found)
+        ∙ ap (λ b. resolve_at (is_innermost innermost depth (frame ∷ outer)) b found)
         (loops_outside in_loop depth frame outer le)
 
 -- where no frame has the block as its break block
-pub way_nowhere : (frames : List Frame) (innermost in_loop : Bool) (key : BlockId) → break_depth frames key ≡ 0
-    → way_from innermost in_loop frames key ≡ NoFrame
-way_nowhere [] innermost in_loop key is = refl
-way_nowhere (frame ∷ outer) innermost in_loop key is =
-    go (same_block (break_block frame) key) is (way_nowhere outer false (in_loop || is_loop frame) key)
+pub resolved_nowhere : (frames : List Frame) (innermost in_loop : Bool) (key : BlockId) → break_depth frames key ≡ 0
+    → resolve_from innermost in_loop frames key ≡ NoFrame
+resolved_nowhere [] innermost in_loop key is = refl
+resolved_nowhere (frame ∷ outer) innermost in_loop key is =
+    go (same_id (break_block frame) key) is (resolved_nowhere outer false (in_loop || is_loop frame) key)
   where
     go : (b : Bool) → (if b then length outer + 1 else break_depth outer key) ≡ 0
-        → (break_depth outer key ≡ 0 → way_from false (in_loop || is_loop frame) outer key ≡ NoFrame) →
-        (if b then way_out_of innermost in_loop frame else way_from false (in_loop || is_loop frame) outer key)
+        → (break_depth outer key ≡ 0 → resolve_from false (in_loop || is_loop frame) outer key ≡ NoFrame) →
+        (if b then resolve_at innermost in_loop frame else resolve_from false (in_loop || is_loop frame) outer key)
         ≡ NoFrame
     go true e later = absurd (omega arith)
     go false e later = later e
@@ -206,65 +178,66 @@ get_last (y ∷ ys) x (suc k) =
     get_last ys x k ∙ sym (ap (λ b. if b then Some x else slice_get ys k)
     (let e : nat_eq (suc k) (suc (length ys)) ≡ nat_eq k (length ys) = grind arith in e))
 
-map_if : (b : Bool) (held : Held) (other : Option Held)
-    → option_map frame_of (if b then Some held else other) ≡ (if b then Some held.frame else option_map frame_of other)
-map_if true held other = refl
-map_if false held other = refl
+map_if : (b : Bool) (entry : Entry) (other : Option Entry)
+    → option_map frame_of (if b then Some entry else other) ≡ (if b then Some entry.frame else option_map frame_of other)
+map_if true entry other = refl
+map_if false entry other = refl
 
 -- the frame at a depth stands there in the list from outside
-pub frame_at-get : (stack : List Held) (k : ℕ) → option_map frame_of (slice_get (reverse stack) k)
+pub frame_at-get : (stack : List Entry) (k : ℕ) → option_map frame_of (slice_get (reverse stack) k)
     ≡ frame_at (map frame_of stack) (k + 1)
 frame_at-get [] k = ap (option_map frame_of) (slice_get_past [] k (omega arith))
-frame_at-get (held ∷ outer) k =
+frame_at-get (entry ∷ outer) k =
     let same : nat_eq k (length (reverse outer)) ≡ nat_eq (k + 1) (length (map frame_of outer) + 1) = (
     ap (nat_eq k) (length-reverse outer ∙ sym (length-map outer frame_of))
     ∙ (let e : nat_eq k (length (map frame_of outer)) ≡ nat_eq (k + 1) (length (map frame_of outer) + 1) = grind
     arith in e)
     ) in
-    ap (λ z. option_map frame_of (slice_get z k)) (reverse-append (held ∷ []) outer)
-    ∙ ap (option_map frame_of) (get_last (reverse outer) held k)
-    ∙ map_if (nat_eq k (length (reverse outer))) held (slice_get (reverse outer) k)
-    ∙ ap (λ b. if b then Some held.frame else option_map frame_of (slice_get (reverse outer) k)) same
-    ∙ ap (λ z. if nat_eq (k + 1) (length (map frame_of outer) + 1) then Some held.frame else z) (frame_at-get outer k)
+    ap (λ z. option_map frame_of (slice_get z k)) (reverse-append (entry ∷ []) outer)
+    ∙ ap (option_map frame_of) (get_last (reverse outer) entry k)
+    ∙ map_if (nat_eq k (length (reverse outer))) entry (slice_get (reverse outer) k)
+    ∙ ap (λ b. if b then Some entry.frame else option_map frame_of (slice_get (reverse outer) k)) same
+    ∙ ap (λ z. if nat_eq (k + 1) (length (map frame_of outer) + 1) then Some entry.frame else z) (frame_at-get outer k)
 
 itself : (b : Bool) → (if b then true else false) ≡ b
 itself true = refl
 itself false = refl
 
 -- what becomes of a break, by the depth of its block
-pub break_way-found : (frames : List Frame) (key : BlockId) (found : Frame)
+pub resolve_break-found : (frames : List Frame) (key : BlockId) (found : Frame)
     → frame_at frames (break_depth frames key) ≡ Some found →
-    break_way frames key ≡ way_out_of (nat_eq (break_depth frames key) (length frames))
+    resolve_break frames key ≡ resolve_at (nat_eq (break_depth frames key) (length frames))
     (nat_lt (break_depth frames key) (loop_depth frames)) found
-break_way-found frames key found is =
+resolve_break-found frames key found is =
     let depth = break_depth frames key in
-    way_found frames true false key found is
-    ∙ ap (λ b. way_out_of b (has_loop false depth frames) found) (itself (nat_eq depth (length frames)))
-    ∙ ap (λ b. way_out_of (nat_eq depth (length frames)) b found) (itself (nat_lt depth (loop_depth frames)))
+    resolved_at frames true false key found is
+    ∙ ap (λ b. resolve_at b (has_loop false depth frames) found) (itself (nat_eq depth (length frames)))
+    ∙ ap (λ b. resolve_at (nat_eq depth (length frames)) b found) (itself (nat_lt depth (loop_depth frames)))
 
--- a block is live where it has a depth
+-- a block is a jump target where it has a depth
 
-live_at : (frame : Frame) (key : BlockId) → is_live_at frame key
-    ≡ (same_block (break_block frame) key || is_block (continue_block frame) key)
-live_at (kinds.If block) key = sym (or-false (same_block block key))
-live_at (kinds.Switch block) key = sym (or-false (same_block block key))
-live_at (kinds.Case block) key = sym (or-false (same_block block key))
-live_at (kinds.Scope block) key = sym (or-false (same_block block key))
-live_at (kinds.Loop block again) key = refl
+jump_target_at : (frame : Frame) (key : BlockId) → is_jump_target_at frame key
+    ≡ (same_id (break_block frame) key || is_block (continue_block frame) key)
+jump_target_at (frame_kinds.Statement block) key = sym (or-false (same_id block key))
+jump_target_at (frame_kinds.Switch block) key = sym (or-false (same_id block key))
+jump_target_at (frame_kinds.Case block) key = sym (or-false (same_id block key))
+jump_target_at (frame_kinds.Scope block) key = sym (or-false (same_id block key))
+jump_target_at (frame_kinds.Loop block again) key = refl
 
 some_depth : (n : ℕ) → not (nat_eq (n + 1) 0) ≡ true
 some_depth n = ap not (let e : nat_eq (n + 1) 0 ≡ false = grind arith in e)
 
-pub is_live-depths : (frames : List Frame) (key : BlockId)
-    → is_live frames key ≡ (not (nat_eq (break_depth frames key) 0) || not (nat_eq (continue_depth frames key) 0))
-is_live-depths [] key = refl
-is_live-depths (frame ∷ outer) key =
-    ap (λ b. if b then true else is_live outer key) (live_at frame key)
-    ∙ go (same_block (break_block frame) key) (is_block (continue_block frame) key) (is_live-depths outer key)
+pub is_jump_target-depths : (frames : List Frame) (key : BlockId)
+    → is_jump_target frames key ≡ (not (nat_eq (break_depth frames key) 0) || not
+    (nat_eq (continue_depth frames key) 0))
+is_jump_target-depths [] key = refl
+is_jump_target-depths (frame ∷ outer) key =
+    ap (λ b. if b then true else is_jump_target outer key) (jump_target_at frame key)
+    ∙ go (same_id (break_block frame) key) (is_block (continue_block frame) key) (is_jump_target-depths outer key)
   where
-    go : (a b : Bool) → is_live outer key ≡ (not (nat_eq (break_depth outer key) 0) || not
+    go : (a b : Bool) → is_jump_target outer key ≡ (not (nat_eq (break_depth outer key) 0) || not
         (nat_eq (continue_depth outer key) 0)) →
-        (if (a || b) then true else is_live outer key)
+        (if (a || b) then true else is_jump_target outer key)
         ≡ (not (nat_eq (if a then length outer + 1 else break_depth outer key) 0) || not
         (nat_eq (if b then length outer + 1 else continue_depth outer key) 0))
     go true b later = sym (ap (λ z. z || not (nat_eq (if b then length outer + 1 else continue_depth outer key) 0))

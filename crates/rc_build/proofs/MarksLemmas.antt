@@ -1,4 +1,4 @@
--- Used blocks: what one more mark keeps, and how often blocks are named.
+-- Used blocks: what one more mark keeps, and how often blocks are referred to.
 use Rattle.std.proofs.Common.{◌≡◌, ◌≤◌, ◌+◌, Bool, true, false, cond, List, [], ◌∷◌, ◌++◌, Some, ◌||◌, length, refl}
 use Rattle.std.proofs.Common.{sym, ap, ◌∙◌, subst, arith, inl, inr}
 use Rattle.std.specs.Prelude.{if◌then◌else◌, ◌⊎◌}
@@ -10,31 +10,30 @@ use Rattle.std.proofs.lemmas.Map.Steps.{length-le_from_keys}
 use Rattle.std.proofs.lemmas.Map.Views.{Contains-from_any, list_any-from_Contains}
 use Rattle.std.proofs.lemmas.List.Elements.{filter_map-append}
 use Rattle.std.proofs.lemmas.List.Folds.{list_any-append}
-use Rattle.rc_names.specs.declared.numbers.BlockId.{BlockId}
-use Rattle.rc_hir.specs.declared.function.BasicBlock.{BasicBlock}
-use Rattle.rc_hir.specs.declared.function.HirFunction.{HirFunction}
-use Rattle.rc_build.specs.declared.state.Marks.{Marks}
-use Rattle.rc_runs.specs.Graph.{same_block, basic_block}
-use Rattle.rc_runs.specs.Spelled.{AreSound, same_scope, scope_at}
-use Rattle.rc_build.specs.Namings.{named_blocks, is_among, times, namings_of}
-use Rattle.rc_build.specs.RuleFacts.{times_named}
-use Rattle.rc_runs.proofs.GraphLemmas.{same_block-eq, blocks_equivalence}
-use Rattle.rc_build.specs.BuiltFrom.{Marked, AreNamed}
+use Rattle.rc_names.specs.Numbers.{BlockId, same_id, is_among, times}
+use Rattle.rc_hir.specs.Model.{BasicBlock, HirFunction}
+use Rattle.rc_build.specs.declared.builder.Marks.{Marks}
+use Rattle.rc_runs.specs.Graph.{basic_block}
+use Rattle.rc_runs.specs.Spelled.{AreSound, scope_at}
+use Rattle.rc_build.specs.References.{referenced_blocks}
+use Rattle.rc_build.specs.RuleFacts.{times_referenced}
+use Rattle.rc_names.proofs.NumbersLemmas.{ids_equivalence, same_id-eq}
+use Rattle.rc_build.specs.inside.CanBuild.{AreMarked, AreReferenced, references_of}
 
 -- there is room for a block that isn't used
-pub room : (hir : HirFunction) (marks : Marks) → Marked hir marks → length marks.used ≤ length hir.body.blocks
-room hir marks m = length-le_from_keys blocks_equivalence marks.used hir.body.blocks m.sound.distinct m.known
+pub room : (hir : HirFunction) (marks : Marks) → AreMarked hir marks → length marks.used ≤ length hir.body.blocks
+room hir marks m = length-le_from_keys ids_equivalence marks.used hir.body.blocks m.sound.distinct m.known
 
 module _ (P : BlockId → Type 0) where
   -- what holds of the used blocks and of one more
   pub one_more : (used : List BlockId) (key : BlockId) → ((q : BlockId) → is_among used q ≡ true → P q) → P key
       → (q : BlockId) → is_among (used ++ key ∷ []) q ≡ true → P q
   one_more used key f p q h =
-      go (is_among used q) (same_block q key) refl refl (sym (list_any-append (same_block q) used (key ∷ [])) ∙ h)
+      go (is_among used q) (same_id q key) refl refl (sym (list_any-append (same_id q) used (key ∷ [])) ∙ h)
     where
-      go : (a b : Bool) → is_among used q ≡ a → same_block q key ≡ b → (a || (b || false)) ≡ true → P q
+      go : (a b : Bool) → is_among used q ≡ a → same_id q key ≡ b → (a || (b || false)) ≡ true → P q
       go true b e r h = f q e
-      go false true e r h = subst P (sym (same_block-eq q key r)) p
+      go false true e r h = subst P (sym (same_id-eq q key r)) p
       go false false e r h = let bad : ⊥ = cc in absurd bad
 
 -- the front of sound blocks is sound
@@ -49,38 +48,38 @@ front_distinct eq (x ∷ xs) ys h = (front_all _ xs ys h.0, front_distinct eq xs
 
 -- a block is one of two lists' where it is one of either's
 pub among_front : (xs ys : List BlockId) (q : BlockId) → is_among xs q ≡ true → is_among (xs ++ ys) q ≡ true
-among_front xs ys q h = list_any-append (same_block q) xs ys ∙ or_left (is_among xs q) (is_among ys q) h
+among_front xs ys q h = list_any-append (same_id q) xs ys ∙ or_left (is_among xs q) (is_among ys q) h
 
 pub among_back : (xs ys : List BlockId) (q : BlockId) → is_among ys q ≡ true → is_among (xs ++ ys) q ≡ true
-among_back xs ys q h = list_any-append (same_block q) xs ys ∙ or_right (is_among xs q) (is_among ys q) h
+among_back xs ys q h = list_any-append (same_id q) xs ys ∙ or_right (is_among xs q) (is_among ys q) h
 
 pub among_parts : (xs ys : List BlockId) (q : BlockId) → is_among (xs ++ ys) q ≡ true
     → (is_among xs q ≡ true) ⊎ (is_among ys q ≡ true)
-among_parts xs ys q h = or_cases (is_among xs q) (is_among ys q) (sym (list_any-append (same_block q) xs ys) ∙ h)
+among_parts xs ys q h = or_cases (is_among xs q) (is_among ys q) (sym (list_any-append (same_id q) xs ys) ∙ h)
 
 -- the only block
-pub among_alone : (block key : BlockId) → same_block block key ≡ true → is_among (block ∷ []) key ≡ true
-among_alone block key e = ap (λ b. b || false) (blocks_equivalence.symm key block ∙ e)
+pub among_alone : (block key : BlockId) → same_id block key ≡ true → is_among (block ∷ []) key ≡ true
+among_alone block key e = ap (λ b. b || false) (ids_equivalence.symm key block ∙ e)
 
-pub alone_same : (block key : BlockId) → is_among (block ∷ []) key ≡ true → same_block block key ≡ true
-alone_same block key h = go (or_cases (same_block key block) false h)
+pub alone_same : (block key : BlockId) → is_among (block ∷ []) key ≡ true → same_id block key ≡ true
+alone_same block key h = go (or_cases (same_id key block) false h)
   where
-    go : (same_block key block ≡ true) ⊎ (false ≡ true) → same_block block key ≡ true
-    go (inl e) = blocks_equivalence.symm block key ∙ e
+    go : (same_id key block ≡ true) ⊎ (false ≡ true) → same_id block key ≡ true
+    go (inl e) = ids_equivalence.symm block key ∙ e
     go (inr e) = let bad : ⊥ = cc in absurd bad
 
 -- a block of the same number is among the blocks too
 pub among_same : (blocks : List BlockId) (block key : BlockId) → is_among blocks block ≡ true
-    → same_block block key ≡ true → is_among blocks key ≡ true
-among_same blocks block key h e = subst (λ z. is_among blocks z ≡ true) (same_block-eq block key e) h
+    → same_id block key ≡ true → is_among blocks key ≡ true
+among_same blocks block key h e = subst (λ z. is_among blocks z ≡ true) (same_id-eq block key e) h
 
 pub front_sound : (hir : HirFunction) (xs ys : List BlockId) → AreSound hir (xs ++ ys) → AreSound hir xs
 front_sound hir xs ys h = record {
-  distinct = front_distinct same_block xs ys h.distinct;
-  alive = λ key c. h.alive key (Contains-from_any same_block-eq key (xs ++ ys)
-      (among_front xs ys key (list_any-from_Contains blocks_equivalence key xs c)));
-  scopes_once = front_distinct same_scope (filter_map (scope_at hir) xs) (filter_map (scope_at hir) ys)
-      (subst (IsDistinct same_scope) (filter_map-append (scope_at hir) xs ys) h.scopes_once);
+  distinct = front_distinct same_id xs ys h.distinct;
+  alive = λ key c. h.alive key (Contains-from_any same_id-eq key (xs ++ ys)
+      (among_front xs ys key (list_any-from_Contains ids_equivalence key xs c)));
+  scopes_once = front_distinct same_id (filter_map (scope_at hir) xs) (filter_map (scope_at hir) ys)
+      (subst (IsDistinct same_id) (filter_map-append (scope_at hir) xs ys) h.scopes_once);
 }
 
 -- how often a block stands in two lists
@@ -90,88 +89,88 @@ times_append key (x ∷ xs) ys = let h = times_append key xs ys in omega arith
 
 pub times_among : (key : BlockId) (xs : List BlockId) → is_among xs key ≡ true → 1 ≤ times key xs
 times_among key [] h = let bad : ⊥ = cc in absurd bad
-times_among key (x ∷ xs) h = go (same_block key x) refl h (times_among key xs)
+times_among key (x ∷ xs) h = go (same_id key x) refl h (times_among key xs)
   where
-    go : (b : Bool) → same_block key x ≡ b → (b || is_among xs key) ≡ true → (is_among xs key ≡ true → 1 ≤ times key xs)
+    go : (b : Bool) → same_id key x ≡ b → (b || is_among xs key) ≡ true → (is_among xs key ≡ true → 1 ≤ times key xs)
         → 1 ≤ (if b then 1 else 0) + times key xs
     go true e h f = omega arith
     go false e h f = let k = f h in omega arith
 
--- the used blocks' namings are namings of the graph
+-- the references of the used blocks are references of the graph
 if_le : (b : Bool) (key : BlockId) (xs : List BlockId) → times key (if b then xs else []) ≤ times key xs
 if_le true key xs = omega arith
 if_le false key xs = omega arith
 
 flat_le : (used : List BlockId) (key : BlockId) (blocks : List (BlockId × BasicBlock)) →
-    times key (flat_map (λ pair. if is_among used pair.0 then named_blocks pair.1.terminal else []) blocks) ≤ times key
-    (flat_map (λ pair. named_blocks pair.1.terminal) blocks)
+    times key (flat_map (λ pair. if is_among used pair.0 then referenced_blocks pair.1.terminal else []) blocks) ≤ times key
+    (flat_map (λ pair. referenced_blocks pair.1.terminal) blocks)
 flat_le used key [] = omega arith
 flat_le used key (pair ∷ blocks) =
-    let names = named_blocks pair.1.terminal in
+    let blocks_of = referenced_blocks pair.1.terminal in
     omega (
       arith,
       flat_le used key blocks,
-      if_le (is_among used pair.0) key names,
-      times_append key names (flat_map (λ p. named_blocks p.1.terminal) blocks),
-      times_append key (if is_among used pair.0 then names else [])
-          (flat_map (λ p. if is_among used p.0 then named_blocks p.1.terminal else []) blocks),
+      if_le (is_among used pair.0) key blocks_of,
+      times_append key blocks_of (flat_map (λ p. referenced_blocks p.1.terminal) blocks),
+      times_append key (if is_among used pair.0 then blocks_of else [])
+          (flat_map (λ p. if is_among used p.0 then referenced_blocks p.1.terminal else []) blocks),
     )
 
-pub namings_le : (hir : HirFunction) (used : List BlockId) (key : BlockId)
-    → times key (namings_of hir used) ≤ times_named hir key
-namings_le hir used key = omega (arith, flat_le used key hir.body.blocks)
+pub references_le : (hir : HirFunction) (used : List BlockId) (key : BlockId)
+    → times key (references_of hir used) ≤ times_referenced hir key
+references_le hir used key = omega (arith, flat_le used key hir.body.blocks)
 
--- a block more among the used ones takes no naming away
+-- a block more among the used ones takes no reference away
 or_le : (b c : Bool) (key : BlockId) (xs : List BlockId)
     → times key (if b then xs else []) ≤ times key (if b || c then xs else [])
 or_le true c key xs = omega arith
 or_le false c key xs = omega arith
 
 flat_more : (used : List BlockId) (key q : BlockId) (blocks : List (BlockId × BasicBlock)) →
-    times q (flat_map (λ pair. if is_among used pair.0 then named_blocks pair.1.terminal else []) blocks)
-    ≤ times q (flat_map (λ pair. if is_among (used ++ key ∷ []) pair.0 then named_blocks pair.1.terminal else [])
+    times q (flat_map (λ pair. if is_among used pair.0 then referenced_blocks pair.1.terminal else []) blocks)
+    ≤ times q (flat_map (λ pair. if is_among (used ++ key ∷ []) pair.0 then referenced_blocks pair.1.terminal else [])
     blocks)
 flat_more used key q [] = omega arith
 flat_more used key q (pair ∷ blocks) =
-    let names = named_blocks pair.1.terminal in
-    let head : times q (if is_among used pair.0 then names else []) ≤ times q
-    (if is_among (used ++ key ∷ []) pair.0 then names else []) =
-    subst (λ b. times q (if is_among used pair.0 then names else []) ≤ times q (if b then names else []))
-    (sym (list_any-append (same_block pair.0) used (key ∷ [])))
-    (or_le (is_among used pair.0) (is_among (key ∷ []) pair.0) q names) in
+    let blocks_of = referenced_blocks pair.1.terminal in
+    let head : times q (if is_among used pair.0 then blocks_of else []) ≤ times q
+    (if is_among (used ++ key ∷ []) pair.0 then blocks_of else []) =
+    subst (λ b. times q (if is_among used pair.0 then blocks_of else []) ≤ times q (if b then blocks_of else []))
+    (sym (list_any-append (same_id pair.0) used (key ∷ [])))
+    (or_le (is_among used pair.0) (is_among (key ∷ []) pair.0) q blocks_of) in
     omega (
       arith,
       flat_more used key q blocks,
       head,
-      times_append q (if is_among used pair.0 then names else [])
-          (flat_map (λ p. if is_among used p.0 then named_blocks p.1.terminal else []) blocks),
-      times_append q (if is_among (used ++ key ∷ []) pair.0 then names else [])
-          (flat_map (λ p. if is_among (used ++ key ∷ []) p.0 then named_blocks p.1.terminal else []) blocks),
+      times_append q (if is_among used pair.0 then blocks_of else [])
+          (flat_map (λ p. if is_among used p.0 then referenced_blocks p.1.terminal else []) blocks),
+      times_append q (if is_among (used ++ key ∷ []) pair.0 then blocks_of else [])
+          (flat_map (λ p. if is_among (used ++ key ∷ []) p.0 then referenced_blocks p.1.terminal else []) blocks),
     )
 
 pub among_push : (used : List BlockId) (key : BlockId) → is_among (used ++ key ∷ []) key ≡ true
-among_push used key = list_any-append (same_block key) used (key ∷ [])
-    ∙ ap (λ b. is_among used key || (b || false)) (blocks_equivalence.refl key) ∙ or-true (is_among used key)
+among_push used key = list_any-append (same_id key) used (key ∷ [])
+    ∙ ap (λ b. is_among used key || (b || false)) (ids_equivalence.refl key) ∙ or-true (is_among used key)
 
--- what the blocks name that are among the used ones
-abbrev names_of : List BlockId → List (BlockId × BasicBlock) → List BlockId
-names_of used blocks = flat_map (λ pair. if is_among used pair.0 then named_blocks pair.1.terminal else []) blocks
+-- the references of the blocks that are among the used ones
+abbrev references_among : List BlockId → List (BlockId × BasicBlock) → List BlockId
+references_among used blocks = flat_map (λ pair. if is_among used pair.0 then referenced_blocks pair.1.terminal else []) blocks
 
 push_here : (used : List BlockId) (key q : BlockId) (pair : BlockId × BasicBlock) (blocks : List (BlockId × BasicBlock))
     → is_among used key ≡ false → key ≡ pair.0 →
-    times q (named_blocks pair.1.terminal) + times q (names_of used (pair ∷ blocks)) ≤ times q
-    (names_of (used ++ key ∷ []) (pair ∷ blocks))
+    times q (referenced_blocks pair.1.terminal) + times q (references_among used (pair ∷ blocks)) ≤ times q
+    (references_among (used ++ key ∷ []) (pair ∷ blocks))
 push_here used key q pair blocks n here =
-    let names = named_blocks pair.1.terminal in
-    let old = if is_among used pair.0 then names else [] in
-    let new = if is_among (used ++ key ∷ []) pair.0 then names else [] in
-    let none : old ≡ [] = ap (λ b. if b then names else []) (ap (is_among used) (sym here) ∙ n) in
-    let all : new ≡ names = ap (λ b. if b then names else [])
+    let blocks_of = referenced_blocks pair.1.terminal in
+    let old = if is_among used pair.0 then blocks_of else [] in
+    let new = if is_among (used ++ key ∷ []) pair.0 then blocks_of else [] in
+    let none : old ≡ [] = ap (λ b. if b then blocks_of else []) (ap (is_among used) (sym here) ∙ n) in
+    let all : new ≡ blocks_of = ap (λ b. if b then blocks_of else [])
     (ap (is_among (used ++ key ∷ [])) (sym here) ∙ among_push used key) in
     omega (
       arith,
-      times_append q old (names_of used blocks),
-      times_append q new (names_of (used ++ key ∷ []) blocks),
+      times_append q old (references_among used blocks),
+      times_append q new (references_among (used ++ key ∷ []) blocks),
       ap
           (times q) none,
       ap (times q) all,
@@ -180,80 +179,80 @@ push_here used key q pair blocks n here =
 
 push_past : (used : List BlockId) (key q : BlockId) (block : BasicBlock) (pair : BlockId × BasicBlock)
     (blocks : List (BlockId × BasicBlock)) →
-    times q (named_blocks block.terminal) + times q (names_of used blocks) ≤ times q
-    (names_of (used ++ key ∷ []) blocks) →
-    times q (named_blocks block.terminal) + times q (names_of used (pair ∷ blocks)) ≤ times q
-    (names_of (used ++ key ∷ []) (pair ∷ blocks))
+    times q (referenced_blocks block.terminal) + times q (references_among used blocks) ≤ times q
+    (references_among (used ++ key ∷ []) blocks) →
+    times q (referenced_blocks block.terminal) + times q (references_among used (pair ∷ blocks)) ≤ times q
+    (references_among (used ++ key ∷ []) (pair ∷ blocks))
 push_past used key q block pair blocks later =
-    let names = named_blocks pair.1.terminal in
-    let old = if is_among used pair.0 then names else [] in
-    let new = if is_among (used ++ key ∷ []) pair.0 then names else [] in
+    let blocks_of = referenced_blocks pair.1.terminal in
+    let old = if is_among used pair.0 then blocks_of else [] in
+    let new = if is_among (used ++ key ∷ []) pair.0 then blocks_of else [] in
     let head : times q old ≤ times q new =
-    subst (λ b. times q old ≤ times q (if b then names else []))
-    (sym (list_any-append (same_block pair.0) used (key ∷ [])))
-    (or_le (is_among used pair.0) (is_among (key ∷ []) pair.0) q names) in
+    subst (λ b. times q old ≤ times q (if b then blocks_of else []))
+    (sym (list_any-append (same_id pair.0) used (key ∷ [])))
+    (or_le (is_among used pair.0) (is_among (key ∷ []) pair.0) q blocks_of) in
     omega (
       arith,
-      times_append q old (names_of used blocks),
-      times_append q new (names_of (used ++ key ∷ []) blocks),
+      times_append q old (references_among used blocks),
+      times_append q new (references_among (used ++ key ∷ []) blocks),
       head,
       later,
     )
 
 flat_push : (used : List BlockId) (key q : BlockId) (block : BasicBlock) (blocks : List (BlockId × BasicBlock))
-    → is_among used key ≡ false → lookup (same_block key) blocks ≡ Some block →
-    times q (named_blocks block.terminal) + times q (names_of used blocks) ≤ times q
-    (names_of (used ++ key ∷ []) blocks)
+    → is_among used key ≡ false → lookup (same_id key) blocks ≡ Some block →
+    times q (referenced_blocks block.terminal) + times q (references_among used blocks) ≤ times q
+    (references_among (used ++ key ∷ []) blocks)
 flat_push used key q block [] n e = let bad : ⊥ = cc in absurd bad
-flat_push used key q block (pair ∷ blocks) n e = go (same_block key pair.0) refl e (flat_push used key q block blocks n)
+flat_push used key q block (pair ∷ blocks) n e = go (same_id key pair.0) refl e (flat_push used key q block blocks n)
   where
-    go : (b : Bool) → same_block key pair.0 ≡ b → cond b (Some pair.1) (lookup (same_block key) blocks) ≡ Some block →
-        (lookup (same_block key) blocks ≡ Some block → times q (named_blocks block.terminal) + times q
-        (names_of used blocks) ≤ times q (names_of (used ++ key ∷ []) blocks)) →
-        times q (named_blocks block.terminal) + times q (names_of used (pair ∷ blocks)) ≤ times q
-        (names_of (used ++ key ∷ []) (pair ∷ blocks))
+    go : (b : Bool) → same_id key pair.0 ≡ b → cond b (Some pair.1) (lookup (same_id key) blocks) ≡ Some block →
+        (lookup (same_id key) blocks ≡ Some block → times q (referenced_blocks block.terminal) + times q
+        (references_among used blocks) ≤ times q (references_among (used ++ key ∷ []) blocks)) →
+        times q (referenced_blocks block.terminal) + times q (references_among used (pair ∷ blocks)) ≤ times q
+        (references_among (used ++ key ∷ []) (pair ∷ blocks))
     go true s h later =
         let same : pair.1 ≡ block = cc in
-        subst (λ (z : BasicBlock). times q (named_blocks z.terminal) + times q (names_of used (pair ∷ blocks)) ≤ times q
-        (names_of (used ++ key ∷ []) (pair ∷ blocks))) same
-        (push_here used key q pair blocks n (same_block-eq key pair.0 s))
+        subst (λ (z : BasicBlock). times q (referenced_blocks z.terminal) + times q (references_among used (pair ∷ blocks)) ≤ times q
+        (references_among (used ++ key ∷ []) (pair ∷ blocks))) same
+        (push_here used key q pair blocks n (same_id-eq key pair.0 s))
     go false s h later = push_past used key q block pair blocks (later h)
 
--- a marked block is no longer pending, and what its terminal names is
-pub named_push : (hir : HirFunction) (used : List BlockId) (key : BlockId) (block : BasicBlock) (pending : List BlockId)
+-- a marked block is no longer pending, and the blocks that its terminal refers to are
+pub referenced_push : (hir : HirFunction) (used : List BlockId) (key : BlockId) (block : BasicBlock) (pending : List BlockId)
     → is_among used key ≡ false → basic_block hir key ≡ Some block →
-    AreNamed hir used (key ∷ pending) → AreNamed hir (used ++ key ∷ []) (named_blocks block.terminal ++ pending)
-named_push hir used key block pending n e h q =
-    let names = named_blocks block.terminal in
+    AreReferenced hir used (key ∷ pending) → AreReferenced hir (used ++ key ∷ []) (referenced_blocks block.terminal ++ pending)
+referenced_push hir used key block pending n e h q =
+    let blocks_of = referenced_blocks block.terminal in
     omega (
       arith,
       h q,
       flat_push used key q block hir.body.blocks n e,
       times_append q pending used,
       times_append q
-          (names ++ pending) (used ++ key ∷ []),
-      times_append q names pending,
+          (blocks_of ++ pending) (used ++ key ∷ []),
+      times_append q blocks_of pending,
       times_append q used (key ∷ []),
     )
 
 -- fewer blocks are pending
-pub named_fewer : (hir : HirFunction) (used few many : List BlockId)
-    → ((key : BlockId) → times key few ≤ times key many) → AreNamed hir used many → AreNamed hir used few
-named_fewer hir used few many f h key =
+pub referenced_fewer : (hir : HirFunction) (used few many : List BlockId)
+    → ((key : BlockId) → times key few ≤ times key many) → AreReferenced hir used many → AreReferenced hir used few
+referenced_fewer hir used few many f h key =
     omega (arith, h key, f key, times_append key few used, times_append key many used)
 
 -- a block stands once in a list of it alone
 times_alone : (key : BlockId) → times key (key ∷ []) ≡ 1
-times_alone key = ap (λ b. (if b then 1 else 0) + 0) (blocks_equivalence.refl key)
+times_alone key = ap (λ b. (if b then 1 else 0) + 0) (ids_equivalence.refl key)
 
--- a block that is pending, and used or pending besides, is named twice
-pub named_twice : (hir : HirFunction) (used : List BlockId) (key : BlockId) (pending : List BlockId)
-    → AreNamed hir used (key ∷ pending) → 1 ≤ times key (pending ++ used) → 2 ≤ times_named hir key
-named_twice hir used key pending h t =
-    omega (arith, h key, t, times_alone key, namings_le hir used key)
+-- a block that is pending, and used or pending besides, is referred to twice
+pub referenced_twice : (hir : HirFunction) (used : List BlockId) (key : BlockId) (pending : List BlockId)
+    → AreReferenced hir used (key ∷ pending) → 1 ≤ times key (pending ++ used) → 2 ≤ times_referenced hir key
+referenced_twice hir used key pending h t =
+    omega (arith, h key, t, times_alone key, references_le hir used key)
 
--- a block that is pending is named
-pub named_once : (hir : HirFunction) (used : List BlockId) (key : BlockId) (pending : List BlockId)
-    → AreNamed hir used (key ∷ pending) → 1 ≤ times_named hir key
-named_once hir used key pending h =
-    omega (arith, h key, times_alone key, namings_le hir used key)
+-- a block that is pending is referred to
+pub referenced_once : (hir : HirFunction) (used : List BlockId) (key : BlockId) (pending : List BlockId)
+    → AreReferenced hir used (key ∷ pending) → 1 ≤ times_referenced hir key
+referenced_once hir used key pending h =
+    omega (arith, h key, times_alone key, references_le hir used key)

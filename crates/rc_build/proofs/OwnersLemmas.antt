@@ -3,44 +3,40 @@ use Rattle.std.proofs.Common.{◌≡◌, Bool, true, false, List, [], ◌∷◌,
 use Rattle.std.proofs.Common.{subst, inl, inr}
 use Rattle.std.specs.Prelude.{if◌then◌else◌, ◌⊎◌}
 use Rattle.std.proofs.lemmas.Bool.{or_cases}
-use Rattle.rc_names.specs.declared.numbers.BlockId.{BlockId}
-use Rattle.rc_names.specs.declared.numbers.EvaluationOrder.{EvaluationOrder}
-use Rattle.rc_names.specs.declared.span.Span.{Span}
-use Rattle.rc_hir.specs.declared.terminal.GotoVariant.TheVariants as variants
-use Rattle.rc_hir.specs.declared.terminal.Terminal.{Terminal}
+use Rattle.rc_names.specs.Numbers.{BlockId, same_id, is_among}
+use Rattle.rc_hir.specs.Model.{Terminal, HirFunction}
 use Rattle.rc_hir.specs.declared.terminal.Terminal.TheVariants as terminals
-use Rattle.rc_hir.specs.declared.function.HirFunction.{HirFunction}
 use Rattle.rc_runs.specs.declared.frames.Frame.{Frame}
-use Rattle.rc_runs.specs.declared.frames.Frame.TheVariants as kinds
-use Rattle.rc_runs.specs.declared.frames.Way.TheVariants.{LeavesScope, LeavesCase}
-use Rattle.rc_runs.specs.Graph.{same_block}
-use Rattle.rc_runs.specs.Frames.{break_block, is_live, is_live_at, is_loop, way_out_of, way_from}
-use Rattle.rc_build.specs.Namings.{is_among, framed_blocks, tested_blocks, fallthrough_of, scope_fallthrough, listed}
-use Rattle.rc_build.specs.Namings.{case_blocks, cases_of}
-use Rattle.rc_build.specs.RuleFacts.{At, Jumps, goto_break, IsScopeFallthrough, IsCaseBlock}
-use Rattle.rc_build.specs.BuiltFrom.{pending_at, used_at, pending_blocks, used_blocks, IsFrameOf, HasOwner, AreOwned}
-use Rattle.rc_runs.proofs.GraphLemmas.{same_block-eq}
+use Rattle.rc_runs.specs.declared.frames.Frame.TheVariants as frame_kinds
+use Rattle.rc_runs.specs.declared.frames.BreakResult.TheVariants.{LeavesScope, LeavesCase}
+use Rattle.rc_runs.specs.Frames.{break_block, is_jump_target, is_jump_target_at, is_loop, resolve_at, resolve_from}
+use Rattle.std.specs.Option.{option_to_list}
+use Rattle.rc_hir.specs.Successors.{case_blocks}
+use Rattle.rc_build.specs.References.{framed_blocks, tested_blocks, fallthrough_of, scope_fallthrough, cases_of}
+use Rattle.rc_build.specs.RuleFacts.{BlockIs, IsScopeFallthrough, IsCaseBlock}
+use Rattle.rc_build.specs.inside.CanBuild.{pending_at, used_at, pending_blocks, used_blocks, IsFrameOf, HasOwner, AreOwned}
+use Rattle.rc_names.proofs.NumbersLemmas.{same_id-eq}
 use Rattle.rc_build.proofs.MarksLemmas.{among_front, among_back, among_alone, among_same}
 
--- a block that is live at a frame is used before or after the parts inside it
-pending_or_used_there : (frame : Frame) (key : BlockId) → is_live_at frame key ≡ true
+-- a block that is a jump target at a frame is used before or after the parts inside it
+pending_or_used_there : (frame : Frame) (key : BlockId) → is_jump_target_at frame key ≡ true
     → (is_among (pending_at frame) key ≡ true) ⊎ (is_among (used_at frame) key ≡ true)
-pending_or_used_there (kinds.If block) key e = inl (among_alone block key e)
-pending_or_used_there (kinds.Switch block) key e = inl (among_alone block key e)
-pending_or_used_there (kinds.Case block) key e = inr (among_alone block key e)
-pending_or_used_there (kinds.Scope block) key e = inl (among_alone block key e)
-pending_or_used_there (kinds.Loop block again) key e = go (or_cases (same_block block key) (same_block again key) e)
+pending_or_used_there (frame_kinds.Statement block) key e = inl (among_alone block key e)
+pending_or_used_there (frame_kinds.Switch block) key e = inl (among_alone block key e)
+pending_or_used_there (frame_kinds.Case block) key e = inr (among_alone block key e)
+pending_or_used_there (frame_kinds.Scope block) key e = inl (among_alone block key e)
+pending_or_used_there (frame_kinds.Loop block again) key e = go (or_cases (same_id block key) (same_id again key) e)
   where
-    go : (same_block block key ≡ true) ⊎ (same_block again key ≡ true)
+    go : (same_id block key ≡ true) ⊎ (same_id again key ≡ true)
         → (is_among (block ∷ []) key ≡ true) ⊎ (is_among (again ∷ []) key ≡ true)
     go (inl h) = inl (among_alone block key h)
     go (inr h) = inr (among_alone again key h)
 
--- a live block is pending, or used before the parts inside its frame
-pub pending_or_used : (frames : List Frame) (key : BlockId) → is_live frames key ≡ true
+-- a jump target is pending, or used before the parts inside its frame
+pub pending_or_used : (frames : List Frame) (key : BlockId) → is_jump_target frames key ≡ true
     → (is_among (pending_blocks frames) key ≡ true) ⊎ (is_among (used_blocks frames) key ≡ true)
 pending_or_used [] key e = let bad : ⊥ = cc in absurd bad
-pending_or_used (frame ∷ frames) key e = go (is_live_at frame key) refl e (pending_or_used frames key)
+pending_or_used (frame ∷ frames) key e = go (is_jump_target_at frame key) refl e (pending_or_used frames key)
   where
     Found : Type 0
     Found = (is_among (pending_at frame ++ pending_blocks frames) key ≡ true)
@@ -54,8 +50,8 @@ pending_or_used (frame ∷ frames) key e = go (is_live_at frame key) refl e (pen
     outside (inl h) = inl (among_back (pending_at frame) (pending_blocks frames) key h)
     outside (inr h) = inr (among_back (used_at frame) (used_blocks frames) key h)
 
-    go : (b : Bool) → is_live_at frame key ≡ b → (if b then true else is_live frames key) ≡ true
-        → (is_live frames key ≡ true
+    go : (b : Bool) → is_jump_target_at frame key ≡ b → (if b then true else is_jump_target frames key) ≡ true
+        → (is_jump_target frames key ≡ true
         → (is_among (pending_blocks frames) key ≡ true) ⊎ (is_among (used_blocks frames) key ≡ true)) → Found
     go true h r f = here (pending_or_used_there frame key h)
     go false h r f = outside (f r)
@@ -72,24 +68,24 @@ owned_weaker hir P Q (frame ∷ frames) f o = (owner_weaker hir P Q frame f o.0,
 
 -- the fallthrough of a terminal is framed by it, and so are its cases and what it tests
 module _ (terminal : Terminal) where
-  framed_fallthrough : (block key : BlockId) → fallthrough_of terminal ≡ Some block → same_block block key ≡ true
+  framed_fallthrough : (block key : BlockId) → fallthrough_of terminal ≡ Some block → same_id block key ≡ true
       → is_among (framed_blocks terminal) key ≡ true
   framed_fallthrough block key f e =
-      among_front (tested_blocks terminal ++ listed (fallthrough_of terminal)) (case_blocks (cases_of terminal)) key
-      (among_back (tested_blocks terminal) (listed (fallthrough_of terminal)) key
-      (subst (λ z. is_among (listed z) key ≡ true) (sym f) (among_alone block key e)))
+      among_front (tested_blocks terminal ++ option_to_list (fallthrough_of terminal)) (case_blocks (cases_of terminal)) key
+      (among_back (tested_blocks terminal) (option_to_list (fallthrough_of terminal)) key
+      (subst (λ z. is_among (option_to_list z) key ≡ true) (sym f) (among_alone block key e)))
 
   framed_case : (block key : BlockId) → is_among (case_blocks (cases_of terminal)) block ≡ true
-      → same_block block key ≡ true → is_among (framed_blocks terminal) key ≡ true
+      → same_id block key ≡ true → is_among (framed_blocks terminal) key ≡ true
   framed_case block key c e =
-      among_back (tested_blocks terminal ++ listed (fallthrough_of terminal)) (case_blocks (cases_of terminal)) key
+      among_back (tested_blocks terminal ++ option_to_list (fallthrough_of terminal)) (case_blocks (cases_of terminal)) key
       (among_same (case_blocks (cases_of terminal)) block key c e)
 
   framed_test : (block key : BlockId) → is_among (tested_blocks terminal) block ≡ true
-      → same_block block key ≡ true → is_among (framed_blocks terminal) key ≡ true
+      → same_id block key ≡ true → is_among (framed_blocks terminal) key ≡ true
   framed_test block key t e =
-      among_front (tested_blocks terminal ++ listed (fallthrough_of terminal)) (case_blocks (cases_of terminal)) key
-      (among_front (tested_blocks terminal) (listed (fallthrough_of terminal)) key
+      among_front (tested_blocks terminal ++ option_to_list (fallthrough_of terminal)) (case_blocks (cases_of terminal)) key
+      (among_front (tested_blocks terminal) (option_to_list (fallthrough_of terminal)) key
       (among_same (tested_blocks terminal) block key t e))
 
 -- the fallthrough of a scope is that of its terminal
@@ -99,18 +95,18 @@ scope_falls (terminals.Scope fallthrough inner scope id span) block e = e
 scope_falls (terminals.PrunedScope fallthrough inner scope id span) block e = e
 scope_falls _ block e = let bad : ⊥ = cc in absurd bad
 
--- a block that is live at a frame is framed by the frame's terminal
+-- a block that is a jump target at a frame is framed by the frame's terminal
 framed_there : (terminal : Terminal) (frame : Frame) (key : BlockId) → IsFrameOf terminal frame
-    → is_live_at frame key ≡ true → is_among (framed_blocks terminal) key ≡ true
-framed_there terminal (kinds.If block) key f e = framed_fallthrough terminal block key f e
-framed_there terminal (kinds.Switch block) key f e = framed_fallthrough terminal block key f e
-framed_there terminal (kinds.Case block) key f e = framed_case terminal block key f e
-framed_there terminal (kinds.Scope block) key f e =
+    → is_jump_target_at frame key ≡ true → is_among (framed_blocks terminal) key ≡ true
+framed_there terminal (frame_kinds.Statement block) key f e = framed_fallthrough terminal block key f e
+framed_there terminal (frame_kinds.Switch block) key f e = framed_fallthrough terminal block key f e
+framed_there terminal (frame_kinds.Case block) key f e = framed_case terminal block key f e
+framed_there terminal (frame_kinds.Scope block) key f e =
     framed_fallthrough terminal block key (scope_falls terminal block f) e
-framed_there terminal (kinds.Loop block again) key f e =
-    go (or_cases (same_block block key) (same_block again key) e)
+framed_there terminal (frame_kinds.Loop block again) key f e =
+    go (or_cases (same_id block key) (same_id again key) e)
   where
-    go : (same_block block key ≡ true) ⊎ (same_block again key ≡ true) → is_among (framed_blocks terminal) key ≡ true
+    go : (same_id block key ≡ true) ⊎ (same_id again key ≡ true) → is_among (framed_blocks terminal) key ≡ true
     go (inl h) = framed_fallthrough terminal block key f.0 h
     go (inr h) = framed_test terminal again key f.1 h
 
@@ -118,16 +114,16 @@ framed_there terminal (kinds.Loop block again) key f e =
 pub record Frames (hir : HirFunction) (P : BlockId → Type 0) (key : BlockId) : Type 0 where
   pub owner : BlockId
   pub chosen : P owner
-  pub frames : At hir owner (λ block. is_among (framed_blocks block.terminal) key ≡ true)
+  pub frames : BlockIs hir owner (λ block. is_among (framed_blocks block.terminal) key ≡ true)
 
--- a live block is framed by the owner of its frame
-pub live_framed : (hir : HirFunction) (P : BlockId → Type 0) (frames : List Frame) (key : BlockId)
-    → AreOwned hir P frames → is_live frames key ≡ true → Frames hir P key
-live_framed hir P [] key o e = let bad : ⊥ = cc in absurd bad
-live_framed hir P (frame ∷ frames) key o e = go (is_live_at frame key) refl e (live_framed hir P frames key o.1)
+-- a jump target is framed by the owner of its frame
+pub target_framed : (hir : HirFunction) (P : BlockId → Type 0) (frames : List Frame) (key : BlockId)
+    → AreOwned hir P frames → is_jump_target frames key ≡ true → Frames hir P key
+target_framed hir P [] key o e = let bad : ⊥ = cc in absurd bad
+target_framed hir P (frame ∷ frames) key o e = go (is_jump_target_at frame key) refl e (target_framed hir P frames key o.1)
   where
-    go : (b : Bool) → is_live_at frame key ≡ b → (if b then true else is_live frames key) ≡ true
-        → (is_live frames key ≡ true → Frames hir P key) → Frames hir P key
+    go : (b : Bool) → is_jump_target_at frame key ≡ b → (if b then true else is_jump_target frames key) ≡ true
+        → (is_jump_target frames key ≡ true → Frames hir P key) → Frames hir P key
     go true h r f = record {
       owner = o.0.owner;
       chosen = o.0.chosen;
@@ -140,45 +136,45 @@ live_framed hir P (frame ∷ frames) key o e = go (is_live_at frame key) refl e 
     go false h r f = f r
 
 -- a break that leaves a scope names a scope's fallthrough
-scope_way : (hir : HirFunction) (P : BlockId → Type 0) (innermost in_loop : Bool) (frame : Frame) (key : BlockId)
-    → HasOwner hir P frame → same_block (break_block frame) key ≡ true →
-    way_out_of innermost in_loop frame ≡ LeavesScope → IsScopeFallthrough hir key
-scope_way hir P innermost in_loop (kinds.If block) key o s e = let bad : ⊥ = cc in absurd bad
-scope_way hir P innermost in_loop (kinds.Switch block) key o s e = let bad : ⊥ = cc in absurd bad
-scope_way hir P true in_loop (kinds.Case block) key o s e = let bad : ⊥ = cc in absurd bad
-scope_way hir P false in_loop (kinds.Case block) key o s e = let bad : ⊥ = cc in absurd bad
-scope_way hir P innermost in_loop (kinds.Scope block) key o s e = (
+leaves_scope_at : (hir : HirFunction) (P : BlockId → Type 0) (innermost in_loop : Bool) (frame : Frame) (key : BlockId)
+    → HasOwner hir P frame → same_id (break_block frame) key ≡ true →
+    resolve_at innermost in_loop frame ≡ LeavesScope → IsScopeFallthrough hir key
+leaves_scope_at hir P innermost in_loop (frame_kinds.Statement block) key o s e = let bad : ⊥ = cc in absurd bad
+leaves_scope_at hir P innermost in_loop (frame_kinds.Switch block) key o s e = let bad : ⊥ = cc in absurd bad
+leaves_scope_at hir P true in_loop (frame_kinds.Case block) key o s e = let bad : ⊥ = cc in absurd bad
+leaves_scope_at hir P false in_loop (frame_kinds.Case block) key o s e = let bad : ⊥ = cc in absurd bad
+leaves_scope_at hir P innermost in_loop (frame_kinds.Scope block) key o s e = (
   o.owner,
   record {
     block = o.owns.block;
     found = o.owns.found;
-    holds = o.owns.holds ∙ ap Some (same_block-eq block key s);
+    holds = o.owns.holds ∙ ap Some (same_id-eq block key s);
   },
 )
-scope_way hir P innermost in_loop (kinds.Loop block continue_block) key o s e = let bad : ⊥ = cc in absurd bad
+leaves_scope_at hir P innermost in_loop (frame_kinds.Loop block continue_block) key o s e = let bad : ⊥ = cc in absurd bad
 
 pub leaves_scope : (hir : HirFunction) (P : BlockId → Type 0) (innermost in_loop : Bool) (frames : List Frame)
     (key : BlockId) → AreOwned hir P frames →
-    way_from innermost in_loop frames key ≡ LeavesScope → IsScopeFallthrough hir key
+    resolve_from innermost in_loop frames key ≡ LeavesScope → IsScopeFallthrough hir key
 leaves_scope hir P innermost in_loop [] key o e = let bad : ⊥ = cc in absurd bad
 leaves_scope hir P innermost in_loop (frame ∷ frames) key o e =
-    go (same_block (break_block frame) key) refl e (leaves_scope hir P false (in_loop || is_loop frame) frames key o.1)
+    go (same_id (break_block frame) key) refl e (leaves_scope hir P false (in_loop || is_loop frame) frames key o.1)
   where
-    go : (b : Bool) → same_block (break_block frame) key ≡ b
-        → (if b then way_out_of innermost in_loop frame else way_from false (in_loop || is_loop frame) frames key)
+    go : (b : Bool) → same_id (break_block frame) key ≡ b
+        → (if b then resolve_at innermost in_loop frame else resolve_from false (in_loop || is_loop frame) frames key)
         ≡ LeavesScope →
-        (way_from false (in_loop || is_loop frame) frames key ≡ LeavesScope → IsScopeFallthrough hir key)
+        (resolve_from false (in_loop || is_loop frame) frames key ≡ LeavesScope → IsScopeFallthrough hir key)
         → IsScopeFallthrough hir key
-    go true s h f = scope_way hir P innermost in_loop frame key o.0 s h
+    go true s h f = leaves_scope_at hir P innermost in_loop frame key o.0 s h
     go false s h f = f h
 
 -- a break that leaves a case names a case's block
-case_way : (hir : HirFunction) (P : BlockId → Type 0) (innermost in_loop : Bool) (frame : Frame) (key : BlockId)
-    → HasOwner hir P frame → same_block (break_block frame) key ≡ true →
-    way_out_of innermost in_loop frame ≡ LeavesCase → IsCaseBlock hir key
-case_way hir P innermost in_loop (kinds.If block) key o s e = let bad : ⊥ = cc in absurd bad
-case_way hir P innermost in_loop (kinds.Switch block) key o s e = let bad : ⊥ = cc in absurd bad
-case_way hir P innermost in_loop (kinds.Case block) key o s e = (
+leaves_case_at : (hir : HirFunction) (P : BlockId → Type 0) (innermost in_loop : Bool) (frame : Frame) (key : BlockId)
+    → HasOwner hir P frame → same_id (break_block frame) key ≡ true →
+    resolve_at innermost in_loop frame ≡ LeavesCase → IsCaseBlock hir key
+leaves_case_at hir P innermost in_loop (frame_kinds.Statement block) key o s e = let bad : ⊥ = cc in absurd bad
+leaves_case_at hir P innermost in_loop (frame_kinds.Switch block) key o s e = let bad : ⊥ = cc in absurd bad
+leaves_case_at hir P innermost in_loop (frame_kinds.Case block) key o s e = (
   o.owner,
   record {
     block = o.owns.block;
@@ -186,31 +182,20 @@ case_way hir P innermost in_loop (kinds.Case block) key o s e = (
     holds = among_same (case_blocks (cases_of o.owns.block.terminal)) block key o.owns.holds s;
   },
 )
-case_way hir P true in_loop (kinds.Scope block) key o s e = let bad : ⊥ = cc in absurd bad
-case_way hir P false in_loop (kinds.Scope block) key o s e = let bad : ⊥ = cc in absurd bad
-case_way hir P innermost in_loop (kinds.Loop block continue_block) key o s e = let bad : ⊥ = cc in absurd bad
+leaves_case_at hir P true in_loop (frame_kinds.Scope block) key o s e = let bad : ⊥ = cc in absurd bad
+leaves_case_at hir P false in_loop (frame_kinds.Scope block) key o s e = let bad : ⊥ = cc in absurd bad
+leaves_case_at hir P innermost in_loop (frame_kinds.Loop block continue_block) key o s e = let bad : ⊥ = cc in absurd bad
 
 pub leaves_case : (hir : HirFunction) (P : BlockId → Type 0) (innermost in_loop : Bool) (frames : List Frame)
     (key : BlockId) → AreOwned hir P frames →
-    way_from innermost in_loop frames key ≡ LeavesCase → IsCaseBlock hir key
+    resolve_from innermost in_loop frames key ≡ LeavesCase → IsCaseBlock hir key
 leaves_case hir P innermost in_loop [] key o e = let bad : ⊥ = cc in absurd bad
 leaves_case hir P innermost in_loop (frame ∷ frames) key o e =
-    go (same_block (break_block frame) key) refl e (leaves_case hir P false (in_loop || is_loop frame) frames key o.1)
+    go (same_id (break_block frame) key) refl e (leaves_case hir P false (in_loop || is_loop frame) frames key o.1)
   where
-    go : (b : Bool) → same_block (break_block frame) key ≡ b
-        → (if b then way_out_of innermost in_loop frame else way_from false (in_loop || is_loop frame) frames key)
+    go : (b : Bool) → same_id (break_block frame) key ≡ b
+        → (if b then resolve_at innermost in_loop frame else resolve_from false (in_loop || is_loop frame) frames key)
         ≡ LeavesCase →
-        (way_from false (in_loop || is_loop frame) frames key ≡ LeavesCase → IsCaseBlock hir key) → IsCaseBlock hir key
-    go true s h f = case_way hir P innermost in_loop frame key o.0 s h
+        (resolve_from false (in_loop || is_loop frame) frames key ≡ LeavesCase → IsCaseBlock hir key) → IsCaseBlock hir key
+    go true s h f = leaves_case_at hir P innermost in_loop frame key o.0 s h
     go false s h f = f h
-
--- a block that ends in a break, and what its target is
-pub jump_at : {P : BlockId → Type 0} (hir : HirFunction) (key target : BlockId) (id : EvaluationOrder)
-    (span : Option Span) →
-    At hir key (λ block. block.terminal ≡ terminals.Goto target variants.Break id span) → P target
-    → At hir key (λ block. (x : BlockId) × Jumps block.terminal x × P x)
-jump_at hir key target id span a p = record {
-  block = a.block;
-  found = a.found;
-  holds = (target, subst (λ z. Jumps z target) (sym a.holds) goto_break, p);
-}

@@ -9,30 +9,27 @@ use Rattle.std.proofs.lemmas.List.{append-nil}
 use Rattle.std.proofs.lemmas.Map.Keys.{IsDistinct-push}
 use Rattle.std.proofs.lemmas.Map.Views.{Contains-from_any, list_any-from_Contains}
 use Rattle.std.proofs.lemmas.List.Elements.{filter_map-append}
-use Rattle.rc_names.specs.declared.numbers.BlockId.{BlockId}
-use Rattle.rc_names.specs.declared.numbers.ScopeId.{ScopeId}
-use Rattle.rc_hir.specs.declared.function.Instruction.{Instruction}
-use Rattle.rc_hir.specs.declared.function.BasicBlock.{BasicBlock}
-use Rattle.rc_hir.specs.declared.function.HirFunction.{HirFunction}
-use Rattle.rc_build.specs.declared.state.Marks.{Marks}
+use Rattle.rc_names.specs.Numbers.{BlockId, ScopeId, same_id, is_among}
+use Rattle.rc_hir.specs.Model.{Instruction, BasicBlock, HirFunction}
+use Rattle.rc_build.specs.declared.builder.Marks.{Marks}
 use Rattle.rc_runs.specs.declared.frames.Frame.{Frame}
 use Rattle.rc_hir.specs.declared.fault.Rule.TheVariants.{Twice, ScopeTwice}
-use Rattle.rc_runs.specs.Frames.{is_live}
-use Rattle.rc_runs.specs.Graph.{Block, same_block, basic_block, block_at, rows_of, with_rows}
-use Rattle.rc_runs.specs.GraphRun.{MovesAlive}
-use Rattle.rc_runs.specs.Spelled.{same_scope, scope_named, scope_at}
-use Rattle.rc_build.specs.Namings.{is_among, named_blocks}
-use Rattle.rc_build.specs.RuleFacts.{At, MovesDead, SharesScope, RuleFact}
-use Rattle.rc_build.specs.BuiltFrom.{Marked, AreNamed, AtList, pending_blocks, used_blocks}
-use Rattle.rc_build.specs.Built.{MarksBlocks}
-use Rattle.rc_build.specs.Taken.{IsUnusable, listed_scope, is_fresh_scope}
-use Rattle.rc_runs.proofs.GraphLemmas.{same_block-eq, blocks_equivalence, same_scope-eq, scopes_equivalence}
-use Rattle.rc_build.proofs.MarksLemmas.{times_among, named_twice, one_more, among_push, among_front, among_back}
-use Rattle.rc_build.proofs.MarksLemmas.{named_push}
+use Rattle.rc_runs.specs.Frames.{is_jump_target}
+use Rattle.rc_runs.specs.Graph.{Block, basic_block, block_at, rows_of, with_rows}
+use Rattle.rc_runs.specs.GraphRun.{HasNoUnreachableSuccessor}
+use Rattle.rc_runs.specs.Spelled.{scope_named, scope_at}
+use Rattle.rc_build.specs.References.{referenced_blocks}
+use Rattle.rc_build.specs.RuleFacts.{BlockIs, HasUnreachableSuccessor, SharesScope, RuleFact}
+use Rattle.rc_build.specs.inside.CanBuild.{AreMarked, AreReferenced, CanBuildList, pending_blocks, used_blocks}
+use Rattle.std.specs.Option.{option_to_list}
+use Rattle.rc_build.specs.inside.Marks.{MarksBlocks, is_fresh_scope}
+use Rattle.rc_names.proofs.NumbersLemmas.{ids_equivalence, same_id-eq}
+use Rattle.rc_build.proofs.MarksLemmas.{times_among, referenced_twice, one_more, among_push, among_front, among_back}
+use Rattle.rc_build.proofs.MarksLemmas.{referenced_push}
 use Rattle.rc_build.proofs.OwnersLemmas.{pending_or_used}
-use Rattle.rc_build.proofs.UsableLemmas.{filled, found_terminal, found_block}
+use Rattle.rc_build.proofs.UsableLemmas.{IsUnusable, filled, found_terminal, found_block}
 
-listed_option : (scope : Option ScopeId) → cons_option scope [] ≡ listed_scope scope
+listed_option : (scope : Option ScopeId) → cons_option scope [] ≡ option_to_list scope
 listed_option None = refl
 listed_option (Some scope) = refl
 
@@ -44,53 +41,55 @@ scope_of hir key block rows e f =
 
 scopes_push : (hir : HirFunction) (used : List BlockId) (key : BlockId) (scope : Option ScopeId)
     → scope_at hir key ≡ scope →
-    filter_map (scope_at hir) (used ++ key ∷ []) ≡ filter_map (scope_at hir) used ++ listed_scope scope
+    filter_map (scope_at hir) (used ++ key ∷ []) ≡ filter_map (scope_at hir) used ++ option_to_list scope
 scopes_push hir used key scope e = filter_map-append (scope_at hir) used (key ∷ [])
     ∙ ap (λ z. filter_map (scope_at hir) used ++ z) (ap (λ z. cons_option z []) e ∙ listed_option scope)
 
-distinct_scopes : (scopes : List ScopeId) (scope : Option ScopeId) → IsDistinct same_scope scopes
-    → is_fresh_scope scopes scope ≡ true → IsDistinct same_scope (scopes ++ listed_scope scope)
-distinct_scopes scopes None d f = subst (IsDistinct same_scope) (sym (append-nil scopes)) d
+distinct_scopes : (scopes : List ScopeId) (scope : Option ScopeId) → IsDistinct same_id scopes
+    → is_fresh_scope scopes scope ≡ true → IsDistinct same_id (scopes ++ option_to_list scope)
+distinct_scopes scopes None d f = subst (IsDistinct same_id) (sym (append-nil scopes)) d
 distinct_scopes scopes (Some scope) d f =
-    IsDistinct-push scopes_equivalence scopes scope d (not-true (list_any (same_scope scope) scopes) f)
+    IsDistinct-push ids_equivalence scopes scope d (not-true (list_any (same_id scope) scopes) f)
 
 -- a block more is used
 pub marked_push : (hir : HirFunction) (old new : Marks) (key : BlockId) (block : BasicBlock) (rows : List Instruction)
-    → Marked hir old → is_among old.used key ≡ false →
+    → AreMarked hir old → is_among old.used key ≡ false →
     basic_block hir key ≡ Some block → rows_of hir.instructions block.instructions ≡ Some rows
-    → MovesAlive hir block.terminal → is_fresh_scope old.scopes (scope_named block.terminal) ≡ true →
-    new.used ≡ old.used ++ key ∷ [] → new.scopes ≡ old.scopes ++ listed_scope (scope_named block.terminal)
-    → Marked hir new
+    → HasNoUnreachableSuccessor hir block.terminal → is_fresh_scope old.scopes (scope_named block.terminal) ≡ true →
+    new.used ≡ old.used ++ key ∷ [] → new.scopes ≡ old.scopes ++ option_to_list (scope_named block.terminal)
+    → AreMarked hir new
 marked_push hir old new key block rows m n e f alive fresh u s =
     let scopes = scopes_push hir old.used key (scope_named block.terminal) (scope_of hir key block rows e f) in
-    let Alive : BlockId → Type 0 = λ q. (z : Block) → block_at hir q ≡ Some z → MovesAlive hir z.terminal in
-    let here : Alive key = λ z h. subst (MovesAlive hir) (sym (found_terminal hir key block z e h)) alive in
+    let Alive : BlockId → Type 0 = λ q. (z : Block) → block_at hir q ≡ Some z
+    → HasNoUnreachableSuccessor hir z.terminal in
+    let here : Alive key = λ z h. subst (HasNoUnreachableSuccessor hir)
+    (sym (found_terminal hir key block z e h)) alive in
     let there : (q : BlockId) → is_among old.used q ≡ true
-    → Alive q = λ q h. m.sound.alive q (Contains-from_any same_block-eq q old.used h) in
+    → Alive q = λ q h. m.sound.alive q (Contains-from_any same_id-eq q old.used h) in
     record {
       sound = record {
-        distinct = subst (IsDistinct same_block) (sym u) (IsDistinct-push blocks_equivalence old.used key
+        distinct = subst (IsDistinct same_id) (sym u) (IsDistinct-push ids_equivalence old.used key
             m.sound.distinct n);
         alive = λ q c. one_more Alive old.used key there here q
-            (subst (λ us. is_among us q ≡ true) u (list_any-from_Contains blocks_equivalence q new.used c));
-        scopes_once = subst (IsDistinct same_scope) (sym (ap (filter_map (scope_at hir)) u ∙ scopes))
+            (subst (λ us. is_among us q ≡ true) u (list_any-from_Contains ids_equivalence q new.used c));
+        scopes_once = subst (IsDistinct same_id) (sym (ap (filter_map (scope_at hir)) u ∙ scopes))
             (distinct_scopes (filter_map (scope_at hir) old.used) (scope_named block.terminal) m.sound.scopes_once
             (subst (λ z. is_fresh_scope z (scope_named block.terminal) ≡ true) m.scopes fresh));
       };
       known = λ q h. one_more (λ k. IsSome (basic_block hir k)) old.used key m.known (ap is_some e) q
           (subst (λ us. is_among us q ≡ true) u h);
-      scopes = s ∙ ap (λ z. z ++ listed_scope (scope_named block.terminal)) m.scopes
+      scopes = s ∙ ap (λ z. z ++ option_to_list (scope_named block.terminal)) m.scopes
           ∙ sym (ap (filter_map (scope_at hir)) u ∙ scopes);
     }
 
 pub marking_push : (hir : HirFunction) (old new : Marks) (key : BlockId) (block : BasicBlock)
-    → is_among old.used key ≡ false → basic_block hir key ≡ Some block → Marked hir new →
-    new.used ≡ old.used ++ key ∷ [] → MarksBlocks hir (key ∷ []) (named_blocks block.terminal) old new (key ∷ [])
+    → is_among old.used key ≡ false → basic_block hir key ≡ Some block → AreMarked hir new →
+    new.used ≡ old.used ++ key ∷ [] → MarksBlocks hir (key ∷ []) (referenced_blocks block.terminal) old new (key ∷ [])
 marking_push hir old new key block n e m u = record {
   used = u;
   marked = m;
-  named = λ pending h. subst (λ us. AreNamed hir us (named_blocks block.terminal ++ pending)) (sym u)
-      (named_push hir old.used key block pending n e h);
+  referenced = λ pending h. subst (λ us. AreReferenced hir us (referenced_blocks block.terminal ++ pending)) (sym u)
+      (referenced_push hir old.used key block pending n e h);
 }
 
 all_at : {K : Type 0} (P : K → Type 0) (xs : List K) (x : K) (ys : List K) → AllByRecursion P (xs ++ x ∷ ys) → P x
@@ -112,23 +111,23 @@ repeated {eq = eq} laws (z ∷ xs) x ys h d = go (eq x z) refl h (λ k. repeated
 -- no tree may use a block twice
 pub unusable_used : (hir : HirFunction) (frames : List Frame) (key : BlockId) (marks : Marks)
     → is_among marks.used key ≡ true → IsUnusable hir frames key marks
-unusable_used hir frames key marks h block u l s = repeated blocks_equivalence marks.used key [] h s.distinct
+unusable_used hir frames key marks h block u l s = repeated ids_equivalence marks.used key [] h s.distinct
 
--- no tree may use a block that moves to a dead one
-pub unusable_dead : (hir : HirFunction) (frames : List Frame) (key : BlockId) (marks : Marks) (block : BasicBlock)
+-- no tree may use a block that leads to one that ends in `Unreachable`
+pub unusable_unreachable : (hir : HirFunction) (frames : List Frame) (key : BlockId) (marks : Marks) (block : BasicBlock)
     (rows : List Instruction) → basic_block hir key ≡ Some block →
-    rows_of hir.instructions block.instructions ≡ Some rows → MovesDead hir block.terminal
+    rows_of hir.instructions block.instructions ≡ Some rows → HasUnreachableSuccessor hir block.terminal
     → IsUnusable hir frames key marks
-unusable_dead hir frames key marks block rows e f d whole u l s =
-    let alive = s.alive key (Contains-from_any same_block-eq key (marks.used ++ key ∷ []) (among_push marks.used key))
+unusable_unreachable hir frames key marks block rows e f d whole u l s =
+    let alive = s.alive key (Contains-from_any same_id-eq key (marks.used ++ key ∷ []) (among_push marks.used key))
     (filled block rows) (found_block hir key block rows e f) in
-    let no = alive d.events d.target d.move in
-    let yes = d.dead in
+    let no = alive d.events d.target d.edge in
+    let yes = d.ends in
     let bad : ⊥ = cc in bad
 
 -- no tree may open a scope twice
 pub unusable_scope : (hir : HirFunction) (frames : List Frame) (key : BlockId) (marks : Marks) (block : BasicBlock)
-    (rows : List Instruction) → Marked hir marks → basic_block hir key ≡ Some block →
+    (rows : List Instruction) → AreMarked hir marks → basic_block hir key ≡ Some block →
     rows_of hir.instructions block.instructions ≡ Some rows
     → is_fresh_scope marks.scopes (scope_named block.terminal) ≡ false → IsUnusable hir frames key marks
 unusable_scope hir frames key marks block rows m e f n whole u l s =
@@ -137,35 +136,35 @@ unusable_scope hir frames key marks block rows m e f n whole u l s =
     n)
   where
     go : (scope : Option ScopeId) → filter_map (scope_at hir) (marks.used ++ key ∷ [])
-        ≡ filter_map (scope_at hir) marks.used ++ listed_scope scope →
+        ≡ filter_map (scope_at hir) marks.used ++ option_to_list scope →
         is_fresh_scope (filter_map (scope_at hir) marks.used) scope ≡ false → ⊥
     go None p h = let bad : ⊥ = cc in bad
-    go (Some scope) p h = repeated scopes_equivalence (filter_map (scope_at hir) marks.used) scope [] (not-false _ h)
-        (subst (IsDistinct same_scope) p s.scopes_once)
+    go (Some scope) p h = repeated ids_equivalence (filter_map (scope_at hir) marks.used) scope [] (not-false _ h)
+        (subst (IsDistinct same_id) p s.scopes_once)
 
--- a used block is named twice where it is to be opened
+-- a used block that is built again is referred to twice
 pub twice_used : (hir : HirFunction) (marks : Marks) (frames : List Frame) (key : BlockId) (block : BasicBlock)
-    → AtList hir marks frames key → basic_block hir key ≡ Some block →
+    → CanBuildList hir marks frames key → basic_block hir key ≡ Some block →
     is_among marks.used key ≡ true → RuleFact hir Twice key
 twice_used hir marks frames key block a e u = record {
   block = block;
   found = e;
-  holds = named_twice hir marks.used key (pending_blocks frames) a.named
+  holds = referenced_twice hir marks.used key (pending_blocks frames) a.referenced
       (times_among key (pending_blocks frames ++ marks.used) (among_back (pending_blocks frames) marks.used key u));
 }
 
--- so is a live block
-pub twice_live : (hir : HirFunction) (marks : Marks) (frames : List Frame) (key : BlockId) (block : BasicBlock)
-    → AtList hir marks frames key → basic_block hir key ≡ Some block →
-    is_live frames key ≡ true → RuleFact hir Twice key
-twice_live hir marks frames key block a e l = go (pending_or_used frames key l)
+-- so is a jump target
+pub twice_target : (hir : HirFunction) (marks : Marks) (frames : List Frame) (key : BlockId) (block : BasicBlock)
+    → CanBuildList hir marks frames key → basic_block hir key ≡ Some block →
+    is_jump_target frames key ≡ true → RuleFact hir Twice key
+twice_target hir marks frames key block a e l = go (pending_or_used frames key l)
   where
     go : (is_among (pending_blocks frames) key ≡ true) ⊎ (is_among (used_blocks frames) key ≡ true)
         → RuleFact hir Twice key
     go (inl pending) = record {
       block = block;
       found = e;
-      holds = named_twice hir marks.used key (pending_blocks frames) a.named
+      holds = referenced_twice hir marks.used key (pending_blocks frames) a.referenced
           (times_among key (pending_blocks frames ++ marks.used)
           (among_front (pending_blocks frames) marks.used key pending));
     }
@@ -182,35 +181,35 @@ more_opener : (hir : HirFunction) (key : BlockId) (used : List BlockId) (scope :
 more_opener hir key used scope o =
     record {
       owner = o.owner;
-      among = or_right (same_block o.owner key) (is_among used o.owner) o.among;
+      among = or_right (same_id o.owner key) (is_among used o.owner) o.among;
       opens = o.opens;
     }
 
 opener : (hir : HirFunction) (used : List BlockId) (scope : ScopeId)
-    → list_any (same_scope scope) (filter_map (scope_at hir) used) ≡ true → Opener hir used scope
+    → list_any (same_id scope) (filter_map (scope_at hir) used) ≡ true → Opener hir used scope
 opener hir [] scope h = let bad : ⊥ = cc in absurd bad
 opener hir (key ∷ used) scope h =
     go (scope_at hir key) refl h (λ k. more_opener hir key used scope (opener hir used scope k))
   where
     here : scope_at hir key ≡ Some scope → Opener hir (key ∷ used) scope
-    here e = record { owner = key; among = ap (λ b. b || is_among used key) (blocks_equivalence.refl key); opens = e }
+    here e = record { owner = key; among = ap (λ b. b || is_among used key) (ids_equivalence.refl key); opens = e }
 
-    pick : (other : ScopeId) (b : Bool) → scope_at hir key ≡ Some other → same_scope scope other ≡ b
-        → (b || list_any (same_scope scope) (filter_map (scope_at hir) used)) ≡ true →
-        (list_any (same_scope scope) (filter_map (scope_at hir) used) ≡ true → Opener hir (key ∷ used) scope)
+    pick : (other : ScopeId) (b : Bool) → scope_at hir key ≡ Some other → same_id scope other ≡ b
+        → (b || list_any (same_id scope) (filter_map (scope_at hir) used)) ≡ true →
+        (list_any (same_id scope) (filter_map (scope_at hir) used) ≡ true → Opener hir (key ∷ used) scope)
         → Opener hir (key ∷ used) scope
-    pick other true e s k f = here (e ∙ ap Some (sym (same_scope-eq scope other s)))
+    pick other true e s k f = here (e ∙ ap Some (sym (same_id-eq scope other s)))
     pick other false e s k f = f k
 
-    go : (o : Option ScopeId) → scope_at hir key ≡ o → list_any (same_scope scope)
+    go : (o : Option ScopeId) → scope_at hir key ≡ o → list_any (same_id scope)
         (cons_option o (filter_map (scope_at hir) used)) ≡ true →
-        (list_any (same_scope scope) (filter_map (scope_at hir) used) ≡ true → Opener hir (key ∷ used) scope)
+        (list_any (same_id scope) (filter_map (scope_at hir) used) ≡ true → Opener hir (key ∷ used) scope)
         → Opener hir (key ∷ used) scope
     go None e k f = f k
-    go (Some other) e k f = pick other (same_scope scope other) e refl k f
+    go (Some other) e k f = pick other (same_id scope other) e refl k f
 
 opened_at : (hir : HirFunction) (key : BlockId) (scope : ScopeId) → scope_at hir key ≡ Some scope
-    → At hir key (λ block. scope_named block.terminal ≡ Some scope)
+    → BlockIs hir key (λ block. scope_named block.terminal ≡ Some scope)
 unfolding block_at
 opened_at hir key scope e = go (basic_block hir key) refl e
   where
@@ -222,22 +221,22 @@ opened_at hir key scope e = go (basic_block hir key) refl e
 
     go : (b : Option BasicBlock) → basic_block hir key ≡ b
         → option_and_then (λ (z : Block). scope_named z.terminal) (option_and_then (with_rows hir) b) ≡ Some scope →
-        At hir key (λ block. scope_named block.terminal ≡ Some scope)
+        BlockIs hir key (λ block. scope_named block.terminal ≡ Some scope)
     go None p h = let bad : ⊥ = cc in absurd bad
     go (Some block) p h =
         record { block = block; found = p; holds = rows block (rows_of hir.instructions block.instructions) h }
 
 -- a used block is another one than a block that isn't used
 pub used_apart : (used : List BlockId) (key other : BlockId) → is_among used key ≡ false → is_among used other ≡ true
-    → same_block other key ≡ false
-used_apart used key other n u = go (same_block other key) refl
+    → same_id other key ≡ false
+used_apart used key other n u = go (same_id other key) refl
   where
-    go : (b : Bool) → same_block other key ≡ b → b ≡ false
-    go true e = let no = ap (is_among used) (same_block-eq other key e) in let bad : ⊥ = cc in absurd bad
+    go : (b : Bool) → same_id other key ≡ b → b ≡ false
+    go true e = let no = ap (is_among used) (same_id-eq other key e) in let bad : ⊥ = cc in absurd bad
     go false e = refl
 
 -- a scope that isn't new is shared with a used block
-pub shared_scope : (hir : HirFunction) (marks : Marks) (key : BlockId) (block : BasicBlock) → Marked hir marks
+pub shared_scope : (hir : HirFunction) (marks : Marks) (key : BlockId) (block : BasicBlock) → AreMarked hir marks
     → is_among marks.used key ≡ false → basic_block hir key ≡ Some block →
     is_fresh_scope marks.scopes (scope_named block.terminal) ≡ false → RuleFact hir ScopeTwice key
 shared_scope hir marks key block m n e f =

@@ -1,13 +1,20 @@
 -- The blocks that a tree may use: their parts, and when there is none.
-use Rattle.std.proofs.Common.{◌≡◌, Bool, true, false, List, Option, Some, None, refl, sym, ap, ◌∙◌}
+use Rattle.std.proofs.Common.{◌≡◌, Bool, true, false, List, [], ◌∷◌, ◌++◌, Option, Some, None, refl, sym, ap, ◌∙◌}
 use Rattle.std.specs.Prelude.{option_map, option_and_then, if◌then◌else◌}
-use Rattle.rc_names.specs.declared.numbers.BlockId.{BlockId}
-use Rattle.rc_hir.specs.declared.function.Instruction.{Instruction}
-use Rattle.rc_hir.specs.declared.function.BasicBlock.{BasicBlock}
-use Rattle.rc_hir.specs.declared.function.HirFunction.{HirFunction}
-use Rattle.rc_runs.specs.Graph.{Block, same_block, basic_block, block_at, usable_block, rows_of, with_rows, with_ids}
+use Rattle.rc_names.specs.Numbers.{BlockId, same_id}
+use Rattle.rc_hir.specs.Model.{Instruction, BasicBlock, HirFunction}
+use Rattle.rc_runs.specs.Graph.{Block, basic_block, block_at, usable_block, rows_of, with_rows, with_ids}
+use Rattle.rc_runs.specs.Frames.{is_jump_target}
+use Rattle.rc_runs.specs.Spelled.{AreSound}
+use Rattle.rc_runs.specs.declared.frames.Frame.{Frame}
+use Rattle.rc_build.specs.declared.builder.Marks.{Marks}
 use Rattle.rc_runs.specs.Graph.{has_all_ids, under_own_number}
-use Rattle.rc_build.specs.Rows.{HasIds}
+use Rattle.rc_build.specs.inside.Rows.{HasIds}
+
+-- no tree may use the block there
+abbrev pub IsUnusable : HirFunction → List Frame → BlockId → Marks → Type 0
+IsUnusable hir frames key marks = (block : Block) → usable_block hir key ≡ Some block →
+    is_jump_target frames key ≡ false → AreSound hir (marks.used ++ key ∷ []) → ⊥
 
 -- a basic block with these rows
 abbrev pub filled : BasicBlock → List Instruction → Block
@@ -19,7 +26,7 @@ module _ (hir : HirFunction) (key : BlockId) where
   unusable_missing e = ap (λ b. option_and_then with_ids
       (option_and_then (with_rows hir) (option_and_then (under_own_number key) b))) e
 
-  pub unusable_numbered : (block : BasicBlock) → basic_block hir key ≡ Some block → same_block block.id key ≡ false
+  pub unusable_numbered : (block : BasicBlock) → basic_block hir key ≡ Some block → same_id block.id key ≡ false
       → usable_block hir key ≡ None
   unfolding usable_block
   unusable_numbered block e n =
@@ -29,7 +36,7 @@ module _ (hir : HirFunction) (key : BlockId) where
 
   -- a block under its own number whose rows and ids are there
   pub usable_made : (block : BasicBlock) (rows : List Instruction) → basic_block hir key ≡ Some block
-      → same_block block.id key ≡ true → rows_of hir.instructions block.instructions ≡ Some rows →
+      → same_id block.id key ≡ true → rows_of hir.instructions block.instructions ≡ Some rows →
       has_all_ids (filled block rows) ≡ true → usable_block hir key ≡ Some (filled block rows)
   unfolding usable_block
   usable_made block rows e n f i =
@@ -64,9 +71,9 @@ module _ (hir : HirFunction) (key : BlockId) where
       ≡ Some whole =
       ap (λ b. option_and_then with_ids (option_and_then (with_rows hir) (option_and_then (under_own_number key) b)))
       (sym e) ∙ u in
-      go (same_block block.id key) refl at_block
+      go (same_id block.id key) refl at_block
     where
-      go : (b : Bool) → same_block block.id key ≡ b → option_and_then with_ids
+      go : (b : Bool) → same_id block.id key ≡ b → option_and_then with_ids
           (option_and_then (with_rows hir) (if b then Some block else None)) ≡ Some whole → HasIds hir block
       go true n h = ids_of block whole h
       go false n h = let bad : ⊥ = cc in absurd bad

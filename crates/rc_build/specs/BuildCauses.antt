@@ -1,11 +1,9 @@
 -- Why the builder refuses a graph.
 use Rattle.std.specs.Prelude.{⊤}
-use Rattle.rc_hir.specs.declared.fault.Fault.{Fault}
+use Rattle.rc_hir.specs.Model.{Fault, HirFunction, Environment}
 use Rattle.rc_hir.specs.declared.fault.Fault.TheVariants as faults
-use Rattle.rc_hir.specs.declared.function.HirFunction.{HirFunction}
-use Rattle.rc_hir.specs.declared.environment.Environment.{Environment}
 use Rattle.rc_hir.specs.Names.{NamesInTables, NamesOutside}
-use Rattle.rc_tree.specs.declared.function.ReactiveFunction.{ReactiveFunction}
+use Rattle.rc_tree.specs.Model.{ReactiveFunction}
 use Rattle.rc_runs.specs.Spelled.{Spells}
 use Rattle.rc_build.specs.BuiltForms.{AreBuilt, IsFirstUnbuilt}
 use Rattle.rc_build.specs.RuleFacts.{RuleFact}

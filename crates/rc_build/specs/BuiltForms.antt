@@ -1,11 +1,9 @@
 -- Which forms of terminals are built so far.
 use Rattle.std.specs.Prelude.{◌≡◌, Bool, true, false, Option, None, Some, not, find, option_map}
-use Rattle.rc_names.specs.declared.numbers.BlockId.{BlockId}
+use Rattle.rc_names.specs.Numbers.{BlockId}
 use Rattle.rc_hir.specs.declared.terminal.GotoVariant.TheVariants as variants
-use Rattle.rc_hir.specs.declared.terminal.Terminal.{Terminal}
+use Rattle.rc_hir.specs.Model.{Terminal, BasicBlock, HirFunction}
 use Rattle.rc_hir.specs.declared.terminal.Terminal.TheVariants as terminals
-use Rattle.rc_hir.specs.declared.function.BasicBlock.{BasicBlock}
-use Rattle.rc_hir.specs.declared.function.HirFunction.{HirFunction}
 
 -- the terminal is of a form that is built
 abbrev pub is_built : Terminal → Bool

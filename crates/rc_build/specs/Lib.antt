@@ -1,10 +1,5 @@
 pub mod BuiltForms
-pub mod Namings
+pub mod References
 pub mod RuleFacts
 pub mod BuildCauses
-pub mod Depths
-pub mod Rows
-pub mod Arms
-pub mod BuiltFrom
-pub mod Built
-pub mod Taken
+pub mod inside

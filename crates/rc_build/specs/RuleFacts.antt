@@ -1,59 +1,50 @@
 -- What holds of the block that a fault names, one equation a rule.
 use Rattle.std.specs.Prelude.{◌≡◌, ◌≤◌, ◌⊎◌, ℕ, true, false, List, Option, Some, None, nat_eq, slice_get}
 use Rattle.std.specs.List.{list_any}
-use Rattle.rc_names.specs.declared.numbers.BlockId.{BlockId}
-use Rattle.rc_names.specs.declared.numbers.InstructionId.{InstructionId}
-use Rattle.rc_names.specs.declared.numbers.EvaluationOrder.{EvaluationOrder}
-use Rattle.rc_names.specs.declared.numbers.ScopeId.{ScopeId}
+use Rattle.rc_names.specs.Numbers.{BlockId, InstructionId, EvaluationOrder, ScopeId, same_id, is_among, times}
 use Rattle.rc_names.specs.declared.span.Span.{Span}
 use Rattle.rc_hir.specs.Terminal.{evaluation_order}
-use Rattle.rc_hir.specs.declared.place.Place.{Place}
-use Rattle.rc_hir.specs.declared.fault.Fault.{Fault}
+use Rattle.rc_hir.specs.Model.{Place, Fault, Rule, Terminal, Instruction, BasicBlock, HirFunction}
 use Rattle.rc_hir.specs.declared.fault.Fault.TheVariants as faults
-use Rattle.rc_hir.specs.declared.fault.Rule.{Rule}
 use Rattle.rc_hir.specs.declared.fault.Rule.TheVariants as rules
-use Rattle.rc_hir.specs.declared.fault.TableName.TheVariants as tables
+use Rattle.rc_hir.specs.declared.fault.TableName.TheVariants as table_names
 use Rattle.rc_hir.specs.declared.terminal.GotoVariant.TheVariants as variants
-use Rattle.rc_hir.specs.declared.terminal.Terminal.{Terminal}
 use Rattle.rc_hir.specs.declared.terminal.Terminal.TheVariants as terminals
-use Rattle.rc_hir.specs.declared.function.Instruction.{Instruction}
-use Rattle.rc_hir.specs.declared.function.BasicBlock.{BasicBlock}
-use Rattle.rc_hir.specs.declared.function.HirFunction.{HirFunction}
 use Rattle.rc_runs.specs.Event.{Event}
 use Rattle.rc_runs.specs.Silent.{is_unset}
-use Rattle.rc_runs.specs.Graph.{same_block, basic_block, is_dead}
-use Rattle.rc_runs.specs.GraphRun.{Move}
-use Rattle.rc_build.specs.Namings.{times, namings, is_among, framed_blocks, fallthrough_of, scope_fallthrough}
-use Rattle.rc_build.specs.Namings.{case_blocks, cases_of}
+use Rattle.rc_runs.specs.Graph.{basic_block, ends_unreachable}
+use Rattle.rc_runs.specs.GraphRun.{Edge}
+use Rattle.rc_hir.specs.Successors.{case_blocks}
+use Rattle.rc_build.specs.References.{references, framed_blocks, fallthrough_of, scope_fallthrough, cases_of}
 use Rattle.rc_runs.specs.Spelled.{scope_named}
 use Rattle.rc_build.specs.BuiltForms.{is_built}
 
 -- the block under a key, of which P holds
-pub record At (hir : HirFunction) (key : BlockId) (P : BasicBlock → Type 0) : Type 0 where
+pub record BlockIs (hir : HirFunction) (key : BlockId) (P : BasicBlock → Type 0) : Type 0 where
   pub block : BasicBlock
   pub found : basic_block hir key ≡ Some block
   pub holds : P block
 
--- how many namings name a block
-abbrev pub times_named : HirFunction → BlockId → ℕ
-times_named hir key = times key (namings hir)
+-- how many references of the graph are to a block
+abbrev pub times_referenced : HirFunction → BlockId → ℕ
+times_referenced hir key = times key (references hir)
 
--- a block other than b names the block by a field `test`, `init`, `update` or `fallthrough`, or as a case's
+-- a block other than b refers to the block by a field `test`, `init`, `update` or `fallthrough`, or as a case's
 -- block
 pub record IsFramedApart (hir : HirFunction) (b key : BlockId) : Type 0 where
   pub other : BlockId
-  pub apart : same_block other b ≡ false
-  pub frames : At hir other (λ block. is_among (framed_blocks block.terminal) key ≡ true)
+  pub apart : same_id other b ≡ false
+  pub frames : BlockIs hir other (λ block. is_among (framed_blocks block.terminal) key ≡ true)
 
 -- the block is the fallthrough of a scope of the graph, kept or pruned
 abbrev pub IsScopeFallthrough : HirFunction → BlockId → Type 0
 IsScopeFallthrough hir key = (owner : BlockId)
-    × At hir owner (λ block. scope_fallthrough block.terminal ≡ Some key)
+    × BlockIs hir owner (λ block. scope_fallthrough block.terminal ≡ Some key)
 
 -- the block is that of a case of the graph
 abbrev pub IsCaseBlock : HirFunction → BlockId → Type 0
 IsCaseBlock hir key = (owner : BlockId)
-    × At hir owner (λ block. is_among (case_blocks (cases_of block.terminal)) key ≡ true)
+    × BlockIs hir owner (λ block. is_among (case_blocks (cases_of block.terminal)) key ≡ true)
 
 -- a row of the block has the id that means unset
 pub record HasUnsetRow (hir : HirFunction) (block : BasicBlock) : Type 0 where
@@ -80,42 +71,42 @@ IsLostJump hir b (terminals.Branch test consequent alternate id span) =
     IsFramedApart hir b consequent ⊎ IsFramedApart hir b alternate
 IsLostJump hir b _ = ⊥
 
--- a move from the terminal leads to a block that ends in `Unreachable`
-pub record MovesDead (hir : HirFunction) (terminal : Terminal) : Type 0 where
+-- a successor of the terminal ends in `Unreachable`
+pub record HasUnreachableSuccessor (hir : HirFunction) (terminal : Terminal) : Type 0 where
   pub events : List Event
   pub target : BlockId
-  pub move : Move terminal events target
-  pub dead : is_dead hir target ≡ true
+  pub edge : Edge terminal events target
+  pub ends : ends_unreachable hir target ≡ true
 
 -- another block opens the same scope
 pub record SharesScope (hir : HirFunction) (b : BlockId) (terminal : Terminal) : Type 0 where
   pub scope : ScopeId
   pub opens : scope_named terminal ≡ Some scope
   pub other : BlockId
-  pub apart : same_block other b ≡ false
-  pub also : At hir other (λ block. scope_named block.terminal ≡ Some scope)
+  pub apart : same_id other b ≡ false
+  pub also : BlockIs hir other (λ block. scope_named block.terminal ≡ Some scope)
 
 -- the terminal's fallthrough is framed apart from block b, or ends in `Unreachable`
 pub record FallsBadly (hir : HirFunction) (b : BlockId) (terminal : Terminal) : Type 0 where
   pub fallthrough : BlockId
   pub falls : fallthrough_of terminal ≡ Some fallthrough
-  pub bad : IsFramedApart hir b fallthrough ⊎ (is_dead hir fallthrough ≡ true)
+  pub bad : IsFramedApart hir b fallthrough ⊎ (ends_unreachable hir fallthrough ≡ true)
 
 -- the fact that a rule's fault states of its block; of the rules without a line no fault comes
 abbrev pub RuleFact : HirFunction → Rule → BlockId → Type 0
-RuleFact hir rules.NoBlock key = (basic_block hir key ≡ None) × (1 ≤ times_named hir key)
-RuleFact hir rules.KeyDiffers key = At hir key (λ block. same_block block.id key ≡ false)
-RuleFact hir rules.UnsetId key = At hir key
+RuleFact hir rules.NoBlock key = (basic_block hir key ≡ None) × (1 ≤ times_referenced hir key)
+RuleFact hir rules.KeyDiffers key = BlockIs hir key (λ block. same_id block.id key ≡ false)
+RuleFact hir rules.UnsetId key = BlockIs hir key
     (λ block. HasUnsetRow hir block ⊎ (is_unset (evaluation_order block.terminal) ≡ true))
-RuleFact hir rules.Twice key = At hir key (λ block. 2 ≤ times_named hir key)
-RuleFact hir rules.BreakTarget key = At hir key (λ block. IsLostJump hir key block.terminal)
+RuleFact hir rules.Twice key = BlockIs hir key (λ block. 2 ≤ times_referenced hir key)
+RuleFact hir rules.BreakTarget key = BlockIs hir key (λ block. IsLostJump hir key block.terminal)
 RuleFact hir rules.CaseLabel key =
-    At hir key (λ block. (target : BlockId) × Jumps block.terminal target × IsCaseBlock hir target)
+    BlockIs hir key (λ block. (target : BlockId) × Jumps block.terminal target × IsCaseBlock hir target)
 RuleFact hir rules.ScopeBreak key =
-    At hir key (λ block. (target : BlockId) × Jumps block.terminal target × IsScopeFallthrough hir target)
-RuleFact hir rules.Dead key = At hir key (λ block. MovesDead hir block.terminal)
-RuleFact hir rules.ScopeTwice key = At hir key (λ block. SharesScope hir key block.terminal)
-RuleFact hir rules.FallsElsewhere key = At hir key (λ block. FallsBadly hir key block.terminal)
+    BlockIs hir key (λ block. (target : BlockId) × Jumps block.terminal target × IsScopeFallthrough hir target)
+RuleFact hir rules.Dead key = BlockIs hir key (λ block. HasUnreachableSuccessor hir block.terminal)
+RuleFact hir rules.ScopeTwice key = BlockIs hir key (λ block. SharesScope hir key block.terminal)
+RuleFact hir rules.FallsElsewhere key = BlockIs hir key (λ block. FallsBadly hir key block.terminal)
 RuleFact hir _ key = ⊥
 
 -- the block names a row that isn't there
@@ -125,8 +116,8 @@ LacksRow hir index block = list_any (λ number. nat_eq index number.0) block.ins
 -- the fact that a fault of the builder states; of the faults without a line none comes from it
 abbrev pub FaultFact : HirFunction → Fault → Type 0
 FaultFact hir (faults.Malformed block rule) = RuleFact hir rule block
-FaultFact hir (faults.BadName tables.Instructions index) =
-    (slice_get hir.instructions index ≡ None) × ((key : BlockId) × At hir key (LacksRow hir index))
-FaultFact hir (faults.NotBuilt key) = At hir key (λ block. is_built block.terminal ≡ false)
+FaultFact hir (faults.BadName table_names.Instructions index) =
+    (slice_get hir.instructions index ≡ None) × ((key : BlockId) × BlockIs hir key (LacksRow hir index))
+FaultFact hir (faults.NotBuilt key) = BlockIs hir key (λ block. is_built block.terminal ≡ false)
 FaultFact hir faults.NoMemory = Unit {0}
 FaultFact hir _ = ⊥

@@ -1,62 +1,61 @@
-//! One block: whether a tree may use it where the walk stands, and its mark.
+//! One block: whether a tree may use it where the walk stands, its rows, and its mark.
 
-ghost use Rattle.std.specs.Prelude.{◌≡◌, ◌≤◌, ◌++◌, true, Option, None, Some, IfOk, IfErr};
-ghost use Rattle.rc_names.specs.declared.numbers.BlockId.{BlockId};
-ghost use Rattle.rc_runs.specs.Graph.{basic_block, same_block, usable_block};
+ghost use Rattle.std.specs.Prelude.{◌≡◌, ◌≤◌, ◌++◌, true, None, Some, IfOk, IfErr};
+ghost use Rattle.std.specs.Option.{option_to_list};
+ghost use Rattle.rc_names.specs.Numbers.{same_id};
+ghost use Rattle.rc_runs.specs.Graph.{basic_block, usable_block};
 ghost use Rattle.rc_runs.specs.Spelled as spelled;
-ghost use Rattle.rc_build.specs.RuleFacts.{FaultFact, times_named};
-ghost use Rattle.rc_build.specs.BuiltFrom.{AtList};
-ghost use Rattle.rc_build.specs.Built.{IfMalformed, context_of};
-ghost use Rattle.rc_build.specs.Taken.{IsTaken, IsUnusable, is_fresh_scope, listed_scope};
+ghost use Rattle.rc_build.specs.RuleFacts.{FaultFact, times_referenced};
+ghost use Rattle.rc_build.specs.inside.Marks.{is_fresh_scope};
+ghost use Rattle.rc_build.specs.inside.CanBuild.{CanBuildList};
+ghost use Rattle.rc_build.specs.inside.Setting.{setting_of};
+ghost use Rattle.rc_build.specs.inside.Task.{FromBlock, Spells};
+ghost use Rattle.rc_build.specs.inside.Built.{Builds, Refused, TakesBlock};
 
-use crate::moves::moves_alive;
-use crate::rows::check_ids;
-use crate::state::{State, malformed};
+use crate::builder::{Builder, Site, malformed};
+use crate::rows::put_rows;
+use crate::unreachable::has_unreachable_successor;
 use rc_hir::{BasicBlock, Fault, HirFunction, Rule, Terminal};
 use rc_names::{BlockId, KeySet, ScopeId};
 use std::alloc::AllocError;
 
-/// The block under a key, marked as used.
-///
-/// - `Malformed`: no tree may use it there; it is no key (`NoBlock`), stands under another number than its
-///   own (`KeyDiffers`), is used already or live (`Twice`), has an unset id (`UnsetId`), moves to a block
-///   that ends in `Unreachable` (`Dead`), or opens a scope that is used already (`ScopeTwice`).
-/// - `BadName`: one of its rows isn't there.
-/// - `NoMemory`: want of memory.
-pub fn take_block<'g>(
-    hir: &'g HirFunction,
-    state: &mut State,
-    key: BlockId,
-) -> Result<&'g BasicBlock, Fault>
-    requires { AtList hir.now state.old.marks state.old.frames key }
-    ensures ok { IfOk result (λ block.
-        IsTaken hir.now state.old.frames key block.now state.old.marks state.new.marks) }
-    ensures refused { IfMalformed result (IsUnusable hir.now state.old.frames key state.old.marks) }
-    ensures facts { IfErr result (FaultFact hir.now) }
-    ensures context { (next : Option BlockId) → context_of next state.new ≡ context_of next state.old }
-{
-    let block = find_block(hir, key)?;
-    if state.frames.is_live(key) {
-        return Err(malformed(key, Rule::Twice));
+impl<'g> Builder<'g> {
+    /// Builds the rows of the site's block and marks it as used; returns its terminal.
+    ///
+    /// - `Malformed`: no tree may use it there; it is no key (`NoBlock`), stands under another number than its
+    ///   own (`KeyDiffers`), is used already or a jump target (`Twice`), has an unset id (`UnsetId`), leads to a
+    ///   block that ends in `Unreachable` (`Dead`), or opens a scope that is used already (`ScopeTwice`).
+    /// - `BadName`: one of its rows isn't there.
+    pub fn take_block(&mut self, site: Site) -> Result<&'g Terminal, Fault>
+        requires { CanBuildList self.old.hir.now self.old.marks self.old.frames site.block }
+        ensures { Builds self.old self.new site (λ terminal. TakesBlock self.old self.new site terminal.now)
+            (Refused self.old.hir.now (Spells (setting_of self.old site) (FromBlock site.block))
+            self.old.marks.used) result }
+    {
+        let hir = self.hir;
+        let block = find_block(hir, site.block)?;
+        if self.frames.is_jump_target(site.block) {
+            return Err(malformed(site.block, Rule::Twice));
+        }
+        put_rows(self.alloc, hir, site.block, block, &mut self.out)?;
+        if has_unreachable_successor(hir, &block.terminal) {
+            return Err(malformed(site.block, Rule::Dead));
+        }
+        if !self.marks.used.insert(site.block)? {
+            return Err(malformed(site.block, Rule::Twice));
+        }
+        if !mark_scope(&mut self.marks.scopes, scope_named(&block.terminal))? {
+            return Err(malformed(site.block, Rule::ScopeTwice));
+        }
+        Ok(&block.terminal)
     }
-    check_ids(hir, key, block)?;
-    if !moves_alive(hir, &block.terminal) {
-        return Err(malformed(key, Rule::Dead));
-    }
-    if !state.marks.used.insert(key)? {
-        return Err(malformed(key, Rule::Twice));
-    }
-    if !mark_scope(&mut state.marks.scopes, scope_named(&block.terminal))? {
-        return Err(malformed(key, Rule::ScopeTwice));
-    }
-    Ok(block)
 }
 
 /// The block under a key: `NoBlock` where there is none, `KeyDiffers` where it has another number.
 fn find_block(hir: &HirFunction, key: BlockId) -> Result<&BasicBlock, Fault>
-    requires { 1 ≤ times_named hir.now key }
+    requires { 1 ≤ times_referenced hir.now key }
     ensures found { IfOk result (λ block. basic_block hir.now key ≡ Some block.now) }
-    ensures own { IfOk result (λ block. same_block block.now.id key ≡ true) }
+    ensures own { IfOk result (λ block. same_id block.now.id key ≡ true) }
     ensures refused { IfErr result (λ _. usable_block hir.now key ≡ None) }
     ensures facts { IfErr result (FaultFact hir.now) }
 {
@@ -69,9 +68,9 @@ fn find_block(hir: &HirFunction, key: BlockId) -> Result<&BasicBlock, Fault>
     Ok(block)
 }
 
-/// Puts a scope among the used ones and answers whether it is new, as where there is none.
+/// Puts a scope among the used ones, and returns whether it is new, as where there is none.
 fn mark_scope(scopes: &mut KeySet<ScopeId>, scope: Option<ScopeId>) -> Result<bool, AllocError>
-    ensures scopes { IfOk result (λ fresh. fresh ≡ true → scopes.new ≡ scopes.old ++ listed_scope scope) }
+    ensures scopes { IfOk result (λ fresh. fresh ≡ true → scopes.new ≡ scopes.old ++ option_to_list scope) }
     ensures fresh { IfOk result (λ fresh. fresh ≡ is_fresh_scope scopes.old scope) }
 {
     match scope {

@@ -1,157 +1,112 @@
 //! Statements that choose between arms: `If`.
 
-ghost use Rattle.std.specs.Prelude.{◌≡◌, Option, true, false, IfOk, IfErr};
+ghost use Rattle.std.specs.Prelude.{◌≡◌, ◌&&◌, Option, IfOk, is_some, not};
+ghost use Rattle.rc_names.specs.Numbers.{same_id};
 ghost use Rattle.rc_names.specs.declared.span.Span.{Span};
+ghost use Rattle.rc_hir.specs.declared.terminal.Terminal.TheVariants as terminals;
 ghost use Rattle.rc_tree.specs.declared.terminal.ReactiveTerminal.TheVariants as tree;
-ghost use Rattle.rc_runs.specs.Graph.{same_block};
-ghost use Rattle.rc_runs.specs.Grammar as grammar;
-ghost use Rattle.rc_build.specs.RuleFacts.{FaultFact};
-ghost use Rattle.rc_build.specs.BuiltFrom.{AtSome, AtTerminal};
-ghost use Rattle.rc_build.specs.Built.{GoesOn, IfMalformed, NoStatements, context_of};
-ghost use Rattle.rc_build.specs.Built as built;
-ghost use Rattle.rc_build.specs.Arms.{if_of};
+ghost use Rattle.rc_runs.specs.Grammar.{falls_to};
+ghost use Rattle.rc_runs.specs.declared.frames.Frame.TheVariants as frame_kinds;
+ghost use Rattle.rc_build.specs.inside.Depths.{frames_inside};
+ghost use Rattle.rc_build.specs.inside.CanBuild.{CanBuildList, CanBuildTerminal};
+ghost use Rattle.rc_build.specs.inside.Setting.{part_setting, setting_of};
+ghost use Rattle.rc_build.specs.inside.Task.{FromTerminal, SpellsAlternate, left, progress_of};
+ghost use Rattle.rc_build.specs.inside.Built.{Builds, BuildsTask, BuiltAlternate, Refused};
+ghost use Rattle.rc_build.specs.inside.Setting as settings;
 
-use crate::lists::build_part;
-use crate::state::{
-    State, falls_to, label_of, malformed, opens_reachable, rest_of, terminal_statement,
-};
-use rc_hir::{Environment, Fault, HirFunction, Place, Rule};
+use crate::builder::{Builder, Site, falls_to, label_at, malformed, terminal_statement};
+use rc_hir::{Fault, Place, Rule};
 use rc_names::{BlockId, EvaluationOrder, List};
 use rc_runs::Frame;
 use rc_tree::{ReactiveBlock, ReactiveLabel, ReactiveStatement, ReactiveTerminal};
 use std::alloc::{AllocError, Global};
 
-/// The fields of an `If`.
-#[derive(Clone, Copy)]
-pub struct Arms {
-    pub test: Place,
-    pub consequent: BlockId,
-    pub alternate: BlockId,
-    pub fallthrough: BlockId,
-    pub id: EvaluationOrder,
-}
+impl<'g> Builder<'g> {
+    /// Builds an if, where an alternate that is the fallthrough gives none; returns where the list goes on.
+    /// `Malformed` with `FallsElsewhere`: there is no alternate, and leaving the if leads elsewhere.
+    #[cycle(builder)]
+    pub fn build_if(
+        &mut self,
+        site: Site,
+        test: Place,
+        consequent: BlockId,
+        alternate: BlockId,
+        fallthrough: BlockId,
+        id: EvaluationOrder,
+    ) -> Result<Option<BlockId>, Fault>
+        requires { (span : Option Span) × CanBuildTerminal self.old.hir.now self.old.marks self.old.frames site.block
+            (terminals.If test consequent alternate fallthrough id span) }
+        ensures { (span : Option Span) → BuildsTask self.old self.new site
+            (FromTerminal (terminals.If test consequent alternate fallthrough id span)) left result }
+    {
+        let opened = self.open_reachable(fallthrough);
+        if falls_elsewhere(alternate, fallthrough, opened, site.next) {
+            return Err(malformed(site.block, Rule::FallsElsewhere));
+        }
+        let frame = Frame::Statement { block: fallthrough };
+        let part = self.build_part(site, consequent, frame, opened)?;
+        let other = self.build_alternate(site, alternate, fallthrough, opened)?;
+        let statement = if_statement(self.alloc, test, part, other, id, label_at(opened))?;
+        self.out.push(statement)?;
+        Ok(opened)
+    }
 
-/// Puts an if, where an alternate that is the fallthrough gives none; answers where the list goes on.
-#[cycle(builder)]
-pub fn build_if(
-    hir: &HirFunction,
-    env: &Environment,
-    state: &mut State,
-    key: BlockId,
-    next: Option<BlockId>,
-    arms: Arms,
-    out: &mut List<ReactiveStatement>,
-) -> Result<Option<BlockId>, Fault>
-    requires { (span : Option Span) ×
-        AtTerminal hir.now state.old.marks state.old.frames key (if_of arms span) }
-    ensures ok { IfOk result (λ rest. (span : Option Span) →
-        GoesOn hir.now env.now (if_of arms span) (context_of next state.old) rest
-        out.old out.new state.old.marks state.new.marks) }
-    ensures refused { IfMalformed result ((span : Option Span) →
-        NoStatements hir.now env.now (if_of arms span) (context_of next state.old) state.old.marks) }
-    ensures facts { IfErr result (FaultFact hir.now) }
-    ensures context { IfOk result (λ _. context_of next state.new ≡ context_of next state.old) }
-{
-    let opened = opens_reachable(hir, &state.frames, arms.fallthrough);
-    if arms.alternate == arms.fallthrough {
-        build_if_only(hir, env, state, key, next, arms, opened, out)
-    } else {
-        build_if_else(hir, env, state, next, arms, opened, out)
+    /// Builds the list of an alternate; none where it is the fallthrough.
+    #[cycle(builder)]
+    fn build_alternate(
+        &mut self,
+        site: Site,
+        alternate: BlockId,
+        fallthrough: BlockId,
+        opened: Option<BlockId>,
+    ) -> Result<Option<ReactiveBlock>, Fault>
+        requires { CanBuildList self.old.hir.now self.old.marks
+            (frames_inside opened (frame_kinds.Statement fallthrough) self.old.frames) alternate }
+        ensures { let inside = part_setting opened (frame_kinds.Statement fallthrough) (setting_of self.old site) in
+            Builds self.old self.new site
+            (λ other. BuiltAlternate inside alternate fallthrough other (progress_of self.old) (progress_of self.new))
+            (Refused self.old.hir.now (SpellsAlternate inside alternate fallthrough) self.old.marks.used) result }
+    {
+        if alternate == fallthrough {
+            return Ok(None);
+        }
+        let frame = Frame::Statement { block: fallthrough };
+        let statements = self.build_part(site, alternate, frame, opened)?;
+        Ok(Some(ReactiveBlock { statements }))
     }
 }
 
-/// Puts an if whose alternate is its fallthrough.
-#[cycle(builder)]
-fn build_if_only(
-    hir: &HirFunction,
-    env: &Environment,
-    state: &mut State,
-    key: BlockId,
+/// Whether an if has no alternate, and leaving it leads elsewhere than to its fallthrough.
+fn falls_elsewhere(
+    alternate: BlockId,
+    fallthrough: BlockId,
+    opened: Option<BlockId>,
     next: Option<BlockId>,
-    arms: Arms,
-    opened: bool,
-    out: &mut List<ReactiveStatement>,
-) -> Result<Option<BlockId>, Fault>
-    requires at { (span : Option Span) ×
-        AtTerminal hir.now state.old.marks state.old.frames key (if_of arms span) }
-    requires opens { opened ≡ grammar.opens_reachable hir.now state.old.frames arms.fallthrough }
-    requires absent { same_block arms.alternate arms.fallthrough ≡ true }
-    ensures ok { IfOk result (λ rest. (span : Option Span) →
-        GoesOn hir.now env.now (if_of arms span) (context_of next state.old) rest
-        out.old out.new state.old.marks state.new.marks) }
-    ensures refused { IfMalformed result ((span : Option Span) →
-        NoStatements hir.now env.now (if_of arms span) (context_of next state.old) state.old.marks) }
-    ensures facts { IfErr result (FaultFact hir.now) }
-    ensures context { IfOk result (λ _. context_of next state.new ≡ context_of next state.old) }
+) -> bool
+    ensures { result ≡ (same_id alternate fallthrough && not (falls_to (is_some opened) fallthrough next)) }
 {
-    if !falls_to(opened, arms.fallthrough, next) {
-        return Err(malformed(key, Rule::FallsElsewhere));
-    }
-    let frame = Frame::If {
-        block: arms.fallthrough,
-    };
-    let part = build_part(hir, env, state, arms.consequent, opened, frame, next)?;
-    let label = label_of(opened, arms.fallthrough);
-    out.push(if_statement(state.alloc, arms, part, None, label)?)?;
-    Ok(rest_of(opened, arms.fallthrough))
+    alternate == fallthrough && !falls_to(opened, fallthrough, next)
 }
 
-/// Puts an if with both arms.
-#[cycle(builder)]
-fn build_if_else(
-    hir: &HirFunction,
-    env: &Environment,
-    state: &mut State,
-    next: Option<BlockId>,
-    arms: Arms,
-    opened: bool,
-    out: &mut List<ReactiveStatement>,
-) -> Result<Option<BlockId>, Fault>
-    requires at { (span : Option Span) × AtSome hir.now state.old.marks state.old.frames (if_of arms span) }
-    requires opens { opened ≡ grammar.opens_reachable hir.now state.old.frames arms.fallthrough }
-    requires present { same_block arms.alternate arms.fallthrough ≡ false }
-    ensures ok { IfOk result (λ rest. (span : Option Span) →
-        GoesOn hir.now env.now (if_of arms span) (context_of next state.old) rest
-        out.old out.new state.old.marks state.new.marks) }
-    ensures refused { IfMalformed result ((span : Option Span) →
-        NoStatements hir.now env.now (if_of arms span) (context_of next state.old) state.old.marks) }
-    ensures facts { IfErr result (FaultFact hir.now) }
-    ensures context { IfOk result (λ _. context_of next state.new ≡ context_of next state.old) }
-{
-    let frame = Frame::If {
-        block: arms.fallthrough,
-    };
-    let part = build_part(hir, env, state, arms.consequent, opened, frame, next)?;
-    let other = build_part(hir, env, state, arms.alternate, opened, frame, next)?;
-    let label = label_of(opened, arms.fallthrough);
-    out.push(if_statement(
-        state.alloc,
-        arms,
-        part,
-        Some(ReactiveBlock { statements: other }),
-        label,
-    )?)?;
-    Ok(rest_of(opened, arms.fallthrough))
-}
-
-/// The statement of an if with these arms. The only error is want of memory.
+/// The statement of an if. The only error is out of memory.
 fn if_statement(
     alloc: Global,
-    arms: Arms,
+    test: Place,
     consequent: List<ReactiveStatement>,
     alternate: Option<ReactiveBlock>,
+    id: EvaluationOrder,
     label: Option<ReactiveLabel>,
 ) -> Result<ReactiveStatement, AllocError>
     ensures { IfOk result (λ statement. statement ≡
-        built.terminal_statement (tree.If arms.test (record { statements = consequent }) alternate arms.id) label) }
+        settings.terminal_statement (tree.If test (record { statements = consequent }) alternate id) label) }
 {
     let terminal = ReactiveTerminal::If {
-        test: arms.test,
+        test,
         consequent: ReactiveBlock {
             statements: consequent,
         },
         alternate,
-        id: arms.id,
+        id,
     };
     terminal_statement(alloc, terminal, label)
 }

@@ -8,7 +8,7 @@ use rc_names::{CloneIn, Text};
 use rc_tree::{ReactiveBlock, ReactiveFunction};
 use std::alloc::{AllocError, Global};
 
-/// A function with the header of a graph. The only error is want of memory.
+/// A function with the header of a graph. The only error is out of memory.
 pub fn with_header(
     alloc: Global,
     hir: &HirFunction,
@@ -28,7 +28,7 @@ pub fn with_header(
     })
 }
 
-/// A copy of a text, where there is one. The only error is want of memory.
+/// A copy of a text, where there is one. The only error is out of memory.
 fn copy_text(alloc: Global, text: &Option<Text>) -> Result<Option<Text>, AllocError>
     ensures { IfOk result (λ copy. copy ≡ text.now) }
 {

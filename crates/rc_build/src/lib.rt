@@ -9,15 +9,15 @@
 
 mod blocks;
 mod branches;
+mod builder;
+mod enclosures;
 mod forms;
 mod frames;
 mod header;
 mod jumps;
 mod lists;
-mod moves;
 mod reactive_function;
 mod rows;
-mod scopes;
-mod state;
+mod unreachable;
 
 pub use reactive_function::build_reactive_function;

@@ -1,184 +1,142 @@
 //! Lists: blocks that follow each other, by a loop, and the parts of statements, by a nested call.
 
-ghost use Rattle.std.specs.Prelude.{◌≡◌, ◌<◌, IfOk, IfErr, length};
-ghost use Rattle.rc_runs.specs.ListContext.{inside};
-ghost use Rattle.rc_build.specs.RuleFacts.{FaultFact};
-ghost use Rattle.rc_build.specs.BuiltFrom.{AtList, AtTerminal};
-ghost use Rattle.rc_build.specs.Built.{GoesOn, IfMalformed, ListGoesOn, MadeList, NoList, NoStatements, context_of};
+ghost use Rattle.std.specs.Prelude.{◌≡◌, ◌<◌, IfOk, length};
+ghost use Rattle.rc_build.specs.inside.Depths.{frames_inside};
+ghost use Rattle.rc_build.specs.inside.CanBuild.{CanBuildList, CanBuildTerminal};
+ghost use Rattle.rc_build.specs.inside.Setting.{part_setting, setting_of};
+ghost use Rattle.rc_build.specs.inside.Task.{FromBlock, FromTerminal, Nothing, Spells, left, progress_of};
+ghost use Rattle.rc_build.specs.inside.Built.{Builds, BuildsTask, BuiltList, Refused};
 
-use crate::blocks::take_block;
-use crate::branches::{Arms, build_if};
-use crate::jumps::{put_goto, put_return};
-use crate::rows::put_rows;
-use crate::scopes::{build_label, build_pruned_scope, build_scope};
-use crate::state::State;
-use rc_hir::{Environment, Fault, HirFunction, Terminal};
+use crate::builder::{Builder, Site};
+use crate::enclosures::Enclosure;
+use rc_hir::{Fault, Terminal};
 use rc_names::{BlockId, List};
 use rc_runs::Frame;
 use rc_tree::ReactiveStatement;
+use std::mem;
 
-/// The statements from a block on; `next` is the block that falling off reaches.
-#[cycle(builder)]
-pub fn build_list(
-    hir: &HirFunction,
-    env: &Environment,
-    state: &mut State,
-    key: BlockId,
-    next: Option<BlockId>,
-) -> Result<List<ReactiveStatement>, Fault>
-    requires { AtList hir.now state.old.marks state.old.frames key }
-    ensures ok { IfOk result (λ list.
-        MadeList hir.now env.now key (context_of next state.old) list state.old.marks state.new.marks) }
-    ensures refused { IfMalformed result
-        (NoList hir.now env.now key (context_of next state.old) state.old.marks) }
-    ensures facts { IfErr result (FaultFact hir.now) }
-    ensures context { IfOk result (λ _. context_of next state.new ≡ context_of next state.old) }
-{
-    let mut out = List::new(state.alloc);
-    let mut at = Some(key);
-    'list: while let Some(here) = at {
-        at = build_block(hir, env, state, here, next, &mut out)?;
-    }
-    Ok(out)
-}
-
-/// Puts the statements of one block of a list; answers where the list goes on.
-#[cycle(builder)]
-fn build_block(
-    hir: &HirFunction,
-    env: &Environment,
-    state: &mut State,
-    key: BlockId,
-    next: Option<BlockId>,
-    out: &mut List<ReactiveStatement>,
-) -> Result<Option<BlockId>, Fault>
-    requires { AtList hir.now state.old.marks state.old.frames key }
-    ensures ok { IfOk result (λ rest.
-        ListGoesOn hir.now env.now key (context_of next state.old) rest
-        out.old out.new state.old.marks state.new.marks) }
-    ensures refused { IfMalformed result
-        (NoList hir.now env.now key (context_of next state.old) state.old.marks) }
-    ensures facts { IfErr result (FaultFact hir.now) }
-    ensures context { IfOk result (λ _. context_of next state.new ≡ context_of next state.old) }
-    ensures more { IfOk result (λ _. length state.old.marks.used < length state.new.marks.used) }
-{
-    let block = take_block(hir, state, key)?;
-    put_rows(state.alloc, hir, block, out)?;
-    build_terminal(hir, env, state, key, &block.terminal, next, out)
-}
-
-/// Puts the statement of a block's terminal, if it has one; answers where the list goes on.
-#[cycle(builder)]
-fn build_terminal(
-    hir: &HirFunction,
-    env: &Environment,
-    state: &mut State,
-    key: BlockId,
-    terminal: &Terminal,
-    next: Option<BlockId>,
-    out: &mut List<ReactiveStatement>,
-) -> Result<Option<BlockId>, Fault>
-    requires { AtTerminal hir.now state.old.marks state.old.frames key terminal.now }
-    ensures ok { IfOk result (λ rest.
-        GoesOn hir.now env.now terminal.now (context_of next state.old) rest
-        out.old out.new state.old.marks state.new.marks) }
-    ensures refused { IfMalformed result
-        (NoStatements hir.now env.now terminal.now (context_of next state.old) state.old.marks) }
-    ensures facts { IfErr result (FaultFact hir.now) }
-    ensures context { IfOk result (λ _. context_of next state.new ≡ context_of next state.old) }
-{
-    match terminal {
-        Terminal::Return { value, id, .. } => {
-            put_return(state.alloc, *value, *id, out)?;
-            Ok(None)
-        }
-        Terminal::Unreachable { .. } => Ok(None),
-        Terminal::Goto {
-            block: target,
-            variant,
-            id,
-            ..
-        } => {
-            put_goto(hir, state, key, next, *target, *variant, *id, out)?;
-            Ok(None)
-        }
-        Terminal::If {
-            test,
-            consequent,
-            alternate,
-            fallthrough,
-            id,
-            ..
-        } => {
-            let arms = Arms {
-                test: *test,
-                consequent: *consequent,
-                alternate: *alternate,
-                fallthrough: *fallthrough,
-                id: *id,
+impl<'g> Builder<'g> {
+    /// Builds the list from the site's block on.
+    #[cycle(builder)]
+    pub fn build_list(&mut self, site: Site) -> Result<(), Fault>
+        requires { CanBuildList self.old.hir.now self.old.marks self.old.frames site.block }
+        ensures { BuildsTask self.old self.new site (FromBlock site.block) (λ _. Nothing) result }
+    {
+        let mut at = Some(site.block);
+        'list: while let Some(block) = at {
+            let here = Site {
+                block,
+                next: site.next,
+                handler: site.handler,
             };
-            build_if(hir, env, state, key, next, arms, out)
+            at = self.build_block(here)?;
         }
-        Terminal::Label {
-            block,
-            fallthrough,
-            id,
-            ..
-        } => { build_label(hir, env, state, next, *block, *fallthrough, *id, out) }
-        Terminal::Scope {
-            fallthrough,
-            block,
-            scope,
-            ..
-        } => { build_scope(hir, env, state, next, *block, *fallthrough, *scope, out) }
-        Terminal::PrunedScope {
-            fallthrough,
-            block,
-            scope,
-            ..
-        } => { build_pruned_scope(hir, env, state, next, *block, *fallthrough, *scope, out) }
-        Terminal::Branch { .. }
-        | Terminal::Logical { .. }
-        | Terminal::Ternary { .. }
-        | Terminal::Optional { .. }
-        | Terminal::Sequence { .. }
-        | Terminal::Throw { .. }
-        | Terminal::Switch { .. }
-        | Terminal::DoWhile { .. }
-        | Terminal::While { .. }
-        | Terminal::For { .. }
-        | Terminal::ForOf { .. }
-        | Terminal::ForIn { .. }
-        | Terminal::MaybeThrow { .. }
-        | Terminal::Try { .. } => Err(Fault::NotBuilt { block: key }),
+        Ok(())
     }
-}
 
-/// The statements of a part, inside one more frame where the statement's fallthrough is opened.
-#[cycle(builder)]
-pub fn build_part(
-    hir: &HirFunction,
-    env: &Environment,
-    state: &mut State,
-    block: BlockId,
-    opened: bool,
-    frame: Frame,
-    next: Option<BlockId>,
-) -> Result<List<ReactiveStatement>, Fault>
-    requires { AtList hir.now state.old.marks (inside opened frame (context_of next state.old)).frames block }
-    ensures ok { IfOk result (λ part.
-        MadeList hir.now env.now block (inside opened frame (context_of next state.old)) part
-        state.old.marks state.new.marks) }
-    ensures refused { IfMalformed result
-        (NoList hir.now env.now block (inside opened frame (context_of next state.old)) state.old.marks) }
-    ensures facts { IfErr result (FaultFact hir.now) }
-    ensures context { IfOk result (λ _. context_of next state.new ≡ context_of next state.old) }
-{
-    if !opened {
-        return build_list(hir, env, state, block, next);
+    /// Builds the statements of the site's block; returns where the list goes on.
+    #[cycle(builder)]
+    fn build_block(&mut self, site: Site) -> Result<Option<BlockId>, Fault>
+        requires { CanBuildList self.old.hir.now self.old.marks self.old.frames site.block }
+        ensures builds { BuildsTask self.old self.new site (FromBlock site.block) left result }
+        ensures more { IfOk result (λ _. length self.old.marks.used < length self.new.marks.used) }
+    {
+        let terminal = self.take_block(site)?;
+        self.build_terminal(site, terminal)
     }
-    state.frames.push(frame)?;
-    let part = build_list(hir, env, state, block, Some(frame.fall_block()))?;
-    state.frames.pop();
-    Ok(part)
+
+    /// Builds the statement of a block's terminal, if it has one; returns where the list goes on. `NotBuilt`: the
+    /// terminal isn't built yet.
+    #[cycle(builder)]
+    fn build_terminal(&mut self, site: Site, terminal: &Terminal) -> Result<Option<BlockId>, Fault>
+        requires { CanBuildTerminal self.old.hir.now self.old.marks self.old.frames site.block terminal.now }
+        ensures { BuildsTask self.old self.new site (FromTerminal terminal.now) left result }
+    {
+        match terminal {
+            Terminal::Return { value, id, .. } => self.build_return(site, *value, *id),
+            Terminal::Unreachable { .. } => Ok(None),
+            Terminal::Goto {
+                block,
+                variant,
+                id,
+                ..
+            } => self.build_goto(site, *block, *variant, *id),
+            Terminal::If {
+                test,
+                consequent,
+                alternate,
+                fallthrough,
+                id,
+                ..
+            } => self.build_if(site, *test, *consequent, *alternate, *fallthrough, *id),
+            Terminal::Label {
+                block,
+                fallthrough,
+                id,
+                ..
+            } => self.build_enclosure(site, Enclosure::Label, *block, *fallthrough, *id),
+            Terminal::Scope {
+                fallthrough,
+                block,
+                scope,
+                id,
+                ..
+            } => {
+                self.build_enclosure(
+                    site,
+                    Enclosure::Scope { scope: *scope },
+                    *block,
+                    *fallthrough,
+                    *id,
+                )
+            }
+            Terminal::PrunedScope {
+                fallthrough,
+                block,
+                scope,
+                id,
+                ..
+            } => {
+                let enclosure = Enclosure::PrunedScope { scope: *scope };
+                self.build_enclosure(site, enclosure, *block, *fallthrough, *id)
+            }
+            Terminal::Branch { .. }
+            | Terminal::Logical { .. }
+            | Terminal::Ternary { .. }
+            | Terminal::Optional { .. }
+            | Terminal::Sequence { .. }
+            | Terminal::Throw { .. }
+            | Terminal::Switch { .. }
+            | Terminal::DoWhile { .. }
+            | Terminal::While { .. }
+            | Terminal::For { .. }
+            | Terminal::ForOf { .. }
+            | Terminal::ForIn { .. }
+            | Terminal::MaybeThrow { .. }
+            | Terminal::Try { .. } => Err(Fault::NotBuilt { block: site.block }),
+        }
+    }
+
+    /// Builds the list of a part of a statement, inside one more frame where the statement's fallthrough is opened.
+    #[cycle(builder)]
+    pub fn build_part(
+        &mut self,
+        site: Site,
+        part: BlockId,
+        frame: Frame,
+        opened: Option<BlockId>,
+    ) -> Result<List<ReactiveStatement>, Fault>
+        requires { CanBuildList self.old.hir.now self.old.marks (frames_inside opened frame self.old.frames) part }
+        ensures { Builds self.old self.new site
+            (λ list. BuiltList (part_setting opened frame (setting_of self.old site)) part list
+            (progress_of self.old) (progress_of self.new))
+            (Refused self.old.hir.now (Spells (part_setting opened frame (setting_of self.old site)) (FromBlock part))
+            self.old.marks.used) result }
+    {
+        self.frames.enter(frame, opened)?;
+        let outer = self.out.take();
+        self.build_list(site.inside(part, frame, opened))?;
+        self.frames.leave(opened);
+        Ok(mem::replace(&mut self.out, outer))
+    }
 }

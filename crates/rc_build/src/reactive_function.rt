@@ -2,20 +2,19 @@
 
 ghost use Rattle.std.specs.Prelude.{◌≡◌, ◌≢◌, ◌⊎◌, List as Items, IfOk, IfErr, OnOk, IsOk, Err};
 ghost use Rattle.rc_tree.specs.TreeNames.{TreeInTables};
-ghost use Rattle.rc_tree.specs.declared.function.ReactiveFunction.{ReactiveFunction};
+ghost use Rattle.rc_tree.specs.Model.{ReactiveFunction};
 ghost use Rattle.rc_runs.specs.BodyRun.{IsBodyRun};
 ghost use Rattle.rc_runs.specs.EarlyReturns.{NoEarlyReturnSet};
 ghost use Rattle.rc_runs.specs.Event.{Event, End};
 ghost use Rattle.rc_runs.specs.GraphRun.{IsGraphRun};
 ghost use Rattle.rc_runs.specs.Spelled.{Spells};
 ghost use Rattle.rc_build.specs.BuildCauses.{CanBeBuilt, IsBuildCause};
-ghost use Rattle.rc_build.specs.Built.{IfMalformed};
+ghost use Rattle.rc_build.specs.inside.Built.{IfMalformed};
 ghost use Rattle.rc_build.specs.RuleFacts.{FaultFact};
 
+use crate::builder::{Builder, Site};
 use crate::forms::first_unbuilt;
 use crate::header::with_header;
-use crate::lists::build_list;
-use crate::state::State;
 use rc_hir::{Environment, Fault, HirFunction, check_names};
 use rc_tree::{ReactiveBlock, ReactiveFunction};
 use std::alloc::Global;
@@ -80,7 +79,13 @@ fn build(alloc: Global, hir: &HirFunction, env: &Environment) -> Result<Reactive
     ensures refused { IfMalformed result ((func : ReactiveFunction) → Spells hir.now env.now func → ⊥) }
     ensures facts { IfErr result (FaultFact hir.now) }
 {
-    let mut state = State::new(alloc);
-    let statements = build_list(hir, env, &mut state, hir.body.entry, None)?;
+    let entry = Site {
+        block: hir.body.entry,
+        next: None,
+        handler: None,
+    };
+    let mut builder = Builder::new(alloc, hir, env);
+    builder.build_list(entry)?;
+    let statements = builder.out.take();
     Ok(with_header(alloc, hir, ReactiveBlock { statements })?)
 }

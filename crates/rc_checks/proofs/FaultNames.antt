@@ -7,10 +7,9 @@ use Rattle.rc_hir.specs.Names.{NamesOutsideInEnvironment}
 use Rattle.rc_hir.specs.EnvironmentNames.{environment_names}
 use Rattle.rc_hir.specs.GraphNames.{function_names}
 use Rattle.rc_hir.specs.PartNames.{Name, parameter_names}
-use Rattle.rc_hir.specs.declared.environment.Environment.{Environment}
-use Rattle.rc_hir.specs.declared.fault.Fault.{Fault}
+use Rattle.rc_hir.specs.Model.{Environment, Fault}
 use Rattle.rc_tree.specs.TreeNames.{TreeInTables, TreeNamesOutside, names_in}
-use Rattle.rc_tree.specs.declared.function.ReactiveFunction.{ReactiveFunction}
+use Rattle.rc_tree.specs.Model.{ReactiveFunction}
 use Rattle.rc_runs.proofs.AnyLemmas.{Any-cases, Any-left, Any-one, Any-right, none_of}
 
 module _ (env : Environment) (fault : Fault) where
@@ -79,7 +78,7 @@ module _ {env : Environment} {fault : Fault} {X : Type 0} {Ends : X → Type 0} 
   each names parts covers [] = none
   each names parts covers (y ∷ ys) = both (covers y) (each names parts covers ys)
 
-  -- what a form's parts have, the form has
+  -- a form has the facts of its parts
   pub by_form : {names others : List Name} {whole parts : List X} → names ≡ others → whole ≡ parts →
       Covers env fault Ends others parts → Covers env fault Ends names whole
   by_form e f covered = record {

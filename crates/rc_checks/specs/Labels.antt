@@ -3,22 +3,19 @@
 --
 -- A label is named by the labeled breaks and continues met so far: those before its statement in the order of the text,
 -- and those inside it.
+pub mod Steps
 use Rattle.std.specs.Prelude.{◌≡◌, Bool, List, [], ◌∷◌, Option, None, Some, Ok, if◌then◌else◌}
 use Rattle.std.specs.List.{list_any}
 use Rattle.indexmap.specs.IndexSet.{insert_key}
-use Rattle.rc_names.specs.declared.numbers.BlockId.{BlockId}
-use Rattle.rc_runs.specs.Graph.{same_block}
-use Rattle.rc_tree.specs.Opened.{OpenTerminal}
+use Rattle.rc_names.specs.Numbers.{BlockId, same_id}
+use Rattle.rc_tree.specs.Unrolled.{UnrolledTerminal}
 use Rattle.rc_tree.specs.Rebuilt.{Rules, rebuilt_block}
-use Rattle.rc_tree.specs.declared.kind.ReactiveTerminalTargetKind.{ReactiveTerminalTargetKind}
+use Rattle.rc_tree.specs.Model.{ReactiveTerminalTargetKind, ReactiveBlock, ReactiveStatement, ReactiveLabel}
+use Rattle.rc_tree.specs.Model.{ReactiveTerminalStatement}
 use Rattle.rc_tree.specs.declared.kind.ReactiveTerminalTargetKind.TheVariants.{Labeled}
-use Rattle.rc_tree.specs.declared.statement.ReactiveBlock.{ReactiveBlock}
-use Rattle.rc_tree.specs.declared.statement.ReactiveStatement.{ReactiveStatement}
 use Rattle.rc_tree.specs.declared.statement.ReactiveStatement.TheOpen as layer
-use Rattle.rc_tree.specs.declared.statement.ReactiveStatement.TheVariants as stmt
-use Rattle.rc_tree.specs.declared.terminal.ReactiveLabel.{ReactiveLabel}
+use Rattle.rc_tree.specs.declared.statement.ReactiveStatement.TheVariants as reactive
 use Rattle.rc_tree.specs.declared.terminal.ReactiveTerminal.{out-ReactiveTerminal}
-use Rattle.rc_tree.specs.declared.terminal.ReactiveTerminalStatement.{ReactiveTerminalStatement}
 
 -- the blocks that the labeled jumps met so far name, each once
 abbrev pub Targets : Type 0
@@ -26,15 +23,15 @@ Targets = List BlockId
 
 -- one of them is the block
 abbrev pub is_target : Targets → BlockId → Bool
-is_target targets block = list_any (same_block block) targets
+is_target targets block = list_any (same_id block) targets
 
 -- the targets behind a jump of that kind
 abbrev pub with_jump : ReactiveTerminalTargetKind → BlockId → Targets → Targets
-with_jump Labeled target targets = insert_key same_block targets target
+with_jump Labeled target targets = insert_key same_id targets target
 with_jump _ target targets = targets
 
 -- the targets behind a terminal whose inside is behind us
-abbrev pub targets_behind : OpenTerminal → Targets → Targets
+abbrev pub targets_behind : UnrolledTerminal → Targets → Targets
 targets_behind (layer.Break target kind id) targets = with_jump kind target targets
 targets_behind (layer.Continue target kind id) targets = with_jump kind target targets
 targets_behind _ targets = targets
@@ -51,30 +48,31 @@ label_after targets (Some label) =
     Some (if is_target targets label.id then label else record { id = label.id; implicit = Bool.true })
 
 -- the statements of a `Label`, which stand in its place where nothing names it
-abbrev pub flattened : Targets → Option ReactiveLabel → OpenTerminal → Option (List ReactiveStatement)
+abbrev pub flattened : Targets → Option ReactiveLabel → UnrolledTerminal → Option (List ReactiveStatement)
 flattened targets label (layer.Label body id) = if is_named targets label then None else Some body.statements
 flattened targets label _ = None
 
--- what stands in the place of a terminal
+-- the replacement of a terminal
 abbrev pub in_place_of : Targets → ReactiveTerminalStatement → Option (List ReactiveStatement) → List ReactiveStatement
 in_place_of targets x (Some statements) = statements
-in_place_of targets x None = stmt.Terminal (record { terminal = x.terminal; label = label_after targets x.label }) ∷ []
+in_place_of targets x None =
+    reactive.Terminal (record { terminal = x.terminal; label = label_after targets x.label }) ∷ []
 
--- what stands in the place of a terminal whose inside is done, from the targets with its own
+-- the replacement of a terminal whose inside is done, from the targets with its own
 abbrev pub terminal_after : Targets → ReactiveTerminalStatement → List ReactiveStatement
 terminal_after targets x = in_place_of targets x (flattened targets x.label (out-ReactiveTerminal x.terminal))
 
 -- the rule for each statement
 abbrev pub label_rules : Rules Targets
 label_rules = record {
-  row = λ x targets. Ok (targets, stmt.Instruction x ∷ []);
+  row = λ x targets. Ok (targets, reactive.Instruction x ∷ []);
   terminal = λ x targets. Ok (
     targets_behind (out-ReactiveTerminal x.terminal) targets,
     terminal_after (targets_behind (out-ReactiveTerminal x.terminal) targets) x,
   );
-  pruned_scope = λ x targets. Ok (targets, stmt.PrunedScope x ∷ []);
+  pruned_scope = λ x targets. Ok (targets, reactive.PrunedScope x ∷ []);
   into_scope = λ targets. targets;
-  scope = λ met x targets. Ok (targets, stmt.Scope x ∷ []);
+  scope = λ met x targets. Ok (targets, reactive.Scope x ∷ []);
 }
 
 -- the second block is the first one without its unused labels

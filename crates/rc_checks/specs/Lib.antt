@@ -1,13 +1,6 @@
 pub mod BreakTargets
-pub mod TargetSteps
-pub mod ScopesIn
-pub mod Visits
-pub mod Membership
-pub mod OpenScopes
-pub mod MembershipSteps
 pub mod Labels
-pub mod LabelPruning
-pub mod LabelSteps
-pub mod UnusedScopes
-pub mod UnusedScopesSteps
 pub mod ScopeBlocks
+pub mod Membership
+pub mod UnusedScopes
+pub mod inside

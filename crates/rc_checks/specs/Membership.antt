@@ -1,27 +1,17 @@
--- Operands outside the blocks of their scopes: what the membership check refuses.
+-- Operands outside the blocks of their scopes, which the membership check refuses.
 --
 -- An operand is outside where its identifier has a scope, the operand is visited inside that scope's range, the scope
 -- has a scope block in the tree, and no block of it is around the operand.
+pub mod Visits
 use Rattle.std.specs.Prelude.{◌≡◌, Bool, ◌&&◌, not, nat_le, nat_lt, List, ◌∷◌, ◌++◌, Option, None, Some, Result}
 use Rattle.std.specs.Prelude.{Ok, Err, All, slice_get, if◌then◌else◌}
 use Rattle.std.specs.List.{list_any}
-use Rattle.rc_hir.specs.declared.environment.Environment.{Environment}
-use Rattle.rc_hir.specs.declared.environment.Identifier.{Identifier}
-use Rattle.rc_hir.specs.declared.fault.Fault.{Fault}
+use Rattle.rc_hir.specs.Model.{Environment, Identifier, Fault, MutableRange, ReactiveScope}
 use Rattle.rc_hir.specs.declared.fault.Fault.TheVariants.{BadName}
 use Rattle.rc_hir.specs.declared.fault.TableName.TheVariants.{Identifiers, Scopes}
-use Rattle.rc_hir.specs.declared.scope.MutableRange.{MutableRange}
-use Rattle.rc_hir.specs.declared.scope.ReactiveScope.{ReactiveScope}
-use Rattle.rc_names.specs.declared.numbers.EvaluationOrder.{EvaluationOrder}
-use Rattle.rc_names.specs.declared.numbers.IdentifierId.{IdentifierId}
-use Rattle.rc_names.specs.declared.numbers.ScopeId.{ScopeId}
-use Rattle.rc_runs.specs.Spelled.{same_scope}
-use Rattle.rc_tree.specs.Outcome.{bind}
-use Rattle.rc_checks.specs.Visits.{PlacedOperand, Visit}
-
--- one of the scopes is that one
-abbrev pub is_among : List ScopeId → ScopeId → Bool
-is_among scopes scope = list_any (same_scope scope) scopes
+use Rattle.rc_names.specs.Numbers.{EvaluationOrder, IdentifierId, ScopeId, is_among}
+use Rattle.rc_tree.specs.Step.{bind}
+use Rattle.rc_checks.specs.Membership.Visits.{PlacedOperand, Visit}
 
 -- the id is in the range: not before its start, and before its end
 abbrev pub is_in_range : EvaluationOrder → MutableRange → Bool
@@ -49,7 +39,7 @@ module _ (env : Environment) (blocks : List ScopeId) where
   -- the operand is in the range of that scope, which is one of those with blocks, and none of its blocks is around it
   abbrev pub is_outside : PlacedOperand → ScopeId → MutableRange → Bool
   is_outside operand scope range =
-      is_in_range operand.id range && (is_among blocks scope && not (is_among operand.around scope))
+      is_in_range operand.id range && (is_among blocks scope && not (is_among operand.enclosing scope))
 
   -- the operand's own scope, where it is outside of it
   abbrev pub if_outside : PlacedOperand → Option ScopeId → Result (Option ScopeId) Fault

@@ -1,48 +1,41 @@
 -- The scope blocks of a tree, at every depth and in the order of the text, each with whether a `Return` stands in it.
 --
--- A `Return` stands in the innermost scope block around it alone. A pruned block isn't a scope block, so that what
--- stands in it stands in the block around.
-use Rattle.std.specs.Prelude.{◌≡◌, ◌≤◌, length, Bool, true, false, List, [], ◌∷◌, ◌++◌, slice_get}
-use Rattle.std.specs.Prelude.{◌||◌}
-use Rattle.std.specs.List.{filter, Contains}
-use Rattle.std.specs.Option.{option_map_or}
-use Rattle.rc_checks.specs.UnusedScopes.{is_used}
-use Rattle.rc_hir.specs.declared.environment.Environment.{Environment}
-use Rattle.rc_hir.specs.declared.fault.Fault.{Fault}
-use Rattle.rc_hir.specs.declared.fault.Fault.TheVariants.{BadName}
-use Rattle.rc_hir.specs.declared.fault.TableName.TheVariants.{Scopes}
-use Rattle.rc_names.specs.declared.numbers.ScopeId.{ScopeId}
-use Rattle.rc_tree.specs.Collected.{OfParts, collected}
-use Rattle.rc_tree.specs.declared.statement.ReactiveBlock.{ReactiveBlock}
+-- A `Return` stands in the innermost scope block around it alone. A pruned block isn't a scope block, so that its
+-- `Return`s stand in the block around.
+use Rattle.std.specs.Prelude.{Bool, true, false, List, [], ◌∷◌, ◌++◌, map, ◌||◌}
+use Rattle.std.specs.List.{IsDistinct}
+use Rattle.rc_names.specs.Numbers.{ScopeId, same_id}
+use Rattle.rc_tree.specs.Collected.{Contributions, collected}
+use Rattle.rc_tree.specs.Joining.{Joining}
+use Rattle.rc_tree.specs.Model.{ReactiveBlock}
 
 -- a scope block: the number of its scope, and whether a `Return` stands in it
 pub record ScopeBlock : Type 0 where
   pub scope : ScopeId
   pub returns : Bool
 
--- what a part of the tree holds: whether a `Return` stands in it outside its scope blocks, and its scope blocks
-pub record Held : Type 0 where
+-- the contents of a part of the tree: whether a `Return` stands in it outside its scope blocks, and its scope blocks
+pub record Contents : Type 0 where
   pub returns : Bool
   pub blocks : List ScopeBlock
 
--- no `Return`, and no scope blocks
-abbrev pub nothing : Held
-nothing = record { returns = false; blocks = [] }
+-- the contents of one part, and then those of another
+abbrev pub joining : Joining Contents
+joining = record {
+  nothing = record { returns = false; blocks = [] };
+  both = λ a b. record { returns = a.returns || b.returns; blocks = a.blocks ++ b.blocks };
+}
 
--- what two parts hold
-abbrev pub both : Held → Held → Held
-both a b = record { returns = a.returns || b.returns; blocks = a.blocks ++ b.blocks }
-
--- what a `Return` and a scope block add: a scope block comes before those in it, and a `Return` in it isn't outside
-abbrev pub held_of_parts : OfParts Held
-held_of_parts = record {
-  joining = record { nothing = nothing; both = both };
-  row = λ x. nothing;
-  value = λ id x. nothing;
-  place = λ id x. nothing;
+-- a scope block comes before those in it, and a `Return` in it isn't outside
+abbrev pub contents_of_parts : Contributions Contents
+contents_of_parts = record {
+  joining = joining;
+  row = λ x. joining.nothing;
+  value = λ id x. joining.nothing;
+  place = λ id x. joining.nothing;
   returned = λ id x. record { returns = true; blocks = [] };
-  jump = λ target. nothing;
-  label = λ label. nothing;
+  jump = λ target. joining.nothing;
+  label = λ label. joining.nothing;
   scope = λ scope inside. record {
     returns = false;
     blocks = record { scope = scope; returns = inside.returns } ∷ inside.blocks;
@@ -50,32 +43,26 @@ held_of_parts = record {
   pruned_scope = λ scope inside. inside;
 }
 
--- what the tree holds
-abbrev pub held : ReactiveBlock → Held
-held = collected held_of_parts
+-- the contents of the tree
+abbrev pub contents : ReactiveBlock → Contents
+contents = collected contents_of_parts
 
 -- a `Return` stands in the block outside its scope blocks
 abbrev pub returns_in : ReactiveBlock → Bool
-returns_in block = (held block).returns
+returns_in block = (contents block).returns
 
 -- the scope blocks of the tree
 abbrev pub scope_blocks : ReactiveBlock → List ScopeBlock
-scope_blocks block = (held block).blocks
+scope_blocks block = (contents block).blocks
 
--- the scope of that block gives something
-abbrev pub stays : Environment → ScopeBlock → Bool
-stays env block = option_map_or (λ scope. is_used scope block.scope block.returns) (slice_get env.scopes block.scope.0)
-    false
+-- the scopes of the scope blocks that a part has
+abbrev pub scopes_of : Contents → List ScopeId
+scopes_of part = map (λ (block : ScopeBlock). block.scope) part.blocks
 
--- the scope blocks that stay where unused scopes are pruned
-abbrev pub staying_blocks : Environment → ReactiveBlock → List ScopeBlock
-staying_blocks env before = filter (stays env) (scope_blocks before)
+-- the scope of each scope block of the tree
+abbrev pub scopes_in : ReactiveBlock → List ScopeId
+scopes_in x = scopes_of (contents x)
 
--- the fault names the block's scope, which is outside the table
-abbrev pub IsOutside : Environment → Fault → ScopeBlock → Type 0
-IsOutside env fault block = (fault ≡ BadName Scopes block.scope.0) × (length env.scopes ≤ block.scope.0)
-
--- the fault names the scope of one of the tree's scope blocks, which is outside the table
-abbrev pub NamesScopeOutside : Environment → ReactiveBlock → Fault → Type 0
-NamesScopeOutside env before fault =
-    (block : ScopeBlock) × Contains (scope_blocks before) block × IsOutside env fault block
+-- no scope number stands in two scope blocks of the tree
+abbrev pub HasScopesOnce : ReactiveBlock → Type 0
+HasScopesOnce body = IsDistinct same_id (scopes_in body)

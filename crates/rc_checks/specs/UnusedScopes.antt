@@ -4,24 +4,20 @@
 -- nested scope blocks. Blocks are judged from the inside. A `Return` in a nested scope block doesn't count, also where
 -- that block becomes a pruned one; one in a block that was pruned before does.
 use Rattle.std.specs.Prelude.{◌≡◌, Bool, true, false, List, [], ◌∷◌, Option, None, Some, Result, Ok, Err, nat_eq}
-use Rattle.std.specs.Prelude.{slice_get, ◌||◌, if◌then◌else◌}
-use Rattle.std.specs.List.{list_any}
-use Rattle.rc_hir.specs.declared.environment.Environment.{Environment}
-use Rattle.rc_hir.specs.declared.fault.Fault.{Fault}
+use Rattle.std.specs.Prelude.{length, slice_get, ◌≤◌, ◌||◌, if◌then◌else◌}
+use Rattle.std.specs.List.{Contains, filter, list_any}
+use Rattle.std.specs.Option.{option_map_or}
+use Rattle.rc_hir.specs.Model.{Environment, Fault, DeclarationEntry, ReactiveScope}
 use Rattle.rc_hir.specs.declared.fault.Fault.TheVariants.{BadName}
 use Rattle.rc_hir.specs.declared.fault.TableName.TheVariants.{Scopes}
-use Rattle.rc_hir.specs.declared.scope.DeclarationEntry.{DeclarationEntry}
-use Rattle.rc_hir.specs.declared.scope.ReactiveScope.{ReactiveScope}
-use Rattle.rc_names.specs.declared.numbers.ScopeId.{ScopeId}
-use Rattle.rc_tree.specs.Opened.{OpenTerminal}
-use Rattle.rc_tree.specs.Outcome.{bind}
+use Rattle.rc_names.specs.Numbers.{ScopeId}
+use Rattle.rc_checks.specs.ScopeBlocks.{ScopeBlock, scope_blocks}
+use Rattle.rc_tree.specs.Unrolled.{UnrolledTerminal}
+use Rattle.rc_tree.specs.Step.{bind}
 use Rattle.rc_tree.specs.Rebuilt.{Rules, rebuilt_block}
-use Rattle.rc_tree.specs.declared.scope.PrunedReactiveScopeBlock.{PrunedReactiveScopeBlock}
-use Rattle.rc_tree.specs.declared.scope.ReactiveScopeBlock.{ReactiveScopeBlock}
-use Rattle.rc_tree.specs.declared.statement.ReactiveBlock.{ReactiveBlock}
-use Rattle.rc_tree.specs.declared.statement.ReactiveStatement.{ReactiveStatement}
+use Rattle.rc_tree.specs.Model.{PrunedReactiveScopeBlock, ReactiveScopeBlock, ReactiveBlock, ReactiveStatement}
 use Rattle.rc_tree.specs.declared.statement.ReactiveStatement.TheOpen as layer
-use Rattle.rc_tree.specs.declared.statement.ReactiveStatement.TheVariants as stmt
+use Rattle.rc_tree.specs.declared.statement.ReactiveStatement.TheVariants as reactive
 use Rattle.rc_tree.specs.declared.terminal.ReactiveTerminal.{out-ReactiveTerminal}
 
 -- the list has an entry
@@ -45,9 +41,9 @@ is_used scope id returns = returns || has_own_output scope id
 abbrev pub as_pruned : ReactiveScopeBlock → PrunedReactiveScopeBlock
 as_pruned block = record { scope = block.scope; instructions = block.instructions }
 
--- what stands in the place of a scope block
+-- the replacement of a scope block
 abbrev pub kept_if : Bool → ReactiveScopeBlock → ReactiveStatement
-kept_if used block = if used then stmt.Scope block else stmt.PrunedScope (as_pruned block)
+kept_if used block = if used then reactive.Scope block else reactive.PrunedScope (as_pruned block)
 
 -- the same by the scope of the block's number; there is none where the number is outside the table
 abbrev pub judged : Option ReactiveScope → Bool → ReactiveScopeBlock → Result ReactiveStatement Fault
@@ -55,17 +51,17 @@ judged None returns block = Err (BadName Scopes block.scope.0)
 judged (Some scope) returns block = Ok (kept_if (is_used scope block.scope returns) block)
 
 -- the terminal is a `Return`
-abbrev pub is_return : OpenTerminal → Bool
+abbrev pub is_return : UnrolledTerminal → Bool
 is_return (layer.Return value id) = true
 is_return _ = false
 
 -- the rule for each statement; the state says whether a `Return` was met since the innermost scope block began
 abbrev pub unused_scope_rules : Environment → Rules Bool
 unused_scope_rules env = record {
-  row = λ row returns. Ok (returns, stmt.Instruction row ∷ []);
+  row = λ row returns. Ok (returns, reactive.Instruction row ∷ []);
   terminal = λ statement returns.
-      Ok (returns || is_return (out-ReactiveTerminal statement.terminal), stmt.Terminal statement ∷ []);
-  pruned_scope = λ block returns. Ok (returns, stmt.PrunedScope block ∷ []);
+      Ok (returns || is_return (out-ReactiveTerminal statement.terminal), reactive.Terminal statement ∷ []);
+  pruned_scope = λ block returns. Ok (returns, reactive.PrunedScope block ∷ []);
   into_scope = λ returns. false;
   scope = λ around block returns.
       bind (judged (slice_get env.scopes block.scope.0) returns block) (λ statement. Ok (around, statement ∷ []));
@@ -78,5 +74,23 @@ pub record IsWithoutUnusedScopes (env : Environment) (before after : ReactiveBlo
   pub rebuilt : rebuilt_block (unused_scope_rules env) before false ≡ Ok (returns, after)
 
 -- the fault of the rules: it names the scope of the first scope block, from the inside, that is outside the table
-abbrev pub NamesFirstScopeOutside : Environment → ReactiveBlock → Fault → Type 0
-NamesFirstScopeOutside env before fault = rebuilt_block (unused_scope_rules env) before false ≡ Err fault
+abbrev pub IsFirstScopeOutside : Environment → ReactiveBlock → Fault → Type 0
+IsFirstScopeOutside env before fault = rebuilt_block (unused_scope_rules env) before false ≡ Err fault
+
+-- the scope of that block gives something
+abbrev pub stays : Environment → ScopeBlock → Bool
+stays env block = option_map_or (λ scope. is_used scope block.scope block.returns) (slice_get env.scopes block.scope.0)
+    false
+
+-- the scope blocks that stay where unused scopes are pruned
+abbrev pub staying_blocks : Environment → ReactiveBlock → List ScopeBlock
+staying_blocks env before = filter (stays env) (scope_blocks before)
+
+-- the fault names the block's scope, which is outside the table
+abbrev pub IsBlockOutside : Environment → Fault → ScopeBlock → Type 0
+IsBlockOutside env fault block = (fault ≡ BadName Scopes block.scope.0) × (length env.scopes ≤ block.scope.0)
+
+-- the fault names the scope of one of the tree's scope blocks, which is outside the table
+abbrev pub IsScopeOutside : Environment → ReactiveBlock → Fault → Type 0
+IsScopeOutside env before fault =
+    (block : ScopeBlock) × Contains (scope_blocks before) block × IsBlockOutside env fault block

@@ -2,16 +2,16 @@
 //!
 //! The terminals of the body's list are met, and those of the scope and pruned scope blocks in it, at every depth of
 //! scopes. No terminal is entered, so a jump inside an `If` is not looked at.
-#![tactic(auto, using(crate::proofs::BreakTargetsLemmas::checking))]
+#![tactic(auto, using(crate::proofs::BreakTargets::MetLemmas::checking))]
 
 ghost use Rattle.std.specs.Prelude.{◌≡◌, ◌⊎◌, IfErr, OnOk};
 ghost use Rattle.rc_checks.specs.BreakTargets as spec;
-ghost use Rattle.rc_checks.specs.BreakTargets.{met_at, met_in, AllTargetsAreMet, IsFirstUnmet};
-ghost use Rattle.rc_checks.specs.TargetSteps.{target_step, terminal_step, with_label};
-ghost use Rattle.rc_hir.specs.declared.function.HirFunction.{HirFunction as Hir};
-ghost use Rattle.rc_names.specs.declared.numbers.BlockId.{BlockId as Block};
+ghost use Rattle.rc_checks.specs.BreakTargets.{met_at, met_in, HasMetTargets, IsFirstUnmet};
+ghost use Rattle.rc_checks.specs.inside.TargetSteps.{met_terminal, target_step, terminal_step, with_label};
+ghost use Rattle.rc_hir.specs.Model.{HirFunction as Hir};
+ghost use Rattle.rc_names.specs.Numbers.{BlockId as Block};
 ghost use Rattle.rc_runs.specs.Spelled.{Spells};
-ghost use Rattle.rc_tree.specs.Outcome.{Gives, each};
+ghost use Rattle.rc_tree.specs.Step.{IsStep, each};
 ghost use Rattle.rc_tree.specs.declared.terminal.ReactiveTerminal.{out-ReactiveTerminal};
 
 use rc_hir::{Environment, Fault};
@@ -25,13 +25,13 @@ use std::alloc::{AllocError, Global};
 /// Whether each break and continue that is met in the body names a label that is met by then, its own included.
 ///
 /// `BadTarget` names the target of the first one that doesn't, and never comes of the tree that a graph spells.
-/// `NoMemory` is want of memory. No number is looked up, so `BadName` never comes.
+/// `NoMemory` means out of memory. No number is looked up, so `BadName` never comes.
 pub fn assert_well_formed_break_targets(
     alloc: Global,
     func: &ReactiveFunction,
     env: &Environment,
 ) -> Result<(), Fault>
-    ensures ok { OnOk result (AllTargetsAreMet (met_in func.now.body)) }
+    ensures ok { OnOk result (HasMetTargets (met_in func.now.body)) }
     ensures bad_target { (target : Block) → result ≡ Err (Fault.BadTarget target) →
         IsFirstUnmet (met_in func.now.body) target }
     ensures only { IfErr result (λ fault. (fault ≡ Fault.NoMemory)
@@ -46,7 +46,7 @@ pub fn assert_well_formed_break_targets(
 /// Checks the terminals of a list, and of the scopes in it.
 #[cycle(check_targets)]
 fn check_block(block: &ReactiveBlock, labels: &mut KeySet<BlockId>) -> Result<(), Fault>
-    ensures { Gives (each terminal_step (met_in block.now) labels.old) result labels.new }
+    ensures { IsStep (each terminal_step (met_in block.now) labels.old) result labels.new }
 {
     for statement in block.statements.as_slice() {
         check_statement(statement, labels)?;
@@ -57,7 +57,7 @@ fn check_block(block: &ReactiveBlock, labels: &mut KeySet<BlockId>) -> Result<()
 /// Checks a terminal, or those of a scope.
 #[cycle(check_targets)]
 fn check_statement(statement: &ReactiveStatement, labels: &mut KeySet<BlockId>) -> Result<(), Fault>
-    ensures { Gives (each terminal_step (met_at statement.now) labels.old) result labels.new }
+    ensures { IsStep (each terminal_step (met_at statement.now) labels.old) result labels.new }
 {
     match statement {
         ReactiveStatement::Instruction(_) => Ok(()),
@@ -72,7 +72,7 @@ fn check_terminal(
     stmt: &ReactiveTerminalStatement,
     labels: &mut KeySet<BlockId>,
 ) -> Result<(), Fault>
-    ensures { Gives (terminal_step stmt.now labels.old) result labels.new }
+    ensures { IsStep (terminal_step (met_terminal stmt.now) labels.old) result labels.new }
 {
     add_label(stmt.label, labels)?;
     check_target(target_of(&stmt.terminal), labels)
@@ -80,7 +80,7 @@ fn check_terminal(
 
 /// Looks a target up among the labels, where there is one.
 fn check_target(target: Option<BlockId>, labels: &KeySet<BlockId>) -> Result<(), Fault>
-    ensures { Gives (target_step target labels.now) result labels.now }
+    ensures { IsStep (target_step target labels.now) result labels.now }
 {
     match target {
         Some(target) => {

@@ -11,19 +11,19 @@
 ghost use Rattle.std.specs.Prelude.{◌≡◌, ◌↔◌, ◌++◌, ◌∷◌, ◌<◌, [], drop, is_some, length, map, option_map, reverse};
 ghost use Rattle.std.specs.Prelude.{take, IfErr, IfOk, IsOk, OnOk, List as Events};
 ghost use Rattle.rc_checks.specs.Labels.{IsWithoutUnusedLabels, flattened, label_rules};
-ghost use Rattle.rc_checks.specs.LabelPruning.{PutsLast, Statements, added_if, behind, done_before, label_in};
-ghost use Rattle.rc_checks.specs.LabelPruning.{opened, refilled};
-ghost use Rattle.rc_checks.specs.LabelSteps.{IsAfterLabelWalk};
-ghost use Rattle.rc_checks.specs.ScopeBlocks.{scope_blocks};
-ghost use Rattle.rc_checks.specs.ScopesIn.{HasScopesOnce, scopes_in};
-ghost use Rattle.rc_checks.specs.Visits.{visits_of};
-ghost use Rattle.rc_hir.specs.declared.fault.Fault.TheVariants as fault;
+ghost use Rattle.rc_checks.specs.inside.LabelPruning.{IsLastPut, TreeStatements, added_if, put_behind, done_before};
+ghost use Rattle.rc_checks.specs.inside.LabelPruning.{label_in};
+ghost use Rattle.rc_checks.specs.inside.LabelPruning.{opened, refilled};
+ghost use Rattle.rc_checks.specs.Labels.Steps.{IsAfterLabelWalk};
+ghost use Rattle.rc_checks.specs.ScopeBlocks.{scope_blocks, HasScopesOnce, scopes_in};
+ghost use Rattle.rc_checks.specs.Membership.Visits.{visits_of};
+ghost use Rattle.rc_hir.specs.declared.fault.Fault.TheVariants as faults;
 ghost use Rattle.rc_runs.specs.BodyRun.{IsBodyRun};
 ghost use Rattle.rc_runs.specs.EarlyReturns.{NoEarlyReturnSet};
 ghost use Rattle.rc_runs.specs.Event.{End, Event};
 ghost use Rattle.rc_tree.specs.Rebuilt.{if_there, in_order, joined, rebuilt_block, rebuilt_case};
 ghost use Rattle.rc_tree.specs.Rebuilt.{rebuilt_statement, rebuilt_terminal};
-ghost use Rattle.rc_tree.specs.declared.statement.ReactiveStatement.TheVariants as stmts;
+ghost use Rattle.rc_tree.specs.declared.statement.ReactiveStatement.TheVariants as reactive;
 ghost use Rattle.rc_tree.specs.TreeNames.{TreeInTables, names_in};
 ghost use Rattle.rc_tree.specs.declared.terminal.ReactiveTerminal.{out-ReactiveTerminal};
 
@@ -63,7 +63,7 @@ pub fn prune_unused_labels(
         → IsBodyRun func.old env.now events end ↔ IsBodyRun func.new env.now events end) }
     ensures known { OnOk result (TreeInTables func.old env.now → TreeInTables func.new env.now) }
     ensures scopes_once { OnOk result (HasScopesOnce func.old.body → HasScopesOnce func.new.body) }
-    ensures only { IfErr result (λ it. it ≡ fault.NoMemory) }
+    ensures only { IfErr result (λ it. it ≡ faults.NoMemory) }
 {
     let mut targets = KeySet::new(alloc);
     prune_block(&mut func.body, &mut targets)?;
@@ -79,14 +79,14 @@ fn prune_block(block: &mut ReactiveBlock, targets: &mut KeySet<BlockId>) -> Resu
     prune_into(&mut left, &mut block.statements, targets)
 }
 
-/// Prunes statements and puts what stands in their places at the end of what is done.
+/// Prunes statements and puts their replacements at the end of those that are done.
 #[cycle(prune_labels)]
 fn prune_into(
     left: &mut List<ReactiveStatement>,
     done: &mut List<ReactiveStatement>,
     targets: &mut KeySet<BlockId>,
 ) -> Result<(), AllocError>
-    ensures put { OnOk result (behind done.old (joined (map (rebuilt_statement label_rules) left.old) targets.old)
+    ensures put { OnOk result (put_behind done.old (joined (map (rebuilt_statement label_rules) left.old) targets.old)
         ≡ Ok (targets.new, done.new)) }
     ensures none_left { OnOk result (left.new ≡ []) }
 {
@@ -97,7 +97,7 @@ fn prune_into(
     Ok(())
 }
 
-/// Prunes the last statement that is left and puts what stands in its place at the end of what is done. It is pruned in
+/// Prunes the last statement that is left and puts its replacement at the end of those that are done. It is pruned in
 /// its place, so that no call around another holds a statement.
 #[cycle(prune_labels)]
 fn prune_last(
@@ -106,7 +106,7 @@ fn prune_last(
     targets: &mut KeySet<BlockId>,
 ) -> Result<(), AllocError>
     requires { 0 < length left.old }
-    ensures { OnOk result (PutsLast left.old targets.old done.old left.new targets.new done.new) }
+    ensures { OnOk result (IsLastPut left.old targets.old done.old left.new targets.new done.new) }
 {
     let mut stays = false;
     let last = left.len() - 1;
@@ -116,15 +116,15 @@ fn prune_last(
     put_last(left, stays, done)
 }
 
-/// Prunes a statement in its place and answers whether it stays. One that doesn't has its statements at the end of what
-/// is done.
+/// Prunes a statement in its place and returns whether it stays. One that doesn't has its statements at the end of
+/// those that are done.
 #[cycle(prune_labels)]
 fn prune_statement(
     statement: &mut ReactiveStatement,
     done: &mut List<ReactiveStatement>,
     targets: &mut KeySet<BlockId>,
 ) -> Result<bool, AllocError>
-    ensures { IfOk result (λ stays. behind done.old (rebuilt_statement label_rules statement.old targets.old)
+    ensures { IfOk result (λ stays. put_behind done.old (rebuilt_statement label_rules statement.old targets.old)
         ≡ Ok (targets.new, done.new ++ added_if stays statement.new)) }
 {
     match statement {
@@ -141,7 +141,7 @@ fn prune_statement(
     }
 }
 
-/// Prunes a terminal in its place and answers whether it stays: all do but a `Label` that nothing names.
+/// Prunes a terminal in its place and returns whether it stays: all do but a `Label` that nothing names.
 #[cycle(prune_labels)]
 fn prune_labeled(
     stmt: &mut ReactiveTerminalStatement,
@@ -149,8 +149,8 @@ fn prune_labeled(
     targets: &mut KeySet<BlockId>,
 ) -> Result<bool, AllocError>
     ensures { IfOk result (λ stays.
-        behind done.old (rebuilt_statement label_rules (stmts.Terminal stmt.old) targets.old)
-        ≡ Ok (targets.new, done.new ++ added_if stays (stmts.Terminal stmt.new))) }
+        put_behind done.old (rebuilt_statement label_rules (reactive.Terminal stmt.old) targets.old)
+        ≡ Ok (targets.new, done.new ++ added_if stays (reactive.Terminal stmt.new))) }
 {
     let start = done.len();
     prune_terminal(&mut stmt.terminal, done, targets)?;
@@ -163,8 +163,8 @@ fn prune_labeled(
     Ok(true)
 }
 
-/// Prunes the inside of a terminal in its place, but for a `Label`, whose statements are put at the end of what is
-/// done.
+/// Prunes the inside of a terminal in its place, but for a `Label`, whose statements are put at the end of those that
+/// are done.
 #[cycle(prune_labels)]
 fn prune_terminal(
     terminal: &mut ReactiveTerminal,
@@ -234,14 +234,14 @@ fn prune_block_if(
     }
 }
 
-/// Takes the last statement that is left; one that stays is put at the end of what is done.
+/// Takes the last statement that is left; one that stays is put at the end of those that are done.
 #[inline(never)]
 fn put_last(
     left: &mut List<ReactiveStatement>,
     stays: bool,
     done: &mut List<ReactiveStatement>,
 ) -> Result<(), AllocError>
-    ensures { (rest : Statements) (last : ReactiveStatement) → left.old ≡ rest ++ last ∷ []
+    ensures { (rest : TreeStatements) (last : ReactiveStatement) → left.old ≡ rest ++ last ∷ []
         → OnOk result ((left.new ≡ rest) × (done.new ≡ done.old ++ added_if stays last)) }
 {
     match left.pop() {
@@ -273,7 +273,7 @@ fn refill(
     }
 }
 
-/// Takes the statements from the start on off the end of what is done, in front of the others turned round.
+/// Takes the statements from the start on off the end of those that are done, in front of the others turned round.
 #[inline(never)]
 fn take_back(
     statements: &mut List<ReactiveStatement>,

@@ -7,12 +7,11 @@ mod open_scopes;
 mod visitor;
 
 ghost use Rattle.std.specs.Prelude.{◌≡◌, ◌⊎◌, ℕ, All, IfErr, IfOk, OnOk};
-ghost use Rattle.rc_checks.specs.Membership.{is_among, IsInside, IsFirstUnknown, IsLastOutside};
-ghost use Rattle.rc_checks.specs.ScopesIn as spec;
-ghost use Rattle.rc_checks.specs.Visits.{visits_of};
-ghost use Rattle.rc_hir.specs.declared.fault.TableName.{TableName as Table};
-ghost use Rattle.rc_names.specs.declared.numbers.EvaluationOrder.{EvaluationOrder as Order};
-ghost use Rattle.rc_names.specs.declared.numbers.ScopeId.{ScopeId as Scope};
+ghost use Rattle.rc_checks.specs.Membership.{IsInside, IsFirstUnknown, IsLastOutside};
+ghost use Rattle.rc_checks.specs.ScopeBlocks as spec;
+ghost use Rattle.rc_checks.specs.Membership.Visits.{visits_of};
+ghost use Rattle.rc_hir.specs.Model.{TableName as Table};
+ghost use Rattle.rc_names.specs.Numbers.{EvaluationOrder as Order, ScopeId as Scope, is_among};
 ghost use Rattle.rc_tree.specs.TreeNames.{TreeInTables, TreeNamesOutside};
 
 use crate::membership::open_scopes::OpenScopes;
@@ -28,7 +27,7 @@ use std::alloc::{AllocError, Global};
 ///
 /// `ScopeCompleted` names the id and the scope of the last operand of the read walk that doesn't. `BadName` names the
 /// first number that is looked up in vain: of an operand's identifier, of its scope, or of a function whose context is
-/// read. It never comes where every number is in its table. `NoMemory` is want of memory.
+/// read. It never comes where every number is in its table. `NoMemory` means out of memory.
 pub fn assert_scope_instructions_within_scopes(
     alloc: Global,
     func: &ReactiveFunction,
@@ -68,7 +67,7 @@ pub fn assert_scope_instructions_within_scopes(
     }
 }
 
-/// The scopes that have a scope block in the tree. The only error is want of memory.
+/// The scopes that have a scope block in the tree. The only error is out of memory.
 fn scope_blocks(alloc: Global, body: &ReactiveBlock) -> Result<KeySet<ScopeId>, AllocError>
     ensures { IfOk result (λ blocks. (scope : Scope)
         → is_among blocks scope ≡ is_among (spec.scopes_in body.now) scope) }

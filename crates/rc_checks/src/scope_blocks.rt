@@ -2,17 +2,15 @@
 //!
 //! One pass over the tree puts each scope at the end of one list. Statements that follow each other are a loop, so that
 //! the call stack grows with the nesting alone. Rows and values have no scope block in them.
-#![tactic(auto, using(crate::proofs::ScopeBlocksLemmas::holding))]
+#![tactic(auto, using(crate::proofs::ScopeBlocks::ContentsLemmas::holding))]
 
 ghost use Rattle.std.specs.Prelude.{◌≡◌, ◌++◌, IfOk, OnOk};
-ghost use Rattle.rc_checks.specs.ScopeBlocks.{held_of_parts as parts};
-ghost use Rattle.rc_checks.specs.ScopesIn.{HasScopesOnce, scopes_in, scopes_of};
-ghost use Rattle.rc_hir.specs.declared.environment.Environment.{Environment};
-ghost use Rattle.rc_hir.specs.declared.function.HirFunction.{HirFunction};
-ghost use Rattle.rc_names.specs.declared.numbers.EvaluationOrder.{EvaluationOrder as Order};
+ghost use Rattle.rc_checks.specs.ScopeBlocks.{contents_of_parts as parts, HasScopesOnce, scopes_in, scopes_of};
+ghost use Rattle.rc_hir.specs.Model.{Environment, HirFunction};
+ghost use Rattle.rc_names.specs.Numbers.{EvaluationOrder as Order};
 ghost use Rattle.rc_tree.specs.Collected.{collected_cases, collected_if, collected_list, collected_statement};
 ghost use Rattle.rc_tree.specs.Collected.{collected_terminal};
-ghost use Rattle.rc_tree.specs.declared.function.ReactiveFunction.{ReactiveFunction};
+ghost use Rattle.rc_tree.specs.Model.{ReactiveFunction};
 ghost use Rattle.rc_runs.specs.Spelled.{Spells};
 
 use rc_names::{List, ScopeId};
@@ -20,7 +18,7 @@ use rc_tree::{ReactiveBlock, ReactiveStatement, ReactiveSwitchCase, ReactiveTerm
 use std::alloc::{AllocError, Global};
 
 /// The scope of each scope block of the tree; each stands there once, where the tree is one that a graph spells. The
-/// only error is want of memory.
+/// only error is out of memory.
 pub fn scopes_in(alloc: Global, block: &ReactiveBlock) -> Result<List<ScopeId>, AllocError>
     ensures found { IfOk result (λ scopes. scopes ≡ scopes_in block.now) }
     ensures once { (hir : HirFunction) (env : Environment) (func : ReactiveFunction) → Spells hir env func

@@ -11,10 +11,10 @@ ghost use Rattle.rc_hir.specs.declared.fault.Fault.TheVariants as faults;
 ghost use Rattle.rc_runs.specs.Erase.{erased};
 ghost use Rattle.rc_tree.specs.TreeNames.{TreeInTables, TreeNamesOutside, names_in};
 ghost use Rattle.rc_tree.specs.declared.terminal.ReactiveTerminal.{out-ReactiveTerminal};
-ghost use Rattle.rc_checks.specs.ScopeBlocks.{NamesScopeOutside, scope_blocks, staying_blocks};
-ghost use Rattle.rc_checks.specs.ScopesIn.{HasScopesOnce, scopes_in};
+ghost use Rattle.rc_checks.specs.ScopeBlocks.{scope_blocks, HasScopesOnce, scopes_in};
+ghost use Rattle.rc_checks.specs.UnusedScopes.{IsScopeOutside, staying_blocks};
 ghost use Rattle.rc_checks.specs.UnusedScopes as spec;
-ghost use Rattle.rc_checks.specs.UnusedScopesSteps as steps;
+ghost use Rattle.rc_checks.specs.inside.UnusedScopesSteps as steps;
 
 use rc_hir::{Environment, Fault, ReactiveScope, TableName};
 use rc_names::{List, ScopeId};
@@ -32,8 +32,8 @@ use std::alloc::{AllocError, Global};
 /// The numbers of the tree stay, and so does all that stands in it outside its scopes.
 ///
 /// `BadName` comes where the scope of a scope block is outside the table of scopes, and names the first, from the
-/// inside; the body has no stated content then. `NoMemory` is want of memory, and the only fault where every number is
-/// in its table.
+/// inside; the body has no stated content then. `NoMemory` means out of memory, and is the only fault where every
+/// number is in its table.
 pub fn prune_unused_scopes(
     alloc: Global,
     func: &mut ReactiveFunction,
@@ -50,9 +50,9 @@ pub fn prune_unused_scopes(
     ensures scopes_once { OnOk result (HasScopesOnce func.old.body → HasScopesOnce func.new.body) }
 
     ensures refused { IfErr result (λ fault. (fault ≡ faults.NoMemory)
-        ⊎ spec.NamesFirstScopeOutside env.now func.old.body fault) }
+        ⊎ spec.IsFirstScopeOutside env.now func.old.body fault) }
     ensures bad_name { IfErr result (λ fault. (fault ≡ faults.NoMemory)
-        ⊎ NamesScopeOutside env.now func.old.body fault) }
+        ⊎ IsScopeOutside env.now func.old.body fault) }
     ensures named { IfErr result (λ fault. (fault ≡ faults.NoMemory)
         ⊎ TreeNamesOutside func.old env.now fault) }
     ensures sound { TreeInTables func.old env.now → IfErr result (λ fault. fault ≡ faults.NoMemory) }
@@ -146,7 +146,7 @@ impl Returns {
 }
 
 /// Takes the last flag off. A walk finds one there; where there is none, it is false.
-#[tactic(auto, using(crate::proofs::UnusedScopesLemmas::popped_rest))]
+#[tactic(auto, using(crate::proofs::UnusedScopes::StepsLemmas::popped_rest))]
 fn pop_flag(flags: &mut List<bool>) -> bool
     ensures flag { result ≡ steps.last_flag flags.old }
     ensures rest { flags.new ≡ steps.without_last flags.old }
@@ -162,7 +162,7 @@ fn has_own_output(scope: &ReactiveScope, id: ScopeId) -> bool
 }
 
 /// Whether the scope reassigns a name.
-#[tactic(auto, using(crate::proofs::UnusedScopesLemmas::has_entry_unless))]
+#[tactic(auto, using(crate::proofs::UnusedScopes::StepsLemmas::has_entry_unless))]
 fn reassigns(scope: &ReactiveScope) -> bool
     ensures { result ≡ spec.has_entry scope.now.reassignments }
 {
@@ -190,7 +190,7 @@ fn is_return(terminal: &ReactiveTerminal) -> bool
 /// A pruned block with the statements of the block, which are taken.
 fn take_pruned(block: &mut ReactiveScopeBlock) -> PrunedReactiveScopeBlock
     ensures pruned { result ≡ spec.as_pruned block.old }
-    ensures left { block.new ≡ steps.emptied block.old }
+    ensures left { block.new ≡ steps.emptied_scope block.old }
 {
     PrunedReactiveScopeBlock {
         scope: block.scope,

@@ -8,24 +8,24 @@ use Rattle.std.specs.Map.{lookup}
 use Rattle.indexmap.specs.IndexMap.{insert_entry}
 use Rattle.serde_json.specs.View.{view, items_view}
 use Rattle.serde_json.specs.declared.value.Value.{Value}
-use Rattle.rc_names.specs.declared.numbers.BlockId.{BlockId}
-use Rattle.rc_hir.specs.declared.function.BasicBlock.{BasicBlock}
+use Rattle.rc_names.specs.Numbers.{BlockId}
+use Rattle.rc_hir.specs.Model.{BasicBlock}
 use Rattle.rc_doc.specs.Graph.{are_distinct, has_key, if_distinct, keyed_block_of}
 use Rattle.rc_doc.specs.Reading.{all_items}
 
 abbrev pub Entry : Type 0
 Entry = BlockId × BasicBlock
 
--- whether two keys are one number
+-- two keys are the same number
 abbrev pub same_key : BlockId → BlockId → Bool
 same_key m n = m.0 == n.0
 
--- the blocks so far, and behind them those still to be read
+-- the blocks so far, followed by those that are still to be read
 abbrev pub followed : List Entry → List Value → Option (List Entry)
 followed blocks left =
     option_and_then (λ entries. if_distinct (blocks ++ entries)) (all_items keyed_block_of (items_view left))
 
--- The blocks so far have distinct keys, and what is read with those still to come is what is read of all.
+-- The blocks so far have distinct keys, and reading the others after them gives all blocks.
 pub record ReadSoFar (blocks : List Entry) (left all : List Value) : Type 0 where
   pub distinct : are_distinct blocks ≡ true
   pub read : followed blocks left ≡ followed [] all

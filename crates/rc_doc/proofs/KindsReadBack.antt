@@ -1,4 +1,4 @@
--- What is printed reads as the same value again: the kinds.
+-- The printing form of a value reads as that value again: the kinds.
 pub mod Variables
 pub mod Expressions
 pub mod Calls

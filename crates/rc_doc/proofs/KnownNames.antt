@@ -1,4 +1,4 @@
--- Names that ascend, and keys that ascend beside them: a key above a name is none of the names up to that one.
+-- Ascending names beside ascending keys: a key above a name is none of the names up to that one.
 use Rattle.std.proofs.Common.{◌≡◌, ℕ, zero, suc, ◌<◌, ◌+◌, Bool, true, false, ◌&&◌, List, [], ◌∷◌, length, drop}
 use Rattle.std.proofs.Common.{map, get_or, Bor, Ordering, Less, Equal, Greater, is_eq, String, Global, refl, sym, ap}
 use Rattle.std.proofs.Common.{subst, ◌∙◌, arith, add-one, bytes_eq, nat_cmp, string_bytes, string_cmp}
@@ -17,7 +17,7 @@ use Rattle.serde_json.specs.View.{members_view}
 use Rattle.serde_json.specs.declared.value.Value.{Value}
 use Rattle.rc_doc.specs.Reading.{all_known, are_ascending, is_below}
 
--- the texts that the names are
+-- the texts of the names
 abbrev pub texts : List (Bor (List ℕ)) → List (List ℕ)
 texts names = map (λ name. name.now) names
 
@@ -89,7 +89,7 @@ ahead_of names i key (e ∷ left) rest lt is above =
           above.1,
     )
 
--- The keys left ascend, those before them are known, and none left is a name that was passed.
+-- The remaining keys ascend, those before them are known, and none that remains is a name that was passed.
 pub record KeysLeft (names : List (List ℕ)) (passed : ℕ) (left all : List Entry) : Type 0 where
   pub ascend : IsStrictlySortedBy string_cmp (keys_of left)
   pub known : all_known names (members_view left) ≡ all_known names (members_view all)

@@ -1,4 +1,4 @@
--- A list that is read has as many entries as its array has items.
+-- A list has as many entries as the array from which it is read has items.
 use Rattle.std.proofs.Common.{◌≡◌, List, [], ◌∷◌, length, Option, Some, None, option_and_then, refl, arith}
 use Rattle.std.specs.Option.{option_map_or}
 use Rattle.serde_json.specs.Data.{Data, Items, no_items, item}

@@ -1,47 +1,34 @@
--- No float is printed, so the text of what is printed is its compact text.
+-- A printing form has no float, so its text is its compact text.
 use Rattle.std.proofs.Common.{◌≡◌, ℕ, Bool, true, false, cond, List, [], ◌∷◌, Option, None, Some, refl}
 use Rattle.serde_json.specs.Data.{Data, string}
 use Rattle.serde_json.specs.Written.{has_float, items_have_float}
 use Rattle.rc_names.specs.declared.span.Span.{Span}
-use Rattle.rc_hir.specs.declared.instruction.InstructionValue.{InstructionValue}
+use Rattle.rc_hir.specs.Model.{InstructionValue, JsxAttribute, JsxTag, LoweredFunction, NonLocalBinding, PrimitiveValue}
+use Rattle.rc_hir.specs.Model.{ArrayElement, ArrayPatternElement, LValue, LValuePattern, ObjectProperty}
+use Rattle.rc_hir.specs.Model.{ObjectPropertyKey, ObjectPropertyOrSpread, Pattern, PropertyLiteral, Place}
+use Rattle.rc_hir.specs.Model.{PlaceOrSpread, SpreadPattern}
 use Rattle.rc_hir.specs.declared.instruction.InstructionValue.TheVariants as kinds
-use Rattle.rc_hir.specs.declared.instruction.JsxAttribute.{JsxAttribute}
 use Rattle.rc_hir.specs.declared.instruction.JsxAttribute.TheVariants as attributes
-use Rattle.rc_hir.specs.declared.instruction.JsxTag.{JsxTag}
 use Rattle.rc_hir.specs.declared.instruction.JsxTag.TheVariants as tags
-use Rattle.rc_hir.specs.declared.instruction.LoweredFunction.{LoweredFunction}
-use Rattle.rc_hir.specs.declared.instruction.NonLocalBinding.{NonLocalBinding}
 use Rattle.rc_hir.specs.declared.instruction.NonLocalBinding.TheVariants as bindings
-use Rattle.rc_hir.specs.declared.instruction.PrimitiveValue.{PrimitiveValue}
 use Rattle.rc_hir.specs.declared.instruction.PrimitiveValue.TheVariants as primitives
-use Rattle.rc_hir.specs.declared.pattern.ArrayElement.{ArrayElement}
-use Rattle.rc_hir.specs.declared.pattern.ArrayElement.TheVariants as elements
-use Rattle.rc_hir.specs.declared.pattern.ArrayPatternElement.{ArrayPatternElement}
+use Rattle.rc_hir.specs.declared.pattern.ArrayElement.TheVariants as element
 use Rattle.rc_hir.specs.declared.pattern.ArrayPatternElement.TheVariants as pattern_elements
-use Rattle.rc_hir.specs.declared.pattern.LValue.{LValue}
-use Rattle.rc_hir.specs.declared.pattern.LValuePattern.{LValuePattern}
-use Rattle.rc_hir.specs.declared.pattern.ObjectProperty.{ObjectProperty}
-use Rattle.rc_hir.specs.declared.pattern.ObjectPropertyKey.{ObjectPropertyKey}
 use Rattle.rc_hir.specs.declared.pattern.ObjectPropertyKey.TheVariants as keys
-use Rattle.rc_hir.specs.declared.pattern.ObjectPropertyOrSpread.{ObjectPropertyOrSpread}
-use Rattle.rc_hir.specs.declared.pattern.ObjectPropertyOrSpread.TheVariants as properties
-use Rattle.rc_hir.specs.declared.pattern.Pattern.{Pattern}
+use Rattle.rc_hir.specs.declared.pattern.ObjectPropertyOrSpread.TheVariants as entry
 use Rattle.rc_hir.specs.declared.pattern.Pattern.TheVariants as patterns
-use Rattle.rc_hir.specs.declared.pattern.PropertyLiteral.{PropertyLiteral}
 use Rattle.rc_hir.specs.declared.pattern.PropertyLiteral.TheVariants as literals
-use Rattle.rc_hir.specs.declared.place.Place.{Place}
-use Rattle.rc_hir.specs.declared.place.PlaceOrSpread.{PlaceOrSpread}
 use Rattle.rc_hir.specs.declared.place.PlaceOrSpread.TheVariants as arguments
-use Rattle.rc_hir.specs.declared.place.SpreadPattern.{SpreadPattern}
 use Rattle.rc_doc.specs.Showing.{list_data, number_data}
 use Rattle.rc_doc.specs.ShownKinds.{value_data}
-use Rattle.rc_doc.specs.ShownParts.{argument_data, binding_data, element_data, is_short, jsx_attribute_data}
-use Rattle.rc_doc.specs.ShownParts.{jsx_tag_data, long_form, lowered_function_data, lvalue_data, lvalue_pattern_data}
-use Rattle.rc_doc.specs.ShownParts.{object_property_data, pattern_data, pattern_element_data, place_data}
-use Rattle.rc_doc.specs.ShownParts.{primitive_value_data, property_data, property_key_data, property_literal_data}
-use Rattle.rc_doc.specs.ShownParts.{span_items, spread_data}
+use Rattle.rc_doc.specs.ShownParts.{binding_data, jsx_attribute_data, jsx_tag_data, lowered_function_data}
+use Rattle.rc_doc.specs.ShownParts.{primitive_value_data}
+use Rattle.rc_doc.specs.ShownParts.Patterns.{element_data, lvalue_data, lvalue_pattern_data, object_property_data}
+use Rattle.rc_doc.specs.ShownParts.Patterns.{pattern_data, pattern_element_data, property_data, property_key_data}
+use Rattle.rc_doc.specs.ShownParts.Patterns.{property_literal_data}
+use Rattle.rc_doc.specs.ShownParts.Places.{argument_data, is_short, long_form, place_data, span_items, spread_data}
 
--- there is no float in what x is printed as
+-- the printing form of x has no float
 abbrev NoFloat : {X : Type 0} → (X → Data) → X → Type 0
 NoFloat shows x = has_float (shows x) ≡ false
 
@@ -96,8 +83,8 @@ in_object_property x = rw (in_property_key x.key, in_place x.place) refl
 
 in_property : (x : ObjectPropertyOrSpread) → NoFloat property_data x
 unfolding property_data
-in_property (properties.Property property) = rw (in_object_property property) refl
-in_property (properties.Spread spread) = rw (in_spread spread) refl
+in_property (entry.Property property) = rw (in_object_property property) refl
+in_property (entry.Spread spread) = rw (in_spread spread) refl
 
 in_pattern_element : (x : ArrayPatternElement) → NoFloat pattern_element_data x
 unfolding pattern_element_data
@@ -107,9 +94,9 @@ in_pattern_element pattern_elements.Hole = refl
 
 in_element : (x : ArrayElement) → NoFloat element_data x
 unfolding element_data
-in_element (elements.Place place) = rw (in_place place) refl
-in_element (elements.Spread spread) = rw (in_spread spread) refl
-in_element elements.Hole = refl
+in_element (element.Place place) = rw (in_place place) refl
+in_element (element.Spread spread) = rw (in_spread spread) refl
+in_element element.Hole = refl
 
 in_pattern : (x : Pattern) → NoFloat pattern_data x
 unfolding pattern_data

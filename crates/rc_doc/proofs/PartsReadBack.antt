@@ -1,27 +1,20 @@
--- What is printed reads as the same value again: patterns and the other parts of instruction values. Each part does
--- where what it is made of does.
+-- The printing form of a part reads as that part again: patterns and the other parts of instruction values. A part
+-- does so if its own parts do.
 use Rattle.std.proofs.Common.{◌≡◌, ℕ, Bool, List, Some, refl}
 use Rattle.rc_hir.specs.declared.instruction.JsxAttribute.TheVariants as attributes
 use Rattle.rc_hir.specs.declared.instruction.JsxTag.TheVariants as tags
-use Rattle.rc_hir.specs.declared.instruction.LoweredFunction.{LoweredFunction}
+use Rattle.rc_hir.specs.Model.{LoweredFunction, ArrayPatternElement, InstructionKind, LValue, LValuePattern}
+use Rattle.rc_hir.specs.Model.{ObjectProperty, ObjectPropertyOrSpread, Place, SpreadPattern}
 use Rattle.rc_hir.specs.declared.instruction.NonLocalBinding.TheVariants as bindings
 use Rattle.rc_hir.specs.declared.instruction.PrimitiveValue.TheVariants as primitives
-use Rattle.rc_hir.specs.declared.pattern.ArrayElement.TheVariants as elements
-use Rattle.rc_hir.specs.declared.pattern.ArrayPatternElement.{ArrayPatternElement}
+use Rattle.rc_hir.specs.declared.pattern.ArrayElement.TheVariants as element
 use Rattle.rc_hir.specs.declared.pattern.ArrayPatternElement.TheVariants as pattern_elements
-use Rattle.rc_hir.specs.declared.pattern.InstructionKind.{InstructionKind}
 use Rattle.rc_hir.specs.declared.pattern.InstructionKind.TheVariants as kinds
-use Rattle.rc_hir.specs.declared.pattern.LValue.{LValue}
-use Rattle.rc_hir.specs.declared.pattern.LValuePattern.{LValuePattern}
-use Rattle.rc_hir.specs.declared.pattern.ObjectProperty.{ObjectProperty}
 use Rattle.rc_hir.specs.declared.pattern.ObjectPropertyKey.TheVariants as keys
-use Rattle.rc_hir.specs.declared.pattern.ObjectPropertyOrSpread.{ObjectPropertyOrSpread}
-use Rattle.rc_hir.specs.declared.pattern.ObjectPropertyOrSpread.TheVariants as properties
+use Rattle.rc_hir.specs.declared.pattern.ObjectPropertyOrSpread.TheVariants as entry
 use Rattle.rc_hir.specs.declared.pattern.Pattern.TheVariants as patterns
 use Rattle.rc_hir.specs.declared.pattern.PropertyLiteral.TheVariants as literals
-use Rattle.rc_hir.specs.declared.place.Place.{Place}
 use Rattle.rc_hir.specs.declared.place.PlaceOrSpread.TheVariants as arguments
-use Rattle.rc_hir.specs.declared.place.SpreadPattern.{SpreadPattern}
 use Rattle.rc_doc.specs.Parts.{binding_of, global_of, jsx_attribute_of, jsx_tag_of, lowered_function_of, module_name_of}
 use Rattle.rc_doc.specs.Parts.{named_attribute_of, primitive_content_of, primitive_value_of, spread_attribute_of}
 use Rattle.rc_doc.specs.Patterns.{array_pattern_of, element_of, filled_element_of, filled_pattern_element_of, kind_of}
@@ -30,11 +23,12 @@ use Rattle.rc_doc.specs.Patterns.{pattern_element_of, pattern_of, property_key_o
 use Rattle.rc_doc.specs.Places.{argument_of, place_of, spread_of}
 use Rattle.rc_doc.specs.Reading.{list_of, number_of}
 use Rattle.rc_doc.specs.Showing.{list_data, number_data}
-use Rattle.rc_doc.specs.ShownParts.{argument_data, binding_data, element_data, jsx_attribute_data, jsx_tag_data}
-use Rattle.rc_doc.specs.ShownParts.{kind_data, lowered_function_data, lvalue_data, lvalue_pattern_data}
-use Rattle.rc_doc.specs.ShownParts.{object_property_data, pattern_data, pattern_element_data, place_data}
-use Rattle.rc_doc.specs.ShownParts.{primitive_value_data, property_data, property_key_data, property_literal_data}
-use Rattle.rc_doc.specs.ShownParts.{spread_data}
+use Rattle.rc_doc.specs.ShownParts.{binding_data, jsx_attribute_data, jsx_tag_data, lowered_function_data}
+use Rattle.rc_doc.specs.ShownParts.{primitive_value_data}
+use Rattle.rc_doc.specs.ShownParts.Patterns.{element_data, kind_data, lvalue_data, lvalue_pattern_data}
+use Rattle.rc_doc.specs.ShownParts.Patterns.{object_property_data, pattern_data, pattern_element_data, property_data}
+use Rattle.rc_doc.specs.ShownParts.Patterns.{property_key_data, property_literal_data}
+use Rattle.rc_doc.specs.ShownParts.Places.{argument_data, place_data, spread_data}
 
 pub spread_again : (x : SpreadPattern) → place_of (place_data x.place) ≡ Some x.place
     → spread_of (spread_data x) ≡ Some x
@@ -109,12 +103,12 @@ object_property_again x h k = rw (h, k) refl
 
 pub property_again-Property : (property : ObjectProperty)
     → object_property_of (object_property_data property) ≡ Some property
-    → property_of (property_data (properties.Property property)) ≡ Some (properties.Property property)
+    → property_of (property_data (entry.Property property)) ≡ Some (entry.Property property)
 unfolding property_of property_data
 property_again-Property property h = rw h refl
 
 pub property_again-Spread : (spread : SpreadPattern) → spread_of (spread_data spread) ≡ Some spread
-    → property_of (property_data (properties.Spread spread)) ≡ Some (properties.Spread spread)
+    → property_of (property_data (entry.Spread spread)) ≡ Some (entry.Spread spread)
 unfolding property_of property_data
 property_again-Spread spread h = rw h refl
 
@@ -139,16 +133,16 @@ pub ruleset pattern_element_again =
     (pattern_element_again-Place, pattern_element_again-Spread, pattern_element_again-Hole)
 
 pub element_again-Place : (place : Place) → place_of (place_data place) ≡ Some place
-    → element_of (element_data (elements.Place place)) ≡ Some (elements.Place place)
+    → element_of (element_data (element.Place place)) ≡ Some (element.Place place)
 unfolding filled_element_of element_data
 element_again-Place place h = rw h refl
 
 pub element_again-Spread : (spread : SpreadPattern) → spread_of (spread_data spread) ≡ Some spread
-    → element_of (element_data (elements.Spread spread)) ≡ Some (elements.Spread spread)
+    → element_of (element_data (element.Spread spread)) ≡ Some (element.Spread spread)
 unfolding filled_element_of element_data
 element_again-Spread spread h = rw h refl
 
-pub element_again-Hole : element_of (element_data elements.Hole) ≡ Some elements.Hole
+pub element_again-Hole : element_of (element_data element.Hole) ≡ Some element.Hole
 unfolding filled_element_of element_data
 element_again-Hole = refl
 

@@ -1,15 +1,15 @@
--- What is printed reads as the same value again: numbers, spans and places.
+-- The printing form of a part reads as that part again: numbers, spans and places.
 use Rattle.std.proofs.Common.{◌≡◌, ℕ, ◌<◌, ◌^◌, Bool, true, false, Option, None, Some, arith, refl}
 use Rattle.std.proofs.lemmas.Bool.Decides.{nat_tests}
 use Rattle.serde_json.specs.Data.{string}
 use Rattle.rc_names.specs.declared.span.Span.{Span}
-use Rattle.rc_hir.specs.declared.place.Effect.{Effect}
+use Rattle.rc_hir.specs.Model.{Effect, Place}
 use Rattle.rc_hir.specs.declared.place.Effect.TheVariants as effects
-use Rattle.rc_hir.specs.declared.place.Place.{Place}
+use Rattle.rc_names.specs.Numbers.{to_id}
 use Rattle.rc_doc.specs.Places.{effect_of, place_of, span_of}
 use Rattle.rc_doc.specs.Reading.{number_of}
-use Rattle.rc_doc.specs.Showing.{number_data, SomeAgain}
-use Rattle.rc_doc.specs.ShownParts.{effect_name, is_short, long_form, place_data, span_data}
+use Rattle.rc_doc.specs.Showing.{number_data, IsReadAgain}
+use Rattle.rc_doc.specs.ShownParts.Places.{effect_name, is_short, long_form, place_data, span_data}
 
 pub number_again : (n : ℕ) → n < 2 ^ 32 → number_of (number_data n) ≡ Some n
 number_again n h = grind (arith, nat_tests)
@@ -30,9 +30,9 @@ effect_again effects.Store = refl
 
 -- the place with these fields
 abbrev place : ℕ → Effect → Bool → Option Span → Place
-place i e r s = record { identifier = record { 0 = i }; effect = e; reactive = r; span = s }
+place i e r s = record { identifier = to_id i; effect = e; reactive = r; span = s }
 
-from_long : (i : ℕ) (e : Effect) (r : Bool) (s : Option Span) → i < 2 ^ 32 → SomeAgain span_of span_data s
+from_long : (i : ℕ) (e : Effect) (r : Bool) (s : Option Span) → i < 2 ^ 32 → IsReadAgain span_of span_data s
     → place_of (long_form (place i e r s)) ≡ Some (place i e r s)
 unfolding place_of
 from_long i e r None h k = rw (number_again i h, effect_again e) refl
@@ -64,9 +64,9 @@ module _ (p : Place) where
   pub short_again : p.identifier.0 < 2 ^ 32 → is_short p ≡ true → place_of (place_data p) ≡ Some p
   short_again h k = rw (place_data-short k) (from_short p.identifier.0 p.effect p.reactive p.span h k)
 
-  pub long_again : p.identifier.0 < 2 ^ 32 → is_short p ≡ false → SomeAgain span_of span_data p.span
+  pub long_again : p.identifier.0 < 2 ^ 32 → is_short p ≡ false → IsReadAgain span_of span_data p.span
       → place_of (place_data p) ≡ Some p
   long_again h k s = rw (place_data-long k) (from_long p.identifier.0 p.effect p.reactive p.span h s)
 
--- what a place is printed as, and that it reads again
+-- the printing form of a place, which reads as that place again
 pub ruleset placing = (place_data-short, place_data-long, short_again, long_again)

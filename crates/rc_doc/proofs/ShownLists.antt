@@ -9,7 +9,7 @@ use Rattle.serde_json.specs.declared.value.Value.{Value, Array}
 use Rattle.rc_doc.specs.Reading.{all_items}
 use Rattle.rc_doc.specs.Showing.{list_data}
 
--- The values are the printing forms of the entries, and read as them again.
+-- The values are the printing forms of the entries, and read as these again.
 pub record ShownSoFar {X : Type 0} (reads : Data → Option X) (shows : X → Data) (xs : List X) (shown : List Value) :
     Type 0 where
   pub value : map view shown ≡ map shows xs

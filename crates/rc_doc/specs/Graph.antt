@@ -1,59 +1,56 @@
--- Functions and their graphs; the blocks of a graph stand under distinct keys.
+-- Functions and their graphs; the keys of the blocks are distinct.
 use Rattle.std.specs.Prelude.{◌==◌, ◌&&◌, Bool, true, not, List, [], ◌∷◌, Option, Some, None, if◌then◌else◌, codes}
 use Rattle.std.specs.Prelude.{unwrap_or}
 use Rattle.std.specs.List.{list_any}
 use Rattle.serde_json.specs.Data.{Data}
-use Rattle.rc_names.specs.declared.numbers.BlockId.{BlockId}
-use Rattle.rc_hir.specs.declared.function.BasicBlock.{BasicBlock}
-use Rattle.rc_hir.specs.declared.function.Hir.{Hir}
-use Rattle.rc_hir.specs.declared.function.HirFunction.{HirFunction}
-use Rattle.rc_hir.specs.declared.function.Instruction.{Instruction}
+use Rattle.rc_names.specs.Numbers.{BlockId}
+use Rattle.rc_hir.specs.Model.{BasicBlock, Hir, HirFunction, Instruction}
 use Rattle.rc_doc.specs.Kinds.{instruction_value_of}
-use Rattle.rc_doc.specs.Numbers.{block_id_of, evaluation_order_of, instruction_id_of}
+use Rattle.rc_doc.specs.Numbers.{id_of}
 use Rattle.rc_doc.specs.Places.{param_of, place_of, span_of}
 use Rattle.rc_doc.specs.Reading.{◌>>=◌, field, flag_field, list_field, list_of, only, option_field, text_of}
 use Rattle.rc_doc.specs.Terminals.{terminal_of}
 
--- a row: its value goes to its target
+-- a row, which computes a value for its target
 unfoldable pub instruction_of : Data → Option Instruction
 instruction_of d = do
   _ ← only (codes "id" ∷ codes "lvalue" ∷ codes "span" ∷ codes "value" ∷ []) d
-  id ← field evaluation_order_of (codes "id") d
+  id ← field id_of (codes "id") d
   lvalue ← field place_of (codes "lvalue") d
   value ← field instruction_value_of (codes "value") d
   span ← option_field span_of (codes "span") d
   Some (record { id = id; lvalue = lvalue; value = value; span = span })
 
--- a block; what stands under `key` is no part of it
+-- a block; its `key` isn't a part of it
 unfoldable pub block_of : Data → Option BasicBlock
 block_of d = do
   _ ← only (codes "id" ∷ codes "instructions" ∷ codes "key" ∷ codes "terminal" ∷ []) d
-  id ← field block_id_of (codes "id") d
-  instructions ← list_field instruction_id_of (codes "instructions") d
+  id ← field id_of (codes "id") d
+  instructions ← list_field id_of (codes "instructions") d
   terminal ← field terminal_of (codes "terminal") d
   Some (record { id = id; instructions = instructions; terminal = terminal })
 
--- a block behind its key, which is its id where it is left out
+-- a block with its key, which is the block's id if it is left out
 unfoldable pub keyed_block_of : Data → Option (BlockId × BasicBlock)
 keyed_block_of d = do
   block ← block_of d
-  key ← option_field block_id_of (codes "key") d
+  key ← option_field id_of (codes "key") d
   Some (unwrap_or key block.id, block)
 
--- whether a block stands under the key
+-- one of the blocks has that key
 abbrev pub has_key : BlockId → List (BlockId × BasicBlock) → Bool
 has_key key blocks = list_any (λ entry. key.0 == entry.0.0) blocks
 
--- whether no key stands twice
+-- no two blocks have the same key
 abbrev pub are_distinct : List (BlockId × BasicBlock) → Bool
 are_distinct [] = true
 are_distinct (entry ∷ blocks) = not (has_key entry.0 blocks) && are_distinct blocks
 
--- the blocks, if no key stands twice
+-- the blocks, if no two have the same key
 abbrev pub if_distinct : List (BlockId × BasicBlock) → Option (List (BlockId × BasicBlock))
 if_distinct blocks = if are_distinct blocks then Some blocks else None
 
--- blocks under distinct keys, in order
+-- blocks with distinct keys, in order
 unfoldable pub blocks_of : Data → Option (List (BlockId × BasicBlock))
 blocks_of d = do
   blocks ← list_of keyed_block_of d
@@ -63,7 +60,7 @@ blocks_of d = do
 unfoldable pub hir_of : Data → Option Hir
 hir_of d = do
   _ ← only (codes "blocks" ∷ codes "entry" ∷ []) d
-  entry ← field block_id_of (codes "entry") d
+  entry ← field id_of (codes "entry") d
   blocks ← field blocks_of (codes "blocks") d
   Some (record { entry = entry; blocks = blocks })
 

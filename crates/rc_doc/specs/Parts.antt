@@ -1,16 +1,12 @@
--- What instruction values are made of besides places, patterns and texts.
+-- The parts of instruction values besides places, patterns and texts.
 use Rattle.std.specs.Prelude.{[], ◌∷◌, Option, Some, option_map, codes}
 use Rattle.serde_json.specs.Data.{Data}
-use Rattle.rc_hir.specs.declared.instruction.JsxAttribute.{JsxAttribute}
+use Rattle.rc_hir.specs.Model.{JsxAttribute, JsxTag, LoweredFunction, NonLocalBinding, PrimitiveValue}
 use Rattle.rc_hir.specs.declared.instruction.JsxAttribute.TheVariants as attributes
-use Rattle.rc_hir.specs.declared.instruction.JsxTag.{JsxTag}
 use Rattle.rc_hir.specs.declared.instruction.JsxTag.TheVariants as tags
-use Rattle.rc_hir.specs.declared.instruction.LoweredFunction.{LoweredFunction}
-use Rattle.rc_hir.specs.declared.instruction.NonLocalBinding.{NonLocalBinding}
 use Rattle.rc_hir.specs.declared.instruction.NonLocalBinding.TheVariants as bindings
-use Rattle.rc_hir.specs.declared.instruction.PrimitiveValue.{PrimitiveValue}
 use Rattle.rc_hir.specs.declared.instruction.PrimitiveValue.TheVariants as primitives
-use Rattle.rc_doc.specs.Numbers.{function_id_of}
+use Rattle.rc_doc.specs.Numbers.{id_of}
 use Rattle.rc_doc.specs.Places.{place_of}
 use Rattle.rc_doc.specs.Reading.{◌>>=◌, content, field, flag_field, named, only, or_tagged, tag_of, text_of, variant}
 
@@ -51,7 +47,7 @@ binding_of d = do
   name ← tag_of d
   variant ((codes "Global", global_of d) ∷ (codes "Module", module_name_of d) ∷ []) name
 
--- what stands at the head of a JSX element
+-- the tag of a JSX element
 unfoldable pub jsx_tag_of : Data → Option JsxTag
 jsx_tag_of d = do
   _ ← only (codes "k" ∷ codes "v" ∷ []) d
@@ -86,5 +82,5 @@ jsx_attribute_of d = do
 unfoldable pub lowered_function_of : Data → Option LoweredFunction
 lowered_function_of d = do
   _ ← only (codes "func" ∷ []) d
-  func ← field function_id_of (codes "func") d
+  func ← field id_of (codes "func") d
   Some (record { func = func })

@@ -2,27 +2,19 @@
 use Rattle.std.specs.Prelude.{ℕ, List, [], ◌∷◌, Option, Some, option_and_then, option_map, codes}
 use Rattle.serde_json.specs.Data.{Data}
 use Rattle.serde_json.specs.Find.{as_str}
-use Rattle.rc_hir.specs.declared.pattern.ArrayElement.{ArrayElement}
-use Rattle.rc_hir.specs.declared.pattern.ArrayElement.TheVariants as elements
-use Rattle.rc_hir.specs.declared.pattern.ArrayPatternElement.{ArrayPatternElement}
+use Rattle.rc_hir.specs.Model.{ArrayElement, ArrayPatternElement, InstructionKind, LValue, LValuePattern}
+use Rattle.rc_hir.specs.Model.{ObjectProperty, ObjectPropertyKey, ObjectPropertyOrSpread, Pattern, PropertyLiteral}
+use Rattle.rc_hir.specs.declared.pattern.ArrayElement.TheVariants as element
 use Rattle.rc_hir.specs.declared.pattern.ArrayPatternElement.TheVariants as pattern_elements
-use Rattle.rc_hir.specs.declared.pattern.InstructionKind.{InstructionKind}
 use Rattle.rc_hir.specs.declared.pattern.InstructionKind.TheVariants as kinds
-use Rattle.rc_hir.specs.declared.pattern.LValue.{LValue}
-use Rattle.rc_hir.specs.declared.pattern.LValuePattern.{LValuePattern}
-use Rattle.rc_hir.specs.declared.pattern.ObjectProperty.{ObjectProperty}
-use Rattle.rc_hir.specs.declared.pattern.ObjectPropertyKey.{ObjectPropertyKey}
 use Rattle.rc_hir.specs.declared.pattern.ObjectPropertyKey.TheVariants as keys
-use Rattle.rc_hir.specs.declared.pattern.ObjectPropertyOrSpread.{ObjectPropertyOrSpread}
-use Rattle.rc_hir.specs.declared.pattern.ObjectPropertyOrSpread.TheVariants as properties
-use Rattle.rc_hir.specs.declared.pattern.Pattern.{Pattern}
+use Rattle.rc_hir.specs.declared.pattern.ObjectPropertyOrSpread.TheVariants as entry
 use Rattle.rc_hir.specs.declared.pattern.Pattern.TheVariants as patterns
-use Rattle.rc_hir.specs.declared.pattern.PropertyLiteral.{PropertyLiteral}
 use Rattle.rc_hir.specs.declared.pattern.PropertyLiteral.TheVariants as literals
 use Rattle.rc_doc.specs.Places.{place_of, spread_of}
 use Rattle.rc_doc.specs.Reading.{◌>>=◌, content, field, list_field, named, only, or_tagged, tag_of, text_of, variant}
 
--- the kinds of writing by their names
+-- the ways of writing, by their names
 abbrev pub kind_named : List ℕ → Option InstructionKind
 kind_named = named (
     (codes "Const", kinds.Const)
@@ -35,7 +27,7 @@ kind_named = named (
     ∷ (codes "HoistedFunction", kinds.HoistedFunction)
     ∷ [])
 
--- the name of a kind of writing
+-- a way of writing, given by its name
 abbrev pub kind_of : Data → Option InstructionKind
 kind_of d = option_and_then kind_named (as_str d)
 
@@ -83,11 +75,11 @@ property_of d = do
   _ ← only (codes "k" ∷ codes "v" ∷ []) d
   name ← tag_of d
   variant (
-      (codes "Property", option_map properties.Property (content object_property_of d))
-      ∷ (codes "Spread", option_map properties.Spread (content spread_of d))
+      (codes "Property", option_map entry.Property (content object_property_of d))
+      ∷ (codes "Spread", option_map entry.Spread (content spread_of d))
       ∷ []) name
 
--- an entry of an array pattern, which isn't a hole
+-- an entry of an array pattern that isn't a hole
 unfoldable pub filled_pattern_element_of : Data → Option ArrayPatternElement
 filled_pattern_element_of d = do
   _ ← only (codes "k" ∷ codes "v" ∷ []) d
@@ -97,23 +89,23 @@ filled_pattern_element_of d = do
       ∷ (codes "Spread", option_map pattern_elements.Spread (content spread_of d))
       ∷ []) name
 
--- an entry of an array pattern; a hole is its name alone
+-- an entry of an array pattern; a hole is only its name
 abbrev pub pattern_element_of : Data → Option ArrayPatternElement
 pattern_element_of d = or_tagged (named ((codes "Hole", pattern_elements.Hole) ∷ [])) filled_pattern_element_of d
 
--- an entry of an array literal, which isn't a hole
+-- an entry of an array literal that isn't a hole
 unfoldable pub filled_element_of : Data → Option ArrayElement
 filled_element_of d = do
   _ ← only (codes "k" ∷ codes "v" ∷ []) d
   name ← tag_of d
   variant (
-      (codes "Place", option_map elements.Place (content place_of d))
-      ∷ (codes "Spread", option_map elements.Spread (content spread_of d))
+      (codes "Place", option_map element.Place (content place_of d))
+      ∷ (codes "Spread", option_map element.Spread (content spread_of d))
       ∷ []) name
 
--- an entry of an array literal; a hole is its name alone
+-- an entry of an array literal; a hole is only its name
 abbrev pub element_of : Data → Option ArrayElement
-element_of d = or_tagged (named ((codes "Hole", elements.Hole) ∷ [])) filled_element_of d
+element_of d = or_tagged (named ((codes "Hole", element.Hole) ∷ [])) filled_element_of d
 
 -- a pattern that takes an array apart
 unfoldable pub array_pattern_of : Data → Option Pattern

@@ -3,13 +3,15 @@ use Rattle.std.specs.Prelude.{◌≡◌, Option, Some, codes}
 use Rattle.serde_json.specs.Data.{Data, boolean, Members, put, string}
 use Rattle.serde_json.specs.Data as json
 use Rattle.rc_names.specs.declared.span.Span.{Span}
-use Rattle.rc_hir.specs.declared.instruction.InstructionValue.{InstructionValue}
+use Rattle.rc_hir.specs.Model.{InstructionValue}
 use Rattle.rc_hir.specs.declared.instruction.InstructionValue.TheVariants as kinds
 use Rattle.rc_doc.specs.Kinds.{instruction_value_of}
 use Rattle.rc_doc.specs.Showing.{◌▸◌, list_data, number_data, put_some, tagged}
-use Rattle.rc_doc.specs.ShownParts.{argument_data, binding_data, element_data, jsx_attribute_data, jsx_tag_data}
-use Rattle.rc_doc.specs.ShownParts.{lowered_function_data, lvalue_data, lvalue_pattern_data, place_data}
-use Rattle.rc_doc.specs.ShownParts.{primitive_value_data, property_data, property_literal_data, span_data}
+use Rattle.rc_doc.specs.ShownParts.{binding_data, jsx_attribute_data, jsx_tag_data, lowered_function_data}
+use Rattle.rc_doc.specs.ShownParts.{primitive_value_data}
+use Rattle.rc_doc.specs.ShownParts.Patterns.{element_data, lvalue_data, lvalue_pattern_data, property_data}
+use Rattle.rc_doc.specs.ShownParts.Patterns.{property_literal_data}
+use Rattle.rc_doc.specs.ShownParts.Places.{argument_data, place_data, span_data}
 
 -- the members with the span, if there is one
 abbrev pub put_span : Option Span → Members → Members
@@ -137,10 +139,10 @@ value_fields (kinds.FinishMemoize manual_memo_id decl pruned span) =
     (place_data decl)
     ▸ put (codes "pruned") (boolean pruned) ▸ put_span span
 
--- an instruction value as it is printed
+-- the printing form of an instruction value
 abbrev pub value_data : InstructionValue → Data
 value_data value = json.object (value_fields value)
 
--- what is printed reads as the same value again
-abbrev pub ReadsBack : InstructionValue → Type 0
-ReadsBack value = instruction_value_of (value_data value) ≡ Some value
+-- the printing form reads as the same value again
+abbrev pub IsReadBack : InstructionValue → Type 0
+IsReadBack value = instruction_value_of (value_data value) ≡ Some value

@@ -1,4 +1,4 @@
-//! The whole document, and what is read from a value without one.
+//! The whole document, and the values and places that can be read alone.
 
 ghost use Rattle.std.specs.Prelude.{◌≡◌, IfOk};
 ghost use Rattle.serde_json.specs.View.{view};
@@ -12,7 +12,7 @@ use rc_hir::{Environment, HirFunction, InstructionValue};
 use serde_json::Value;
 use std::alloc::{AllocError, Global};
 
-/// A function, and the environment whose tables its numbers name.
+/// A function, and the environment whose tables its numbers index.
 #[derive(Drop)]
 pub struct Doc {
     pub hir: HirFunction,
@@ -31,7 +31,8 @@ impl Read for Doc {
     }
 }
 
-/// The document that a value is; none where it isn't one. The only error is want of memory.
+/// Returns the document that a JSON value gives, and `None` if the value is no document. Fails only when out of
+/// memory.
 pub fn read_doc(alloc: Global, value: &Value) -> Result<Option<Doc>, AllocError>
     ensures { IfOk result (λ found. found ≡ doc_of (view value.now)) }
 {
@@ -42,7 +43,7 @@ pub fn read_doc(alloc: Global, value: &Value) -> Result<Option<Doc>, AllocError>
     }
 }
 
-/// The instruction value that a value is; none where it isn't one. The only error is want of memory.
+/// Returns the instruction value that a JSON value gives, and `None` if it gives none. Fails only when out of memory.
 pub fn read_instruction_value(
     alloc: Global,
     value: &Value,

@@ -1,10 +1,10 @@
-//! How a value is read in parts: `Read` for what stands alone, and a function for each way a field may stand in an
-//! object. `specs/Reading.antt` has the same words.
+//! Reading a value part by part: `Read` for types, and a function for each form of a field in an object.
+//! `specs/Reading.antt` has the same words.
 
 ghost use Rattle.std.specs.Prelude.{◌≡◌, Option, option_map};
 ghost use Rattle.serde_json.specs.Data.{Data};
 ghost use Rattle.serde_json.specs.View.{view, items_view};
-ghost use Rattle.rc_doc.specs.Reading.{Gives, all_items, array_len, field, flag_field, flag_of, item_at, list_field};
+ghost use Rattle.rc_doc.specs.Reading.{IsRead, all_items, array_len, field, flag_field, flag_of, item_at, list_field};
 ghost use Rattle.rc_doc.specs.Reading.{list_of, number_of, option_field, table_field, table_of, tag_of, text_of};
 
 use crate::refusal::Refusal;
@@ -12,19 +12,19 @@ use rc_names::{List, Name, Table, Text};
 use serde_json::Value;
 use std::alloc::Global;
 
-/// A type that a document is made of.
+/// A type that is a part of documents.
 pub(crate) trait Read: Sized {
-    /// What a value is read as.
+    /// The value of this type that a JSON value gives, if it gives one.
     ghost reads: { Data → Option Self };
 
-    /// Reads the value. The refusals are want of memory, and that the value isn't of this type.
+    /// Reads the value. Refuses with `NotDoc` if the value isn't of this type, and with `Memory` when out of memory.
     fn read(alloc: Global, value: &Value) -> Result<Self, Refusal>
-        ensures { Gives result (reads (view value.now)) };
+        ensures { IsRead result (reads (view value.now)) };
 }
 
-/// What was found; the refusal where nothing was.
+/// The value that was found; refuses if there is none.
 pub(crate) fn or_refuse<T>(found: Option<T>) -> Result<T, Refusal>
-    ensures { Gives result found }
+    ensures { IsRead result found }
 {
     found.ok_or(Refusal::NotDoc)
 }
@@ -71,7 +71,7 @@ impl<T: Read + Drop> Read for List<T> {
 }
 
 fn list_of_items<T: Read + Drop>(alloc: Global, values: &[Value]) -> Result<List<T>, Refusal>
-    ensures { Gives result (all_items T.reads (items_view values.now)) }
+    ensures { IsRead result (all_items T.reads (items_view values.now)) }
 {
     let mut items = List::new(alloc);
     for value in values {
@@ -91,7 +91,7 @@ impl<I: Name, T: Read + Drop> Read for Table<I, T> {
     }
 }
 
-/// How many items an array has; anything else has none.
+/// The number of items of an array; any other value has none.
 pub(crate) fn array_len(value: &Value) -> usize
     ensures { result ≡ array_len (view value.now) }
 {
@@ -101,9 +101,9 @@ pub(crate) fn array_len(value: &Value) -> usize
     }
 }
 
-/// The item at a place, which must be there.
+/// The item at an index, which must be there.
 pub(crate) fn item<T: Read>(alloc: Global, value: &Value, at: usize) -> Result<T, Refusal>
-    ensures { Gives result (item_at T.reads at (view value.now)) }
+    ensures { IsRead result (item_at T.reads at (view value.now)) }
 {
     match value.get(at) {
         Some(found) => T::read(alloc, found),
@@ -120,7 +120,7 @@ pub(crate) fn tag(value: &Value) -> Option<&str>
 
 /// A field that must be there.
 pub(crate) fn required<T: Read>(alloc: Global, value: &Value, name: &str) -> Result<T, Refusal>
-    ensures { Gives result (field T.reads name.now (view value.now)) }
+    ensures { IsRead result (field T.reads name.now (view value.now)) }
 {
     match value.get(name) {
         Some(found) => T::read(alloc, found),
@@ -128,13 +128,13 @@ pub(crate) fn required<T: Read>(alloc: Global, value: &Value, name: &str) -> Res
     }
 }
 
-/// A field that is none where it is left out or null.
+/// A field that is `None` if it is left out or null.
 pub(crate) fn optional<T: Read>(
     alloc: Global,
     value: &Value,
     name: &str,
 ) -> Result<Option<T>, Refusal>
-    ensures { Gives result (option_field T.reads name.now (view value.now)) }
+    ensures { IsRead result (option_field T.reads name.now (view value.now)) }
 {
     match value.get(name) {
         Some(found) if found.is_null() => Ok(None),
@@ -143,13 +143,13 @@ pub(crate) fn optional<T: Read>(
     }
 }
 
-/// A list that is empty where it is left out.
+/// A list that is empty if it is left out.
 pub(crate) fn list_or_empty<T: Read + Drop>(
     alloc: Global,
     value: &Value,
     name: &str,
 ) -> Result<List<T>, Refusal>
-    ensures { Gives result (list_field T.reads name.now (view value.now)) }
+    ensures { IsRead result (list_field T.reads name.now (view value.now)) }
 {
     match value.get(name) {
         Some(found) => List::read(alloc, found),
@@ -157,13 +157,13 @@ pub(crate) fn list_or_empty<T: Read + Drop>(
     }
 }
 
-/// A table that is empty where it is left out.
+/// A table that is empty if it is left out.
 pub(crate) fn table_or_empty<I: Name, T: Read + Drop>(
     alloc: Global,
     value: &Value,
     name: &str,
 ) -> Result<Table<I, T>, Refusal>
-    ensures { Gives result (table_field T.reads name.now (view value.now)) }
+    ensures { IsRead result (table_field T.reads name.now (view value.now)) }
 {
     match value.get(name) {
         Some(found) => Table::read(alloc, found),
@@ -171,9 +171,9 @@ pub(crate) fn table_or_empty<I: Name, T: Read + Drop>(
     }
 }
 
-/// A flag that is false where it is left out.
+/// A flag that is false if it is left out.
 pub(crate) fn flag(value: &Value, name: &str) -> Result<bool, Refusal>
-    ensures { Gives result (flag_field name.now (view value.now)) }
+    ensures { IsRead result (flag_field name.now (view value.now)) }
 {
     match value.get(name) {
         Some(found) => or_refuse(found.as_bool()),

@@ -1,19 +1,19 @@
-//! Whether an object has unknown keys, by one walk over its members and the known names side by side: both stand in
+//! The check for unknown keys of an object, by one walk over its members and the known names side by side. Both are in
 //! byte order, so a name that was passed can't come again.
 
 ghost use Rattle.std.specs.Prelude.{◌≡◌, ◌<◌, [], true, false, drop, length, map, slice_index_or, IfNone, IfSome};
 ghost use Rattle.std.specs.List.{list_any};
 ghost use Rattle.std.specs.Str.{bytes_eq};
 ghost use Rattle.serde_json.specs.View.{view, members_view};
-ghost use Rattle.rc_doc.specs.Reading.{Gives, all_known, are_ascending, only};
+ghost use Rattle.rc_doc.specs.Reading.{IsRead, all_known, are_ascending, only};
 
 use crate::refusal::Refusal;
 use serde_json::{Map, Value};
 
-/// Refuses what isn't an object, and an object with a key that isn't one of these names.
+/// Refuses a value that isn't an object, and an object with a key that isn't one of these names.
 pub(crate) fn known_names(value: &Value, names: &[&str]) -> Result<(), Refusal>
     requires { are_ascending (map (λ name. name.now) names.now) ≡ true }
-    ensures { Gives result (only (map (λ name. name.now) names.now) (view value.now)) }
+    ensures { IsRead result (only (map (λ name. name.now) names.now) (view value.now)) }
 {
     match value.as_object() {
         Some(members) if are_known(members, names) => Ok(()),
@@ -35,7 +35,7 @@ fn are_known(members: &Map<String, Value>, names: &[&str]) -> bool
     true
 }
 
-/// The first place from `start` on where the name stands; none where it doesn't stand there.
+/// The first index from `start` on at which the list has the name, if there is one.
 fn place_of_name(names: &[&str], start: usize, name: &str) -> Option<usize>
     ensures within { IfSome result (λ place. place < length names.now) }
     ensures found { IfSome result (λ place. slice_index_or (map (λ known. known.now) names.now) place [] ≡ name.now) }

@@ -1,16 +1,16 @@
-//! Why a value was not read.
+//! The reasons why a value isn't read.
 
 ghost use Rattle.std.specs.Prelude.{◌≡◌};
 ghost use Rattle.rc_doc.specs.declared.refusal.Refusal.TheVariants as refusals;
 
 use std::alloc::{AllocError, AllocFailed};
 
-/// Why a value was not read.
+/// The reason why a value isn't read.
 #[derive(Clone, Copy, Debug, PartialEq, Eq)]
 pub(crate) enum Refusal {
-    /// Want of memory.
+    /// Memory ran out.
     Memory,
-    /// The value isn't one of the type that was asked.
+    /// The value isn't of the type that was asked for.
     NotDoc,
 }
 

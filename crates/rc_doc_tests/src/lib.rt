@@ -1,4 +1,4 @@
-//! Tests of documents: what is read, what is printed of it, and its copies.
+//! Tests of documents: reading, printing, and copies.
 #![tactic(auto)]
 
 #[cfg(test)]

@@ -1,20 +1,13 @@
--- The numbers that stand in the environment outside its functions, each with the table that it stands for.
+-- The numbers in the environment, those of its functions left out, each with the table that it indexes.
 use Rattle.std.specs.Prelude.{List, [], ◌∷◌, ◌++◌}
 use Rattle.std.specs.List.{flat_map}
-use Rattle.rc_names.specs.declared.numbers.DeclarationId.{DeclarationId}
-use Rattle.rc_names.specs.declared.numbers.TypeId.{TypeId}
-use Rattle.rc_hir.specs.PartNames.{Name, identifier_name, perhaps, scope_name}
+use Rattle.rc_names.specs.Numbers.{DeclarationId, TypeId}
+use Rattle.rc_hir.specs.PartNames.{Name, identifier_name, names_if, scope_name}
 use Rattle.rc_hir.specs.declared.fault.TableName.TheVariants.{Declarations, Types, Shapes}
-use Rattle.rc_hir.specs.declared.types.HirType.{HirType}
-use Rattle.rc_hir.specs.declared.types.HirType.TheVariants as type
-use Rattle.rc_hir.specs.declared.types.Shape.{Shape}
-use Rattle.rc_hir.specs.declared.types.Shape.TheVariants as shape
-use Rattle.rc_hir.specs.declared.scope.DeclarationEntry.{DeclarationEntry}
-use Rattle.rc_hir.specs.declared.scope.ReactiveScope.{ReactiveScope}
-use Rattle.rc_hir.specs.declared.scope.ReactiveScopeDependency.{ReactiveScopeDependency}
-use Rattle.rc_hir.specs.declared.scope.ReactiveScopeEarlyReturn.{ReactiveScopeEarlyReturn}
-use Rattle.rc_hir.specs.declared.environment.Identifier.{Identifier}
-use Rattle.rc_hir.specs.declared.environment.Environment.{Environment}
+use Rattle.rc_hir.specs.Model.{HirType, Shape, DeclarationEntry, ReactiveScope, ReactiveScopeDependency}
+use Rattle.rc_hir.specs.Model.{ReactiveScopeEarlyReturn, Identifier, Environment}
+use Rattle.rc_hir.specs.declared.types.HirType.TheVariants as types
+use Rattle.rc_hir.specs.declared.types.Shape.TheVariants as shapes
 
 -- a declaration's number
 abbrev pub declaration_name : DeclarationId → List Name
@@ -24,20 +17,20 @@ declaration_name id = (Declarations, id.0) ∷ []
 abbrev pub type_name : TypeId → List Name
 type_name id = (Types, id.0) ∷ []
 
--- the numbers in what is known of an identifier
+-- the numbers in the entry of an identifier
 abbrev pub identifier_names : Identifier → List Name
 identifier_names identifier =
-    declaration_name identifier.declaration_id ++ (perhaps scope_name identifier.scope ++ type_name identifier.type_)
+    declaration_name identifier.declaration_id ++ (names_if scope_name identifier.scope ++ type_name identifier.type_)
 
 -- the number in a shape
 abbrev pub shape_names : Shape → List Name
-shape_names (shape.Row row) = (Shapes, row) ∷ []
+shape_names (shapes.Row row) = (Shapes, row) ∷ []
 shape_names _ = []
 
 -- the number in a type
 abbrev pub type_names : HirType → List Name
-type_names (type.Object known) = perhaps shape_names known
-type_names (type.Function known) = perhaps shape_names known
+type_names (types.Object known) = names_if shape_names known
+type_names (types.Function known) = names_if shape_names known
 type_names _ = []
 
 -- the number in a dependency of a scope
@@ -58,7 +51,7 @@ abbrev pub scope_names : ReactiveScope → List Name
 scope_names scope =
     (flat_map dependency_names scope.dependencies ++ flat_map declaration_names scope.declarations)
     ++ (flat_map identifier_name scope.reassignments
-    ++ (perhaps early_return_names scope.early_return_value ++ flat_map scope_name scope.merged))
+    ++ (names_if early_return_names scope.early_return_value ++ flat_map scope_name scope.merged))
 
 -- the numbers in the environment, those of its functions left out
 abbrev pub environment_names : Environment → List Name

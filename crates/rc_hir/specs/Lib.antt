@@ -1,8 +1,10 @@
+pub mod Model
 pub mod Fault
 pub mod Types
 pub mod Operands
 pub mod Terminal
 pub mod TerminalOperands
+pub mod Successors
 pub mod PartNames
 pub mod ValueNames
 pub mod GraphNames

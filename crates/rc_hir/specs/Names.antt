@@ -1,17 +1,13 @@
--- Every number of a graph and of its environment is in its table: below that table's length.
+-- Every number of a graph and of its environment is in its table: it is below that table's length.
 use Rattle.std.specs.Prelude.{◌≡◌, ◌<◌, ◌≤◌, ◌⊎◌, ℕ, List, Result, Ok, Err, length, All, Any}
 use Rattle.rc_hir.specs.GraphNames.{function_names}
 use Rattle.rc_hir.specs.PartNames.{Name}
 use Rattle.rc_hir.specs.EnvironmentNames.{environment_names}
-use Rattle.rc_hir.specs.declared.fault.Fault.{Fault}
+use Rattle.rc_hir.specs.Model.{Fault, TableName, HirFunction, Environment, Lengths}
 use Rattle.rc_hir.specs.declared.fault.Fault.TheVariants.{BadName}
-use Rattle.rc_hir.specs.declared.fault.TableName.{TableName}
-use Rattle.rc_hir.specs.declared.fault.TableName.TheVariants as table
-use Rattle.rc_hir.specs.declared.function.HirFunction.{HirFunction}
-use Rattle.rc_hir.specs.declared.environment.Environment.{Environment}
-use Rattle.rc_hir.specs.declared.names.Lengths.{Lengths}
+use Rattle.rc_hir.specs.declared.fault.TableName.TheVariants as table_names
 
--- how long each table is, where the function at hand has that many rows
+-- the length of each table, where the function at hand has that many rows
 abbrev pub lengths : Environment → ℕ → Lengths
 lengths env rows = record {
   identifiers = length env.identifiers;
@@ -24,13 +20,13 @@ lengths env rows = record {
 
 -- the length of a table; declarations share the identifiers' range of numbers
 abbrev pub length_of : Lengths → TableName → ℕ
-length_of tables table.Identifiers = tables.identifiers
-length_of tables table.Declarations = tables.identifiers
-length_of tables table.Types = tables.types
-length_of tables table.Scopes = tables.scopes
-length_of tables table.Functions = tables.functions
-length_of tables table.Instructions = tables.instructions
-length_of tables table.Shapes = tables.shapes
+length_of tables table_names.Identifiers = tables.identifiers
+length_of tables table_names.Declarations = tables.identifiers
+length_of tables table_names.Types = tables.types
+length_of tables table_names.Scopes = tables.scopes
+length_of tables table_names.Functions = tables.functions
+length_of tables table_names.Instructions = tables.instructions
+length_of tables table_names.Shapes = tables.shapes
 
 -- the number is in its table
 abbrev pub IsInTable : Lengths → Name → Type 0
@@ -40,10 +36,10 @@ IsInTable tables name = name.1 < length_of tables name.0
 abbrev pub IsOutside : Lengths → Fault → Name → Type 0
 IsOutside tables fault name = (fault ≡ BadName name.0 name.1) × (length_of tables name.0 ≤ name.1)
 
--- what a check of these numbers answers: each is in its table, or the fault names one that isn't
-unfoldable pub Judges : Lengths → List Name → Result (Unit {0}) Fault → Type 0
-Judges tables names (Ok done) = All (IsInTable tables) names
-Judges tables names (Err fault) = Any (IsOutside tables fault) names
+-- a check of these numbers succeeds if each is in its table, and else its fault names one that isn't
+unfoldable pub IsCheckOf : Lengths → List Name → Result (Unit {0}) Fault → Type 0
+IsCheckOf tables names (Ok done) = All (IsInTable tables) names
+IsCheckOf tables names (Err fault) = Any (IsOutside tables fault) names
 
 -- every number of a function is in its table
 abbrev pub FunctionInTables : Environment → HirFunction → Type 0
@@ -69,8 +65,7 @@ NamesOutsideIn env fault function =
 abbrev pub NamesOutsideInEnvironment : Environment → Fault → Type 0
 NamesOutsideInEnvironment env fault = Any (IsOutside (lengths env 0) fault) (environment_names env)
 
--- the fault names a number of the graph, of a function of the table, or of the environment, which is outside its
--- table
+-- the fault names a number of the graph, of a function of the table, or of the environment, which is outside its table
 abbrev pub NamesOutside : HirFunction → Environment → Fault → Type 0
 NamesOutside hir env fault =
     NamesOutsideIn env fault hir ⊎ (Any (NamesOutsideIn env fault) env.functions ⊎ NamesOutsideInEnvironment env fault)

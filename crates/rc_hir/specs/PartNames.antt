@@ -1,42 +1,29 @@
--- The numbers that stand in a part of a value, each with the table that it stands for.
+-- The numbers in a part of a value, each with the table that it indexes.
 use Rattle.std.specs.Prelude.{ℕ, List, [], ◌∷◌, ◌++◌, Option, None, Some}
 use Rattle.std.specs.List.{flat_map}
-use Rattle.rc_names.specs.declared.numbers.FunctionId.{FunctionId}
-use Rattle.rc_names.specs.declared.numbers.IdentifierId.{IdentifierId}
-use Rattle.rc_names.specs.declared.numbers.InstructionId.{InstructionId}
-use Rattle.rc_names.specs.declared.numbers.ScopeId.{ScopeId}
-use Rattle.rc_hir.specs.declared.fault.TableName.{TableName}
+use Rattle.rc_names.specs.Numbers.{FunctionId, IdentifierId, InstructionId, ScopeId}
+use Rattle.rc_hir.specs.Model.{TableName, Place, ParamPattern, PlaceOrSpread, ArrayElement, ArrayPatternElement}
+use Rattle.rc_hir.specs.Model.{ObjectPropertyKey, ObjectPropertyOrSpread, LValue, Pattern, JsxTag, JsxAttribute}
+use Rattle.rc_hir.specs.Model.{LoweredFunction}
 use Rattle.rc_hir.specs.declared.fault.TableName.TheVariants.{Identifiers, Scopes, Functions, Instructions}
-use Rattle.rc_hir.specs.declared.place.Place.{Place}
-use Rattle.rc_hir.specs.declared.place.ParamPattern.{ParamPattern}
-use Rattle.rc_hir.specs.declared.place.ParamPattern.TheVariants as parameter
-use Rattle.rc_hir.specs.declared.place.PlaceOrSpread.{PlaceOrSpread}
-use Rattle.rc_hir.specs.declared.place.PlaceOrSpread.TheVariants as argument
-use Rattle.rc_hir.specs.declared.pattern.ArrayElement.{ArrayElement}
+use Rattle.rc_hir.specs.declared.place.ParamPattern.TheVariants as param
+use Rattle.rc_hir.specs.declared.place.PlaceOrSpread.TheVariants as arguments
 use Rattle.rc_hir.specs.declared.pattern.ArrayElement.TheVariants as element
-use Rattle.rc_hir.specs.declared.pattern.ArrayPatternElement.{ArrayPatternElement}
-use Rattle.rc_hir.specs.declared.pattern.ArrayPatternElement.TheVariants as item
-use Rattle.rc_hir.specs.declared.pattern.ObjectPropertyKey.{ObjectPropertyKey}
-use Rattle.rc_hir.specs.declared.pattern.ObjectPropertyKey.TheVariants as key
-use Rattle.rc_hir.specs.declared.pattern.ObjectPropertyOrSpread.{ObjectPropertyOrSpread}
+use Rattle.rc_hir.specs.declared.pattern.ArrayPatternElement.TheVariants as pattern_elements
+use Rattle.rc_hir.specs.declared.pattern.ObjectPropertyKey.TheVariants as keys
 use Rattle.rc_hir.specs.declared.pattern.ObjectPropertyOrSpread.TheVariants as entry
-use Rattle.rc_hir.specs.declared.pattern.LValue.{LValue}
-use Rattle.rc_hir.specs.declared.pattern.Pattern.{Pattern}
-use Rattle.rc_hir.specs.declared.pattern.Pattern.TheVariants as pattern
-use Rattle.rc_hir.specs.declared.instruction.JsxTag.{JsxTag}
-use Rattle.rc_hir.specs.declared.instruction.JsxTag.TheVariants as head
-use Rattle.rc_hir.specs.declared.instruction.JsxAttribute.{JsxAttribute}
-use Rattle.rc_hir.specs.declared.instruction.JsxAttribute.TheVariants as attribute
-use Rattle.rc_hir.specs.declared.instruction.LoweredFunction.{LoweredFunction}
+use Rattle.rc_hir.specs.declared.pattern.Pattern.TheVariants as patterns
+use Rattle.rc_hir.specs.declared.instruction.JsxTag.TheVariants as tags
+use Rattle.rc_hir.specs.declared.instruction.JsxAttribute.TheVariants as attributes
 
--- a number and the table that it stands for
+-- a number and the table that it indexes
 abbrev pub Name : Type 0
 Name = TableName × ℕ
 
--- the numbers of a part that may be left out
-abbrev pub perhaps : {X : Type 0} → (X → List Name) → Option X → List Name
-perhaps names None = []
-perhaps names (Some x) = names x
+-- the numbers of an optional part
+abbrev pub names_if : {X : Type 0} → (X → List Name) → Option X → List Name
+names_if names None = []
+names_if names (Some x) = names x
 
 -- the numbers of a value under a key
 abbrev pub under_key : {K V : Type 0} → (V → List Name) → K × V → List Name
@@ -72,13 +59,13 @@ lowered_names lowered = function_name lowered.func
 
 -- the number in a parameter
 abbrev pub parameter_names : ParamPattern → List Name
-parameter_names (parameter.Place place) = place_names place
-parameter_names (parameter.Spread spread) = place_names spread.place
+parameter_names (param.Place place) = place_names place
+parameter_names (param.Spread spread) = place_names spread.place
 
 -- the number in an argument
 abbrev pub argument_names : PlaceOrSpread → List Name
-argument_names (argument.Place place) = place_names place
-argument_names (argument.Spread spread) = place_names spread.place
+argument_names (arguments.Place place) = place_names place
+argument_names (arguments.Spread spread) = place_names spread.place
 
 -- the number in an entry of an array literal
 abbrev pub element_names : ArrayElement → List Name
@@ -88,16 +75,16 @@ element_names element.Hole = []
 
 -- the number in an entry of an array pattern
 abbrev pub item_names : ArrayPatternElement → List Name
-item_names (item.Place place) = place_names place
-item_names (item.Spread spread) = place_names spread.place
-item_names item.Hole = []
+item_names (pattern_elements.Place place) = place_names place
+item_names (pattern_elements.Spread spread) = place_names spread.place
+item_names pattern_elements.Hole = []
 
 -- the number in a property's key
 abbrev pub key_names : ObjectPropertyKey → List Name
-key_names (key.Identifier name) = []
-key_names (key.String text) = []
-key_names (key.Number text) = []
-key_names (key.Computed place) = place_names place
+key_names (keys.Identifier name) = []
+key_names (keys.String text) = []
+key_names (keys.Number text) = []
+key_names (keys.Computed place) = place_names place
 
 -- the numbers in an entry of an object literal or of an object pattern
 abbrev pub entry_names : ObjectPropertyOrSpread → List Name
@@ -106,15 +93,15 @@ entry_names (entry.Spread spread) = place_names spread.place
 
 -- the numbers in a pattern
 abbrev pub pattern_names : Pattern → List Name
-pattern_names (pattern.Array items) = flat_map item_names items
-pattern_names (pattern.Object properties) = flat_map entry_names properties
+pattern_names (patterns.Array items) = flat_map item_names items
+pattern_names (patterns.Object properties) = flat_map entry_names properties
 
--- the number at the head of a JSX element
+-- the number in the tag of a JSX element
 abbrev pub tag_names : JsxTag → List Name
-tag_names (head.Place place) = place_names place
-tag_names (head.Builtin name) = []
+tag_names (tags.Place place) = place_names place
+tag_names (tags.Builtin name) = []
 
 -- the number in an attribute of a JSX element
 abbrev pub attribute_names : JsxAttribute → List Name
-attribute_names (attribute.Attribute name place) = place_names place
-attribute_names (attribute.SpreadAttribute argument) = place_names argument
+attribute_names (attributes.Attribute name place) = place_names place
+attribute_names (attributes.SpreadAttribute argument) = place_names argument

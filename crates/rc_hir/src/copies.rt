@@ -1,4 +1,4 @@
-//! Copies of all that owns memory: each equals its source.
+//! Copies of each type that owns memory: a copy equals its source.
 
 mod environment;
 mod function;

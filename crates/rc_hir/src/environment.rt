@@ -1,4 +1,4 @@
-//! The tables that a graph's numbers name.
+//! The environment: the tables that a graph's numbers index.
 
 ghost use Rattle.std.specs.Prelude.{◌≡◌, ◌+◌, ◌-◌, ◌^◌, ◌↔◌, ◌⊎◌, length, IfErr, IfOk, OnErr, OnOk};
 ghost use Rattle.rc_hir.specs.Environment as spec;
@@ -19,7 +19,7 @@ pub enum IdentifierName {
     Promoted(Text),
 }
 
-/// What is known of an identifier.
+/// An identifier of the source, or one that a pass made.
 #[derive(Drop)]
 pub struct Identifier {
     pub declaration_id: DeclarationId,
@@ -29,14 +29,14 @@ pub struct Identifier {
     pub span: Option<Span>,
 }
 
-/// What the passes are asked to do.
+/// The options that the passes go by.
 #[derive(Clone, Copy, Debug, PartialEq, Eq)]
 pub struct Config {
     pub enable_forest: bool,
     pub enable_preserve_existing_memoization_guarantees: bool,
 }
 
-/// The tables that a graph's numbers name, and the next number of a block.
+/// The tables that a graph's numbers index, and the number of the next new block.
 #[derive(Drop)]
 pub struct Environment {
     pub identifiers: Table<IdentifierId, Identifier>,
@@ -49,7 +49,8 @@ pub struct Environment {
 }
 
 impl Environment {
-    /// Empty tables, both flags off, and block number 0 next. It takes no memory.
+    /// Returns an environment of empty tables, with both flags off and 0 as the next block's number. This takes no
+    /// memory.
     pub fn empty(alloc: Global) -> Environment
         ensures { result ≡ spec.empty_environment }
     {
@@ -67,11 +68,11 @@ impl Environment {
         }
     }
 
-    /// A new identifier, of a new type `Other`: it has no name and no scope, and its declaration has its own
-    /// number.
+    /// Adds an identifier and returns its number. It has a new type `Other`, no name and no scope, and its declaration
+    /// has its own number.
     ///
-    /// `NoIds` comes where identifiers or types have no number left, and then nothing changed. `NoMemory` is want
-    /// of memory; after it at most the type is there.
+    /// Returns `NoIds` if no number is left for an identifier or for a type, and then nothing has changed. Returns
+    /// `NoMemory` when out of memory, and then at most the type was added.
     pub fn next_identifier_id(&mut self, span: Option<Span>) -> Result<IdentifierId, Fault>
         ensures ok { OnOk result (self.new ≡ spec.with_identifier span self.old) }
         ensures number { IfOk result (λ id. id.0 ≡ length self.old.identifiers) }
@@ -87,7 +88,7 @@ impl Environment {
         let type_ = self.types.push(HirType::Other)?;
         let number = self.identifiers.len() as u32;
         let id = self.identifiers.push(Identifier {
-            declaration_id: DeclarationId(number),
+            declaration_id: DeclarationId::new(number),
             name: None,
             scope: None,
             type_,
@@ -96,7 +97,7 @@ impl Environment {
         Ok(id)
     }
 
-    /// The next block's number. `NoIds` comes where there is none, and then nothing changed.
+    /// Returns the number of a new block. Returns `NoIds` if no number is left, and then nothing has changed.
     pub fn next_block_id(&mut self) -> Result<BlockId, Fault>
         ensures ok { OnOk result (self.new ≡ record self.old { next_block = self.old.next_block + 1 }) }
         ensures number { IfOk result (λ block. block.0 ≡ self.old.next_block) }
@@ -109,13 +110,13 @@ impl Environment {
         match number.checked_add(1) {
             Some(next) => {
                 self.next_block = next;
-                Ok(BlockId(number))
+                Ok(BlockId::new(number))
             }
             None => Err(Fault::NoIds),
         }
     }
 
-    /// Whether what the identifier answers is no alias of its arguments; false where a number is outside its
+    /// Returns whether calls of this identifier never return an alias of an argument; false if a number is outside its
     /// table.
     pub fn has_no_alias_signature(&self, id: IdentifierId) -> bool
         ensures { result ≡ spec.has_no_alias_signature self.now id }
@@ -126,7 +127,7 @@ impl Environment {
         }
     }
 
-    /// Whether the identifier is a hook; false where a number is outside its table.
+    /// Returns whether the identifier is a hook; false if a number is outside its table.
     pub fn is_hook(&self, id: IdentifierId) -> bool
         ensures { result ≡ spec.is_hook self.now id }
     {

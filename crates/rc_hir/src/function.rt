@@ -5,7 +5,7 @@ use crate::place::{ParamPattern, Place};
 use crate::terminal::Terminal;
 use rc_names::{BlockId, EvaluationOrder, InstructionId, Keyed, List, Span, Text};
 
-/// A row: its value goes to its target.
+/// A row: it computes a value for its target.
 #[derive(Drop)]
 pub struct Instruction {
     pub id: EvaluationOrder,
@@ -14,11 +14,11 @@ pub struct Instruction {
     pub span: Option<Span>,
 }
 
-/// Rows that run one after the other, and how they end.
+/// Rows that run one after the other, and the terminal that ends them.
 #[derive(Drop)]
 pub struct BasicBlock {
     pub id: BlockId,
-    /// Places in the function's list of instructions.
+    /// Indexes of rows in the function's list of instructions.
     pub instructions: List<InstructionId>,
     pub terminal: Terminal,
 }

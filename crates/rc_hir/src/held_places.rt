@@ -1,8 +1,8 @@
-//! Parts of values, patterns and terminals that hold places, and lists of the places that they hold.
+//! Parts of values, patterns and terminals that have places, and lists of these places.
 
 ghost use Rattle.std.specs.Prelude.{◌≡◌, ◌++◌, Ok, OnOk};
 ghost use Rattle.std.specs.List.{flat_map};
-ghost use Rattle.rc_hir.specs.Fault.{Reads};
+ghost use Rattle.rc_hir.specs.Fault.{IsExpected};
 ghost use Rattle.rc_hir.specs.Operands as table;
 ghost use Rattle.rc_hir.specs.TerminalOperands.{case_places};
 
@@ -16,15 +16,15 @@ use crate::terminal::Case;
 use rc_names::List;
 use std::alloc::{AllocError, Global};
 
-/// A part that holds places.
+/// A part that has places.
 pub trait HoldsPlaces {
     ghost use Rattle.std.specs.Prelude.{List as Entries};
-    ghost use Rattle.rc_hir.specs.declared.place.Place.{Place};
+    ghost use Rattle.rc_hir.specs.Model.{Place};
 
     /// Its places, in order.
     ghost held: { Self → Entries Place };
 
-    /// Puts its places at the end of a list. The only error is want of memory.
+    /// Appends the places of the part to a list. Fails only when out of memory.
     fn push_held(&self, places: &mut List<Place>) -> Result<(), AllocError>
         ensures { OnOk result (places.new ≡ places.old ++ Self.held self.now) };
 }
@@ -111,27 +111,27 @@ impl HoldsPlaces for Case {
     }
 }
 
-/// These places, as a list. The only fault is `NoMemory`.
+/// Returns these places as a list. The only fault is `NoMemory`.
 pub fn listed(alloc: Global, places: &[Place]) -> Result<List<Place>, Fault>
-    ensures { Reads (Ok places.now) result }
+    ensures { IsExpected (Ok places.now) result }
 {
     Ok(List::from_slice(alloc, places)?)
 }
 
-/// These places, and then those that each item holds. The only fault is `NoMemory`.
+/// Returns these places, followed by those of each item. The only fault is `NoMemory`.
 pub fn gathered<T: HoldsPlaces>(
     alloc: Global,
     first: &[Place],
     items: &List<T>,
 ) -> Result<List<Place>, Fault>
-    ensures { Reads (Ok (first.now ++ flat_map T.held items.now)) result }
+    ensures { IsExpected (Ok (first.now ++ flat_map T.held items.now)) result }
 {
     let mut places = listed(alloc, first)?;
     push_each(&mut places, items)?;
     Ok(places)
 }
 
-/// Puts the places that each item holds at the end of a list. The only error is want of memory.
+/// Appends the places of each item to a list. Fails only when out of memory.
 pub fn push_each<T: HoldsPlaces>(
     places: &mut List<Place>,
     items: &List<T>,

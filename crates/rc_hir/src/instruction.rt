@@ -12,7 +12,7 @@ pub enum PrimitiveValue {
     Null,
     Undefined,
     Boolean(bool),
-    /// Source text.
+    /// The number as it is written in the source.
     Number(Text),
     String(Text),
 }
@@ -24,7 +24,7 @@ pub enum NonLocalBinding {
     Module { name: Text, module: Text },
 }
 
-/// What stands at the head of a JSX element.
+/// The tag of a JSX element.
 #[derive(Drop)]
 pub enum JsxTag {
     Place(Place),
@@ -38,7 +38,7 @@ pub enum JsxAttribute {
     SpreadAttribute { argument: Place },
 }
 
-/// An operator that may leave its right side out.
+/// An operator that may skip its right side.
 #[derive(Clone, Copy, Debug, PartialEq, Eq)]
 pub enum LogicalOperator {
     And,
@@ -52,7 +52,7 @@ pub struct LoweredFunction {
     pub func: FunctionId,
 }
 
-/// What a row computes.
+/// The computation of a row.
 #[derive(Drop)]
 pub enum InstructionValue {
     LoadLocal {

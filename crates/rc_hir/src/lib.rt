@@ -12,6 +12,7 @@ mod operands;
 mod pattern;
 mod place;
 mod scope;
+mod successors;
 mod terminal;
 mod types;
 
@@ -36,5 +37,6 @@ pub use scope::{
     DeclarationEntry, DependencyPathEntry, MutableRange, ReactiveScope, ReactiveScopeDeclaration,
     ReactiveScopeDependency, ReactiveScopeEarlyReturn,
 };
+pub use successors::Successors;
 pub use terminal::{Case, GotoVariant, Terminal};
 pub use types::{HirType, Shape, ShapeRow};

@@ -1,7 +1,7 @@
 //! The check that every number of a graph and of its environment is in its table.
 //!
-//! Each type that holds numbers checks its own, part by part, in the order in which the files of `specs/` list them:
-//! `PartNames`, `ValueNames`, `GraphNames` and `EnvironmentNames`. Nothing is built, and each part is looked at once.
+//! Each type that has numbers checks its own, part by part, in the order of the files of `specs/`: `PartNames`,
+//! `ValueNames`, `GraphNames` and `EnvironmentNames`. Nothing is built, and each part is looked at once.
 
 #![tactic(auto, using(crate::proofs::NamesLemmas::judging))]
 
@@ -17,7 +17,7 @@ use crate::environment::Environment;
 use crate::fault::{Fault, TableName};
 use crate::function::HirFunction;
 
-/// How long each table is; the instructions are those of the function at hand.
+/// The length of each table; the instructions are those of the function at hand.
 #[derive(Clone, Copy)]
 pub struct Lengths {
     identifiers: usize,
@@ -55,9 +55,9 @@ impl Lengths {
         }
     }
 
-    /// Whether a number is in its table. `BadName` names it where it isn't.
+    /// Checks that a number is in its table. Returns `BadName` with the number if it isn't.
     pub fn check(self, table: TableName, index: u32) -> Result<(), Fault>
-        ensures { spec.Judges self ((table, index) ∷ []) result }
+        ensures { spec.IsCheckOf self ((table, index) ∷ []) result }
     {
         if (index as usize) < self.of(table) {
             Ok(())
@@ -67,11 +67,11 @@ impl Lengths {
     }
 }
 
-/// Checks that every identifier, declaration, type, scope, function, instruction and shape number of the graph,
-/// of each function of the table and of the environment is in its table. A row of a function counts also where
-/// no block names it. It takes no memory.
+/// Checks that every identifier, declaration, type, scope, function, instruction and shape number of the graph, of
+/// each function of the table and of the environment is in its table. The rows of a function count also if no block
+/// names them. This takes no memory.
 ///
-/// `BadName` names one such number that is outside its table, and there is no other fault.
+/// Returns `BadName` with one number that is outside its table. There is no other fault.
 pub fn check_names(hir: &HirFunction, env: &Environment) -> Result<(), Fault>
     ensures ok { OnOk result (spec.NamesInTables hir.now env.now) }
     ensures bad_name { IfErr result (spec.NamesOutside hir.now env.now) }

@@ -1,11 +1,11 @@
-//! Readers of the places that a value, a pattern or a terminal names, in the order in which they are read.
+//! Readers of the places of a value, a pattern or a terminal, in the order in which they are read.
 //!
-//! The arms are the lines of the tables in `specs/Operands.antt` and `specs/TerminalOperands.antt`; kinds whose
-//! lines are one share an arm.
+//! The arms are the lines of the tables in `specs/Operands.antt` and `specs/TerminalOperands.antt`. Kinds with equal
+//! lines share an arm.
 
 ghost use Rattle.std.specs.Prelude.{◌≡◌, [], ◌∷◌, ◌++◌, Ok, OnOk};
 ghost use Rattle.std.specs.List.{flat_map};
-ghost use Rattle.rc_hir.specs.Fault.{Reads};
+ghost use Rattle.rc_hir.specs.Fault.{IsExpected};
 ghost use Rattle.rc_hir.specs.Operands as table;
 ghost use Rattle.rc_hir.specs.TerminalOperands.{terminal_operands};
 
@@ -21,15 +21,16 @@ use crate::terminal::Terminal;
 use rc_names::List;
 use std::alloc::{AllocError, Global};
 
-/// The operands of a value, in order.
+/// Returns the operands of a value, in order.
 ///
-/// `BadName` names a nested function that is outside the environment's table; `NoMemory` is want of memory.
+/// Returns `BadName` if the value names a nested function that is outside the environment's table, and `NoMemory` when
+/// out of memory.
 pub fn each_instruction_value_operand(
     alloc: Global,
     value: &InstructionValue,
     env: &Environment,
 ) -> Result<List<Place>, Fault>
-    ensures { Reads (table.operands env.now.functions value.now) result }
+    ensures { IsExpected (table.operands env.now.functions value.now) result }
 {
     match value {
         Kind::LoadLocal { place, .. } | Kind::LoadContext { place, .. } => listed(alloc, &[*place]),
@@ -100,12 +101,12 @@ pub fn each_instruction_value_operand(
     }
 }
 
-/// The places that a value writes besides its row's target, in order. The only fault is `NoMemory`.
+/// Returns the places that a value writes besides its row's target, in order. The only fault is `NoMemory`.
 pub fn each_instruction_value_lvalue(
     alloc: Global,
     value: &InstructionValue,
 ) -> Result<List<Place>, Fault>
-    ensures { Reads (Ok (table.value_targets value.now)) result }
+    ensures { IsExpected (Ok (table.value_targets value.now)) result }
 {
     match value {
         Kind::DeclareLocal { lvalue, .. }
@@ -155,9 +156,9 @@ pub fn each_instruction_value_lvalue(
     }
 }
 
-/// The places of a pattern, in order; computed keys aren't among them. The only fault is `NoMemory`.
+/// Returns the places of a pattern, in order; computed keys aren't among them. The only fault is `NoMemory`.
 pub fn each_pattern_operand(alloc: Global, pattern: &Pattern) -> Result<List<Place>, Fault>
-    ensures { Reads (Ok (table.pattern_places pattern.now)) result }
+    ensures { IsExpected (Ok (table.pattern_places pattern.now)) result }
 {
     match pattern {
         Pattern::Array { items } => gathered(alloc, &[], items),
@@ -165,9 +166,9 @@ pub fn each_pattern_operand(alloc: Global, pattern: &Pattern) -> Result<List<Pla
     }
 }
 
-/// The operands of a terminal, in order. The only fault is `NoMemory`.
+/// Returns the operands of a terminal, in order. The only fault is `NoMemory`.
 pub fn each_terminal_operand(alloc: Global, terminal: &Terminal) -> Result<List<Place>, Fault>
-    ensures { Reads (Ok (terminal_operands terminal.now)) result }
+    ensures { IsExpected (Ok (terminal_operands terminal.now)) result }
 {
     match terminal {
         Terminal::If { test, .. } | Terminal::Branch { test, .. } => listed(alloc, &[*test]),
@@ -213,7 +214,7 @@ fn of_jsx(
     props: &List<JsxAttribute>,
     children: &Option<List<Place>>,
 ) -> Result<List<Place>, Fault>
-    ensures { Reads (Ok (table.jsx_places tag.now props.now children.now)) result }
+    ensures { IsExpected (Ok (table.jsx_places tag.now props.now children.now)) result }
 {
     let mut places = List::new(alloc);
     push_tag(&mut places, tag)?;
@@ -229,7 +230,7 @@ fn of_context(
     lowered: LoweredFunction,
     env: &Environment,
 ) -> Result<List<Place>, Fault>
-    ensures { Reads (table.context_places env.now.functions lowered) result }
+    ensures { IsExpected (table.context_places env.now.functions lowered) result }
 {
     match env.functions.get(lowered.func) {
         Some(function) => Ok(function.context.copy_in(alloc)?),
@@ -244,7 +245,7 @@ fn of_object_pattern(
     alloc: Global,
     properties: &List<ObjectPropertyOrSpread>,
 ) -> Result<List<Place>, Fault>
-    ensures { Reads (Ok (flat_map table.written_places properties.now)) result }
+    ensures { IsExpected (Ok (flat_map table.written_places properties.now)) result }
 {
     let mut places = List::new(alloc);
     for property in properties.as_slice() {

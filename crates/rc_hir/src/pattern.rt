@@ -3,7 +3,7 @@
 use crate::place::{Place, SpreadPattern};
 use rc_names::{List, Text};
 
-/// How a name is bound or written.
+/// The way in which a name is bound or written.
 #[derive(Clone, Copy, Debug, PartialEq, Eq)]
 pub enum InstructionKind {
     Const,
@@ -30,7 +30,7 @@ pub struct LValuePattern {
     pub pattern: Pattern,
 }
 
-/// What a value is taken apart by.
+/// The items or the properties into which a value is taken apart.
 #[derive(Drop)]
 pub enum Pattern {
     Array {
@@ -76,7 +76,7 @@ pub struct ObjectProperty {
 pub enum ObjectPropertyKey {
     Identifier(Text),
     String(Text),
-    /// Source text.
+    /// The number as it is written in the source.
     Number(Text),
     Computed(Place),
 }
@@ -85,6 +85,6 @@ pub enum ObjectPropertyKey {
 #[derive(Drop)]
 pub enum PropertyLiteral {
     String(Text),
-    /// Source text.
+    /// The number as it is written in the source.
     Number(Text),
 }

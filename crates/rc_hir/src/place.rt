@@ -1,4 +1,4 @@
-//! Places: how a row or a terminal names an identifier.
+//! Places: the uses of identifiers in rows and terminals.
 
 ghost use Rattle.std.specs.Prelude.{◌≡◌};
 ghost use Rattle.rc_hir.specs.Types as types;
@@ -14,7 +14,7 @@ pub struct Place {
     pub span: Option<Span>,
 }
 
-/// What a row does to the value of a place.
+/// The effect of a row on the value of a place.
 #[derive(Clone, Copy, Debug, PartialEq, Eq)]
 pub enum Effect {
     Unknown,
@@ -28,7 +28,7 @@ pub enum Effect {
 }
 
 impl Effect {
-    /// Whether the row may change the value.
+    /// Returns whether a row with this effect may change the value.
     pub fn is_mutable(&self) -> bool
         ensures { result ≡ types.is_mutable self.now }
     {
@@ -45,7 +45,7 @@ impl Effect {
     }
 }
 
-/// A place behind three dots.
+/// A place after three dots.
 #[derive(Clone, Copy, Debug, PartialEq, Eq)]
 pub struct SpreadPattern {
     pub place: Place,

@@ -17,7 +17,7 @@ pub struct DependencyPathEntry {
     pub optional: bool,
 }
 
-/// What a scope recomputes for, where it changes.
+/// A value whose changes make a scope recompute, given as a path from an identifier.
 #[derive(Drop)]
 pub struct ReactiveScopeDependency {
     pub identifier: IdentifierId,
@@ -26,7 +26,7 @@ pub struct ReactiveScopeDependency {
     pub span: Option<Span>,
 }
 
-/// A name that a scope gives.
+/// A value that a scope declares.
 #[derive(Clone, Copy, Debug, PartialEq, Eq)]
 pub struct ReactiveScopeDeclaration {
     pub identifier: IdentifierId,
@@ -40,7 +40,7 @@ pub struct DeclarationEntry {
     pub value: ReactiveScopeDeclaration,
 }
 
-/// The sentinel by which a scope answers for a `Return` in it.
+/// The sentinel variable that stands for a `Return` inside a scope.
 #[derive(Clone, Copy, Debug, PartialEq, Eq)]
 pub struct ReactiveScopeEarlyReturn {
     pub value: IdentifierId,

@@ -1,4 +1,4 @@
-//! The terminals: how a basic block ends.
+//! The terminals, each of which ends a basic block.
 
 ghost use Rattle.std.specs.Prelude.{◌≡◌};
 ghost use Rattle.rc_hir.specs.Terminal as terminals;
@@ -7,7 +7,7 @@ use crate::instruction::LogicalOperator;
 use crate::place::Place;
 use rc_names::{BlockId, EvaluationOrder, List, ScopeId, Span};
 
-/// What kind of jump a `Goto` is.
+/// The kind of jump of a `Goto`.
 #[derive(Clone, Copy, Debug, PartialEq, Eq)]
 pub enum GotoVariant {
     Break,
@@ -15,14 +15,14 @@ pub enum GotoVariant {
     Try,
 }
 
-/// A case of a `Switch`; the default where `test` is none.
+/// A case of a `Switch`; it is the default if `test` is `None`.
 #[derive(Clone, Copy, Debug, PartialEq, Eq)]
 pub struct Case {
     pub test: Option<Place>,
     pub block: BlockId,
 }
 
-/// How a basic block ends.
+/// The end of a basic block.
 #[derive(Drop)]
 pub enum Terminal {
     If {
@@ -168,7 +168,7 @@ pub enum Terminal {
 }
 
 impl Terminal {
-    /// The terminal's id: its place in the order of evaluation.
+    /// Returns the terminal's id, which is its place in the order of evaluation.
     pub fn evaluation_order(&self) -> EvaluationOrder
         ensures { result ≡ terminals.evaluation_order self.now }
     {

@@ -9,7 +9,7 @@ pub enum HirType {
     Other,
 }
 
-/// What is known of an object or a function.
+/// The facts that are known of an object or a function.
 #[derive(Clone, Copy, Debug, PartialEq, Eq)]
 pub enum Shape {
     Array,
@@ -22,11 +22,11 @@ pub enum Shape {
     Dispatch,
     StartTransition,
     SetOptimistic,
-    /// That row of the environment's shapes.
+    /// The row of the environment's shapes with that number.
     Row(u32),
 }
 
-/// A function's shape that the environment tells.
+/// The shape of a function, as the environment has it.
 #[derive(Clone, Copy, Debug, PartialEq, Eq)]
 pub struct ShapeRow {
     pub hook: bool,

@@ -1,4 +1,4 @@
-//! Worked values, with memory at hand: operands, refusals of `check_names`, and the counters.
+//! Worked values, with enough memory: operands, refusals of `check_names`, and the counters.
 
 mod environment;
 mod graphs;

@@ -1,4 +1,4 @@
-//! `rc tree`: reads a document from standard input and prints its tree, or why its graph is refused.
+//! `rc tree`: reads a document from standard input, and prints its tree or the reason why its graph is refused.
 #![tactic(auto)]
 
 use rc_program::{Status, StdSink, StdSource, program, words};
@@ -15,7 +15,7 @@ fn main(rt: HostRuntime) -> ExitCode {
         }
         Err(stop) => Status::from(Err(stop)),
     };
-    // Where standard error fails too, the status says it all.
+    // If standard error fails too, the status still tells the result.
     if let Some(stop) = status.reason() {
         let _ = eprintln!(rt; "{stop}");
     } else if status == Status::Refused {

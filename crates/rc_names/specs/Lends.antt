@@ -1,4 +1,4 @@
--- What a container ends as, once a `&mut` into it has ended.
+-- The value of a container once a `&mut` into it has ended.
 pub mod list
 pub mod table
 pub mod keyed

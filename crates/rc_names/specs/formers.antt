@@ -1,3 +1,3 @@
--- Containers that a type may hold which holds itself.
+-- Containers through which a type may hold itself.
 pub mod list
 pub mod boxed

@@ -6,7 +6,7 @@ ghost use Rattle.std.specs.Borrow.{sem};
 use std::alloc::{AllocError, Global};
 use std::marker::Model;
 
-/// A `Box` that contracts see as the value in it, so that a copy of a tree equals its source.
+/// A `Box` that contracts see as its value, so that the copy of a tree equals the tree.
 #[derive(Debug, Drop)]
 pub struct Boxed<T> {
     inner: Box<T>,
@@ -23,14 +23,14 @@ impl<T> Model for Boxed<T> {
 impl<T> Boxed<T> {
     ghost use Rattle.rc_names.specs.Lends.boxed.{lends_value};
 
-    /// The value.
+    /// Returns the value.
     pub fn get(&self) -> &T
         ensures { result.now ≡ self.now }
     {
         &self.inner
     }
 
-    /// The value, to be changed in its place.
+    /// Returns the value, to be changed in its place.
     pub fn get_mut(&mut self) -> &mut T
         ensures* writes_back { sem 𝓛 (lends_value T.row self.entry result) }
         ensures value { result.now ≡ self.old }
@@ -38,7 +38,7 @@ impl<T> Boxed<T> {
         &mut self.inner
     }
 
-    /// The value, out of its box.
+    /// Takes the value out of its box.
     pub fn into_inner(self) -> T
         ensures { result ≡ self }
     {
@@ -48,7 +48,7 @@ impl<T> Boxed<T> {
 }
 
 impl<T: Drop> Boxed<T> {
-    /// Boxes a value. The only error is want of memory.
+    /// Boxes a value. Fails only when out of memory.
     pub fn new(alloc: Global, value: T) -> Result<Boxed<T>, AllocError>
         ensures { IfOk result (λ boxed. boxed ≡ value) }
     {

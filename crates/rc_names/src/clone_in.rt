@@ -4,9 +4,9 @@ ghost use Rattle.std.specs.Prelude.{◌≡◌, IfOk};
 
 use std::alloc::{AllocError, Global};
 
-/// A copy that equals its source.
+/// A type whose copies need an allocator.
 pub trait CloneIn: Drop {
-    /// Copies the value. The only error is want of memory.
+    /// Returns a copy, which equals the value. Fails only when out of memory.
     fn clone_in(&self, alloc: Global) -> Result<Self, AllocError>
         ensures { IfOk result (λ copy. copy ≡ self.now) };
 }

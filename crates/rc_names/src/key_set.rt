@@ -9,7 +9,7 @@ use indexmap::IndexSet;
 use std::alloc::{AllocError, Global};
 use std::marker::Model;
 
-/// An `IndexSet` that contracts see as the list of its keys, which are distinct.
+/// An `IndexSet` that contracts see as the list of its keys. The keys are distinct.
 #[derive(Drop)]
 pub struct KeySet<K: Name> {
     set: IndexSet<K>,
@@ -30,7 +30,7 @@ impl<K: Name> Model for KeySet<K> {
 }
 
 impl<K: Name> KeySet<K> {
-    /// No keys, which takes no memory.
+    /// Returns an empty set. This takes no memory.
     pub fn new(alloc: Global) -> KeySet<K>
         ensures { result ≡ [] }
     {
@@ -39,7 +39,7 @@ impl<K: Name> KeySet<K> {
         }
     }
 
-    /// How many keys there are.
+    /// Returns the number of keys.
     pub fn len(&self) -> usize
         ensures value { result ≡ length self.now }
         ensures distinct { IsDistinct K.eq self.now }
@@ -47,29 +47,29 @@ impl<K: Name> KeySet<K> {
         self.set.len()
     }
 
-    /// Whether a key is there.
+    /// Returns whether the set has a key.
     pub fn contains(&self, key: K) -> bool
         ensures { result ≡ list_any (K.eq key) self.now }
     {
         self.set.contains(&key)
     }
 
-    /// The place of a key; none where the key isn't there.
+    /// Returns the index of a key, and `None` if the key isn't there.
     pub fn position(&self, key: K) -> Option<usize>
         ensures { result ≡ position (K.eq key) self.now }
     {
         self.set.get_index_of(&key)
     }
 
-    /// The key at a place; none past the end.
+    /// Returns the key at an index, and `None` past the end.
     pub fn at(&self, i: usize) -> Option<K>
         ensures { result ≡ slice_get self.now i }
     {
         self.set.get_index(i).copied()
     }
 
-    /// Puts a key in and answers whether it is new; a new key goes last. The only error is want of memory, after
-    /// which nothing changed.
+    /// Inserts a key and returns whether it is new. A new key goes last. Fails only when out of memory, and then
+    /// nothing has changed.
     pub fn insert(&mut self, key: K) -> Result<bool, AllocError>
         ensures keys { OnOk result (self.new ≡ insert_key K.eq self.old key) }
         ensures added { IfOk result (λ added. added ≡ not (list_any (K.eq key) self.old)) }

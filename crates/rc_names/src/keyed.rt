@@ -15,7 +15,7 @@ use indexmap::map::Iter;
 use std::alloc::{AllocError, Global};
 use std::marker::Model;
 
-/// An `IndexMap` that contracts see as the list of its pairs, whose keys are distinct.
+/// An `IndexMap` that contracts see as the list of its pairs. The keys are distinct.
 #[derive(Drop)]
 pub struct Keyed<K: Name, V> {
     map: IndexMap<K, V>,
@@ -37,7 +37,7 @@ impl<K: Name, V> Model for Keyed<K, V> {
 }
 
 impl<K: Name, V> Keyed<K, V> {
-    /// No pairs, which takes no memory.
+    /// Returns an empty map. This takes no memory.
     pub fn new(alloc: Global) -> Keyed<K, V>
         ensures { result ≡ [] }
     {
@@ -46,7 +46,7 @@ impl<K: Name, V> Keyed<K, V> {
         }
     }
 
-    /// How many pairs there are.
+    /// Returns the number of pairs.
     pub fn len(&self) -> usize
         ensures value { result ≡ length self.now }
         ensures distinct { IsDistinct K.eq (keys_of self.now) }
@@ -54,14 +54,14 @@ impl<K: Name, V> Keyed<K, V> {
         self.map.len()
     }
 
-    /// The value under a key; none where the key isn't there.
+    /// Returns the value under a key, and `None` if the key isn't there.
     pub fn get(&self, key: K) -> Option<&V>
         ensures { option_copied result ≡ lookup (K.eq key) self.now }
     {
         self.map.get(&key)
     }
 
-    /// The value under a key, to be changed in its place; none where the key isn't there.
+    /// Returns the value under a key, to be changed in its place, and `None` if the key isn't there.
     pub fn get_mut(&mut self, key: K) -> Option<&mut V>
         ensures* writes_back { sem 𝓛 (lends_value K.row V.row K.Name self.entry key result) }
         ensures value { option_copied_mut result ≡ lookup (K.eq key) self.old }
@@ -69,14 +69,14 @@ impl<K: Name, V> Keyed<K, V> {
         self.map.get_mut(&key)
     }
 
-    /// The place of a key among the pairs; none where the key isn't there.
+    /// Returns the index of a key's pair, and `None` if the key isn't there.
     pub fn position(&self, key: K) -> Option<usize>
         ensures { result ≡ position (K.eq key) (keys_of self.now) }
     {
         self.map.get_index_of(&key)
     }
 
-    /// The pairs in their order.
+    /// Returns the pairs in their order.
     pub fn iter(&self) -> Iter<'_, K, V>
         ensures rest { result ≡ self.now }
         ensures runs { ShowsInOrder (deref_pair {K = K} {X = V}) }
@@ -85,7 +85,7 @@ impl<K: Name, V> Keyed<K, V> {
         self.map.iter()
     }
 
-    /// The pair at a place; none past the end.
+    /// Returns the pair at an index, and `None` past the end.
     pub fn at(&self, i: usize) -> Option<(K, &V)>
         ensures { option_map (λ p. (p.0, p.1.now)) result ≡ slice_get self.now i }
     {
@@ -97,8 +97,8 @@ impl<K: Name, V> Keyed<K, V> {
 }
 
 impl<K: Name, V: Drop> Keyed<K, V> {
-    /// Puts a value under a key and answers the value that stood there. A new key goes last, one that is there keeps
-    /// its place. The only error is want of memory, after which nothing changed.
+    /// Sets the value of a key and returns the old one. A new key goes last, and a key that is there keeps its index.
+    /// Fails only when out of memory, and then nothing has changed.
     pub fn insert(&mut self, key: K, value: V) -> Result<Option<V>, AllocError>
         ensures entries { OnOk result (self.new ≡ insert_entry K.eq self.old key value) }
         ensures old { IfOk result (λ old. old ≡ lookup (K.eq key) self.old) }

@@ -1,7 +1,7 @@
 //! Typed numbers, and the small containers that contracts see as lists.
 //!
-//! Every other crate stands on these: a table is looked up by a typed number, a tree is made of `List` and `Boxed`,
-//! and no contract above this crate speaks of a pointer or of a capacity.
+//! Every other crate is built on these: a typed number is the index of a table, and a tree is made of `List` and
+//! `Boxed`. No contract above this crate speaks of a pointer or of a capacity.
 #![tactic(auto)]
 
 mod boxed;
@@ -22,7 +22,7 @@ pub use keyed::Keyed;
 pub use list::List;
 pub use name::Name;
 pub use numbers::{
-    BlockId, DeclarationId, EvaluationOrder, FunctionId, IdentifierId, InstructionId, ScopeId,
+    BlockId, DeclarationId, EvaluationOrder, FunctionId, Id, IdentifierId, InstructionId, ScopeId,
     TypeId,
 };
 pub use span::Span;

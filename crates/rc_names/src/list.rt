@@ -1,4 +1,4 @@
-//! A list.
+//! A list that grows at its end.
 
 ghost use Rattle.std.specs.Prelude.{◌≡◌, [], ◌∷◌, ◌++◌, ◌↔◌, length, slice_get, reverse, IsTrue, IsOk, IsNone, IfOk};
 ghost use Rattle.std.specs.Prelude.{IfSome, IfNone, OnOk, OnErr};
@@ -29,7 +29,7 @@ impl<T> Model for List<T> {
 }
 
 impl<T> List<T> {
-    /// An empty list, which takes no memory.
+    /// Returns an empty list. This takes no memory.
     pub fn new(alloc: Global) -> List<T>
         ensures { result ≡ [] }
     {
@@ -38,28 +38,28 @@ impl<T> List<T> {
         }
     }
 
-    /// How many entries there are.
+    /// Returns the number of entries.
     pub fn len(&self) -> usize
         ensures { result ≡ length self.now }
     {
         self.items.len()
     }
 
-    /// Whether there is no entry.
+    /// Returns whether the list has no entry.
     pub fn is_empty(&self) -> bool
         ensures { IsTrue result ↔ (self.now ≡ []) }
     {
         self.items.is_empty()
     }
 
-    /// The entry at a place; none past the end.
+    /// Returns the entry at an index, and `None` past the end.
     pub fn get(&self, i: usize) -> Option<&T>
         ensures { option_copied result ≡ slice_get self.now i }
     {
         self.items.get(i)
     }
 
-    /// The entry at a place, to be changed there; none past the end.
+    /// Returns the entry at an index, to be changed in its place, and `None` past the end.
     pub fn get_mut(&mut self, i: usize) -> Option<&mut T>
         ensures* writes_back { sem 𝓛 (lends_item T.row self.entry i result) }
         ensures value { option_copied_mut result ≡ slice_get self.old i }
@@ -67,7 +67,7 @@ impl<T> List<T> {
         self.items.get_mut(i)
     }
 
-    /// Takes the last entry off; none where the list is empty.
+    /// Removes and returns the last entry; returns `None` if the list is empty.
     pub fn pop(&mut self) -> Option<T>
         ensures none { IsNone result ↔ (self.old ≡ []) }
         ensures last { IfSome result (λ last. self.old ≡ self.new ++ last ∷ []) }
@@ -76,14 +76,14 @@ impl<T> List<T> {
         self.items.pop()
     }
 
-    /// Turns the list round.
+    /// Reverses the list.
     pub fn reverse(&mut self)
         ensures { self.new ≡ reverse self.old }
     {
         self.items.reverse()
     }
 
-    /// Answers the whole list and leaves an empty one.
+    /// Returns the whole list and leaves an empty one.
     pub fn take(&mut self) -> List<T>
         ensures list { result ≡ self.old }
         ensures left { self.new ≡ [] }
@@ -94,8 +94,8 @@ impl<T> List<T> {
         }
     }
 
-    /// Takes all entries of another list to the end. The only error is want of memory, after which nothing changed; an
-    /// empty list needs none.
+    /// Moves all entries of another list to the end, and leaves that list empty. Fails only when out of memory, and
+    /// then nothing has changed. An empty list takes them without memory.
     pub fn take_from(&mut self, more: &mut List<T>) -> Result<(), AllocError>
         ensures ok { OnOk result (self.new ≡ self.old ++ more.old) }
         ensures left { OnOk result (more.new ≡ []) }
@@ -110,7 +110,7 @@ impl<T> List<T> {
         self.items.append(&mut more.items)
     }
 
-    /// The entries, for a loop over them.
+    /// Returns the entries, for a loop over them.
     pub fn as_slice(&self) -> &[T]
         ensures { result.now ≡ self.now }
     {
@@ -119,7 +119,7 @@ impl<T> List<T> {
 }
 
 impl<T: Drop> List<T> {
-    /// Puts an entry at the end. The only error is want of memory, after which nothing changed.
+    /// Appends an entry. Fails only when out of memory, and then nothing has changed.
     pub fn push(&mut self, t: T) -> Result<(), AllocError>
         ensures ok { OnOk result (self.new ≡ self.old ++ t ∷ []) }
         ensures err { OnErr result (self.new ≡ self.old) }
@@ -128,7 +128,7 @@ impl<T: Drop> List<T> {
         Ok(())
     }
 
-    /// Moves the entries of another list to the end. The only error is want of memory.
+    /// Moves the entries of another list to the end. Fails only when out of memory.
     pub fn append(&mut self, more: List<T>) -> Result<(), AllocError>
         ensures ok { OnOk result (self.new ≡ self.old ++ more) }
         ensures err { OnErr result (self.new ≡ self.old) }
@@ -139,7 +139,7 @@ impl<T: Drop> List<T> {
 }
 
 impl<T: Copy> List<T> {
-    /// These entries. The only error is want of memory.
+    /// Returns a list of these entries. Fails only when out of memory.
     pub fn from_slice(alloc: Global, items: &[T]) -> Result<List<T>, AllocError>
         ensures { IfOk result (λ list. list ≡ items.now) }
     {
@@ -148,7 +148,7 @@ impl<T: Copy> List<T> {
         })
     }
 
-    /// A copy, taken in one piece. The only error is want of memory.
+    /// Returns a copy, which is made in one piece. Fails only when out of memory.
     pub fn copy_in(&self, alloc: Global) -> Result<List<T>, AllocError>
         ensures { IfOk result (λ copy. copy ≡ self.now) }
     {

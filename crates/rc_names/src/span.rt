@@ -1,4 +1,4 @@
-//! A place in the source text.
+//! A span of the source text.
 
 /// The part of the source text from `start` up to `end`, in bytes.
 #[derive(Clone, Copy, Debug, PartialEq, Eq)]

@@ -1,4 +1,4 @@
-//! A table under typed numbers.
+//! A table whose indexes are typed numbers.
 
 ghost use Rattle.std.specs.Prelude.{◌≡◌, [], ◌∷◌, ◌++◌, ◌<◌, ◌≤◌, ◌-◌, ◌^◌, ◌↔◌, length, slice_get, IsTrue, IfOk, OnOk};
 ghost use Rattle.std.specs.Prelude.{OnErr};
@@ -10,7 +10,7 @@ use crate::{CloneIn, List, Name};
 use std::alloc::{AllocError, Global};
 use std::marker::{Model, PhantomData};
 
-/// Entries that the numbers of one type name by their places; contracts see the list of them.
+/// Entries whose indexes are numbers of one type. Contracts see the list of the entries.
 #[derive(Debug, Drop)]
 pub struct Table<I: Name, T> {
     entries: List<T>,
@@ -27,19 +27,19 @@ impl<I: Name, T> Model for Table<I, T> {
 
     ghost view = { λ it. it.entries };
 
-    // A number of 32 bits names each entry.
+    // Each entry has a number of 32 bits.
     ghost invariant = { λ it. length it.entries < 2 ^ 32 };
 }
 
 impl<I: Name, T> Table<I, T> {
-    /// An empty table, which takes no memory.
+    /// Returns an empty table. This takes no memory.
     pub fn new(alloc: Global) -> Table<I, T>
         ensures { result ≡ [] }
     {
         Table::from_list(List::new(alloc))
     }
 
-    /// Takes a list over as the table's entries, without a copy.
+    /// Makes a list the table's entries, without a copy.
     pub fn from_list(entries: List<T>) -> Table<I, T>
         requires { length entries < 2 ^ 32 }
         ensures { result ≡ entries }
@@ -50,7 +50,7 @@ impl<I: Name, T> Table<I, T> {
         }
     }
 
-    /// How many entries there are.
+    /// Returns the number of entries.
     pub fn len(&self) -> usize
         ensures value { result ≡ length self.now }
         ensures fits { length self.now < 2 ^ 32 }
@@ -58,21 +58,21 @@ impl<I: Name, T> Table<I, T> {
         self.entries.len()
     }
 
-    /// Whether the last number is taken.
+    /// Returns whether no number is left for a further entry.
     pub fn is_full(&self) -> bool
         ensures { IsTrue result ↔ (2 ^ 32 - 1 ≤ length self.now) }
     {
         self.entries.len() >= u32::MAX as usize
     }
 
-    /// The entry of a number; none where the number is outside the table.
+    /// Returns the entry with a number, and `None` if the number is outside the table.
     pub fn get(&self, i: I) -> Option<&T>
         ensures { option_copied result ≡ slice_get self.now (I.number i) }
     {
         self.entries.get(i.index())
     }
 
-    /// The entry of a number, to be changed in its place; none where the number is outside the table.
+    /// Returns the entry with a number, to be changed in its place, and `None` if the number is outside the table.
     pub fn get_mut(&mut self, i: I) -> Option<&mut T>
         ensures* writes_back { sem 𝓛 (lends_entry I.row T.row I.Name self.entry (I.number i) result) }
         ensures value { option_copied_mut result ≡ slice_get self.old (I.number i) }
@@ -80,7 +80,7 @@ impl<I: Name, T> Table<I, T> {
         self.entries.get_mut(i.index())
     }
 
-    /// The entries, for a loop over them.
+    /// Returns the entries, for a loop over them.
     pub fn as_slice(&self) -> &[T]
         ensures { result.now ≡ self.now }
     {
@@ -89,7 +89,7 @@ impl<I: Name, T> Table<I, T> {
 }
 
 impl<I: Name, T: Drop> Table<I, T> {
-    /// Puts an entry at the end and answers its number. The only error is want of memory, after which nothing changed.
+    /// Appends an entry and returns its number. Fails only when out of memory, and then nothing has changed.
     pub fn push(&mut self, t: T) -> Result<I, AllocError>
         requires { length self.old < 2 ^ 32 - 1 }
         ensures ok { OnOk result (self.new ≡ self.old ++ t ∷ []) }
@@ -106,7 +106,7 @@ impl<I: Name, T: Drop> Table<I, T> {
 }
 
 impl<I: Name, T: Copy> Table<I, T> {
-    /// A copy, taken in one piece. The only error is want of memory.
+    /// Returns a copy, which is made in one piece. Fails only when out of memory.
     pub fn copy_in(&self, alloc: Global) -> Result<Table<I, T>, AllocError>
         ensures { IfOk result (λ copy. copy ≡ self.now) }
     {

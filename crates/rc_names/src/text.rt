@@ -24,7 +24,7 @@ impl Model for Text {
 }
 
 impl Text {
-    /// A copy of a text. The only error is want of memory.
+    /// Returns a copy of a string. Fails only when out of memory.
     pub fn from_str(alloc: Global, s: &str) -> Result<Text, AllocError>
         ensures { IfOk result (λ text. text ≡ s.now) }
     {
@@ -33,7 +33,7 @@ impl Text {
         })
     }
 
-    /// The text, which takes no memory.
+    /// Returns the text as a string slice. This takes no memory.
     pub fn as_str(&self) -> &str
         ensures { result.now ≡ self.now }
     {
@@ -44,7 +44,7 @@ impl Text {
 impl From<String> for Text {
     ghost from_gives = { λ string text. text ≡ string_bytes string };
 
-    /// Takes a finished string over, without a copy.
+    /// Makes a finished string a text, without a copy.
     fn from(text: String) -> Text {
         Text { text }
     }

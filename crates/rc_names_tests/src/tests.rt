@@ -1,4 +1,4 @@
-//! Each container once, with memory at hand: no clause says that a call finds memory.
+//! Each call once, with enough memory: no clause says that a call finds memory.
 
 use rc_names::{BlockId, Boxed, CloneIn, EvaluationOrder, KeySet, Keyed, List, Name, Table, Text};
 use std::alloc::{AllocError, Global};
@@ -6,11 +6,14 @@ use std::test::Fail;
 
 #[test]
 fn a_number_comes_back_from_its_index(rt: HostRuntime) {
-    assert_eq!(rt; BlockId(7).index(), 7);
-    assert_eq!(rt; BlockId::from_index(4294967295), Some(BlockId(4294967295)));
+    assert_eq!(rt; BlockId::new(7).index(), 7);
+    assert_eq!(rt;
+        BlockId::from_index(4294967295),
+        Some(BlockId::new(4294967295))
+    );
     assert_eq!(rt; BlockId::from_index(4294967296), None);
-    assert_eq!(rt; EvaluationOrder::UNSET, EvaluationOrder(0));
-    assert!(rt; EvaluationOrder(1) < EvaluationOrder(2));
+    assert_eq!(rt; EvaluationOrder::UNSET, EvaluationOrder::new(0));
+    assert!(rt; EvaluationOrder::new(1) < EvaluationOrder::new(2));
 }
 
 /// A list of these entries.
@@ -23,14 +26,14 @@ fn has(list: &List<u32>, entries: &[u32]) -> bool {
     list.as_slice() == entries
 }
 
-/// The entries of two lists, the second behind the first.
+/// The entries of two lists, those of the first and then those of the second.
 fn appended(alloc: Global, first: &[u32], second: &[u32]) -> Result<List<u32>, AllocError> {
     let mut both = list(alloc, first)?;
     both.append(list(alloc, second)?)?;
     Ok(both)
 }
 
-/// A copy of the list that is taken; none where it leaves an entry.
+/// The list that `take` returns, as a copy; `None` if it leaves an entry behind.
 fn taken(alloc: Global, list: &mut List<u32>) -> Result<Option<List<u32>>, AllocError> {
     let taken = list.take();
     if !list.is_empty() {
@@ -50,7 +53,7 @@ fn a_list_is_taken_whole(rt: HostRuntime) -> Result<(), Fail> {
     Ok(())
 }
 
-/// Takes the entries of another list; whether it is empty behind that.
+/// Moves the entries of another list, and returns whether that list is empty afterwards.
 fn is_emptied(list: &mut List<u32>, mut other: List<u32>) -> Result<bool, AllocError> {
     list.take_from(&mut other)?;
     Ok(other.is_empty())
@@ -66,21 +69,21 @@ fn a_list_takes_from_others(rt: HostRuntime) -> Result<(), Fail> {
     Ok(())
 }
 
-/// A list of one entry that is pushed.
+/// A list into which one entry was pushed.
 fn pushed(alloc: Global, entry: u32) -> Result<List<u32>, AllocError> {
     let mut list = List::new(alloc);
     list.push(entry)?;
     Ok(list)
 }
 
-/// Adds to the first entry, where there is one.
+/// Adds to the first entry, if there is one.
 fn add_to_first(list: &mut List<u32>, more: u32) {
     if let Some(first) = list.get_mut(0) {
         *first = first.saturating_add(more);
     }
 }
 
-/// The entry at that place, where there is one.
+/// The entry at that index, if there is one.
 fn entry(list: &List<u32>, at: usize) -> Option<u32> {
     list.get(at).copied()
 }
@@ -95,14 +98,14 @@ fn an_entry_is_changed_in_its_place(rt: HostRuntime) -> Result<(), Fail> {
     Ok(())
 }
 
-/// The entries turned round.
+/// The entries in reverse order.
 fn reversed(alloc: Global, entries: &[u32]) -> Result<List<u32>, AllocError> {
     let mut list = list(alloc, entries)?;
     list.reverse();
     Ok(list)
 }
 
-/// The last entry, which comes off, where there is one.
+/// The entry that `pop` removes, if there is one.
 fn popped(list: &mut List<u32>) -> Option<u32> {
     list.pop()
 }
@@ -116,23 +119,23 @@ fn after_reverse_the_first_comes_off_first(rt: HostRuntime) -> Result<(), Fail> 
     Ok(())
 }
 
-/// A table of one entry that is pushed, and that entry's number.
+/// A table into which one entry was pushed, and that entry's number.
 fn table(alloc: Global, entry: u8) -> Result<(Table<BlockId, u8>, BlockId), AllocError> {
     let mut table = Table::new(alloc);
     let number = table.push(entry)?;
     Ok((table, number))
 }
 
-/// Puts another entry in the place of the first, where there is one.
+/// Replaces the first entry, if there is one.
 fn put_first(table: &mut Table<BlockId, u8>, other: u8) {
-    if let Some(entry) = table.get_mut(BlockId(0)) {
+    if let Some(entry) = table.get_mut(BlockId::new(0)) {
         *entry = other;
     }
 }
 
-/// The entry of that number, where there is one.
+/// The entry with that number, if there is one.
 fn entry_of(table: &Table<BlockId, u8>, number: u32) -> Option<u8> {
-    table.get(BlockId(number)).copied()
+    table.get(BlockId::new(number)).copied()
 }
 
 /// Whether a copy of a table has these entries.
@@ -155,7 +158,7 @@ fn a_table_answers_the_number_of_an_entry(rt: HostRuntime) -> Result<(), Fail> {
     let alloc = rt.alloc();
     assert!(rt; !is_empty_full(alloc));
     let (mut table, number) = table(alloc, 5)?;
-    assert_eq!(rt; number, BlockId(0));
+    assert_eq!(rt; number, BlockId::new(0));
     assert_eq!(rt; table.len(), 1);
     put_first(&mut table, 6);
     assert_eq!(rt; entry_of(&table, 0), Some(6));
@@ -167,29 +170,29 @@ fn a_table_answers_the_number_of_an_entry(rt: HostRuntime) -> Result<(), Fail> {
 /// Pairs of a block and a number.
 type Pairs = Keyed<BlockId, u32>;
 
-/// Puts a value under the key of that number, and answers the one before it.
+/// Sets the value of the key with that number, and returns the old value.
 fn inserted(keyed: &mut Pairs, key: u32, value: u32) -> Result<Option<u32>, AllocError> {
-    keyed.insert(BlockId(key), value)
+    keyed.insert(BlockId::new(key), value)
 }
 
-/// Puts another value under that key, where it is there.
+/// Changes the value of that key, if the key is there.
 fn put_value(keyed: &mut Pairs, key: u32, other: u32) {
-    if let Some(value) = keyed.get_mut(BlockId(key)) {
+    if let Some(value) = keyed.get_mut(BlockId::new(key)) {
         *value = other;
     }
 }
 
-/// The value under that key, where it is there.
+/// The value of that key, if the key is there.
 fn value_of(keyed: &Pairs, key: u32) -> Option<u32> {
-    keyed.get(BlockId(key)).copied()
+    keyed.get(BlockId::new(key)).copied()
 }
 
-/// Where that key stands, if it is there.
+/// The index of that key, if the key is there.
 fn position_of(keyed: &Pairs, key: u32) -> Option<usize> {
-    keyed.position(BlockId(key))
+    keyed.position(BlockId::new(key))
 }
 
-/// The pair at that place, where there is one.
+/// The pair at that index, if there is one.
 fn pair_at(keyed: &Pairs, at: usize) -> Option<(BlockId, u32)> {
     let (key, value) = keyed.at(at)?;
     Some((key, *value))
@@ -206,22 +209,25 @@ fn a_key_that_is_there_keeps_its_place(rt: HostRuntime) -> Result<(), Fail> {
     assert_eq!(rt; value_of(&keyed, 4), Some(3));
     assert_eq!(rt; value_of(&keyed, 3), None);
     assert_eq!(rt; position_of(&keyed, 2), Some(1));
-    assert_eq!(rt; pair_at(&keyed, 1), Some((BlockId(2), 5)));
+    assert_eq!(rt; pair_at(&keyed, 1), Some((BlockId::new(2), 5)));
     assert_eq!(rt; pair_at(&keyed, 2), None);
     Ok(())
 }
 
-/// Whether a key of that number is new, which is put.
+/// Inserts the key with that number, and returns whether it is new.
 fn is_new(keys: &mut KeySet<BlockId>, key: u32) -> Result<bool, AllocError> {
-    keys.insert(BlockId(key))
+    keys.insert(BlockId::new(key))
 }
 
-/// Whether that key is there, and where it stands.
+/// Whether that key is there, and its index.
 fn found(keys: &KeySet<BlockId>, key: u32) -> (bool, Option<usize>) {
-    (keys.contains(BlockId(key)), keys.position(BlockId(key)))
+    (
+        keys.contains(BlockId::new(key)),
+        keys.position(BlockId::new(key)),
+    )
 }
 
-/// The key at that place, where there is one.
+/// The key at that index, if there is one.
 fn key_at(keys: &KeySet<BlockId>, at: usize) -> Option<BlockId> {
     keys.at(at)
 }
@@ -235,12 +241,12 @@ fn a_key_is_new_once(rt: HostRuntime) -> Result<(), Fail> {
     assert_eq!(rt; keys.len(), 2);
     assert_eq!(rt; found(&keys, 2), (true, Some(1)));
     assert_eq!(rt; found(&keys, 3), (false, None));
-    assert_eq!(rt; key_at(&keys, 0), Some(BlockId(4)));
+    assert_eq!(rt; key_at(&keys, 0), Some(BlockId::new(4)));
     assert_eq!(rt; key_at(&keys, 2), None);
     Ok(())
 }
 
-/// A text.
+/// A text of its own.
 fn text(alloc: Global, text: &str) -> Result<Text, AllocError> {
     Text::from_str(alloc, text)
 }
@@ -257,7 +263,7 @@ fn is_text_copied(alloc: Global) -> Result<bool, AllocError> {
     Ok(text(alloc, "C")?.clone_in(alloc)?.as_str() == "C")
 }
 
-/// The length of a copied list of one text.
+/// The length of the copy of a list of one text.
 fn copied_list(alloc: Global) -> Result<usize, AllocError> {
     Ok(texts(alloc)?.clone_in(alloc)?.len())
 }
@@ -269,7 +275,7 @@ fn table_of_texts(alloc: Global) -> Result<Table<BlockId, Text>, AllocError> {
     Ok(Table::from_list(texts))
 }
 
-/// The length of a copied table of one text.
+/// The length of the copy of a table of one text.
 fn copied_table(alloc: Global) -> Result<usize, AllocError> {
     Ok(table_of_texts(alloc)?.clone_in(alloc)?.len())
 }
@@ -277,14 +283,14 @@ fn copied_table(alloc: Global) -> Result<usize, AllocError> {
 /// The pair of block 4 and the text `D`.
 fn keyed_text(alloc: Global) -> Result<Keyed<BlockId, Text>, AllocError> {
     let mut keyed = Keyed::new(alloc);
-    keyed.insert(BlockId(4), Text::from(String::from_str(alloc, "D")?))?;
+    keyed.insert(BlockId::new(4), Text::from(String::from_str(alloc, "D")?))?;
     Ok(keyed)
 }
 
 /// Whether its copy has `D` under block 4.
 fn is_keyed_copied(alloc: Global) -> Result<bool, AllocError> {
     let copy = keyed_text(alloc)?.clone_in(alloc)?;
-    Ok(copy.get(BlockId(4)).map(|text| text.as_str()) == Some("D"))
+    Ok(copy.get(BlockId::new(4)).map(|text| text.as_str()) == Some("D"))
 }
 
 #[test]
@@ -297,7 +303,7 @@ fn copies_find_memory(rt: HostRuntime) -> Result<(), Fail> {
     Ok(())
 }
 
-/// A boxed number, one more than that.
+/// A boxed number that was raised by one through `get_mut`.
 fn boxed(alloc: Global, number: u32) -> Result<Boxed<u32>, AllocError> {
     let mut boxed = Boxed::new(alloc, number)?;
     let held = boxed.get_mut();

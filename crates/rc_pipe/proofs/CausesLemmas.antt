@@ -1,11 +1,10 @@
--- Causes exclude what is accepted and has an answer; what the builder refuses of an accepted graph has a cause.
+-- Causes exclude graphs that are accepted and have an answer. If the builder refuses an accepted graph, there is a
+-- cause.
 use Rattle.std.proofs.Common.{◌≡◌, Some, None, refl, ap, subst}
 use Rattle.std.specs.Prelude.{option_map}
-use Rattle.rc_hir.specs.declared.fault.Fault.{Fault}
+use Rattle.rc_hir.specs.Model.{Fault, HirFunction, Environment}
 use Rattle.rc_hir.specs.declared.fault.Fault.TheVariants as faults
-use Rattle.rc_hir.specs.declared.function.HirFunction.{HirFunction}
-use Rattle.rc_hir.specs.declared.environment.Environment.{Environment}
-use Rattle.rc_tree.specs.declared.function.ReactiveFunction.{ReactiveFunction}
+use Rattle.rc_tree.specs.Model.{ReactiveFunction}
 use Rattle.rc_runs.specs.EarlyReturns.{first_early_return}
 use Rattle.rc_runs.proofs.NamesOutsideLemmas.{no_name_outside}
 use Rattle.rc_runs.proofs.OneTree.{spells_one_function}
@@ -16,7 +15,7 @@ use Rattle.rc_pipe.specs.Passes.{EndsOutside}
 use Rattle.rc_pipe.proofs.OutsideLemmas.{last_outside}
 
 module _ (hir : HirFunction) (env : Environment) (accepted : IsAccepted hir env) where
-  -- what is accepted and has an answer is refused for want of memory alone
+  -- a graph that is accepted and has an answer is refused only when out of memory
   pub only_memory : (func : ReactiveFunction) → HasAnswer hir env func → (fault : Fault) → IsCause hir env fault
       → fault ≡ faults.NoMemory
   only_memory func answer (faults.BadName table index) cause =
@@ -41,7 +40,7 @@ module _ (hir : HirFunction) (env : Environment) (accepted : IsAccepted hir env)
   only_memory func answer (faults.BadTarget target) cause = absurd cause
   only_memory func answer (faults.FunctionCycle function) cause = absurd cause
 
-  -- why the builder refuses an accepted graph is a cause
+  -- the builder's reason to refuse an accepted graph is a cause
   pub build_cause : (fault : Fault) → IsBuildCause hir env fault → IsCause hir env fault
   build_cause (faults.BadName table index) cause = cause
   build_cause (faults.NotBuilt block) cause = (accepted, cause.1)

@@ -1,17 +1,16 @@
--- The fates that are listed by the scope blocks that are left are those of the rules.
+-- The fates that are listed by the remaining scope blocks are those of the rules.
 use Rattle.std.proofs.Common.{◌≡◌, ◌∙◌, ◌↔◌, Bool, true, false, List, map, Contains, get_or, refl, sym, subst}
 use Rattle.std.proofs.lemmas.List.Elements.{Contains-get_or}
-use Rattle.rc_names.specs.declared.numbers.ScopeId.{ScopeId}
-use Rattle.rc_runs.specs.Spelled.{same_scope}
-use Rattle.rc_runs.proofs.GraphLemmas.{scopes_equivalence}
-use Rattle.rc_checks.specs.ScopeBlocks.{ScopeBlock, scope_blocks, stays, staying_blocks}
-use Rattle.rc_checks.specs.ScopesIn.{HasScopesOnce, scopes_in}
+use Rattle.rc_names.specs.Numbers.{ScopeId, same_id}
+use Rattle.rc_names.proofs.NumbersLemmas.{ids_equivalence}
+use Rattle.rc_checks.specs.ScopeBlocks.{ScopeBlock, scope_blocks, HasScopesOnce, scopes_in}
+use Rattle.rc_checks.specs.UnusedScopes.{stays, staying_blocks}
 use Rattle.rc_pipe.specs.declared.fates.Fate.{Fate}
 use Rattle.rc_pipe.specs.declared.fates.Fate.TheVariants.{Kept, NotEscaping, Unused, MergedInto, DissolvedInto}
 use Rattle.rc_pipe.specs.declared.fates.Fate.TheVariants.{AlwaysInvalidating}
 use Rattle.rc_pipe.specs.declared.fates.ScopeFate.{ScopeFate}
 use Rattle.rc_pipe.specs.Fates.{AreFates, AreKeptExactly, IsFate, IsUnused}
-use Rattle.rc_pipe.specs.ListedFates.{AreListedFates, IsListedFate}
+use Rattle.rc_pipe.specs.inside.ListedFates.{AreListedFates, IsListedFate}
 use Rattle.rc_pipe.specs.Passes.{PassState, IsPruned}
 use Rattle.rc_pipe.proofs.ListedOnce.{from_filter, from_map, into_filter, into_map, one_element}
 
@@ -28,14 +27,14 @@ module _ {spelled pruned : PassState} (passes : IsPruned spelled pruned)
       → (block : ScopeBlock) × Contains (scope_blocks spelled.func.body) block × (block.scope ≡ scope)
   block_of_scope scope there = from_map scope_of (scope_blocks spelled.func.body) scope there
 
-  -- a scope that is left has a block that stays
+  -- a scope that remains has a block that stays
   block_left : (scope : ScopeId) → Contains (scopes_in pruned.func.body) scope
       → (block : ScopeBlock) × Contains (staying_blocks spelled.env spelled.func.body) block × (block.scope ≡ scope)
   block_left scope there =
       from_map scope_of (staying_blocks spelled.env spelled.func.body) scope
       (subst (λ scopes. Contains scopes scope) left there)
 
-  -- the other way round
+  -- the converse
   is_left : (block : ScopeBlock) → Contains (scope_blocks spelled.func.body) block → stays spelled.env block ≡ true
       → Contains (scopes_in pruned.func.body) block.scope
   is_left block there staying =
@@ -46,9 +45,9 @@ module _ {spelled pruned : PassState} (passes : IsPruned spelled pruned)
   -- blocks of one scope are one block
   one_block : (a b : ScopeBlock) → Contains (scope_blocks spelled.func.body) a
       → Contains (scope_blocks spelled.func.body) b → a.scope ≡ b.scope → a ≡ b
-  one_block = one_element same_scope scopes_equivalence.refl scope_of (scope_blocks spelled.func.body) once
+  one_block = one_element same_id ids_equivalence.refl scope_of (scope_blocks spelled.func.body) once
 
-  -- an unused scope's block is one of the spelled tree that doesn't stay there
+  -- an unused scope has a block in the spelled tree that doesn't stay there
   unused_there : (scope : ScopeId) → IsUnused passes.labeled scope
       → (block : ScopeBlock) × Contains (scope_blocks spelled.func.body) block × (block.scope ≡ scope)
       × (stays spelled.env block ≡ false)
@@ -59,7 +58,7 @@ module _ {spelled pruned : PassState} (passes : IsPruned spelled pruned)
     subst (λ env. stays env unused.block ≡ false) passes.labels.kept_environment unused.gives_nothing,
   )
 
-  -- the other way round
+  -- the converse
   is_unused : (scope : ScopeId) (block : ScopeBlock) → Contains (scope_blocks spelled.func.body) block
       → block.scope ≡ scope → stays spelled.env block ≡ false → IsUnused passes.labeled scope
   is_unused scope block there same gives_nothing = record {
@@ -69,7 +68,7 @@ module _ {spelled pruned : PassState} (passes : IsPruned spelled pruned)
     gives_nothing = subst (λ env. stays env block ≡ false) (sym passes.labels.kept_environment) gives_nothing;
   }
 
-  -- a scope that is left isn't unused
+  -- a scope that remains isn't unused
   kept_by_rule : (scope : ScopeId) → Contains (scopes_in pruned.func.body) scope → IsUnused passes.labeled scope → ⊥
   kept_by_rule scope there unused =
       let staying = block_left scope there in
@@ -80,7 +79,7 @@ module _ {spelled pruned : PassState} (passes : IsPruned spelled pruned)
       let no : stays spelled.env idle.0 ≡ false = idle.3 in
       let bad : ⊥ = cc in bad
 
-  -- a scope of the spelled tree that isn't left is unused
+  -- a scope of the spelled tree that doesn't remain is unused
   unused_by_rule : (scope : ScopeId) → Contains (scopes_in spelled.func.body) scope
       → (Contains (scopes_in pruned.func.body) scope → ⊥) → IsUnused passes.labeled scope
   unused_by_rule scope there gone =
@@ -92,7 +91,7 @@ module _ {spelled pruned : PassState} (passes : IsPruned spelled pruned)
           absurd (gone (subst (Contains (scopes_in pruned.func.body)) same (is_left block found staying)))
       split block found same false gives_nothing = is_unused scope block found same gives_nothing
 
-  -- the listed fate of a scope of the spelled tree is the one of the rules
+  -- the listed fate of a scope of the spelled tree is that of the rules
   fate_by_rule : (scope : ScopeId) (fate : Fate) → Contains (scopes_in spelled.func.body) scope
       → IsListedFate (scopes_in pruned.func.body) scope fate → IsFate passes scope fate
   fate_by_rule scope Kept there is = kept_by_rule scope is
@@ -104,7 +103,7 @@ module _ {spelled pruned : PassState} (passes : IsPruned spelled pruned)
 
   module _ (fates : List ScopeFate)
       (listed : AreListedFates (scopes_in spelled.func.body) pruned.func.body fates) where
-    -- the scopes that are listed have their fates by the rules
+    -- the listed scopes have their fates by the rules
     pub fates_hold : AreFates passes fates
     fates_hold = record {
       rising = listed.rising;
@@ -117,7 +116,7 @@ module _ {spelled pruned : PassState} (passes : IsPruned spelled pruned)
           (listed.told place other below);
     }
 
-    -- kept are exactly those that still have a scope block
+    -- exactly the scopes that still have a scope block are kept
     pub kept_exactly : AreKeptExactly pruned.func.body fates
     kept_exactly = λ place other below.
         let entry = get_or fates place other in by entry.scope entry.fate (listed.told place other below)

@@ -1,74 +1,66 @@
 -- Fates that are listed from an ordered set of scopes.
 use Rattle.std.proofs.Common.{◌≡◌, ◌∙◌, ◌↔◌, ℕ, zero, suc, List, [], ◌∷◌, ◌++◌, append_assoc, map, get_or, ap, subst}
+use Rattle.std.proofs.Common.{refl, sym}
 use Rattle.std.proofs.Common.{arith, IsTrue, IfOk, Result, Ok, Err, All, Contains}
 use Rattle.std.proofs.lemmas.List.{map-append}
 use Rattle.std.proofs.lemmas.List.Elements.{All-append}
 use Rattle.std.specs.declared.alloc.AllocError.{AllocError}
-use Rattle.std.specs.declared.cmp.Ordering.{Ordering}
-use Rattle.std.specs.declared.cmp.Ordering.TheVariants.{Less}
 use Rattle.std.specs.Ordering.{nat_cmp}
-use Rattle.std.specs.Cmp.{IsTotalOrder}
-use Rattle.std.specs.List.{AllByRecursion}
-use Rattle.std.specs.List.Sorted.{IsStrictlySortedBy, IsStrictlyIncreasing}
+use Rattle.std.specs.List.Sorted.{IsStrictlyIncreasing}
 use Rattle.std.specs.BTreeSet.{BTreeSet, IsFromIterResult, contains}
 use Rattle.std.proofs.lemmas.Cmp.{nat_cmp_total}
 use Rattle.std.proofs.lemmas.Map.Keys.{IsStrictlyIncreasing-from_sorted}
-use Rattle.std.proofs.lemmas.Map.Lookups.{CmpEqualImpliesEq, exact_unsigned}
+use Rattle.std.proofs.lemmas.Map.Lookups.{exact_unsigned}
 use Rattle.std.proofs.lemmas.Map.Views.{btree_set_contains_from_list, btree_set_contains_iff}
-use Rattle.rc_names.specs.declared.numbers.ScopeId.{ScopeId}
-use Rattle.rc_tree.specs.declared.statement.ReactiveBlock.{ReactiveBlock}
+use Rattle.rc_names.specs.Numbers.{ScopeId, to_id}
+use Rattle.rc_tree.specs.Model.{ReactiveBlock}
 use Rattle.rc_pipe.specs.declared.fates.Fate.{Fate}
 use Rattle.rc_pipe.specs.declared.fates.Fate.TheVariants.{Kept, NotEscaping, Unused, MergedInto, DissolvedInto}
 use Rattle.rc_pipe.specs.declared.fates.Fate.TheVariants.{AlwaysInvalidating}
 use Rattle.rc_pipe.specs.declared.fates.ScopeFate.{ScopeFate}
-use Rattle.rc_checks.specs.ScopesIn.{scopes_in}
+use Rattle.rc_checks.specs.ScopeBlocks.{scopes_in}
 use Rattle.rc_pipe.specs.Fates.{listed_scopes}
-use Rattle.rc_pipe.specs.ListedFates.{IsListedFate, HasListedFate, AreListedFates}
+use Rattle.rc_pipe.proofs.ListedOnce.{from_map, into_map}
+use Rattle.rc_pipe.specs.inside.ListedFates.{IsListedFate, HasListedFate, AreListedFates, scopes_of}
 
--- the order of scopes is that of their numbers
-abbrev pub scope_cmp : ScopeId → ScopeId → Ordering
-scope_cmp a b = nat_cmp a.0 b.0
-
--- it is a total order
-pub scopes_ordered : IsTotalOrder scope_cmp
-scopes_ordered = record {
-  antisymm = λ a b. nat_cmp_total.antisymm a.0 b.0;
-  trans = λ a b c. nat_cmp_total.trans a.0 b.0 c.0;
-  congr = λ a b c. nat_cmp_total.congr a.0 b.0 c.0;
-}
-
--- scopes that compare as equal are the same
-pub scopes_exact : CmpEqualImpliesEq scope_cmp
-scopes_exact a b same =
-    let of_number : ℕ → ScopeId = λ number. record { 0 = number } in
-    ap of_number (exact_unsigned a.0 b.0 same)
-
--- the numbers of scopes in order are in order
-numbers_sorted : (scopes : List ScopeId) → IsStrictlySortedBy scope_cmp scopes
-    → IsStrictlySortedBy nat_cmp (map (λ scope. scope.0) scopes)
-unfolding IsStrictlySortedBy
-numbers_sorted [] sorted = tt
-numbers_sorted (scope ∷ scopes) sorted = (above scopes sorted.0, numbers_sorted scopes sorted.1)
-  where
-    above : (rest : List ScopeId) → AllByRecursion (λ other. scope_cmp scope other ≡ Less) rest →
-        AllByRecursion (λ number. nat_cmp scope.0 number ≡ Less) (map (λ scope. scope.0) rest)
-    above [] all = tt
-    above (other ∷ rest) all = (all.0, above rest all.1)
+-- the numbers of the scopes of numbers are these numbers
+numbers_again : (numbers : List ℕ) → map (λ (scope : ScopeId). scope.0) (scopes_of numbers) ≡ numbers
+numbers_again [] = refl
+numbers_again (number ∷ numbers) = ap (λ l. number ∷ l) (numbers_again numbers)
 
 -- the numbers of a set's scopes rise
-pub set_rises : (scopes : List ScopeId) (set : BTreeSet ScopeId) → IsFromIterResult scope_cmp scopes set →
-    IsStrictlyIncreasing (map (λ scope. scope.0) set.keys)
-set_rises scopes set made = IsStrictlyIncreasing-from_sorted _ (numbers_sorted set.keys made.1)
+pub set_rises : (scopes : List ScopeId) (set : BTreeSet ℕ) → IsFromIterResult nat_cmp (map (λ scope. scope.0) scopes) set
+    → IsStrictlyIncreasing (map (λ scope. scope.0) (scopes_of set.keys))
+set_rises scopes set made =
+    subst IsStrictlyIncreasing (sym (numbers_again set.keys)) (IsStrictlyIncreasing-from_sorted _ made.1)
 
--- a set has the scopes that it was made of
-pub set_has : (scopes : List ScopeId) (set : BTreeSet ScopeId) → IsFromIterResult scope_cmp scopes set →
-    (scope : ScopeId) → Contains set.keys scope ↔ Contains scopes scope
+-- a scope is one of these exactly if its number is one of theirs
+among_numbers : (scopes : List ScopeId) (scope : ScopeId)
+    → Contains (map (λ s. s.0) scopes) scope.0 ↔ Contains scopes scope
+among_numbers scopes scope = (
+  λ h. let found = from_map (λ (s : ScopeId). s.0) scopes scope.0 h in
+      subst (λ s. Contains scopes s) (ap to_id found.2) found.1,
+  into_map (λ (s : ScopeId). s.0) scopes scope,
+)
+
+among_scopes : (numbers : List ℕ) (scope : ScopeId) → Contains (scopes_of numbers) scope ↔ Contains numbers scope.0
+among_scopes numbers scope =
+    let same = among_numbers (scopes_of numbers) scope in (
+      λ h. subst (λ l. Contains l scope.0) (numbers_again numbers) (same.1 h),
+      λ h. same.0 (subst (λ l. Contains l scope.0) (sym (numbers_again numbers)) h),
+    )
+
+-- a set has exactly the numbers of the scopes from which it was made
+pub set_has : (scopes : List ScopeId) (set : BTreeSet ℕ) → IsFromIterResult nat_cmp (map (λ scope. scope.0) scopes) set
+    → (scope : ScopeId) → Contains (scopes_of set.keys) scope ↔ Contains scopes scope
 set_has scopes set made scope =
-    let here = btree_set_contains_iff scopes_ordered scopes_exact set scope in
-    let there = btree_set_contains_from_list scopes_ordered scopes_exact scopes set made scope in
-    (λ h. there.0 (here.1 h), λ h. here.0 (there.1 h))
+    let here = btree_set_contains_iff nat_cmp_total exact_unsigned set scope.0 in
+    let there = btree_set_contains_from_list nat_cmp_total exact_unsigned (map (λ s. s.0) scopes) set made scope.0 in
+    let kept = among_scopes set.keys scope in
+    let own = among_numbers scopes scope in
+    (λ h. own.0 (there.0 (here.1 (kept.0 h))), λ h. kept.1 (here.0 (there.1 (own.1 h))))
 
--- what is the fate of a scope by some scopes is its fate by the same ones in another order
+-- the fate of a scope doesn't depend on the order of the scopes by which it is judged
 fate_by_same : (left other : List ScopeId) → ((scope : ScopeId) → Contains left scope ↔ Contains other scope)
     → (scope : ScopeId) (fate : Fate) → IsListedFate left scope fate → IsListedFate other scope fate
 fate_by_same left other same scope Kept is = (same scope).0 is
@@ -78,12 +70,13 @@ fate_by_same left other same scope (MergedInto into) is = is
 fate_by_same left other same scope (DissolvedInto into) is = is
 fate_by_same left other same scope AlwaysInvalidating is = is
 
--- the fates of scopes in order, by those that are left, are the fates of these scopes
+-- the fates of sorted scopes, each by the scopes that remain, are the listed fates of these scopes
 pub fates_told : (scopes : List ScopeId) (body : ReactiveBlock) (ordered left : List ScopeId)
     → IsStrictlyIncreasing (map (λ scope. scope.0) ordered)
     → ((scope : ScopeId) → Contains ordered scope ↔ Contains scopes scope)
     → ((scope : ScopeId) → Contains left scope ↔ Contains (scopes_in body) scope)
-    → (fates : List ScopeFate) → listed_scopes fates ≡ ordered → All (HasListedFate left) fates → AreListedFates scopes body fates
+    → (fates : List ScopeFate) → listed_scopes fates ≡ ordered → All (HasListedFate left) fates
+    → AreListedFates scopes body fates
 fates_told scopes body ordered left rising same same_left fates listed told = record {
   rising = rw listed rising;
   listed = λ scope. rw listed (same scope);
@@ -92,10 +85,13 @@ fates_told scopes body ordered left rising same same_left fates listed told = re
       fate_by_same left (scopes_in body) same_left entry.scope entry.fate (told place other below);
 }
 
--- a scope is in a set exactly where the set has it
-pub set_contains : (set : BTreeSet ScopeId) (scope : ScopeId)
-    → IsTrue (contains scope_cmp set scope) ↔ Contains set.keys scope
-set_contains set scope = btree_set_contains_iff scopes_ordered scopes_exact set scope
+-- `contains` is true of a set exactly if the set has the scope's number
+pub set_contains : (set : BTreeSet ℕ) (scope : ScopeId)
+    → IsTrue (contains nat_cmp set scope.0) ↔ Contains (scopes_of set.keys) scope
+set_contains set scope =
+    let here = btree_set_contains_iff nat_cmp_total exact_unsigned set scope.0 in
+    let kept = among_scopes set.keys scope in
+    (λ h. kept.1 (here.0 h), λ h. here.1 (kept.0 h))
 
 -- a further entry lists its scope, with its fate
 pub fates_more : (left : List ScopeId) (fates : List ScopeFate) (entry : ScopeFate) (scope : ScopeId)
@@ -114,7 +110,7 @@ fates_more left fates entry scope rest keys same has given =
     alone zero other below = has
     alone (suc place) other below = absurd (let no : ⊥ = omega (arith, below) in no)
 
--- the same of what a call answers, where the scopes found in the body are in some order
+-- the same for the result of a call, whatever the order in which the body's scopes were found
 pub fates_answered : (scopes : List ScopeId) (body : ReactiveBlock) (found ordered left : List ScopeId)
     → found ≡ scopes_in body → IsStrictlyIncreasing (map (λ scope. scope.0) ordered)
     → ((scope : ScopeId) → Contains ordered scope ↔ Contains scopes scope)

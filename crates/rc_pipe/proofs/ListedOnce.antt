@@ -1,4 +1,4 @@
--- Elements of lists: of a mapped and of a filtered one, and of one whose keys differ.
+-- The elements of a mapped list, of a filtered list, and of a list with distinct keys.
 use Rattle.std.proofs.Common.{◌≡◌, ◌<◌, ◌∙◌, ◌⊎◌, inl, inr, ℕ, zero, suc, Bool, true, false, List, [], ◌∷◌, length}
 use Rattle.std.proofs.Common.{get_or, map, if◌then◌else◌, arith, refl, sym, ap, subst, Contains}
 use Rattle.std.proofs.lemmas.List.Elements.{Contains-append_right}
@@ -10,7 +10,7 @@ cons_cases : {X : Type 0} (x : X) (xs : List X) (y : X) (place : ℕ) → place 
 cons_cases x xs y zero below here = inl here
 cons_cases x xs y (suc place) below here = inr (place, omega arith, here)
 
--- and the other way round
+-- the converse
 head_of : {X : Type 0} (x : X) (xs : List X) → Contains (x ∷ xs) x
 head_of x xs = (0, omega arith, refl)
 
@@ -26,7 +26,7 @@ module _ {X Y : Type 0} (f : X → Y) where
       by in_rest (inr later) =
           let it = in_rest later in (it.0, Contains-append_right (x ∷ []) xs it.0 it.1, it.2)
 
-  -- and the other way round
+  -- the converse
   pub into_map : (xs : List X) (x : X) → Contains xs x → Contains (map f xs) (f x)
   into_map [] x there = absurd (omega (arith, there.1))
   into_map (y ∷ xs) x there = by (into_map xs x) (cons_cases y xs x there.0 there.1 there.2)
@@ -55,7 +55,7 @@ module _ {X : Type 0} (p : X → Bool) where
       split in_rest true passes found = by in_rest passes (cons_cases y (filter p xs) x found.0 found.1 found.2)
       split in_rest false fails found = behind (in_rest found)
 
-  -- and the other way round
+  -- the converse
   pub into_filter : (xs : List X) (x : X) → Contains xs x → p x ≡ true → Contains (filter p xs) x
   into_filter [] x there passes = absurd (omega (arith, there.1))
   into_filter (y ∷ xs) x there passes =
@@ -70,7 +70,7 @@ module _ {X : Type 0} (p : X → Bool) where
       split in_rest false is (inr later) = in_rest later
 
 module _ {X K : Type 0} (same_key : K → K → Bool) (reflexive : (k : K) → same_key k k ≡ true) (key : X → K) where
-  -- a key that is none of all is not that of an element
+  -- a key that isn't among the keys is that of no element
   none_of : (k : K) (xs : List X) → AllByRecursion (λ y. same_key k y ≡ false) (map key xs)
       → (x : X) → Contains xs x → key x ≡ k → ⊥
   none_of k [] none x there same = omega (arith, there.1)
@@ -85,7 +85,7 @@ module _ {X K : Type 0} (same_key : K → K → Bool) (reflexive : (k : K) → s
           let bad : ⊥ = cc in bad
       by in_rest (inr later) = in_rest later
 
-  -- elements of one key are one element, where keys differ
+  -- elements with the same key are the same element, if keys are distinct
   pub one_element : (xs : List X) → IsDistinct same_key (map key xs) → (a b : X) → Contains xs a → Contains xs b
       → key a ≡ key b → a ≡ b
   unfolding IsDistinct

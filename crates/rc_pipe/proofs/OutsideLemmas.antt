@@ -1,12 +1,11 @@
--- Where no operand is outside, none is the last one outside.
+-- If no operand is outside, there is no last one outside.
 use Rattle.std.proofs.Common.{◌≡◌, ◌∷◌, ◌++◌, None, Some, Ok, All, arith, subst}
-use Rattle.rc_hir.specs.declared.environment.Environment.{Environment}
-use Rattle.rc_names.specs.declared.numbers.EvaluationOrder.{EvaluationOrder}
-use Rattle.rc_names.specs.declared.numbers.ScopeId.{ScopeId}
-use Rattle.rc_tree.specs.declared.statement.ReactiveBlock.{ReactiveBlock}
+use Rattle.rc_hir.specs.Model.{Environment}
+use Rattle.rc_names.specs.Numbers.{EvaluationOrder, ScopeId}
+use Rattle.rc_tree.specs.Model.{ReactiveBlock}
 use Rattle.rc_runs.proofs.AllLemmas.{All-right}
 use Rattle.rc_checks.specs.Membership.{IsInside, outside}
-use Rattle.rc_checks.specs.ScopesIn.{scopes_in}
+use Rattle.rc_checks.specs.ScopeBlocks.{scopes_in}
 use Rattle.rc_pipe.specs.Passes.{AreInside, EndsOutside}
 
 pub last_outside : (env : Environment) (body : ReactiveBlock) (id : EvaluationOrder) (scope : ScopeId)

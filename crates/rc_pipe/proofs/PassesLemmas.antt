@@ -1,16 +1,12 @@
--- From the clauses of the checks and passes to those of what they do one after the other.
+-- The clauses of the checks and passes, put together into those of the whole sequence.
 use Rattle.std.proofs.Common.{◌≡◌, ◌∙◌, ◌⊎◌, inl, inr, ℕ, List, Result, Ok, Err, OnOk, ◌↔◌, All, map, refl, sym, ap}
 use Rattle.std.proofs.Common.{subst}
 use Rattle.std.specs.List.{filter}
-use Rattle.rc_hir.specs.declared.environment.Environment.{Environment}
-use Rattle.rc_hir.specs.declared.fault.Fault.{Fault}
+use Rattle.rc_hir.specs.Model.{Environment, Fault, TableName, HirFunction}
 use Rattle.rc_hir.specs.declared.fault.Fault.TheVariants as faults
-use Rattle.rc_hir.specs.declared.fault.TableName.{TableName}
-use Rattle.rc_hir.specs.declared.function.HirFunction.{HirFunction}
-use Rattle.rc_names.specs.declared.numbers.EvaluationOrder.{EvaluationOrder}
-use Rattle.rc_names.specs.declared.numbers.ScopeId.{ScopeId}
+use Rattle.rc_names.specs.Numbers.{EvaluationOrder, ScopeId}
 use Rattle.rc_tree.specs.TreeNames.{TreeInTables}
-use Rattle.rc_tree.specs.declared.function.ReactiveFunction.{ReactiveFunction}
+use Rattle.rc_tree.specs.Model.{ReactiveFunction}
 use Rattle.rc_runs.specs.BodyRun.{IsBodyRun}
 use Rattle.rc_runs.specs.Erase.{erased}
 use Rattle.rc_runs.specs.Event.{Event, End}
@@ -19,11 +15,10 @@ use Rattle.rc_runs.proofs.ErasedRuns.{same_erased_same_runs}
 use Rattle.rc_build.specs.BuiltForms.{AreBuilt}
 use Rattle.rc_checks.specs.Labels.{IsWithoutUnusedLabels}
 use Rattle.rc_checks.specs.Membership.{IsInside, IsLastOutside}
-use Rattle.rc_checks.specs.ScopeBlocks.{scope_blocks, staying_blocks}
-use Rattle.rc_checks.specs.ScopeBlocks as blocks
-use Rattle.rc_checks.specs.ScopesIn.{scopes_in}
-use Rattle.rc_checks.specs.UnusedScopes.{IsWithoutUnusedScopes}
-use Rattle.rc_checks.specs.Visits.{visits_of}
+use Rattle.rc_checks.specs.ScopeBlocks.{scope_blocks, scopes_in}
+use Rattle.rc_checks.specs.UnusedScopes.{staying_blocks, IsWithoutUnusedScopes}
+use Rattle.rc_checks.specs.UnusedScopes as unused
+use Rattle.rc_checks.specs.Membership.Visits.{visits_of}
 use Rattle.rc_pipe.specs.Headline.{IsAccepted, IsCause}
 use Rattle.rc_pipe.specs.Passes.{AreInside, EndsOutside, IsPassFault, IsPruned, PassState, state}
 
@@ -38,9 +33,10 @@ runs_through env first second third (Ok done) same e = λ events end.
     (λ run. there.1 (here.0 run), λ run. here.1 (there.0 run))
 runs_through env first second third (Err fault) same e = tt
 
--- what holds of a function by what held of the one before it
+-- numbers that stay in their tables up to a function, and up to the next one, stay in them throughout
 pub known_through : (env : Environment) (first second third : ReactiveFunction) (result : Result (Unit {0}) Fault)
-    → (TreeInTables first env → TreeInTables second env) → OnOk result (TreeInTables second env → TreeInTables third env)
+    → (TreeInTables first env → TreeInTables second env) → OnOk result
+    (TreeInTables second env → TreeInTables third env)
     → OnOk result (TreeInTables first env → TreeInTables third env)
 known_through env first second third (Ok done) here there = λ known. there (here known)
 known_through env first second third (Err fault) here there = tt
@@ -49,13 +45,13 @@ module _ (env : Environment) (spelled labeled : ReactiveFunction)
     (kept_visits : visits_of env.functions labeled.body ≡ visits_of env.functions spelled.body)
     (kept_scope_blocks : scope_blocks labeled.body ≡ scope_blocks spelled.body)
     (kept_scopes : scopes_in labeled.body ≡ scopes_in spelled.body) where
-  -- what was inside the scopes of the function without its unused labels was inside those of the spelled one
+  -- operands inside the scopes of the function without its unused labels are inside those of the spelled one
   inside_spelled : AreInside env labeled.body → AreInside env spelled.body
   inside_spelled inside =
       subst (λ visits. All (IsInside env (scopes_in spelled.body)) visits) kept_visits
       (subst (λ scopes. All (IsInside env scopes) (visits_of env.functions labeled.body)) kept_scopes inside)
 
-  -- the same of what was outside
+  -- the same for operands outside
   outside_spelled : (id : EvaluationOrder) (scope : ScopeId) → EndsOutside env labeled.body id scope
       → EndsOutside env spelled.body id scope
   outside_spelled id scope last =
@@ -81,15 +77,15 @@ module _ (env : Environment) (spelled labeled : ReactiveFunction)
   }
   pruned_by_both pruned (Err fault) labels kept inside scopes header = tt
 
-  -- the scope blocks that are left are those of the spelled function that stay
+  -- the scope blocks that remain are those of the spelled function that stay
   pub left_of_spelled : (pruned : ReactiveFunction) (result : Result (Unit {0}) Fault)
       → OnOk result (scopes_in pruned.body ≡ map (λ block. block.scope) (staying_blocks env labeled.body))
       → OnOk result (scopes_in pruned.body ≡ map (λ block. block.scope) (staying_blocks env spelled.body))
   left_of_spelled pruned (Ok done) left =
-      left ∙ ap (λ all. map (λ block. block.scope) (filter (blocks.stays env) all)) kept_scope_blocks
+      left ∙ ap (λ all. map (λ block. block.scope) (filter (unused.stays env) all)) kept_scope_blocks
   left_of_spelled pruned (Err fault) left = tt
 
-  -- what the check of operands refuses, once unused labels are pruned, is a fault of the passes
+  -- a refusal of the check of operands, after unused labels are pruned, is a fault of the passes
   pub outside_fault : (fault : Fault)
       → ((id : EvaluationOrder) (scope : ScopeId) → fault ≡ faults.ScopeCompleted id scope
       → EndsOutside env labeled.body id scope)
@@ -104,11 +100,11 @@ module _ (env : Environment) (spelled labeled : ReactiveFunction)
       (outside_spelled it.0 it.1 (completed it.0 it.1 it.2))
   outside_fault fault completed sound (inr (inr it)) = absurd (sound it.0 it.1 it.2)
 
--- want of memory may come from each pass
+-- each pass may run out of memory
 pub memory_fault : (spelled : PassState) (fault : Fault) → fault ≡ faults.NoMemory → IsPassFault spelled fault
 memory_fault spelled fault memory = subst (IsPassFault spelled) (sym memory) tt
 
--- what the passes refuse of a spelled function has a cause
+-- a refusal of a spelled function by the passes has a cause
 pub pass_cause : (hir : HirFunction) (env : Environment) → IsAccepted hir env → AreBuilt hir
     → (func : ReactiveFunction) → Spells hir env func → (fault : Fault) → IsPassFault (state func env) fault
     → IsCause hir env fault

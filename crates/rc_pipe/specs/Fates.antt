@@ -1,23 +1,23 @@
--- What becomes of the scope blocks of a spelled tree: each fate by its rule, judged on the function and the environment
--- that the pass received which applies the rule. The first rule that holds, in the order of the passes, gives the fate.
+-- The fates of the scope blocks of a spelled tree, each by its rule. A rule is judged on the function and the
+-- environment that its pass received. The first rule that applies, in the order of the passes, gives the fate.
 use Rattle.std.specs.Prelude.{◌≡◌, ◌↔◌, false, List, All, Contains, map}
 use Rattle.std.specs.List.Sorted.{IsStrictlyIncreasing}
-use Rattle.rc_names.specs.declared.numbers.ScopeId.{ScopeId}
-use Rattle.rc_tree.specs.declared.statement.ReactiveBlock.{ReactiveBlock}
+use Rattle.rc_names.specs.Numbers.{ScopeId}
+use Rattle.rc_tree.specs.Model.{ReactiveBlock}
 use Rattle.rc_pipe.specs.declared.fates.Fate.{Fate}
 use Rattle.rc_pipe.specs.declared.fates.Fate.TheVariants.{Kept, NotEscaping, Unused, MergedInto, DissolvedInto}
 use Rattle.rc_pipe.specs.declared.fates.Fate.TheVariants.{AlwaysInvalidating}
 use Rattle.rc_pipe.specs.declared.fates.ScopeFate.{ScopeFate}
-use Rattle.rc_checks.specs.ScopeBlocks.{ScopeBlock, scope_blocks, stays}
-use Rattle.rc_checks.specs.ScopesIn.{scopes_in}
+use Rattle.rc_checks.specs.ScopeBlocks.{ScopeBlock, scope_blocks, scopes_in}
+use Rattle.rc_checks.specs.UnusedScopes.{stays}
 use Rattle.rc_pipe.specs.Passes.{PassState, IsPruned}
 
--- the scopes that are listed, in the order of the list
+-- the listed scopes, in the order of the list
 abbrev pub listed_scopes : List ScopeFate → List ScopeId
 listed_scopes fates = map (λ entry. entry.scope) fates
 
--- unused: the block of the scope reassigns nothing, declares nothing of its own, and no `Return` stands in it outside
--- nested scope blocks
+-- the scope is unused: its block reassigns nothing, declares nothing of its own, and has no `Return` outside nested
+-- scope blocks
 pub record IsUnused (received : PassState) (scope : ScopeId) : Type 0 where
   pub block : ScopeBlock
   pub among : Contains (scope_blocks received.func.body) block
@@ -25,7 +25,7 @@ pub record IsUnused (received : PassState) (scope : ScopeId) : Type 0 where
   pub gives_nothing : stays received.env block ≡ false
 
 module _ {spelled pruned : PassState} (passes : IsPruned spelled pruned) where
-  -- the rule of each fate; no pass gives the others yet
+  -- the rule of each fate; no pass gives the other fates yet
   abbrev pub IsFate : ScopeId → Fate → Type 0
   IsFate scope Unused = IsUnused passes.labeled scope
   IsFate scope Kept = ¬ IsUnused passes.labeled scope
@@ -34,7 +34,7 @@ module _ {spelled pruned : PassState} (passes : IsPruned spelled pruned) where
   IsFate scope (DissolvedInto parent) = ⊥
   IsFate scope AlwaysInvalidating = ⊥
 
-  -- each scope of the spelled tree is listed once, by rising number, with its fate
+  -- each scope of the spelled tree is listed once, in ascending order, with its fate
   pub record AreFates (fates : List ScopeFate) : Type 0 where
     pub rising : IsStrictlyIncreasing (map (λ scope. scope.0) (listed_scopes fates))
     pub listed : (scope : ScopeId) → Contains (listed_scopes fates) scope ↔ Contains (scopes_in spelled.func.body) scope

@@ -2,4 +2,4 @@ pub mod Causes
 pub mod Passes
 pub mod Fates
 pub mod Headline
-pub mod ListedFates
+pub mod inside

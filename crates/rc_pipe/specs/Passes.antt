@@ -1,20 +1,16 @@
--- What the passes make of a spelled function and of its environment, one after the other, and why they refuse one.
+-- The sequence of passes over a spelled function and its environment, and the faults with which they refuse one.
 use Rattle.std.specs.Prelude.{◌≡◌, All, ⊤}
-use Rattle.rc_hir.specs.declared.environment.Environment.{Environment}
-use Rattle.rc_hir.specs.declared.fault.Fault.{Fault}
+use Rattle.rc_hir.specs.Model.{Environment, Fault}
 use Rattle.rc_hir.specs.declared.fault.Fault.TheVariants as faults
-use Rattle.rc_names.specs.declared.numbers.EvaluationOrder.{EvaluationOrder}
-use Rattle.rc_names.specs.declared.numbers.ScopeId.{ScopeId}
-use Rattle.rc_tree.specs.declared.function.ReactiveFunction.{ReactiveFunction}
-use Rattle.rc_tree.specs.declared.statement.ReactiveBlock.{ReactiveBlock}
+use Rattle.rc_names.specs.Numbers.{EvaluationOrder, ScopeId}
+use Rattle.rc_tree.specs.Model.{ReactiveFunction, ReactiveBlock}
 use Rattle.rc_checks.specs.Labels.{IsWithoutUnusedLabels}
 use Rattle.rc_checks.specs.Membership.{IsInside, IsLastOutside}
-use Rattle.rc_checks.specs.ScopeBlocks.{scope_blocks}
-use Rattle.rc_checks.specs.ScopesIn.{scopes_in}
+use Rattle.rc_checks.specs.ScopeBlocks.{scope_blocks, scopes_in}
 use Rattle.rc_checks.specs.UnusedScopes.{IsWithoutUnusedScopes}
-use Rattle.rc_checks.specs.Visits.{visits_of}
+use Rattle.rc_checks.specs.Membership.Visits.{visits_of}
 
--- a function with its environment, as they stand between two passes
+-- a function with its environment, between two passes
 pub record PassState : Type 0 where
   pub func : ReactiveFunction
   pub env : Environment
@@ -50,11 +46,11 @@ pub record IsPruned (spelled pruned : PassState) : Type 0 where
   pub inside : AreInside spelled.env spelled.func.body
   pub scopes : AfterUnusedScopes labeled pruned
 
--- Why the passes refuse a function that the graph spells and whose numbers are in their tables.
+-- The passes may refuse, with this fault, a function that the graph spells and whose numbers are in their tables.
 abbrev pub IsPassFault : PassState → Fault → Type 0
 IsPassFault spelled (faults.ScopeCompleted id scope) = EndsOutside spelled.env spelled.func.body id scope
 IsPassFault spelled faults.NoMemory = ⊤
--- faults of the builder, and faults that no spelled function gets
+-- faults of the builder, and faults that no spelled function gives
 IsPassFault spelled (faults.Malformed block rule) = ⊥
 IsPassFault spelled (faults.Todo block) = ⊥
 IsPassFault spelled (faults.EarlyReturnSet scope) = ⊥

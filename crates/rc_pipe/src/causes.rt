@@ -1,4 +1,4 @@
-//! The tests that come before a graph is built.
+//! The checks that come before a graph is built.
 
 ghost use Rattle.std.specs.Prelude.{◌≡◌, ◌↔◌, ◌<◌, IsTrue, All, option_map};
 ghost use Rattle.rc_pipe.specs.Causes.{HasRoom, is_scope, scope_count};
@@ -7,7 +7,7 @@ ghost use Rattle.rc_runs.specs.EarlyReturns.{first_early_return};
 use rc_hir::{Environment, HirFunction, Terminal};
 use rc_names::ScopeId;
 
-/// The place of the lowest scope that answers for a `Return` already.
+/// The index of the lowest scope that has an early return already.
 fn first_early_place(env: &Environment) -> Option<usize>
     ensures { result ≡ first_early_return env.now }
 {
@@ -17,7 +17,7 @@ fn first_early_place(env: &Environment) -> Option<usize>
         .position(|scope| scope.early_return_value.is_some())
 }
 
-/// The lowest scope that answers for a `Return` already.
+/// Returns the lowest scope that has an early return already, if there is one.
 pub fn first_early_return(env: &Environment) -> Option<ScopeId>
     ensures { option_map (λ scope. scope.0) result ≡ first_early_return env.now }
 {
@@ -25,7 +25,7 @@ pub fn first_early_return(env: &Environment) -> Option<ScopeId>
     match first_early_place(env) {
         Some(place) => {
             prove!(place < count);
-            Some(ScopeId(place as u32))
+            Some(ScopeId::new(place as u32))
         }
         None => None,
     }
@@ -38,7 +38,7 @@ fn is_scope(terminal: &Terminal) -> bool
     matches!(terminal, Terminal::Scope { .. })
 }
 
-/// How many scope blocks the graph asks for.
+/// The number of scope blocks that the graph spells.
 fn scope_count(hir: &HirFunction) -> usize
     ensures { result ≡ scope_count hir.now }
 {
@@ -56,8 +56,8 @@ fn are_keys_below(hir: &HirFunction, next_block: u32) -> bool
     hir.body.blocks.iter().all(|(key, _)| key.0 < next_block)
 }
 
-/// Whether there are numbers enough for an early return in each scope of the graph: five identifiers, five types and
-/// a block for each.
+/// Returns whether enough numbers are left for an early return in each scope of the graph: five identifiers, five
+/// types and a block for each.
 pub fn has_room(hir: &HirFunction, env: &Environment) -> bool
     ensures { IsTrue result ↔ HasRoom hir.now env.now }
 {

@@ -1,12 +1,13 @@
-//! Fates: what became of each scope block that the graph asked for.
+//! Fates: one for each scope block that the graph spells.
 //!
-//! The scopes of the spelled tree are put into an ordered set, which has each once, and listed from there.
+//! The numbers of the spelled tree's scopes are put into an ordered set, which has each once, and listed from there.
 
 ghost use Rattle.std.specs.Prelude.{◌≡◌, ◌↔◌, map, All, Contains, IfOk};
+ghost use Rattle.std.specs.BTreeSet.{IsFromIterResult};
 ghost use Rattle.std.specs.List.Sorted.{IsStrictlyIncreasing};
-ghost use Rattle.rc_names.specs.declared.numbers.ScopeId.{ScopeId as Scope};
+ghost use Rattle.rc_names.specs.Numbers.{ScopeId as Scope};
 ghost use Rattle.rc_pipe.specs.Fates.{listed_scopes};
-ghost use Rattle.rc_pipe.specs.ListedFates.{AreListedFates, HasListedFate};
+ghost use Rattle.rc_pipe.specs.inside.ListedFates.{AreListedFates, HasListedFate, scopes_of};
 
 use rc_checks::scopes_in;
 use rc_names::{List, ScopeId};
@@ -14,21 +15,21 @@ use rc_tree::ReactiveBlock;
 use std::alloc::{AllocError, Global};
 use std::collections::BTreeSet;
 
-/// What became of a scope block; where several hold, the first in the order of the passes.
+/// The fate of a scope block: the first that applies, in the order of the passes.
 #[derive(Clone, Copy, Debug, PartialEq, Eq)]
 pub enum Fate {
     /// It is in the answered tree.
     Kept,
-    /// It has outputs, and none of them is memoized: its statements stand in its place.
+    /// It has outputs, and none of them is memoized. It was replaced by its statements.
     NotEscaping,
-    /// It has no output of its own and no `Return` of its own: it became a pruned one.
+    /// It has no output of its own and no `Return` of its own. It became a pruned one.
     Unused,
-    /// It became part of that scope's block, which stands before it in its list.
+    /// It became part of that scope's block, which came before it in its list.
     MergedInto(ScopeId),
-    /// The nearest scope block around it is that scope's and has the same dependencies: its
-    /// statements stand in its place.
+    /// The nearest scope block around it is that scope's and has the same dependencies. It was replaced by its
+    /// statements.
     DissolvedInto(ScopeId),
-    /// It depends on an unmemoized value that is always a new one: it became a pruned one.
+    /// It depends on an unmemoized value that is always a new one. It became a pruned one.
     AlwaysInvalidating,
 }
 
@@ -39,7 +40,8 @@ pub struct ScopeFate {
     pub fate: Fate,
 }
 
-/// The fates of these scopes, the ones of the spelled tree, by what is left of it. The only error is want of memory.
+/// The fates of these scopes, which are those of the spelled tree, by the scope blocks that remain in the body. Fails
+/// only when out of memory.
 pub(crate) fn fates_of(
     alloc: Global,
     scopes: &[ScopeId],
@@ -53,37 +55,44 @@ pub(crate) fn fates_of(
     all_fates(alloc, &scopes, &left)
 }
 
-/// The scopes, each once and in order. The only error is want of memory.
-fn in_order(alloc: Global, scopes: &[ScopeId]) -> Result<BTreeSet<ScopeId>, AllocError>
-    ensures rising { IfOk result (λ set. IsStrictlyIncreasing (map (λ scope. scope.0) set.keys)) }
+/// The numbers of the scopes, each once and in order. Fails only when out of memory.
+fn in_order(alloc: Global, scopes: &[ScopeId]) -> Result<BTreeSet<u32>, AllocError>
+    ensures rising { IfOk result (λ set. IsStrictlyIncreasing (map (λ scope. scope.0) (scopes_of set.keys))) }
     ensures same { IfOk result (λ set.
-        (scope : Scope) → Contains set.keys scope ↔ Contains scopes.now scope) }
+        (scope : Scope) → Contains (scopes_of set.keys) scope ↔ Contains scopes.now scope) }
 {
-    scopes.iter().copied().collect(alloc)
+    collected(alloc, scopes)
 }
 
-/// These scopes, each with its fate. The only error is want of memory.
+/// The set of the scopes' numbers. Fails only when out of memory.
+fn collected(alloc: Global, scopes: &[ScopeId]) -> Result<BTreeSet<u32>, AllocError>
+    ensures { IfOk result (IsFromIterResult ⟦<u32 as Ord>⟧.cmp (map (λ scope. scope.0) scopes.now)) }
+{
+    scopes.iter().map(|scope| scope.0).collect(alloc)
+}
+
+/// The scopes of these numbers, each with its fate. Fails only when out of memory.
 fn all_fates(
     alloc: Global,
-    scopes: &BTreeSet<ScopeId>,
-    left: &BTreeSet<ScopeId>,
+    numbers: &BTreeSet<u32>,
+    left: &BTreeSet<u32>,
 ) -> Result<List<ScopeFate>, AllocError>
-    ensures listed { IfOk result (λ fates. listed_scopes fates ≡ scopes.now.keys) }
-    ensures told { IfOk result (All (HasListedFate left.now.keys)) }
+    ensures listed { IfOk result (λ fates. listed_scopes fates ≡ scopes_of numbers.now.keys) }
+    ensures told { IfOk result (All (HasListedFate (scopes_of left.now.keys))) }
 {
     let mut fates = List::new(alloc);
-    for scope in scopes {
-        fates.push(fate_of(*scope, left))?;
+    for number in numbers {
+        fates.push(fate_of(ScopeId::new(*number), left))?;
     }
     Ok(fates)
 }
 
-/// A scope with its fate: kept where it is among those that are left.
-fn fate_of(scope: ScopeId, left: &BTreeSet<ScopeId>) -> ScopeFate
+/// A scope with its fate, which is kept if the scope's number is among those that remain.
+fn fate_of(scope: ScopeId, left: &BTreeSet<u32>) -> ScopeFate
     ensures scope { result.scope ≡ scope }
-    ensures told { HasListedFate left.now.keys result }
+    ensures told { HasListedFate (scopes_of left.now.keys) result }
 {
-    let fate = if left.contains(&scope) {
+    let fate = if left.contains(&scope.0) {
         Fate::Kept
     } else {
         Fate::Unused

@@ -1,14 +1,14 @@
 //! The checks and passes over a spelled function, in their order.
 
 ghost use Rattle.std.specs.Prelude.{◌≡◌, ◌↔◌, List as Items, map, IfErr, OnOk};
-ghost use Rattle.rc_hir.specs.declared.function.HirFunction.{HirFunction};
+ghost use Rattle.rc_hir.specs.Model.{HirFunction};
 ghost use Rattle.rc_tree.specs.TreeNames.{TreeInTables};
 ghost use Rattle.rc_runs.specs.BodyRun.{IsBodyRun};
 ghost use Rattle.rc_runs.specs.EarlyReturns.{NoEarlyReturnSet};
 ghost use Rattle.rc_runs.specs.Event.{Event, End};
 ghost use Rattle.rc_runs.specs.Spelled.{Spells};
-ghost use Rattle.rc_checks.specs.ScopeBlocks.{staying_blocks};
-ghost use Rattle.rc_checks.specs.ScopesIn.{scopes_in};
+ghost use Rattle.rc_checks.specs.ScopeBlocks.{scopes_in};
+ghost use Rattle.rc_checks.specs.UnusedScopes.{staying_blocks};
 ghost use Rattle.rc_pipe.specs.Passes.{IsPassFault, IsPruned, state};
 
 use rc_checks::{
@@ -21,7 +21,7 @@ use std::alloc::Global;
 
 /// Checks a function and prunes it: break targets, unused labels, the operands of scopes, unused scopes.
 ///
-/// Of a function that a graph spells, and whose numbers are in their tables, the faults are `ScopeCompleted` and
+/// If a graph spells the function and its numbers are in their tables, the only faults are `ScopeCompleted` and
 /// `NoMemory`.
 pub(crate) fn prune(
     alloc: Global,

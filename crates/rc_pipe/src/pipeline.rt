@@ -1,7 +1,10 @@
 //! The call that users make: from a graph to the pruned function and the fate of each scope.
+//!
+//! The builder, the checks and the passes are after those of the same names in oxc_react_compiler 0.143.0; their order
+//! is this project's.
 
 ghost use Rattle.std.specs.Prelude.{◌≡◌, ◌≢◌, ◌⊎◌, IfOk, IfErr, OnOk, IsOk, Err};
-ghost use Rattle.rc_tree.specs.declared.function.ReactiveFunction.{ReactiveFunction};
+ghost use Rattle.rc_tree.specs.Model.{ReactiveFunction};
 ghost use Rattle.rc_pipe.specs.Headline.{HasAnswer, IsAccepted, IsAnswer, IsCause};
 
 use crate::causes::{first_early_return, has_room};
@@ -21,19 +24,19 @@ pub struct Pruned {
     pub fates: List<ScopeFate>,
 }
 
-/// The one tree that a graph spells, without unused labels and unused scopes, and the fate of each scope of the spelled
-/// tree.
+/// Builds the one tree that a graph spells, prunes its unused labels and unused scopes, and returns it with the fate
+/// of each scope of the spelled tree.
 ///
-/// Refused is, in this order, a graph
+/// Returns the first of these faults that has its cause:
 ///
-/// - with a number outside its table: `BadName`;
-/// - with a scope that answers for a `Return` already: `EarlyReturnSet`, of the lowest such scope;
-/// - without room for the numbers that early returns may need: `NoIds`;
-/// - with a terminal that isn't built yet: `NotBuilt`, of the first such block;
-/// - that spells no tree: `Malformed`, with a rule whose fact holds of the named block;
-/// - where an operand stands outside the blocks of its scope: `ScopeCompleted`, of the last one.
+/// - `BadName`: a number is outside its table;
+/// - `EarlyReturnSet`: a scope has an early return already; the fault names the lowest such scope;
+/// - `NoIds`: too few numbers are left for those that early returns may need;
+/// - `NotBuilt`: a terminal isn't built yet; the fault names the first such block;
+/// - `Malformed`: the graph spells no tree; the fault names a block and a rule whose fact holds of it;
+/// - `ScopeCompleted`: an operand is outside the blocks of its scope; the fault names the last one.
 ///
-/// `NoMemory` may come at any time. The environment stays as it is.
+/// Returns `NoMemory` whenever it runs out of memory. The environment stays as it is.
 pub fn build_and_prune(
     alloc: Global,
     hir: &HirFunction,
@@ -43,7 +46,7 @@ pub fn build_and_prune(
     ensures refused { IfErr result (IsCause hir.now env.old) }
     ensures kept_environment { env.new ≡ env.old }
 
-    // What is accepted and has an answer is answered, up to want of memory.
+    // A graph that is accepted and has an answer gets it, unless memory runs out.
     ensures complete { (func : ReactiveFunction) → IsAccepted hir.now env.old → HasAnswer hir.now env.old func
         → IsOk result ⊎ (result ≡ Err Fault.NoMemory) }
 {
@@ -55,7 +58,7 @@ pub fn build_and_prune(
     Ok(Pruned { func, fates })
 }
 
-/// Refuses a graph for its numbers, early returns or room, in this order. It takes no memory.
+/// Refuses a graph for its numbers, its early returns or its room for numbers, in this order. This takes no memory.
 fn accept(hir: &HirFunction, env: &Environment) -> Result<(), Fault>
     ensures ok { OnOk result (IsAccepted hir.now env.now) }
     ensures refused { IfErr result (λ fault. IsCause hir.now env.now fault × (fault ≢ Fault.NoMemory)) }

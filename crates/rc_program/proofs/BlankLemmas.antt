@@ -1,4 +1,4 @@
--- What is known of a text of spaces.
+-- Facts of a text of spaces.
 use Rattle.std.proofs.Common.{◌≡◌, ℕ, ◌+◌, ◌≤◌, List, ◌++◌, length, take, replicate, slice_index, codes, sym, ap, ◌∙◌}
 use Rattle.std.proofs.Common.{arith, length-append}
 use Rattle.std.proofs.lemmas.List.{replicate-append-replicate, take-replicate, get_or-replicate}
@@ -17,7 +17,7 @@ pub take_blank : (blank : List ℕ) (n : ℕ) → IsBlank blank → n ≤ length
 unfolding IsBlank
 take_blank blank n h le = ap (take n) h ∙ take-replicate n (length blank) 32 le
 
--- a character begins at each place of it
+-- a character begins at each index of it
 pub blank_splits : (text blank : List ℕ) (n : ℕ) → text ≡ blank → IsBlank blank → n ≤ length blank
     → IsCharBoundary text n
 unfolding IsBlank

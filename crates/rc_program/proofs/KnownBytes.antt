@@ -5,7 +5,7 @@ use Rattle.std.proofs.lemmas.List.{take_rest}
 use Rattle.std.proofs.Math.Seq.{take-add}
 use Rattle.std.specs.Io.KnownBytes.{Appends}
 
--- the front of what is left of a text goes behind the front that was written
+-- the front of the remaining text is appended to the front that was written
 pub Appends-more : (old mid new : Option (List ℕ)) (text : List ℕ) (at count : ℕ)
     → Appends old mid (take at text) → Appends mid new (take count (take (length text - at) (drop at text)))
     → Appends old new (take (at + count) text)

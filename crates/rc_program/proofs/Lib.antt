@@ -1,5 +1,5 @@
 pub mod KnownBytes
 pub mod OneWord
-pub mod OutcomeLemmas
+pub mod StatusLemmas
 mod BlankLemmas
 mod RefusalLemmas

@@ -1,14 +1,12 @@
--- The line that tells of a fault.
+-- The line that is printed for a fault.
 use Rattle.std.specs.Prelude.{List, ℕ, [], Option, Some, None, codes, decimal}
 use Rattle.std.specs.Option.{option_map_or}
-use Rattle.rc_hir.specs.declared.fault.Fault.{Fault}
+use Rattle.rc_hir.specs.Model.{Fault, Rule, TableName}
 use Rattle.rc_hir.specs.declared.fault.Fault.TheVariants.{Malformed, Todo, EarlyReturnSet, ScopeCompleted}
 use Rattle.rc_hir.specs.declared.fault.Fault.TheVariants.{Uninitialised, NoScopeNode, BadName, NoIds, NoMemory}
 use Rattle.rc_hir.specs.declared.fault.Fault.TheVariants.{BadTarget, NotBuilt, FunctionCycle}
-use Rattle.rc_hir.specs.declared.fault.Rule.{Rule}
 use Rattle.rc_hir.specs.declared.fault.Rule.TheVariants as rules
-use Rattle.rc_hir.specs.declared.fault.TableName.{TableName}
-use Rattle.rc_hir.specs.declared.fault.TableName.TheVariants as tables
+use Rattle.rc_hir.specs.declared.fault.TableName.TheVariants as table_names
 use Rattle.rc_program.specs.LineText.{◌&◌, line}
 
 -- the name of the rule that is broken
@@ -37,17 +35,17 @@ rule_name rules.ScopeTwice = codes "ScopeTwice"
 rule_name rules.FallsElsewhere = codes "FallsElsewhere"
 rule_name rules.OtherTree = codes "OtherTree"
 
--- the name of a table that numbers name
+-- the name of a table
 abbrev pub table_name : TableName → List ℕ
-table_name tables.Identifiers = codes "Identifiers"
-table_name tables.Declarations = codes "Declarations"
-table_name tables.Types = codes "Types"
-table_name tables.Scopes = codes "Scopes"
-table_name tables.Functions = codes "Functions"
-table_name tables.Instructions = codes "Instructions"
-table_name tables.Shapes = codes "Shapes"
+table_name table_names.Identifiers = codes "Identifiers"
+table_name table_names.Declarations = codes "Declarations"
+table_name table_names.Types = codes "Types"
+table_name table_names.Scopes = codes "Scopes"
+table_name table_names.Functions = codes "Functions"
+table_name table_names.Instructions = codes "Instructions"
+table_name table_names.Shapes = codes "Shapes"
 
--- a fault's number and name; want of memory, a bad target and a cycle of functions have no line
+-- a fault's number and name; being out of memory, a bad target and a cycle of functions have no line
 abbrev pub fault_name : Fault → Option (List ℕ)
 fault_name (Malformed block rule) = Some (codes "1 Malformed")
 fault_name (Todo block) = Some (codes "2 Todo")
@@ -62,7 +60,7 @@ fault_name (BadTarget target) = None
 fault_name (NotBuilt block) = Some (codes "11 NotBuilt")
 fault_name (FunctionCycle function) = None
 
--- where the fault was found
+-- the place at which the fault was found
 abbrev pub place_of_fault : Fault → List ℕ
 place_of_fault (Malformed block rule) = codes " block " & decimal block.0 & codes " rule " & rule_name rule
 place_of_fault (Todo block) = codes " block " & decimal block.0
@@ -74,6 +72,6 @@ place_of_fault (BadName table index) = codes " " & table_name table & codes " " 
 place_of_fault (NotBuilt block) = codes " block " & decimal block.0
 place_of_fault _ = []
 
--- the line of a fault, where it has one
+-- the line of a fault; empty if it has none
 abbrev pub fault_line : Fault → List ℕ
 fault_line fault = option_map_or (λ name. line 0 (codes "fault " & name & place_of_fault fault)) (fault_name fault) []

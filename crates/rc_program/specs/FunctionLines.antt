@@ -1,8 +1,8 @@
--- The lines of a whole function: its header, its body, and what became of its scopes.
+-- The lines of a whole function: its header, its body, and the fates of its scopes.
 use Rattle.std.specs.Prelude.{ℕ, List, codes, decimal, flat_map}
-use Rattle.rc_hir.specs.declared.place.ParamPattern.{ParamPattern}
+use Rattle.rc_hir.specs.Model.{ParamPattern}
 use Rattle.rc_hir.specs.declared.place.ParamPattern.TheVariants.{Place, Spread}
-use Rattle.rc_tree.specs.declared.function.ReactiveFunction.{ReactiveFunction}
+use Rattle.rc_tree.specs.Model.{ReactiveFunction}
 use Rattle.rc_pipe.specs.declared.fates.Fate.{Fate}
 use Rattle.rc_pipe.specs.declared.fates.Fate.TheVariants.{Kept, NotEscaping, Unused, MergedInto, DissolvedInto}
 use Rattle.rc_pipe.specs.declared.fates.Fate.TheVariants.{AlwaysInvalidating}
@@ -36,7 +36,7 @@ directive_lines = flat_map (λ text. line 0 (codes "directive " & quoted_text te
 abbrev pub header_lines : ReactiveFunction → List ℕ
 header_lines func = line 0 (name_text func) & param_lines func.params & directive_lines func.directives
 
--- what became of a scope
+-- the fate of a scope
 abbrev pub fate_text : Fate → List ℕ
 fate_text Kept = codes "kept"
 fate_text NotEscaping = codes "not-escaping"
@@ -45,7 +45,7 @@ fate_text (MergedInto scope) = codes "merged into " & decimal scope.0
 fate_text (DissolvedInto scope) = codes "dissolved into " & decimal scope.0
 fate_text AlwaysInvalidating = codes "always-invalidating"
 
--- a scope and what became of it
+-- a scope and its fate
 abbrev pub scope_fate_text : ScopeFate → List ℕ
 scope_fate_text scope = codes "scope " & decimal scope.scope.0 & codes " " & fate_text scope.fate
 

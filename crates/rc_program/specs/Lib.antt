@@ -6,5 +6,5 @@ pub mod ValueLines
 pub mod Lines
 pub mod FunctionLines
 pub mod FaultLine
-pub mod Stopped
-pub mod Outcome
+pub mod Stop
+pub mod Status

@@ -4,10 +4,10 @@ use Rattle.std.specs.Prelude.{replicate}
 use Rattle.serde_json.specs.Data.{string}
 use Rattle.serde_json.specs.Written.{compact_text}
 use Rattle.rc_names.specs.declared.span.Span.{Span}
-use Rattle.rc_names.specs.declared.numbers.EvaluationOrder.{EvaluationOrder}
-use Rattle.rc_hir.specs.declared.place.Place.{Place}
-use Rattle.rc_tree.specs.declared.terminal.ReactiveLabel.{ReactiveLabel}
-use Rattle.rc_doc.specs.ShownParts.{place_data}
+use Rattle.rc_names.specs.Numbers.{EvaluationOrder}
+use Rattle.rc_hir.specs.Model.{Place}
+use Rattle.rc_tree.specs.Model.{ReactiveLabel}
+use Rattle.rc_doc.specs.ShownParts.Places.{place_data}
 
 -- a text and then another
 infixr 6 ◌&◌

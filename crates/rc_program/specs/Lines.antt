@@ -1,15 +1,13 @@
--- The printed lines of a tree: a table of the first lines of terminals, and two of what stands below them.
-use Rattle.std.specs.Prelude.{ℕ, List, [], ◌∷◌, Option, Some, None, codes, decimal}
-use Rattle.rc_names.specs.declared.numbers.ScopeId.{ScopeId}
-use Rattle.rc_hir.specs.declared.place.Place.{Place}
-use Rattle.rc_tree.specs.declared.terminal.ReactiveLabel.{ReactiveLabel}
-use Rattle.rc_tree.specs.declared.terminal.ReactiveTerminal.{ReactiveTerminal, fold-ReactiveTerminal}
-use Rattle.rc_tree.specs.declared.terminal.ReactiveSwitchCase.{ReactiveSwitchCase, fold-ReactiveSwitchCase}
-use Rattle.rc_tree.specs.declared.statement.ReactiveBlock.{ReactiveBlock, fold-ReactiveBlock}
-use Rattle.rc_tree.specs.declared.statement.ReactiveStatement.{ReactiveStatement, fold-ReactiveStatement}
-use Rattle.rc_tree.specs.declared.statement.ReactiveStatement.TheOpen as layer
-use Rattle.rc_tree.specs.declared.value.ReactiveValue.{ReactiveValue}
+-- The printed lines of a tree: a table of the terminals, each with its first line and the lines below.
+use Rattle.std.specs.Prelude.{ℕ, List, ◌∷◌, [], Option, Some, None, codes, decimal, option_map}
+use Rattle.rc_names.specs.Numbers.{EvaluationOrder, ScopeId}
+use Rattle.rc_hir.specs.Model.{Place}
+use Rattle.rc_tree.specs.Joining.{Joining, all_of, from_around, if_there, lists}
 use Rattle.rc_tree.specs.Kind.{kind_word}
+use Rattle.rc_tree.specs.TreeFold.{TreeFold, over_block, over_case, over_statement, over_terminal}
+use Rattle.rc_tree.specs.Model.{ReactiveLabel, ReactiveTerminal, ReactiveSwitchCase, ReactiveBlock, ReactiveStatement}
+use Rattle.rc_tree.specs.Model.{ReactiveValue}
+use Rattle.rc_tree.specs.declared.statement.ReactiveStatement.TheOpen as layer
 use Rattle.rc_program.specs.LineText.{◌&◌, line, deeper, span_text, place_text, id_text}
 use Rattle.rc_program.specs.ValueLines.{value_text, row_text}
 
@@ -17,16 +15,13 @@ use Rattle.rc_program.specs.ValueLines.{value_text, row_text}
 abbrev pub Lines : Type 0
 Lines = ℕ → List ℕ
 
--- a terminal: its first line, which its label is part of, the values of a loop, and the blocks below
-pub record TerminalLines : Type 0 where
-  pub head : Option ReactiveLabel → List ℕ
-  pub values : Lines
-  pub blocks : Lines
+-- the lines of one part, and then those of another, behind the same spaces
+abbrev pub in_order : Joining Lines
+in_order = from_around lists
 
 -- the lines one after the other
 abbrev pub all_lines : List Lines → Lines
-all_lines [] indent = []
-all_lines (lines ∷ more) indent = lines indent & all_lines more indent
+all_lines = all_of in_order
 
 -- a named part, with its block
 abbrev pub part : List ℕ → Lines → Lines
@@ -34,8 +29,7 @@ part name block indent = line indent name & block (deeper indent)
 
 -- a named part, where there is one
 abbrev pub optional_part : List ℕ → Option Lines → Lines
-optional_part name None indent = []
-optional_part name (Some block) indent = part name block indent
+optional_part name block = if_there in_order (option_map (part name) block)
 
 -- a value behind its name
 abbrev pub value_line : List ℕ → ReactiveValue → Lines
@@ -43,8 +37,7 @@ value_line name value indent = line indent (name & value_text value)
 
 -- a value behind its name, where there is one
 abbrev pub optional_value_line : List ℕ → Option ReactiveValue → Lines
-optional_value_line name None indent = []
-optional_value_line name (Some value) indent = value_line name value indent
+optional_value_line name value = if_there in_order (option_map (value_line name) value)
 
 -- the name of a handler's part
 abbrev pub catch_text : Option Place → List ℕ
@@ -65,64 +58,57 @@ case_part test (Some block) indent = part (case_text test) block indent
 abbrev pub scope_part : List ℕ → ScopeId → Lines → Lines
 scope_part name scope block = part (name & decimal scope.0) block
 
+-- a terminal: its first line, which its label is part of, the values of a loop, and the blocks below
+pub record TerminalLines : Type 0 where
+  pub head : Option ReactiveLabel → List ℕ
+  pub values : Lines
+  pub blocks : Lines
+
+-- a terminal by its name, and a loop with its values and its body below
+abbrev pub named : List ℕ → EvaluationOrder → Option ReactiveLabel → List ℕ
+named name id label = name & id_text id label
+
+abbrev pub one_line : (Option ReactiveLabel → List ℕ) → TerminalLines
+one_line head = record { head = head; values = in_order.nothing; blocks = in_order.nothing }
+
+abbrev pub with_blocks : (Option ReactiveLabel → List ℕ) → Lines → TerminalLines
+with_blocks head blocks = record { head = head; values = in_order.nothing; blocks = blocks }
+
+abbrev pub loop : (Option ReactiveLabel → List ℕ) → Lines → Lines → TerminalLines
+loop head values body = record { head = head; values = values; blocks = part (codes "body") body }
+
 -- a part's variant, with the lines of its own parts in their places
 abbrev pub WithLines : (Type 0 → Type 0 → Type 0 → Type 0 → Type 0 → Type 0 → Type 0 → Type 0) → Type 0
 WithLines Open = Open Lines TerminalLines Lines Lines Lines Lines Lines
 
--- the first line of a terminal
-abbrev pub head_of : WithLines layer.ReactiveTerminal-F → Option ReactiveLabel → List ℕ
-head_of (layer.Break target kind id) label =
-    codes "break bb" & decimal target.0 & codes " " & kind_word kind & id_text id label
-head_of (layer.Continue target kind id) label =
-    codes "continue bb" & decimal target.0 & codes " " & kind_word kind & id_text id label
-head_of (layer.Return value id) label = codes "return " & place_text value & id_text id label
-head_of (layer.Throw value id) label = codes "throw " & place_text value & id_text id label
-head_of (layer.If test consequent alternate id) label = codes "if " & place_text test & id_text id label
-head_of (layer.Switch test cases id) label = codes "switch " & place_text test & id_text id label
-head_of (layer.DoWhile loop_block test id) label = codes "do" & id_text id label
-head_of (layer.While test loop_block id) label = codes "while" & id_text id label
-head_of (layer.For init test update loop_block id) label = codes "for" & id_text id label
-head_of (layer.ForOf init test loop_block span id) label = codes "forof" & id_text id label & span_text span
-head_of (layer.ForIn init loop_block span id) label = codes "forin" & id_text id label & span_text span
-head_of (layer.Label block id) label = codes "label" & id_text id label
-head_of (layer.Try block binding handler id) label = codes "try" & id_text id label
-
--- the values of a loop, which stand above its body
-abbrev pub values_of : WithLines layer.ReactiveTerminal-F → Lines
-values_of (layer.While test loop_block id) indent = value_line (codes "test ") test indent
-values_of (layer.For init test update loop_block id) indent =
-    value_line (codes "init ") init indent & value_line (codes "test ") test indent & optional_value_line
-    (codes "update ") update indent
-values_of (layer.ForOf init test loop_block span id) indent =
-    value_line (codes "init ") init indent & value_line (codes "test ") test indent
-values_of (layer.ForIn init loop_block span id) indent = value_line (codes "init ") init indent
-values_of _ indent = []
-
--- the blocks of a terminal; the test of a do-while stands behind its body
-abbrev pub blocks_of : WithLines layer.ReactiveTerminal-F → Lines
-blocks_of (layer.If test consequent alternate id) indent =
-    part (codes "then") consequent indent & optional_part (codes "else") alternate indent
-blocks_of (layer.Switch test cases id) indent = all_lines cases indent
-blocks_of (layer.DoWhile loop_block test id) indent =
-    part (codes "body") loop_block indent & value_line (codes "test ") test indent
-blocks_of (layer.While test loop_block id) indent = part (codes "body") loop_block indent
-blocks_of (layer.For init test update loop_block id) indent = part (codes "body") loop_block indent
-blocks_of (layer.ForOf init test loop_block span id) indent = part (codes "body") loop_block indent
-blocks_of (layer.ForIn init loop_block span id) indent = part (codes "body") loop_block indent
-blocks_of (layer.Label block id) indent = part (codes "body") block indent
-blocks_of (layer.Try block binding handler id) indent =
-    part (codes "block") block indent & part (catch_text binding) handler indent
-blocks_of _ indent = []
-
--- the lines of a terminal, from those of its blocks
+-- each terminal; the test of a do-while stands behind its body
 abbrev pub of_terminal : WithLines layer.ReactiveTerminal-F → TerminalLines
-of_terminal terminal = record { head = head_of terminal; values = values_of terminal; blocks = blocks_of terminal }
-
--- the lines of a terminal with its label
-abbrev pub of_labeled : WithLines layer.ReactiveTerminalStatement-F → Lines
-of_labeled statement indent =
-    line indent (statement.terminal.head statement.label) & statement.terminal.values (deeper indent) &
-    statement.terminal.blocks (deeper indent)
+of_terminal (layer.Break target kind id) =
+    one_line (named (codes "break bb" & decimal target.0 & codes " " & kind_word kind) id)
+of_terminal (layer.Continue target kind id) =
+    one_line (named (codes "continue bb" & decimal target.0 & codes " " & kind_word kind) id)
+of_terminal (layer.Return value id) = one_line (named (codes "return " & place_text value) id)
+of_terminal (layer.Throw value id) = one_line (named (codes "throw " & place_text value) id)
+of_terminal (layer.If test consequent alternate id) =
+    with_blocks (named (codes "if " & place_text test) id)
+    (in_order.both (part (codes "then") consequent) (optional_part (codes "else") alternate))
+of_terminal (layer.Switch test cases id) =
+    with_blocks (named (codes "switch " & place_text test) id) (all_lines cases)
+of_terminal (layer.DoWhile body test id) =
+    with_blocks (named (codes "do") id) (in_order.both (part (codes "body") body) (value_line (codes "test ") test))
+of_terminal (layer.While test body id) = loop (named (codes "while") id) (value_line (codes "test ") test) body
+of_terminal (layer.For init test update body id) =
+    loop (named (codes "for") id) (in_order.both (value_line (codes "init ") init)
+    (in_order.both (value_line (codes "test ") test) (optional_value_line (codes "update ") update))) body
+of_terminal (layer.ForOf init test body span id) =
+    loop (λ label. named (codes "forof") id label & span_text span)
+    (in_order.both (value_line (codes "init ") init) (value_line (codes "test ") test)) body
+of_terminal (layer.ForIn init body span id) =
+    loop (λ label. named (codes "forin") id label & span_text span) (value_line (codes "init ") init) body
+of_terminal (layer.Label block id) = with_blocks (named (codes "label") id) (part (codes "body") block)
+of_terminal (layer.Try block binding handler id) =
+    with_blocks (named (codes "try") id)
+    (in_order.both (part (codes "block") block) (part (catch_text binding) handler))
 
 -- the lines of a statement; those of a row are one
 abbrev pub of_statement : WithLines layer.ReactiveStatement-F → Lines
@@ -131,38 +117,33 @@ of_statement (layer.Terminal statement) indent = statement indent
 of_statement (layer.Scope scope) indent = scope indent
 of_statement (layer.PrunedScope scope) indent = scope indent
 
--- the lines of a block, from those of its statements
-abbrev pub of_block : WithLines layer.ReactiveBlock-F → Lines
-of_block block = all_lines block.statements
+-- the lines of a terminal with its label
+abbrev pub of_labeled : WithLines layer.ReactiveTerminalStatement-F → Lines
+of_labeled statement indent =
+    line indent (statement.terminal.head statement.label) & statement.terminal.values (deeper indent) &
+    statement.terminal.blocks (deeper indent)
 
--- the lines of a scope block, from those of the block in it
-abbrev pub of_scope : WithLines layer.ReactiveScopeBlock-F → Lines
-of_scope scope = scope_part (codes "scope ") scope.scope scope.instructions
+-- the lines of each kind of part, from those of its own parts
+abbrev pub printing : TreeFold Lines TerminalLines Lines Lines Lines Lines Lines
+printing = record {
+  statement = of_statement;
+  terminal = of_terminal;
+  pruned_scope = λ x. scope_part (codes "pruned ") x.scope x.instructions;
+  scope = λ x. scope_part (codes "scope ") x.scope x.instructions;
+  block = λ x. all_lines x.statements;
+  case = λ x. case_part x.test x.block;
+  labeled = of_labeled;
+}
 
--- the lines of a pruned scope block, from those of the block in it
-abbrev pub of_pruned_scope : WithLines layer.PrunedReactiveScopeBlock-F → Lines
-of_pruned_scope scope = scope_part (codes "pruned ") scope.scope scope.instructions
-
--- the lines of a case, from those of its block
-abbrev pub of_case : WithLines layer.ReactiveSwitchCase-F → Lines
-of_case case = case_part case.test case.block
-
--- the lines of a statement
+-- the lines of a statement, a terminal, a case and a block
 abbrev pub statement_lines : ReactiveStatement → Lines
-statement_lines = fold-ReactiveStatement Lines TerminalLines Lines Lines Lines Lines Lines of_statement of_terminal
-    of_pruned_scope of_scope of_block of_case of_labeled
+statement_lines = over_statement printing
 
--- the lines of a terminal
 abbrev pub terminal_lines : ReactiveTerminal → TerminalLines
-terminal_lines = fold-ReactiveTerminal Lines TerminalLines Lines Lines Lines Lines Lines of_statement of_terminal
-    of_pruned_scope of_scope of_block of_case of_labeled
+terminal_lines = over_terminal printing
 
--- the lines of a case
 abbrev pub case_lines : ReactiveSwitchCase → Lines
-case_lines = fold-ReactiveSwitchCase Lines TerminalLines Lines Lines Lines Lines Lines of_statement of_terminal
-    of_pruned_scope of_scope of_block of_case of_labeled
+case_lines = over_case printing
 
--- the lines of a block
 abbrev pub block_lines : ReactiveBlock → Lines
-block_lines = fold-ReactiveBlock Lines TerminalLines Lines Lines Lines Lines Lines of_statement of_terminal
-    of_pruned_scope of_scope of_block of_case of_labeled
+block_lines = over_block printing

@@ -1,9 +1,8 @@
 -- The text of a value and of a row, which each stand on one line.
 use Rattle.std.specs.Prelude.{ℕ, Bool, true, false, List, [], ◌∷◌, Option, Some, None, if◌then◌else◌, codes, decimal}
 use Rattle.serde_json.specs.Written.{compact_text}
-use Rattle.rc_names.specs.declared.numbers.EvaluationOrder.{EvaluationOrder}
-use Rattle.rc_hir.specs.declared.place.Place.{Place}
-use Rattle.rc_hir.specs.declared.instruction.LogicalOperator.{LogicalOperator}
+use Rattle.rc_names.specs.Numbers.{EvaluationOrder}
+use Rattle.rc_hir.specs.Model.{Place, LogicalOperator}
 use Rattle.rc_hir.specs.declared.instruction.LogicalOperator.TheVariants.{And, Or, Coalesce}
 use Rattle.rc_tree.specs.declared.value.ReactiveValue.{ReactiveValue, fold-ReactiveValue}
 use Rattle.rc_tree.specs.declared.value.ReactiveValue.TheOpen.{ReactiveValue-F, Instruction, LogicalExpression}

@@ -1,7 +1,7 @@
-//! What is answered for a document: the lines of its tree, or the line of a fault.
+//! The answer for a document: the lines of its tree, or the line of a fault.
 
 ghost use Rattle.std.specs.Prelude.{◌≡◌, ◌↔◌, IsTrue, MatchResult};
-ghost use Rattle.rc_program.specs.Outcome.{IsTextFor};
+ghost use Rattle.rc_program.specs.Status.{IsTextFor};
 
 use crate::printing::{fault_line, lines};
 use crate::status::Status;
@@ -12,15 +12,15 @@ use rc_names::Text;
 use rc_pipe::build_and_prune;
 use std::alloc::Global;
 
-/// A finished text, and how the program ends once it is written.
+/// A finished text, and the status of the program once it is written.
 #[derive(Drop)]
 pub struct Answer {
     pub text: Text,
     pub status: Status,
 }
 
-/// The lines of the document's tree, or the line of the fault for which its graph is refused. The only error is want
-/// of memory.
+/// Returns the lines of the document's tree, or the line of the fault with which its graph is refused. Fails only when
+/// out of memory.
 pub fn answer_for(alloc: Global, doc: Doc) -> Result<Answer, Stop>
     ensures { MatchResult result (λ answer. IsTextFor doc answer.status answer.text) (λ stop. stop ≡ Stop.NoMemory) }
 {

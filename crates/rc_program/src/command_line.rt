@@ -1,8 +1,9 @@
 //! The words of the command line.
 
-ghost use Rattle.std.specs.Prelude.{◌≡◌, ◌↔◌, ◌⊎◌, Err, IfErr, IfOk, IsErr, IsTrue, MatchResult, drop, map, string_bytes};
+ghost use Rattle.std.specs.Prelude.{◌≡◌, ◌↔◌, ◌⊎◌, Err, IfErr, IfOk, IsErr, IsTrue, MatchResult, drop, map};
+ghost use Rattle.std.specs.Prelude.{string_bytes};
 ghost use Rattle.std.specs.Vec.Iter.{into_iter_items};
-ghost use Rattle.rc_program.specs.Outcome.{IsTree};
+ghost use Rattle.rc_program.specs.Status.{IsTree};
 
 use crate::stop::Stop;
 use rc_names::{List, Text};
@@ -13,7 +14,7 @@ use std::io;
 /// The command line without the program's name.
 pub type Words = List<Text>;
 
-/// The words of a command line: `Usage` where one isn't UTF-8, and `NoMemory` where memory is wanting.
+/// Returns the words of a command line: `Usage` if one isn't UTF-8, and `NoMemory` when out of memory.
 pub fn words(alloc: Global, args: io::Result<Args>) -> Result<Words, Stop>
     ensures ok { MatchResult args
         (λ args. IfOk result (λ words. words ≡ map string_bytes (drop 1 (into_iter_items args)))) (λ _. IsErr result) }
@@ -27,7 +28,7 @@ pub fn words(alloc: Global, args: io::Result<Args>) -> Result<Words, Stop>
     }
 }
 
-/// The words behind the first, which is the program's name. The only error is want of memory.
+/// The words after the first, which is the program's name. Fails only when out of memory.
 fn words_after_name(alloc: Global, args: Args) -> Result<Words, AllocError>
     ensures { IfOk result (λ words. words ≡ map string_bytes (drop 1 (into_iter_items args))) }
 {
@@ -40,7 +41,7 @@ fn words_after_name(alloc: Global, args: Args) -> Result<Words, AllocError>
     Ok(words)
 }
 
-/// Whether the words are the one word `tree`.
+/// Returns whether the words are the one word `tree`.
 #[tactic(auto, using(crate::proofs::OneWord::one_word))]
 pub fn is_tree(words: &Words) -> bool
     ensures { IsTrue result ↔ IsTree words.now }

@@ -2,8 +2,8 @@
 
 ghost use Rattle.std.specs.Prelude.{◌≤◌, IsErrOf, MatchResult, length};
 ghost use Rattle.serde_json.specs.View.{view};
-ghost use Rattle.rc_program.specs.Device.{Rose, most_bytes};
-ghost use Rattle.rc_program.specs.Outcome.{IsJson, IsJsonOfDoc, LoadsOrStops, ReadsOrStops, StopsFor};
+ghost use Rattle.rc_program.specs.Device.{HasRisen, most_bytes};
+ghost use Rattle.rc_program.specs.Status.{IsJson, IsJsonOfDoc, IsLoadOrStop, IsReadOrStop, IsStopFor};
 
 use crate::device::Source;
 use crate::stop::Stop;
@@ -11,28 +11,28 @@ use rc_doc::{Doc, read_doc};
 use serde_json::Value;
 use std::alloc::Global;
 
-/// The most bytes that a document has.
+/// The largest number of bytes that a document may have.
 const MAX_BYTES: usize = 16_777_216;
 
-/// How many bytes are asked of the source at a time.
+/// The size of the buffer, which is the most that one call of the source may give.
 const BUFFER_BYTES: usize = 4096;
 
-/// The document that a source gives. It stops where a call of the source fails, where there are too many bytes, where
-/// these are no JSON or no document, and for want of memory.
+/// Returns the document that a source gives. Stops with `ReadFault` if a call of the source fails, `TooLarge` if there
+/// are too many bytes, `NotJson` or `NotDoc` if they are no JSON or no document, and `NoMemory` when out of memory.
 pub fn load<S: Source>(alloc: Global, source: &mut S) -> Result<Doc, Stop>
-    ensures outcome { LoadsOrStops (S.left source.old) (S.left source.new) result }
+    ensures outcome { IsLoadOrStop (S.left source.old) (S.left source.new) result }
     ensures later { S.faults source.old ≤ S.faults source.new }
-    ensures cause { IsErrOf result Stop.ReadFault → Rose (S.faults source.old) (S.faults source.new) }
+    ensures cause { IsErrOf result Stop.ReadFault → HasRisen (S.faults source.old) (S.faults source.new) }
 {
     let bytes = read_to_end(alloc, source)?;
     document(alloc, bytes)
 }
 
-/// The bytes of a source, as soon as it has no more. It stops as soon as there are too many for a document.
+/// The bytes of a source, up to its end. It stops as soon as there are more than a document may have.
 fn read_to_end<S: Source>(alloc: Global, source: &mut S) -> Result<Vec<u8>, Stop>
-    ensures outcome { ReadsOrStops (λ bytes. bytes.items) (S.left source.old) (S.left source.new) result }
+    ensures outcome { IsReadOrStop (λ bytes. bytes.items) (S.left source.old) (S.left source.new) result }
     ensures later { S.faults source.old ≤ S.faults source.new }
-    ensures cause { IsErrOf result Stop.ReadFault → Rose (S.faults source.old) (S.faults source.new) }
+    ensures cause { IsErrOf result Stop.ReadFault → HasRisen (S.faults source.old) (S.faults source.new) }
 {
     let mut bytes = Vec::new(alloc);
     let mut buffer = [0u8; BUFFER_BYTES];
@@ -49,10 +49,10 @@ fn read_to_end<S: Source>(alloc: Global, source: &mut S) -> Result<Vec<u8>, Stop
     Err(Stop::TooLarge)
 }
 
-/// The document that the bytes are JSON of.
+/// The document of which the bytes are JSON.
 fn document(alloc: Global, bytes: Vec<u8>) -> Result<Doc, Stop>
     requires { length bytes.items ≤ most_bytes }
-    ensures { MatchResult result (IsJsonOfDoc bytes.items) (StopsFor bytes.items) }
+    ensures { MatchResult result (IsJsonOfDoc bytes.items) (IsStopFor bytes.items) }
 {
     let value = parse(alloc, bytes)?;
     match read_doc(alloc, &value)? {
@@ -61,10 +61,10 @@ fn document(alloc: Global, bytes: Vec<u8>) -> Result<Doc, Stop>
     }
 }
 
-/// The value that the bytes are JSON of.
+/// The value of which the bytes are JSON.
 fn parse(alloc: Global, bytes: Vec<u8>) -> Result<Value, Stop>
     requires { length bytes.items ≤ most_bytes }
-    ensures { MatchResult result (λ value. IsJson bytes.items (view value)) (StopsFor bytes.items) }
+    ensures { MatchResult result (λ value. IsJson bytes.items (view value)) (IsStopFor bytes.items) }
 {
     match Value::from_slice(alloc, bytes.as_slice()) {
         Ok(value) => Ok(value),

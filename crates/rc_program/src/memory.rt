@@ -1,17 +1,17 @@
-//! Devices in memory, whose calls fail by a list of their numbers.
+//! Devices in memory. The numbers of the calls that fail are given.
 
 ghost use Rattle.std.specs.Prelude.{◌≡◌, ◌<◌, ◌≤◌, ◌-◌, ◌++◌, ◌↔◌, ◌⊎◌, [], length, min, take, drop};
 ghost use Rattle.std.specs.Prelude.{Some, IfOk, OnOk, OnErr, IsErr, Contains};
 ghost use Rattle.std.specs.Io.{ReadsAtMost, WritesAtMost};
 ghost use Rattle.std.specs.Io.KnownBytes.{ReadConsumes, WriteAppends};
-ghost use Rattle.rc_program.specs.Device.{Rose, counted};
+ghost use Rattle.rc_program.specs.Device.{HasRisen, counted};
 
 use crate::device::{Failed, Sink, Source};
 use rc_names::List;
 use std::alloc::{AllocError, Global};
 use std::marker::Model;
 
-/// Bytes in memory.
+/// A source of bytes in memory.
 #[derive(Drop)]
 pub struct MemorySource {
     bytes: List<u8>,
@@ -38,7 +38,7 @@ impl Model for MemorySource {
 }
 
 impl MemorySource {
-    /// A source of these bytes. The calls whose numbers, from 0, stand in `failing` fail.
+    /// Returns a source of these bytes. The calls fail whose numbers, from 0, are in `failing`.
     pub fn new(bytes: List<u8>, failing: List<u64>) -> MemorySource
         ensures left { result.left ≡ bytes }
         ensures failing { result.failing ≡ failing }
@@ -64,13 +64,13 @@ impl Source for MemorySource {
         ensures bound { ReadsAtMost result buf.new }
         ensures bytes { ReadConsumes (Some self.old.left) (Some self.new.left) result buf.new }
         ensures later { self.old.faults ≤ self.new.faults }
-        ensures cause { OnErr result (Rose self.old.faults self.new.faults) }
+        ensures cause { OnErr result (HasRisen self.old.faults self.new.faults) }
 
-        // Which calls fail, and how much the others give.
+        // These calls fail, and the others give so many bytes.
         ensures fails { IsErr result ↔ Contains self.old.failing self.old.calls }
         ensures count { IfOk result (λ count. count ≡ min (length buf.old) (length self.old.left)) }
 
-        // What is counted, and what stays.
+        // These are the counts after the call, and the rest stays.
         ensures calls { self.new.calls ≡ counted self.old.calls }
         ensures ok { OnOk result (self.new.faults ≡ self.old.faults) }
         ensures err { OnErr result (self.new.faults ≡ counted self.old.faults) }
@@ -88,7 +88,7 @@ impl Source for MemorySource {
     }
 }
 
-/// Copies as many bytes as both have to the front of the buffer.
+/// Copies as many bytes as both have to the front of the buffer, and returns their number.
 fn copy_front(buf: &mut [u8], from: &[u8]) -> usize
     ensures count { result ≡ min (length buf.old) (length from.now) }
     ensures bytes { from.now ≡ take result buf.new ++ drop result from.now }
@@ -98,7 +98,7 @@ fn copy_front(buf: &mut [u8], from: &[u8]) -> usize
     count
 }
 
-/// Bytes that are kept in memory.
+/// A sink that keeps its bytes in memory.
 #[derive(Drop)]
 pub struct MemorySink {
     bytes: Vec<u8>,
@@ -129,8 +129,8 @@ impl Model for MemorySink {
 }
 
 impl MemorySink {
-    /// An empty sink with room for so many bytes, which takes at most `step` of them a call. The calls whose
-    /// numbers, from 0, stand in `failing` fail. The only error is want of memory for the room.
+    /// Returns an empty sink with room for `room` bytes, which takes at most `step` of them in a call. The calls fail
+    /// whose numbers, from 0, are in `failing`. The only error is that there is no memory for the room.
     pub fn new(
         alloc: Global,
         room: usize,
@@ -155,7 +155,7 @@ impl MemorySink {
         })
     }
 
-    /// The bytes written.
+    /// Returns the bytes that were written.
     pub fn bytes(&self) -> &[u8]
         ensures { result.now ≡ self.now.written }
     {
@@ -173,15 +173,15 @@ impl Sink for MemorySink {
         ensures bound { WritesAtMost result piece.now }
         ensures bytes { WriteAppends (Some self.old.written) (Some self.new.written) result piece.now }
         ensures later { self.old.faults ≤ self.new.faults }
-        ensures cause { OnErr result (Rose self.old.faults self.new.faults) }
+        ensures cause { OnErr result (HasRisen self.old.faults self.new.faults) }
 
-        // Which calls fail, and how much the others take.
+        // These calls fail, and the others take so many bytes.
         ensures fails { IsErr result ↔ (Contains self.old.failing self.old.calls
             ⊎ ((0 < length piece.now) × (self.old.room ≤ length self.old.written))) }
         ensures count { IfOk result (λ count. count
             ≡ min (min self.old.step (self.old.room - length self.old.written)) (length piece.now)) }
 
-        // What is counted, and what stays.
+        // These are the counts after the call, and the rest stays.
         ensures calls { self.new.calls ≡ counted self.old.calls }
         ensures ok { OnOk result (self.new.faults ≡ self.old.faults) }
         ensures err { OnErr result (self.new.faults ≡ counted self.old.faults) }

@@ -1,4 +1,4 @@
-//! What is printed.
+//! The printed lines.
 
 mod fates;
 mod fault;

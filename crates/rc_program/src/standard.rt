@@ -1,9 +1,9 @@
-//! Devices over any reader and writer of std. A count at its type's end stands still.
+//! Devices over any reader and writer of std. A count saturates.
 
 ghost use Rattle.std.specs.Prelude.{◌≡◌, ◌<◌, ◌≤◌, length, IfOk, OnOk, OnErr};
 ghost use Rattle.std.specs.Io.{ReadsAtMost, WritesAtMost};
 ghost use Rattle.std.specs.Io.KnownBytes.{ReadConsumes, WriteAppends};
-ghost use Rattle.rc_program.specs.Device.{Rose, counted};
+ghost use Rattle.rc_program.specs.Device.{HasRisen, counted};
 
 use crate::device::{Failed, Sink, Source};
 use std::io::{Read, Write};
@@ -16,7 +16,7 @@ pub struct StdSource<R> {
 }
 
 impl<R> StdSource<R> {
-    /// The bytes of a reader, of which no call has failed.
+    /// Returns a source of a reader's bytes; no call has failed yet.
     pub fn new(reader: R) -> StdSource<R>
         ensures reader { result.reader ≡ reader }
         ensures faults { result.faults ≡ 0 }
@@ -34,7 +34,7 @@ impl<R: Read> Source for StdSource<R> {
         ensures bound { ReadsAtMost result buf.new }
         ensures bytes { ReadConsumes (R.remaining self.old.reader) (R.remaining self.new.reader) result buf.new }
         ensures later { self.old.faults ≤ self.new.faults }
-        ensures cause { OnErr result (Rose self.old.faults self.new.faults) }
+        ensures cause { OnErr result (HasRisen self.old.faults self.new.faults) }
         ensures ok { OnOk result (self.new.faults ≡ self.old.faults) }
         ensures err { OnErr result (self.new.faults ≡ counted self.old.faults) }
     {
@@ -48,7 +48,7 @@ impl<R: Read> Source for StdSource<R> {
     }
 }
 
-/// A writer that counts its errors. A piece of which nothing is taken is an error, too.
+/// A writer that counts its errors. If it takes no byte of a piece, that is an error, too.
 #[derive(Drop)]
 pub struct StdSink<W> {
     writer: W,
@@ -56,7 +56,7 @@ pub struct StdSink<W> {
 }
 
 impl<W> StdSink<W> {
-    /// What a writer takes, of which no call has failed.
+    /// Returns a sink to a writer; no call has failed yet.
     pub fn new(writer: W) -> StdSink<W>
         ensures writer { result.writer ≡ writer }
         ensures faults { result.faults ≡ 0 }
@@ -75,7 +75,7 @@ impl<W: Write> Sink for StdSink<W> {
         ensures bound { WritesAtMost result piece.now }
         ensures bytes { WriteAppends (W.contents self.old.writer) (W.contents self.new.writer) result piece.now }
         ensures later { self.old.faults ≤ self.new.faults }
-        ensures cause { OnErr result (Rose self.old.faults self.new.faults) }
+        ensures cause { OnErr result (HasRisen self.old.faults self.new.faults) }
         ensures ok { OnOk result (self.new.faults ≡ self.old.faults) }
         ensures err { OnErr result (self.new.faults ≡ counted self.old.faults) }
     {

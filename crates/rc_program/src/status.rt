@@ -1,19 +1,19 @@
-//! How the program ends.
+//! The status with which the program ends.
 
 ghost use Rattle.std.specs.Prelude.{◌≡◌, ◌⊎◌, MatchOption};
 ghost use Rattle.rc_program.specs.declared.status.Status.{Status};
-ghost use Rattle.rc_program.specs.Stopped.{code_of, status_of};
+ghost use Rattle.rc_program.specs.Stop.{code_of, status_of};
 
 use crate::stop::Stop;
 
-/// How the program ends.
+/// The status with which the program ends.
 #[derive(Clone, Copy, Debug, PartialEq, Eq)]
 pub enum Status {
     /// The whole text of the tree was written.
     Done,
-    /// The words are not the one word `tree`.
+    /// The words aren't the one word `tree`.
     Usage,
-    /// No JSON value is read from the bytes.
+    /// The bytes are no JSON.
     NotJson,
     /// The value is no document.
     NotDoc,
@@ -25,12 +25,12 @@ pub enum Status {
     WriteFault,
     /// There are more than 16,777,216 bytes.
     TooLarge,
-    /// Want of memory.
+    /// Memory ran out.
     NoMemory,
 }
 
 impl Status {
-    /// The number that the process ends with.
+    /// Returns the number with which the process ends.
     pub fn code(&self) -> u8
         ensures { result ≡ code_of self.now }
     {
@@ -47,7 +47,7 @@ impl Status {
         }
     }
 
-    /// Why the program stopped before its answer was written, where it did.
+    /// Returns the reason why the program stopped before its answer was written, if it did.
     pub fn reason(&self) -> Option<Stop>
         ensures { MatchOption result ((self.now ≡ Status.Done) ⊎ (self.now ≡ Status.Refused))
             (λ stop. status_of stop ≡ self.now) }
@@ -66,7 +66,7 @@ impl Status {
 }
 
 impl From<Result<Status, Stop>> for Status {
-    ghost use Rattle.rc_program.specs.Stopped.{status_from};
+    ghost use Rattle.rc_program.specs.Stop.{status_from};
 
     ghost from_gives = { λ end status. status ≡ status_from end };
 

@@ -1,4 +1,4 @@
-//! Why the program stops before its answer is written.
+//! The reasons why the program stops before its answer is written.
 
 ghost use Rattle.std.specs.Prelude.{◌≡◌};
 ghost use Rattle.rc_program.specs.declared.stop.Stop.TheVariants as stops;
@@ -6,13 +6,13 @@ ghost use Rattle.rc_program.specs.declared.stop.Stop.TheVariants as stops;
 use std::alloc::{AllocError, AllocFailed};
 use thiserror::Error;
 
-/// Why the program stops before its answer is written, in the words of standard error.
+/// The reason why the program stops before its answer is written, with its words for standard error.
 #[derive(Clone, Copy, Debug, PartialEq, Eq, Error)]
 pub enum Stop {
-    /// The words are not the one word `tree`.
+    /// The words aren't the one word `tree`.
     #[error("usage: rc tree")]
     Usage,
-    /// No JSON value is read from the bytes.
+    /// The bytes are no JSON.
     #[error("standard input is not JSON")]
     NotJson,
     /// The value is no document.
@@ -27,7 +27,7 @@ pub enum Stop {
     /// There are more than 16,777,216 bytes.
     #[error("standard input has more than 16777216 bytes")]
     TooLarge,
-    /// Want of memory.
+    /// Memory ran out.
     #[error("there is too little memory")]
     NoMemory,
 }

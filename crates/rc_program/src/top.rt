@@ -2,9 +2,9 @@
 
 ghost use Rattle.std.specs.Prelude.{◌≡◌, ◌↔◌, ◌⊎◌, ℕ, List, Some};
 ghost use Rattle.rc_program.specs.declared.status.Status.{Status};
-ghost use Rattle.rc_program.specs.Device.{Rose};
-ghost use Rattle.rc_program.specs.Outcome.{Due, Excused, IsTree, Outcome};
-ghost use Rattle.rc_program.specs.Stopped.{status_from};
+ghost use Rattle.rc_program.specs.Device.{HasRisen};
+ghost use Rattle.rc_program.specs.Status.{IsDue, CanReplace, IsTree, IsOutcome};
+ghost use Rattle.rc_program.specs.Stop.{status_from};
 
 use crate::answer::answer_for;
 use crate::command_line::{Words, is_tree};
@@ -15,8 +15,8 @@ use crate::stop::Stop;
 use crate::write::write_lines;
 use std::alloc::Global;
 
-/// Reads a document from the source and writes the lines of its tree to the sink, or the line of the fault for which
-/// its graph is refused, where the words are the one word `tree`.
+/// Reads a document from the source, if the words are the one word `tree`. Writes the lines of its tree to the sink,
+/// or the line of the fault with which its graph is refused, and returns the status.
 ///
 /// The bytes are read to their end before they are parsed, and the text is made whole before any of it is written.
 pub fn program<S: Source, K: Sink>(
@@ -25,23 +25,24 @@ pub fn program<S: Source, K: Sink>(
     source: &mut S,
     sink: &mut K,
 ) -> Status
-    // What each status says.
-    ensures outcome { Outcome words.now (S.left source.old) (S.left source.new)
+    // Each status gives these facts.
+    ensures outcome { IsOutcome words.now (S.left source.old) (S.left source.new)
         (K.written sink.old) (K.written sink.new) result }
-    ensures read { result ≡ Status.ReadFault → Rose (S.faults source.old) (S.faults source.new) }
-    ensures write { result ≡ Status.WriteFault → Rose (K.faults sink.old) (K.faults sink.new) }
+    ensures read { result ≡ Status.ReadFault → HasRisen (S.faults source.old) (S.faults source.new) }
+    ensures write { result ≡ Status.WriteFault → HasRisen (K.faults sink.old) (K.faults sink.new) }
 
-    // When each status comes: Usage by the words alone, and the others by the bytes of a source that tells them.
+    // Each status comes exactly in these cases: `Usage` by the words alone, and the others by the bytes, if the source
+    // tells them.
     ensures usage { (result ≡ Status.Usage) ↔ ¬ IsTree words.now }
     ensures exact { (bytes : List ℕ) (due : Status) → IsTree words.now → S.left source.old ≡ Some bytes
-        → Due bytes due
-        → (result ≡ due) ⊎ Excused (Rose (S.faults source.old) (S.faults source.new))
-        (Rose (K.faults sink.old) (K.faults sink.new)) due result }
+        → IsDue bytes due
+        → (result ≡ due) ⊎ CanReplace (HasRisen (S.faults source.old) (S.faults source.new))
+        (HasRisen (K.faults sink.old) (K.faults sink.new)) due result }
 
-    // A tree is written unless memory is wanting or a device fails.
+    // A tree is written, unless memory runs out or a device fails.
     ensures complete { (bytes : List ℕ) → IsTree words.now → S.left source.old ≡ Some bytes
-        → Due bytes Status.Done
-        → ¬ Rose (S.faults source.old) (S.faults source.new) → ¬ Rose (K.faults sink.old) (K.faults sink.new)
+        → IsDue bytes Status.Done
+        → ¬ HasRisen (S.faults source.old) (S.faults source.new) → ¬ HasRisen (K.faults sink.old) (K.faults sink.new)
         → (result ≡ Status.Done) ⊎ (result ≡ Status.NoMemory) }
 {
     Status::from(run(alloc, words, source, sink))
@@ -54,10 +55,10 @@ fn run<S: Source, K: Sink>(
     source: &mut S,
     sink: &mut K,
 ) -> Result<Status, Stop>
-    ensures outcome { Outcome words.now (S.left source.old) (S.left source.new)
+    ensures outcome { IsOutcome words.now (S.left source.old) (S.left source.new)
         (K.written sink.old) (K.written sink.new) (status_from result) }
-    ensures read { status_from result ≡ Status.ReadFault → Rose (S.faults source.old) (S.faults source.new) }
-    ensures write { status_from result ≡ Status.WriteFault → Rose (K.faults sink.old) (K.faults sink.new) }
+    ensures read { status_from result ≡ Status.ReadFault → HasRisen (S.faults source.old) (S.faults source.new) }
+    ensures write { status_from result ≡ Status.WriteFault → HasRisen (K.faults sink.old) (K.faults sink.new) }
 {
     if !is_tree(words) {
         return Err(Stop::Usage);

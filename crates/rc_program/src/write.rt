@@ -2,18 +2,18 @@
 
 ghost use Rattle.std.specs.Prelude.{◌≤◌, OnOk, OnErr};
 ghost use Rattle.std.specs.Io.KnownBytes.{Appends};
-ghost use Rattle.rc_program.specs.Device.{AppendsPrefix, Rose};
+ghost use Rattle.rc_program.specs.Device.{HasAppendedPrefix, HasRisen};
 
 use crate::device::{Failed, Sink};
 use rc_names::Text;
 
-/// Writes the whole text, in as many calls as the sink needs. `Failed` comes from a call of the sink, and leaves a
-/// prefix of the text written. It takes no memory.
+/// Writes the whole text, in as many calls as the sink needs. Returns `Failed` if a call of the sink fails, and then a
+/// prefix of the text was written. This takes no memory.
 pub fn write_lines<K: Sink>(sink: &mut K, text: &Text) -> Result<(), Failed>
     ensures ok { OnOk result (Appends (K.written sink.old) (K.written sink.new) text.now) }
-    ensures err { OnErr result (AppendsPrefix (K.written sink.old) (K.written sink.new) text.now) }
+    ensures err { OnErr result (HasAppendedPrefix (K.written sink.old) (K.written sink.new) text.now) }
     ensures later { K.faults sink.old ≤ K.faults sink.new }
-    ensures cause { OnErr result (Rose (K.faults sink.old) (K.faults sink.new)) }
+    ensures cause { OnErr result (HasRisen (K.faults sink.old) (K.faults sink.new)) }
 {
     let bytes = text.as_str().as_bytes();
     let mut at = 0;

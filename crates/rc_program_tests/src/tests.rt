@@ -14,12 +14,12 @@ use rc_names::{List, Text};
 use rc_program::{MemorySink, MemorySource, Status, Words, program};
 use std::alloc::{AllocError, Global};
 
-/// A function that answers its one parameter.
+/// A function that returns its one parameter.
 pub const DOCUMENT: &str = r#"{"hir":{"params":[{"k":"Place","v":0}],
 "body":{"entry":0,"blocks":[{"id":0,"terminal":{"k":"Return","value":0,"id":1}}]}},
 "env":{"identifiers":[{"declaration_id":0,"type_":0}],"types":["Other"],"config":{},"next_block":1}}"#;
 
-/// What is printed for it.
+/// The printed text of it.
 pub const TEXT: &str = "function null hint null generator false async false
 param 0
 body
@@ -27,7 +27,7 @@ body
 fates
 ";
 
-/// What is printed of a function of two parameters ahead of its statements.
+/// The printed lines of a function of two parameters that come before its statements.
 pub const HEAD: &str = "function null hint null generator false async false
 param 0
 param 1
@@ -52,7 +52,7 @@ pub fn words(alloc: Global, texts: &[&str]) -> Result<Words, AllocError> {
     Ok(words)
 }
 
-/// How `rc tree` ends on a source, over a sink with ample room that takes ten bytes a call, and that sink.
+/// The status with which `rc tree` ends on a source, and its sink, which has ample room and takes ten bytes a call.
 pub fn tree_from(
     alloc: Global,
     mut source: MemorySource,
@@ -63,13 +63,13 @@ pub fn tree_from(
     Ok((status, sink))
 }
 
-/// How `rc tree` ends on these bytes, and the sink that it wrote to.
+/// The status with which `rc tree` ends on these bytes, and its sink.
 pub fn tree(alloc: Global, bytes: &[u8]) -> Result<(Status, MemorySink), AllocError> {
     let bytes = list(alloc, bytes)?;
     tree_from(alloc, MemorySource::new(bytes, List::new(alloc)))
 }
 
-/// Whether `rc tree` ends so on a source, and writes that text.
+/// Whether `rc tree` ends with that status on a source, and writes that text.
 pub fn is_answered_from(
     alloc: Global,
     source: MemorySource,
@@ -80,7 +80,7 @@ pub fn is_answered_from(
     Ok(status == due && sink.bytes() == text.as_bytes())
 }
 
-/// Whether `rc tree` ends so on these bytes, and writes that text.
+/// Whether `rc tree` ends with that status on these bytes, and writes that text.
 pub fn is_answered(
     alloc: Global,
     bytes: &[u8],
@@ -91,7 +91,7 @@ pub fn is_answered(
     is_answered_from(alloc, MemorySource::new(bytes, List::new(alloc)), due, text)
 }
 
-/// A text with the first such part replaced.
+/// A text in which the first such part is replaced.
 pub fn replaced(alloc: Global, text: &str, part: &str, by: &str) -> Result<String, AllocError> {
     match text.split_once(part) {
         Some((front, back)) => format!(in alloc; "{front}{by}{back}"),

@@ -1,4 +1,4 @@
--- What holds of each element of a list that is made of parts holds of those of each part.
+-- If all elements of a list that is made of parts have a property, so have all elements of each part.
 use Rattle.std.proofs.Common.{◌≡◌, ℕ, zero, suc, ◌<◌, ◌+◌, List, [], ◌∷◌, ◌++◌, length, get_or, subst, arith}
 use Rattle.std.proofs.Common.{length-append}
 use Rattle.std.proofs.Math.ListN.{get_or-append}
@@ -14,7 +14,7 @@ module _ {X : Type 0} (P : X → Type 0) where
   All-right xs ys all =
       λ k d below. subst P (get_or-append-add xs ys k d) (all (length xs + k) d (omega (arith, length-append xs ys)))
 
--- what holds of all that is made of elements holds of what is made of each
+-- if all elements that are made from a list have a property, so have those made from each of its elements
 pub All-flat_map : {X Y : Type 0} (P : Y → Type 0) (f : X → List Y) (xs : List X) → All P (flat_map f xs)
     → (i : ℕ) (x : X) → i < length xs → get_or xs i x ≡ x → All P (f x)
 All-flat_map P f [] all i x below is = absurd (let no : ⊥ = omega arith in no)

@@ -1,4 +1,4 @@
--- What holds of some element of a list that is made of parts holds of some element of a part.
+-- Some element of a list that is made of parts has a property exactly if some element of a part has it.
 use Rattle.std.proofs.Common.{◌≡◌, ◌∙◌, ◌⊎◌, inl, inr, ℕ, zero, suc, ◌+◌, ◌<◌, List, [], ◌∷◌, ◌++◌, length, get_or}
 use Rattle.std.proofs.Common.{length-append, arith, refl, sym, subst}
 use Rattle.std.proofs.Math.ListN.{get_or-append}
@@ -26,7 +26,7 @@ module _ {X : Type 0} (P : X → Type 0) where
     some.4,
   )
 
-  -- the one element of a list has it
+  -- the only element of a list has it
   pub Any-one : (x : X) → Any P (x ∷ []) → P x
   Any-one x some = by some.0 some.1 some.2 some.3 some.4
     where
@@ -48,7 +48,7 @@ module _ {X : Type 0} (P : X → Type 0) where
       by later zero y below is holds = inl (0, y, omega arith, is, holds)
       by later (suc i) y below is holds = behind (later (i, y, omega (arith, below), is, holds))
 
-  -- what holds of what is made of an element holds of what is made of all
+  -- if some element made from one element has a property, some element made from the list has it
   pub Any-flat_map : {Y : Type 0} (f : Y → List X) (ys : List Y) (i : ℕ) (y : Y) → i < length ys → get_or ys i y ≡ y
       → Any P (f y) → Any P (flat_map f ys)
   Any-flat_map f [] i y below is some = absurd (omega (arith, below))
@@ -57,7 +57,7 @@ module _ {X : Type 0} (P : X → Type 0) where
   Any-flat_map f (z ∷ ys) (suc i) y below is some =
       Any-right (f z) (flat_map f ys) (Any-flat_map f ys i y (omega (arith, below)) is some)
 
--- what holds of what is made of all holds of what is made of some element
+-- if some element made from the list has a property, some element made from one of its elements has it
 pub Any-made : {X Y : Type 0} (P : X → Type 0) (f : Y → List X) (ys : List Y) → Any P (flat_map f ys)
     → Any (λ y. Any P (f y)) ys
 Any-made P f [] some = absurd (omega (arith, some.2))
@@ -68,6 +68,6 @@ Any-made P f (y ∷ ys) some = by (Any-made P f ys) (Any-cases P (f y) (flat_map
     by later (inl here) = (0, y, omega arith, refl, here)
     by later (inr others) = Any-right (λ z. Any P (f z)) (y ∷ []) ys (later others)
 
--- where something holds of each element, its contrary holds of none
+-- if all elements have a property, none has one that excludes it
 pub none_of : {X : Type 0} (P Q : X → Type 0) → ((x : X) → P x → Q x → ⊥) → (xs : List X) → All P xs → Any Q xs → ⊥
 none_of P Q contrary xs all some = contrary some.1 (subst P some.3 (all some.0 some.1 some.2)) some.4

@@ -1,23 +1,20 @@
 -- Each run of a spelled body is a run of its graph: by recursion on the run of the body.
 --
--- Of statements that end with an outcome, `After` says how runs of the graph go on: they end there, or any run from
--- the block to which the outcome leads continues them. A block that ends in `Unreachable` spells nothing, so its
--- list falls off where the graph goes nowhere; no used block steps to one, and nothing is behind the entry's list.
+-- For statements that end with a completion, `After` says how runs of the graph go on: they end there, or any run from
+-- the block to which the completion leads continues them. A block that ends in `Unreachable` spells nothing, so its
+-- list falls off where the graph goes nowhere. But no used block leads to such a block, and no statement follows the
+-- entry's list.
 use Rattle.std.proofs.Common.{◌≡◌, List, [], ◌∷◌, ◌++◌, Bool, true, false, Option, None, ◌⊎◌, inl, inr, refl, sym, ap}
 use Rattle.std.proofs.Common.{◌∙◌, subst, append_assoc, arith, Contains, Some}
 use Rattle.std.proofs.lemmas.List.{append-nil}
 use Rattle.std.proofs.lemmas.List.Elements.{Contains-append_left, Contains-append_right}
-use Rattle.rc_names.specs.declared.numbers.BlockId.{BlockId}
-use Rattle.rc_tree.specs.declared.terminal.ReactiveLabel.{ReactiveLabel}
-use Rattle.rc_tree.specs.declared.function.ReactiveFunction.{ReactiveFunction}
-use Rattle.rc_hir.specs.declared.terminal.Terminal.{Terminal}
-use Rattle.rc_hir.specs.declared.function.Instruction.{Instruction}
-use Rattle.rc_hir.specs.declared.function.HirFunction.{HirFunction}
-use Rattle.rc_hir.specs.declared.environment.Environment.{Environment}
-use Rattle.rc_runs.specs.declared.frames.Frame.TheVariants as frame
+use Rattle.rc_names.specs.Numbers.{BlockId, same_id}
+use Rattle.rc_tree.specs.Model.{ReactiveLabel, ReactiveFunction}
+use Rattle.rc_hir.specs.Model.{Terminal, Instruction, HirFunction, Environment}
+use Rattle.rc_runs.specs.declared.frames.Frame.TheVariants as frame_kinds
 use Rattle.rc_runs.specs.Event.{Event, Did, Arm, End, Open}
-use Rattle.rc_runs.specs.Graph.{Block, same_block, block_at, is_unreachable, is_dead}
-use Rattle.rc_runs.specs.GraphRun.{Move, MovesAlive, GraphRun, GraphRunAt, IsGraphRun}
+use Rattle.rc_runs.specs.Graph.{Block, block_at, is_unreachable, ends_unreachable}
+use Rattle.rc_runs.specs.GraphRun.{Edge, HasNoUnreachableSuccessor, GraphRun, GraphRunAt, IsGraphRun}
 use Rattle.rc_runs.specs.GraphRun as graph
 use Rattle.rc_runs.specs.PlainTree.{Statements, Statement}
 use Rattle.rc_runs.specs.TreeOf.{block_of}
@@ -25,9 +22,10 @@ use Rattle.rc_runs.specs.ListContext.{ListContext, outermost, inside}
 use Rattle.rc_runs.specs.Grammar.{label_of, falls_to, SpellsList, SpellsStatement, SpellsRest}
 use Rattle.rc_runs.specs.Grammar as grammar
 use Rattle.rc_runs.specs.Spelled.{SpellsBody, Spells}
-use Rattle.rc_runs.specs.BodyRun.{Outcome, Normal, Ended, leaves, caught, RunsList, RunsStatement, IsBodyRun}
+use Rattle.rc_runs.specs.BodyRun.{Completion, Normal, Ended, leaves, caught, RunsList, RunsStatement, IsBodyRun}
 use Rattle.rc_runs.specs.BodyRun as body
-use Rattle.rc_runs.proofs.GraphLemmas.{same_block-eq, usable_block-at, is_dead-at}
+use Rattle.rc_names.proofs.NumbersLemmas.{same_id-eq}
+use Rattle.rc_runs.proofs.GraphLemmas.{usable_block-at, ends_unreachable-at}
 use Rattle.rc_runs.proofs.FramesLemmas.{Fits, fits_body, fits_inside, Aims, Aims-leaves, leaving, falls_to-next}
 use Rattle.rc_runs.proofs.FramesLemmas.{caught-ended, caught-normal, aims_labeled, aims_scope, Jumps, falls_off}
 use Rattle.rc_runs.proofs.FramesLemmas.{breaks_implicit, breaks_labeled, breaks_unlabeled, break_jumps}
@@ -35,10 +33,10 @@ use Rattle.rc_runs.proofs.TreeOfLemmas.{block_of-injective}
 use Rattle.rc_runs.proofs.RowsLemmas.{SpellsRows, row_then, rows_done, rows_spelled}
 
 module _ (hir : HirFunction) (env : Environment) where
-  -- no used block steps to one that ends in `Unreachable`
+  -- no used block leads to one that ends in `Unreachable`
   abbrev AllAlive : List BlockId → Type 0
   AllAlive used = (key : BlockId) → Contains used key → (block : Block) → block_at hir key ≡ Some block
-      → MovesAlive hir block.terminal
+      → HasNoUnreachableSuccessor hir block.terminal
 
   alive_front : {used : List BlockId} (front behind : List BlockId) → used ≡ front ++ behind → AllAlive used
       → AllAlive front
@@ -50,15 +48,16 @@ module _ (hir : HirFunction) (env : Environment) where
   alive_behind front behind e alive =
       λ key c. alive key (subst (λ u. Contains u key) (sym e) (Contains-append_right front behind key c))
 
-  -- how runs of the graph go on after statements that end with the outcome
-  data After (context : ListContext) (run : List Event → End → Type 0) (events : List Event) : Outcome → Type 0 where
+  -- how runs of the graph go on after statements with that completion
+  data After (context : ListContext) (run : List Event → End → Type 0) (events : List Event) : Completion → Type 0 where
     ends : {end : End} → run events end → After context run events (Ended end)
-    leads : {outcome : Outcome} {key : BlockId} → Aims context outcome key → is_dead hir key ≡ false →
+    leads : {outcome : Completion} {key : BlockId} → Aims context outcome key → ends_unreachable hir key ≡ false →
         ((more : List Event) (end : End) → GraphRunAt hir env key more end → run (events ++ more) end)
         → After context run events outcome
 
   -- more events in front
-  ahead : {context : ListContext} {inner run : List Event → End → Type 0} {events all : List Event} {outcome : Outcome}
+  ahead : {context : ListContext} {inner run : List Event → End → Type 0} {events all : List Event}
+      {outcome : Completion}
       (first : List Event) → After context inner events outcome → all ≡ first ++ events →
       ((events : List Event) (end : End) → inner events end → run (first ++ events) end)
       → After context run all outcome
@@ -68,23 +67,23 @@ module _ (hir : HirFunction) (env : Environment) where
       let regrouped = sym (append_assoc first events more) ∙ sym (ap (λ l. l ++ more) q) in
       subst (λ l. run l end) regrouped (h (events ++ more) end (k more end r)))
 
-  -- nothing behind
-  alone : {context : ListContext} {run : List Event → End → Type 0} {first all : List Event} {outcome : Outcome} →
+  -- no events behind
+  alone : {context : ListContext} {run : List Event → End → Type 0} {first all : List Event} {outcome : Completion} →
       After context run first outcome → all ≡ first ++ [] → After context run all outcome
   alone {context} {run} {first} {outcome = outcome} a q =
       subst (λ l. After context run l outcome) (sym (q ∙ append-nil first)) a
 
-  -- outcomes that leave, where falling off reaches another block
+  -- completions that leave, where falling off reaches another block
   elsewhere : {context : ListContext} {next : Option BlockId} {run : List Event → End → Type 0} {events : List Event}
-      {outcome : Outcome} → leaves outcome ≡ true → After (record context { next = next }) run events outcome
+      {outcome : Completion} → leaves outcome ≡ true → After (record context { next = next }) run events outcome
       → After context run events outcome
   elsewhere h (ends r) = ends r
   elsewhere {context} {next} {outcome = outcome} h (leads {key = key} a live k) =
       leads (Aims-leaves context next outcome key h a) live k
 
-  -- an outcome of the parts of a statement, behind the statement's label
+  -- a completion of a statement's parts, after the statement's label
   behind_label : {inner context : ListContext} {run : List Event → End → Type 0} {events : List Event}
-      {outcome outer : Outcome} (label : Option ReactiveLabel) → After inner run events outcome →
+      {outcome outer : Completion} (label : Option ReactiveLabel) → After inner run events outcome →
       ((key : BlockId) → Aims inner outcome key → Aims context (caught label outcome) key)
       → outer ≡ caught label outcome → After context run events outer
   behind_label {context = context} {run} {events} label (ends {end} r) h q =
@@ -92,74 +91,76 @@ module _ (hir : HirFunction) (env : Environment) where
   behind_label {context = context} {run} {events} label (leads {key = key} a live k) h q =
       subst (After context run events) (sym q) (leads (h key a) live k)
 
-  -- what the recursion gives of statements that a block spells
-  abbrev Carries : ListContext → Statements → List Event → Outcome → Type 0
+  -- the claim of the recursion, for the statements that a block spells
+  abbrev Carries : ListContext → Statements → List Event → Completion → Type 0
   Carries context statements events outcome =
       Fits context → (rows : List Instruction) (terminal : Terminal) (used : List BlockId) →
       SpellsRows hir env rows terminal context statements used → (outcome ≡ Normal → is_unreachable terminal ≡ false)
-      → MovesAlive hir terminal → AllAlive used → After context (GraphRun hir env rows terminal) events outcome
+      → HasNoUnreachableSuccessor hir terminal → AllAlive used
+      → After context (GraphRun hir env rows terminal) events outcome
 
   at_block : {key : BlockId} {context : ListContext} {statements : Statements} {used : List BlockId}
-      {events : List Event} {outcome : Outcome} → SpellsList hir env key context statements used → Fits context
-      → (outcome ≡ Normal → is_dead hir key ≡ false) → AllAlive used →
+      {events : List Event} {outcome : Completion} → SpellsList hir env key context statements used → Fits context
+      → (outcome ≡ Normal → ends_unreachable hir key ≡ false) → AllAlive used →
       Carries context statements events outcome → After context (GraphRunAt hir env key) events outcome
   at_block {key} {context} (grammar.block {used = later} {block = block} found l d q) fits live alive carries =
       let at = usable_block-at hir key block found in
       let rows = subst (λ s. SpellsRows hir env block.rows block.terminal context s later) (sym q)
       (rows_spelled block.rows d) in
-      let moves : MovesAlive hir block.terminal = alive key (0, omega arith, refl) block at in
-      ahead [] (carries fits block.rows block.terminal later rows (λ n. sym (is_dead-at hir key block at) ∙ live n)
+      let moves : HasNoUnreachableSuccessor hir block.terminal = alive key (0, omega arith, refl) block at in
+      ahead [] (carries fits block.rows block.terminal later rows
+      (λ n. sym (ends_unreachable-at hir key block at) ∙ live n)
       moves (alive_behind (key ∷ []) later refl alive)) refl (λ events end run. graph.enters at run)
 
-  -- a part of a statement, to which the statement's terminal moves
+  -- a part of a statement, to which the statement's terminal has an edge
   in_part : {terminal : Terminal} {step : List Event} {key : BlockId} {context : ListContext} {part : Statements}
-      {used : List BlockId} {events : List Event} {outcome : Outcome} → Move terminal step key
-      → SpellsList hir env key context part used → Fits context → MovesAlive hir terminal → AllAlive used
+      {used : List BlockId} {events : List Event} {outcome : Completion} → Edge terminal step key
+      → SpellsList hir env key context part used → Fits context → HasNoUnreachableSuccessor hir terminal → AllAlive used
       → Carries context part events outcome → After context (GraphRun hir env [] terminal) (step ++ events) outcome
   in_part {step = step} {key} move d fits moves alive carries =
       ahead step (at_block d fits (λ n. moves step key move) alive carries) refl
       (λ events end r. graph.moved move r refl)
 
-  -- a part of a statement that has a label where its fallthrough is opened
+  -- a part of a statement that has a label if its fallthrough is opened
   labeled_part : {terminal : Terminal} {step : List Event} {key : BlockId} {label : Option ReactiveLabel}
-      {context : ListContext} {part : Statements} {used : List BlockId} {events : List Event} {inner outer : Outcome}
+      {context : ListContext} {part : Statements} {used : List BlockId} {events : List Event} {inner outer : Completion}
       (opened : Bool) (fallthrough : BlockId) → Fits context → label ≡ label_of opened fallthrough
-      → outer ≡ caught label inner → Move terminal step key
-      → SpellsList hir env key (inside opened (frame.If fallthrough) context) part used
-      → MovesAlive hir terminal → AllAlive used
-      → Carries (inside opened (frame.If fallthrough) context) part events inner
+      → outer ≡ caught label inner → Edge terminal step key
+      → SpellsList hir env key (inside opened (frame_kinds.Statement fallthrough) context) part used
+      → HasNoUnreachableSuccessor hir terminal → AllAlive used
+      → Carries (inside opened (frame_kinds.Statement fallthrough) context) part events inner
       → After (leaving opened fallthrough context) (GraphRun hir env [] terminal) (step ++ events) outer
   labeled_part {label = label} {context} {inner = inner} opened f fits l q move d moves alive carries =
-      behind_label label (in_part move d (fits_inside opened (frame.If f) fits) moves alive carries)
-      (aims_labeled opened (frame.If f) context label refl refl l inner) q
+      behind_label label (in_part move d (fits_inside opened (frame_kinds.Statement f) fits) moves alive carries)
+      (aims_labeled opened (frame_kinds.Statement f) context label refl refl l inner) q
 
   -- the part of a scope
   scope_part : {terminal : Terminal} {key : BlockId} {context : ListContext} {part : Statements} {used : List BlockId}
-      {events : List Event} {outcome : Outcome} (opened : Bool) (fallthrough : BlockId) → Fits context
-      → Move terminal [] key → SpellsList hir env key (inside opened (frame.Scope fallthrough) context) part used
-      → MovesAlive hir terminal → AllAlive used
-      → Carries (inside opened (frame.Scope fallthrough) context) part events outcome
+      {events : List Event} {outcome : Completion} (opened : Bool) (fallthrough : BlockId) → Fits context
+      → Edge terminal [] key → SpellsList hir env key (inside opened (frame_kinds.Scope fallthrough) context) part used
+      → HasNoUnreachableSuccessor hir terminal → AllAlive used
+      → Carries (inside opened (frame_kinds.Scope fallthrough) context) part events outcome
       → After (leaving opened fallthrough context) (GraphRun hir env [] terminal) events outcome
   scope_part {context = context} {outcome = outcome} opened f fits move d moves alive carries =
-      behind_label None (in_part move d (fits_inside opened (frame.Scope f) fits) moves alive carries)
+      behind_label None (in_part move d (fits_inside opened (frame_kinds.Scope f) fits) moves alive carries)
       (aims_scope opened f context outcome) refl
 
-  -- an alternate that is the fallthrough
-  absent_part : {terminal : Terminal} {alternate : BlockId} {outer : Outcome} (opened : Bool) (fallthrough : BlockId)
-      (context : ListContext) (label : Option ReactiveLabel) → Move terminal (Arm false ∷ []) alternate
-      → same_block alternate fallthrough ≡ true → falls_to opened fallthrough context.next ≡ true
-      → MovesAlive hir terminal → outer ≡ caught label Normal
+  -- an alternate that is the fallthrough and is left out
+  absent_part : {terminal : Terminal} {alternate : BlockId} {outer : Completion} (opened : Bool) (fallthrough : BlockId)
+      (context : ListContext) (label : Option ReactiveLabel) → Edge terminal (Arm false ∷ []) alternate
+      → same_id alternate fallthrough ≡ true → falls_to opened fallthrough context.next ≡ true
+      → HasNoUnreachableSuccessor hir terminal → outer ≡ caught label Normal
       → After (leaving opened fallthrough context) (GraphRun hir env [] terminal) (Arm false ∷ []) outer
   absent_part {terminal} {alternate} opened f context label move same falls moves q =
-      let reached = falls_to-next opened f context.next falls ∙ ap Some (sym (same_block-eq alternate f same)) in
+      let reached = falls_to-next opened f context.next falls ∙ ap Some (sym (same_id-eq alternate f same)) in
       subst (After (leaving opened f context) (GraphRun hir env [] terminal) (Arm false ∷ []))
       (sym (q ∙ caught-normal label))
       (leads {key = alternate} reached (moves (Arm false ∷ []) alternate move)
       (λ more end r. graph.moved move r refl))
 
-  -- the statements behind a statement that is done
+  -- the statements after a statement that is done
   onward : {run : List Event → End → Type 0} {fallthrough : BlockId} {opened : Bool} {context : ListContext}
-      {rest : Statements} {used : List BlockId} {first second all : List Event} {outcome : Outcome} → Fits context
+      {rest : Statements} {used : List BlockId} {first second all : List Event} {outcome : Completion} → Fits context
       → SpellsRest hir env opened fallthrough context rest used
       → After (leaving opened fallthrough context) run first Normal → RunsList env rest second outcome
       → all ≡ first ++ second → AllAlive used → Carries context rest second outcome → After context run all outcome
@@ -169,12 +170,12 @@ module _ (hir : HirFunction) (env : Environment) where
   onward {fallthrough = fallthrough} {first = first} fits (grammar.opened d) (leads {key = key} a live k) x q alive
       carries =
       let same : key ≡ fallthrough = cc in
-      ahead first (at_block d fits (λ n. subst (λ b. is_dead hir b ≡ false) same live) alive carries) q
+      ahead first (at_block d fits (λ n. subst (λ b. ends_unreachable hir b ≡ false) same live) alive carries) q
       (λ more end r. k more end (subst (λ b. GraphRunAt hir env b more end) (sym same) r))
 
-  -- what the statements of a jump do
+  -- the runs of a jump's statements
   jump_run : {context : ListContext} {key : BlockId} {statements : Statements} {events : List Event}
-      {outcome : Outcome} → Jumps context key statements → RunsList env statements events outcome
+      {outcome : Completion} → Jumps context key statements → RunsList env statements events outcome
       → (events ≡ []) × ((outcome ≡ Ended Open) ⊎ Aims context outcome key)
   jump_run j body.stopped = (refl, inl refl)
   jump_run (falls_off n) body.nothing = (refl, inr n)
@@ -189,7 +190,7 @@ module _ (hir : HirFunction) (env : Environment) where
   jump_run (breaks_unlabeled n) (body.and_then body.break_unlabeled (body.leaves_list l) q) = (q, inr n)
 
   jump_to_graph : {terminal : Terminal} {key : BlockId} {context : ListContext} {statements : Statements}
-      {events : List Event} {outcome : Outcome} → Move terminal [] key → MovesAlive hir terminal
+      {events : List Event} {outcome : Completion} → Edge terminal [] key → HasNoUnreachableSuccessor hir terminal
       → Jumps context key statements → RunsList env statements events outcome
       → After context (GraphRun hir env [] terminal) events outcome
   jump_to_graph {terminal} {key} {context} {outcome = outcome} move moves j run =
@@ -200,7 +201,7 @@ module _ (hir : HirFunction) (env : Environment) where
       ])
 
   mutual
-    list_to_graph : {context : ListContext} {statements : Statements} {events : List Event} {outcome : Outcome} →
+    list_to_graph : {context : ListContext} {statements : Statements} {events : List Event} {outcome : Completion} →
         RunsList env statements events outcome → Carries context statements events outcome
     list_to_graph body.stopped fits _ _ _ d live moves alive = ends graph.stopped
     list_to_graph body.nothing fits _ _ _ (rows_done grammar.unreachable) live moves alive =
@@ -230,9 +231,10 @@ module _ (hir : HirFunction) (env : Environment) where
         alone (elsewhere l (statement_to_graph x fits d moves (alive_front u v w alive))) q
 
     statement_to_graph : {terminal : Terminal} {context : ListContext} {opened : Bool} {fallthrough : BlockId}
-        {statement : Statement} {used : List BlockId} {events : List Event} {outcome : Outcome}
+        {statement : Statement} {used : List BlockId} {events : List Event} {outcome : Completion}
         → RunsStatement env statement events outcome → Fits context
-        → SpellsStatement hir env terminal context opened fallthrough statement used → MovesAlive hir terminal
+        → SpellsStatement hir env terminal context opened fallthrough statement used
+        → HasNoUnreachableSuccessor hir terminal
         → AllAlive used
         → After (leaving opened fallthrough context) (GraphRun hir env [] terminal) events outcome
     statement_to_graph (body.took_arm x q) fits (grammar.if_only i l same falls d) moves alive =
@@ -259,7 +261,7 @@ module _ (hir : HirFunction) (env : Environment) where
     statement_to_graph (body.break_labeled o) fits d moves alive = elim d [ ]
     statement_to_graph body.break_unlabeled fits d moves alive = elim d [ ]
 
-  -- nothing stands around the statements from the entry on, so that their runs lead nowhere
+  -- the context of the entry's statements is empty, so their runs don't jump out
   all_ends : {run : List Event → End → Type 0} {events : List Event} {end : End}
       → After outermost run events (Ended end) → run events end
   all_ends (ends r) = r

@@ -1,16 +1,13 @@
--- A body has the runs that it has without its scopes.
+-- A body has the same runs with its scopes and without them.
 --
--- A scope block runs as its contents do, which stand in its place, and every other statement stays around parts that
--- keep their runs. The flag that is left out plays no part, since its instruction is silent.
+-- A scope block has the runs of its contents, by which it is replaced, and every other statement keeps its form around
+-- parts that keep their runs. The flag that is reset plays no part, since its instruction is silent.
 use Rattle.std.proofs.Common.{◌≡◌, ◌↔◌, Bool, true, false, ◌||◌, List, [], ◌∷◌, Option, refl, sym, ap, ◌∙◌, subst}
-use Rattle.rc_names.specs.declared.numbers.EvaluationOrder.{EvaluationOrder}
+use Rattle.rc_names.specs.Numbers.{EvaluationOrder}
 use Rattle.rc_names.specs.declared.span.Span.{Span}
-use Rattle.rc_hir.specs.declared.environment.Environment.{Environment}
-use Rattle.rc_hir.specs.declared.instruction.InstructionValue.{InstructionValue}
-use Rattle.rc_hir.specs.declared.instruction.InstructionValue.TheVariants as instructions
-use Rattle.rc_hir.specs.declared.place.Place.{Place}
-use Rattle.rc_tree.specs.declared.function.ReactiveFunction.{ReactiveFunction}
-use Rattle.rc_tree.specs.declared.terminal.ReactiveLabel.{ReactiveLabel}
+use Rattle.rc_hir.specs.Model.{Environment, InstructionValue, Place}
+use Rattle.rc_hir.specs.declared.instruction.InstructionValue.TheVariants as kinds
+use Rattle.rc_tree.specs.Model.{ReactiveFunction, ReactiveLabel}
 use Rattle.rc_runs.specs.Event.{Event, Did, End}
 use Rattle.rc_runs.specs.Silent.{is_unset, is_silent, is_silent_value}
 use Rattle.rc_runs.specs.PlainTree.{Value, Base, Logical, Conditional, Sequence, Optional, Statements, Nil, Cons}
@@ -30,17 +27,17 @@ use Rattle.rc_runs.proofs.ErasedTreeLemmas.{block-erased}
 use Rattle.rc_runs.proofs.TreeOfLemmas.{block_of-injective}
 use Rattle.rc_runs.proofs.EveryBlockIsPlain.{every_block_is_plain}
 
--- the flag changes no event: who sets it is silent
+-- the flag changes no event: the instruction that has it is silent
 same_silence : (env : Environment) (id : EvaluationOrder) (value : InstructionValue)
     → is_silent env id (without_flag value) ≡ is_silent env id value
 unfolding is_silent_value
-same_silence env id (instructions.FinishMemoize manual_memo_id decl pruned span) = refl
+same_silence env id (kinds.FinishMemoize manual_memo_id decl pruned span) = refl
 same_silence env id value = refl
 
 seen_stays : (env : Environment) (id : EvaluationOrder) (value : InstructionValue) → is_silent env id value ≡ false
     → without_flag value ≡ value
 unfolding is_silent_value
-seen_stays env id (instructions.FinishMemoize manual_memo_id decl pruned span) e = absurd (never (is_unset id) e)
+seen_stays env id (kinds.FinishMemoize manual_memo_id decl pruned span) e = absurd (never (is_unset id) e)
   where
     never : (unset : Bool) → unset || true ≡ false → ⊥
     never true e = cc
@@ -48,7 +45,7 @@ seen_stays env id (instructions.FinishMemoize manual_memo_id decl pruned span) e
 seen_stays env id value e = refl
 
 module _ (env : Environment) where
-  -- a row and the same without its flag
+  -- a row, with its flag and with the flag reset
   row-keeps_runs : (id : EvaluationOrder) (target : Option Place) (value : Value) (span : Option Span) →
       SameRuns env (alone (RowStatement id target value span)) (alone (RowStatement id target (plain_value value) span))
   row-keeps_runs id target value span =
@@ -78,7 +75,7 @@ module _ (env : Environment) where
       back (Sequence rows own value) events outcome d = elim d [ ]
       back (Optional value optional) events outcome d = elim d [ ]
 
-  -- a terminal that no run goes through, with its scopes and without
+  -- a terminal that has no runs, with its scopes and without
   same-no_runs : (terminal : TreeTerminal) (label : Option ReactiveLabel) → has_no_runs terminal ≡ true
       → has_no_runs (plain_terminal terminal) ≡ true →
       SameRuns env (labeled terminal label) (labeled (plain_terminal terminal) label)
@@ -86,7 +83,7 @@ module _ (env : Environment) where
       (no_runs-keeps_runs env terminal label _ e, no_runs-keeps_runs env (plain_terminal terminal) label _ e')
 
   mutual
-    -- plain statements have the runs that they have without their scopes
+    -- plain statements have the same runs with their scopes and without them
     pub erased_plain-runs : (body : Statements) → SameRuns env body (erased_plain body)
     erased_plain-runs Nil = (same-keeps_runs env Nil, same-keeps_runs env Nil)
     erased_plain-runs (Cons statement rest) =
@@ -159,11 +156,11 @@ module _ (env : Environment) (events : List Event) (end : End) where
             (subst (λ statements. RunsList env statements events (Ended end)) (sym same) run.run);
       }
 
-  -- a body has the runs that it has without its scopes
+  -- a body has the same runs with its scopes and without them
   pub erased_runs : (func : ReactiveFunction) → IsBodyRun func env events end ↔ IsBodyRun (erased func) env events end
   erased_runs func = (run_there func, run_back func)
 
-  -- bodies that are one without their scopes have the same runs
+  -- bodies that are the same without their scopes have the same runs
   pub same_erased_same_runs : (func other : ReactiveFunction) → erased func ≡ erased other →
       IsBodyRun func env events end ↔ IsBodyRun other env events end
   same_erased_same_runs func other e = (

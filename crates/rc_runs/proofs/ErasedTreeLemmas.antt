@@ -1,15 +1,16 @@
--- Plain trees without their scopes, and that the program's trees of them are the trees without scopes.
+-- Plain trees without their scopes: the program's trees of them are the program's trees without scopes.
 use Rattle.std.proofs.Common.{◌≡◌, [], ◌∷◌, ◌++◌, Option, None, Some, option_map, map, refl, sym, ap, ◌∙◌}
-use Rattle.rc_tree.specs.declared.statement.ReactiveStatement.TheVariants as statements
+use Rattle.rc_tree.specs.declared.statement.ReactiveStatement.TheVariants as reactive
 use Rattle.rc_tree.specs.declared.terminal.ReactiveSwitchCase.{roll-ReactiveSwitchCase}
-use Rattle.rc_tree.specs.declared.terminal.ReactiveTerminal.TheVariants as terminals
-use Rattle.rc_tree.specs.declared.value.ReactiveValue.TheVariants as values
+use Rattle.rc_tree.specs.declared.terminal.ReactiveTerminal.TheVariants as tree
+use Rattle.rc_tree.specs.declared.value.ReactiveValue.TheVariants as reactive_values
 use Rattle.rc_runs.specs.PlainTree.{Value, Base, Logical, Conditional, Sequence, Optional, Rows, NoRows, Row}
 use Rattle.rc_runs.specs.PlainTree.{Statements, Nil, Cons, Statement, RowStatement, TerminalStatement, ScopeStatement}
 use Rattle.rc_runs.specs.PlainTree.{PrunedScopeStatement, TreeTerminal, Break, Continue, Return, Throw, Switch, DoWhile}
 use Rattle.rc_runs.specs.PlainTree.{While, For, ForOf, ForIn, If, Label, Try, Alternate, Absent, Present, Cases}
 use Rattle.rc_runs.specs.PlainTree.{NoCases, Case}
-use Rattle.rc_runs.specs.TreeOf.{value_of, instructions_of, statements_of, statement_of, terminal_of, alternate_of, cases_of}
+use Rattle.rc_runs.specs.TreeOf.{value_of, instructions_of, statements_of, statement_of, terminal_of, alternate_of}
+use Rattle.rc_runs.specs.TreeOf.{cases_of}
 use Rattle.rc_runs.specs.TreeOf.{block_of}
 use Rattle.rc_runs.specs.Erase.{without_flag, erased_value, erased_row, erased_block, erased_statement, erased_case}
 use Rattle.rc_runs.specs.Erase.{erased_terminal, erased_statements}
@@ -72,21 +73,22 @@ abbrev mutual
   plain_cases NoCases = NoCases
   plain_cases (Case test body rest) = Case test (plain_alternate body) (plain_cases rest)
 
--- the tree of a plain tree without its scopes is that tree without its scopes
+-- the tree of an erased plain tree is the erased tree of the plain tree
 mutual
   value-erased : (value : Value) → value_of (plain_value value) ≡ erased_value (value_of value)
   value-erased (Base value) = sym (erased-Instruction value)
   value-erased (Logical operator left right) =
-      (λ i. values.LogicalExpression operator (value-erased left i) (value-erased right i))
+      (λ i. reactive_values.LogicalExpression operator (value-erased left i) (value-erased right i))
       ∙ sym (erased-LogicalExpression operator (value_of left) (value_of right))
   value-erased (Conditional test consequent alternate) =
-      (λ i. values.ConditionalExpression (value-erased test i) (value-erased consequent i) (value-erased alternate i))
+      (λ i. reactive_values.ConditionalExpression (value-erased test i) (value-erased consequent i)
+      (value-erased alternate i))
       ∙ sym (erased-ConditionalExpression (value_of test) (value_of consequent) (value_of alternate))
   value-erased (Sequence rows id value) =
-      (λ i. values.SequenceExpression (rows-erased rows i) id (value-erased value i))
+      (λ i. reactive_values.SequenceExpression (rows-erased rows i) id (value-erased value i))
       ∙ sym (erased-SequenceExpression (instructions_of rows) id (value_of value))
   value-erased (Optional value optional) =
-      (λ i. values.OptionalExpression (value-erased value i) optional)
+      (λ i. reactive_values.OptionalExpression (value-erased value i) optional)
       ∙ sym (erased-OptionalExpression (value_of value) optional)
 
   rows-erased : (rows : Rows) → instructions_of (plain_rows rows) ≡ map erased_row (instructions_of rows)
@@ -116,13 +118,13 @@ mutual
   statement-erased : (statement : Statement) → statements_of (plain_statement statement)
       ≡ erased_statement (statement_of statement)
   statement-erased (RowStatement id target value span) =
-      (λ i. statements.Instruction (record { id = id; lvalue = target; value = value-erased value i; span = span }) ∷
+      (λ i. reactive.Instruction (record { id = id; lvalue = target; value = value-erased value i; span = span }) ∷
       [])
-      ∙ ap (λ row. statements.Instruction row ∷ []) (sym (erased-row
+      ∙ ap (λ row. reactive.Instruction row ∷ []) (sym (erased-row
       (record { id = id; lvalue = target; value = value_of value; span = span })))
       ∙ sym (erased-row_statement (record { id = id; lvalue = target; value = value_of value; span = span }))
   statement-erased (TerminalStatement terminal label) =
-      (λ i. statements.Terminal (record { terminal = terminal-erased terminal i; label = label }) ∷ [])
+      (λ i. reactive.Terminal (record { terminal = terminal-erased terminal i; label = label }) ∷ [])
       ∙ sym (erased-labeled (record { terminal = terminal_of terminal; label = label }))
   statement-erased (ScopeStatement scope body) =
       statements-erased body ∙ sym (erased-scope (record { scope = scope; instructions = block_of body }))
@@ -136,32 +138,32 @@ mutual
   terminal-erased (Return value id) = sym (erased-Return value id)
   terminal-erased (Throw value id) = sym (erased-Throw value id)
   terminal-erased (Switch test cases id) =
-      (λ i. terminals.Switch test (cases-erased cases i) id) ∙ sym (erased-Switch test (cases_of cases) id)
+      (λ i. tree.Switch test (cases-erased cases i) id) ∙ sym (erased-Switch test (cases_of cases) id)
   terminal-erased (DoWhile body test id) =
-      (λ i. terminals.DoWhile (left_block body (statements-erased body) i) (value-erased test i) id)
+      (λ i. tree.DoWhile (left_block body (statements-erased body) i) (value-erased test i) id)
       ∙ sym (erased-DoWhile (block_of body) (value_of test) id)
   terminal-erased (While test body id) =
-      (λ i. terminals.While (value-erased test i) (left_block body (statements-erased body) i) id)
+      (λ i. tree.While (value-erased test i) (left_block body (statements-erased body) i) id)
       ∙ sym (erased-While (value_of test) (block_of body) id)
   terminal-erased (For init test update body id) =
-      (λ i. terminals.For (value-erased init i) (value-erased test i) (option_value-erased update i)
+      (λ i. tree.For (value-erased init i) (value-erased test i) (option_value-erased update i)
       (left_block body (statements-erased body) i) id)
       ∙ sym (erased-For (value_of init) (value_of test) (option_map value_of update) (block_of body) id)
   terminal-erased (ForOf init test body span id) =
-      (λ i. terminals.ForOf (value-erased init i) (value-erased test i) (left_block body (statements-erased body) i)
+      (λ i. tree.ForOf (value-erased init i) (value-erased test i) (left_block body (statements-erased body) i)
       span id)
       ∙ sym (erased-ForOf (value_of init) (value_of test) (block_of body) span id)
   terminal-erased (ForIn init body span id) =
-      (λ i. terminals.ForIn (value-erased init i) (left_block body (statements-erased body) i) span id)
+      (λ i. tree.ForIn (value-erased init i) (left_block body (statements-erased body) i) span id)
       ∙ sym (erased-ForIn (value_of init) (block_of body) span id)
   terminal-erased (If test consequent alternate id) =
-      (λ i. terminals.If test (left_block consequent (statements-erased consequent) i) (alternate-erased alternate i)
+      (λ i. tree.If test (left_block consequent (statements-erased consequent) i) (alternate-erased alternate i)
       id)
       ∙ sym (erased-If test (block_of consequent) (alternate_of alternate) id)
   terminal-erased (Label body id) =
-      (λ i. terminals.Label (left_block body (statements-erased body) i) id) ∙ sym (erased-Label (block_of body) id)
+      (λ i. tree.Label (left_block body (statements-erased body) i) id) ∙ sym (erased-Label (block_of body) id)
   terminal-erased (Try body binding handler id) =
-      (λ i. terminals.Try (left_block body (statements-erased body) i) binding
+      (λ i. tree.Try (left_block body (statements-erased body) i) binding
       (left_block handler (statements-erased handler) i) id)
       ∙ sym (erased-Try (block_of body) binding (block_of handler) id)
 

@@ -1,40 +1,39 @@
 -- Each tree of the program is the tree of a plain one.
 --
--- By induction over the tree, where each part comes with the plain part that it is the tree of.
+-- By induction over the tree, where each part comes with a plain part whose tree it is.
 use Rattle.std.proofs.Common.{◌≡◌, List, [], ◌∷◌, Option, Some, None, map, option_map, refl, sym, ap, ◌∙◌, subst}
-use Rattle.rc_hir.specs.declared.place.Place.{Place}
-use Rattle.rc_tree.specs.Opened.{OpenStatement, OpenTerminal}
-use Rattle.rc_tree.specs.declared.value.ReactiveInstruction.{ReactiveInstruction}
+use Rattle.rc_hir.specs.Model.{Place}
+use Rattle.rc_tree.specs.Unrolled.{UnrolledStatement, UnrolledTerminal}
+use Rattle.rc_tree.specs.Model.{ReactiveInstruction, ReactiveScopeBlock, PrunedReactiveScopeBlock}
+use Rattle.rc_tree.specs.Model.{ReactiveTerminalStatement}
 use Rattle.rc_tree.specs.declared.value.ReactiveValue.{ReactiveValue, ReactiveValue-F, roll-ReactiveValue}
-use Rattle.rc_tree.specs.declared.value.ReactiveValue.TheVariants as values
+use Rattle.rc_tree.specs.declared.value.ReactiveValue.TheVariants as reactive_values
 use Rattle.rc_tree.specs.declared.value.ReactiveValue.TheOpen as value_layers
 use Rattle.rc_tree.specs.declared.value.ReactiveValue.TheFolds.{map-ReactiveValue, ind-ReactiveValue}
 use Rattle.rc_tree.specs.declared.statement.ReactiveBlock.{ReactiveBlock, roll-ReactiveBlock}
 use Rattle.rc_tree.specs.declared.statement.ReactiveStatement.{ReactiveStatement, roll-ReactiveStatement}
-use Rattle.rc_tree.specs.declared.statement.ReactiveStatement.TheVariants as statements
+use Rattle.rc_tree.specs.declared.statement.ReactiveStatement.TheVariants as reactive
 use Rattle.rc_tree.specs.declared.statement.ReactiveStatement.TheOpen as layers
 use Rattle.rc_tree.specs.declared.statement.ReactiveStatement.TheShapes as shapes
 use Rattle.rc_tree.specs.declared.statement.ReactiveStatement.TheOpen.{ReactiveStatement-F, ReactiveTerminal-F}
 use Rattle.rc_tree.specs.declared.statement.ReactiveStatement.TheFolds.{map-ReactiveStatement, map-ReactiveTerminal}
 use Rattle.rc_tree.specs.declared.statement.ReactiveStatement.TheFolds.{ind-ReactiveBlock}
-use Rattle.rc_tree.specs.declared.scope.ReactiveScopeBlock.{ReactiveScopeBlock}
-use Rattle.rc_tree.specs.declared.scope.PrunedReactiveScopeBlock.{PrunedReactiveScopeBlock}
 use Rattle.rc_tree.specs.declared.terminal.ReactiveTerminal.{ReactiveTerminal, roll-ReactiveTerminal}
-use Rattle.rc_tree.specs.declared.terminal.ReactiveTerminal.TheVariants as terminals
-use Rattle.rc_tree.specs.declared.terminal.ReactiveTerminalStatement.{ReactiveTerminalStatement}
+use Rattle.rc_tree.specs.declared.terminal.ReactiveTerminal.TheVariants as tree
 use Rattle.rc_tree.specs.declared.terminal.ReactiveSwitchCase.{ReactiveSwitchCase, roll-ReactiveSwitchCase}
 use Rattle.rc_runs.specs.PlainTree.{Base, Logical, Conditional, Sequence, Optional, NoRows, Row, Nil, Cons}
 use Rattle.rc_runs.specs.PlainTree.{RowStatement, TerminalStatement, ScopeStatement, PrunedScopeStatement, Break}
 use Rattle.rc_runs.specs.PlainTree.{Continue, Return, Throw, Switch, DoWhile, While, For, ForOf, ForIn, If, Label, Try}
 use Rattle.rc_runs.specs.PlainTree.{Alternate, Absent, Present, NoCases, Case}
-use Rattle.rc_runs.specs.TreeOf.{value_of, instructions_of, statements_of, statement_of, terminal_of, alternate_of, cases_of}
+use Rattle.rc_runs.specs.TreeOf.{value_of, instructions_of, statements_of, statement_of, terminal_of, alternate_of}
+use Rattle.rc_runs.specs.TreeOf.{cases_of}
 use Rattle.rc_runs.specs.TreeOf.{block_of}
 
 -- the part is the tree of a plain one
 abbrev pub IsPlain : {P X : Type 0} → (P → X) → X → Type 0
-IsPlain {P} tree x = (plain : P) × (tree plain ≡ x)
+IsPlain {P} of_plain x = (plain : P) × (of_plain plain ≡ x)
 
--- a value and a row, with what they are the tree of
+-- a value and a row, with the plain parts whose trees they are
 abbrev PlainValue : Type 0
 PlainValue = (x : ReactiveValue) × IsPlain value_of x
 
@@ -52,27 +51,27 @@ rows_plain (x ∷ xs) =
 value_plain : (y : ReactiveValue-F PlainValue PlainRow) →
     IsPlain value_of (roll-ReactiveValue (map-ReactiveValue PlainValue PlainRow ReactiveValue ReactiveInstruction
     (λ e. e.0) (λ e. e.0) y))
-value_plain (value_layers.Instruction x) = (Base x, sym (values.rolls-Instruction x))
+value_plain (value_layers.Instruction x) = (Base x, sym (reactive_values.rolls-Instruction x))
 value_plain (value_layers.LogicalExpression operator x y) = (
   Logical operator x.1.0 y.1.0,
-  (λ i. values.LogicalExpression operator (x.1.1 i) (y.1.1 i))
-      ∙ sym (values.rolls-LogicalExpression operator x.0 y.0),
+  (λ i. reactive_values.LogicalExpression operator (x.1.1 i) (y.1.1 i))
+      ∙ sym (reactive_values.rolls-LogicalExpression operator x.0 y.0),
 )
 value_plain (value_layers.ConditionalExpression x y z) = (
   Conditional x.1.0 y.1.0 z.1.0,
-  (λ i. values.ConditionalExpression (x.1.1 i) (y.1.1 i) (z.1.1 i))
-      ∙ sym (values.rolls-ConditionalExpression x.0 y.0 z.0),
+  (λ i. reactive_values.ConditionalExpression (x.1.1 i) (y.1.1 i) (z.1.1 i))
+      ∙ sym (reactive_values.rolls-ConditionalExpression x.0 y.0 z.0),
 )
 value_plain (value_layers.SequenceExpression rows id x) =
     let first = rows_plain rows in (
       Sequence first.0 id x.1.0,
-      (λ i. values.SequenceExpression (first.1 i) id (x.1.1 i))
-          ∙ sym (values.rolls-SequenceExpression (map (λ e. e.0) rows) id x.0),
+      (λ i. reactive_values.SequenceExpression (first.1 i) id (x.1.1 i))
+          ∙ sym (reactive_values.rolls-SequenceExpression (map (λ e. e.0) rows) id x.0),
     )
 value_plain (value_layers.OptionalExpression x optional) = (
   Optional x.1.0 optional,
-  (λ i. values.OptionalExpression (x.1.1 i) optional)
-      ∙ sym (values.rolls-OptionalExpression x.0 optional),
+  (λ i. reactive_values.OptionalExpression (x.1.1 i) optional)
+      ∙ sym (reactive_values.rolls-OptionalExpression x.0 optional),
 )
 
 -- each value of the program is the tree of a plain one
@@ -86,7 +85,7 @@ option_value_plain : (x : Option ReactiveValue) → IsPlain (option_map value_of
 option_value_plain None = (None, refl)
 option_value_plain (Some x) = let inner = every_value_is_plain x in (Some inner.0, ap Some inner.1)
 
--- a block, a case and the other parts of the tree, each with what it is the tree of
+-- a block, a case and the other parts of the tree, each with the plain part whose tree it is
 abbrev PlainBlock : Type 0
 PlainBlock = (x : ReactiveBlock) × IsPlain block_of x
 
@@ -119,7 +118,7 @@ cases_plain : (xs : List PlainCase) → IsPlain cases_of (map (λ e. e.0) xs)
 cases_plain [] = (NoCases, refl)
 cases_plain (x ∷ xs) = let rest = cases_plain xs in (Case x.1.0.0 x.1.0.1 rest.0, λ i. x.1.1 i ∷ rest.1 i)
 
--- a block that may be left out, without what is held beside it
+-- an optional block, without its plain part
 abbrev bare_if : Option PlainBlock → Option ReactiveBlock
 bare_if = shapes.former-ReactiveTerminal-If-2.map PlainBlock ReactiveBlock (λ e. e.0)
 
@@ -127,7 +126,7 @@ alternate_plain : (x : Option PlainBlock) → IsPlain alternate_of (bare_if x)
 alternate_plain None = (Absent, refl)
 alternate_plain (Some x) = (Present x.1.0, ap Some x.1.1)
 
--- first layers of statements and terminals, over parts that are plain
+-- forms of statements and terminals, where each part is plain
 abbrev PlainStatementLayer : Type 0
 PlainStatementLayer =
     ReactiveStatement-F PlainStatement PlainTerminal PlainPrunedScope PlainScope PlainBlock PlainCase PlainLabeled
@@ -136,15 +135,15 @@ abbrev PlainTerminalLayer : Type 0
 PlainTerminalLayer = ReactiveTerminal-F PlainStatement PlainTerminal PlainPrunedScope PlainScope PlainBlock PlainCase
     PlainLabeled
 
--- the same layers over the parts alone
-abbrev bare_statement : PlainStatementLayer → OpenStatement
+-- the same forms, without the plain parts
+abbrev bare_statement : PlainStatementLayer → UnrolledStatement
 bare_statement = map-ReactiveStatement PlainStatement PlainTerminal PlainPrunedScope PlainScope PlainBlock PlainCase
     PlainLabeled
     ReactiveStatement ReactiveTerminal PrunedReactiveScopeBlock ReactiveScopeBlock ReactiveBlock ReactiveSwitchCase
     ReactiveTerminalStatement
     (λ e. e.0) (λ e. e.0) (λ e. e.0) (λ e. e.0) (λ e. e.0) (λ e. e.0) (λ e. e.0)
 
-abbrev bare_terminal : PlainTerminalLayer → OpenTerminal
+abbrev bare_terminal : PlainTerminalLayer → UnrolledTerminal
 bare_terminal = map-ReactiveTerminal PlainStatement PlainTerminal PlainPrunedScope PlainScope PlainBlock PlainCase
     PlainLabeled
     ReactiveStatement ReactiveTerminal PrunedReactiveScopeBlock ReactiveScopeBlock ReactiveBlock ReactiveSwitchCase
@@ -156,83 +155,83 @@ statement_plain : (y : PlainStatementLayer) →
 statement_plain (layers.Instruction x) =
     let value = every_value_is_plain x.value in (
       RowStatement x.id x.lvalue value.0 x.span,
-      (λ i. statements.Instruction (record { id = x.id; lvalue = x.lvalue; value = value.1 i; span = x.span }))
-          ∙ sym (statements.rolls-Instruction x),
+      (λ i. reactive.Instruction (record { id = x.id; lvalue = x.lvalue; value = value.1 i; span = x.span }))
+          ∙ sym (reactive.rolls-Instruction x),
     )
 statement_plain (layers.Terminal x) = (
   TerminalStatement x.1.0 x.0.label,
-  (λ i. statements.Terminal (record { terminal = x.1.1 i; label = x.0.label }))
-      ∙ sym (statements.rolls-Terminal x.0),
+  (λ i. reactive.Terminal (record { terminal = x.1.1 i; label = x.0.label }))
+      ∙ sym (reactive.rolls-Terminal x.0),
 )
 statement_plain (layers.Scope x) = (
   ScopeStatement x.0.scope x.1.0,
-  (λ i. statements.Scope (record { scope = x.0.scope; instructions = x.1.1 i }))
-      ∙ sym (statements.rolls-Scope x.0),
+  (λ i. reactive.Scope (record { scope = x.0.scope; instructions = x.1.1 i }))
+      ∙ sym (reactive.rolls-Scope x.0),
 )
 statement_plain (layers.PrunedScope x) = (
   PrunedScopeStatement x.0.scope x.1.0,
-  (λ i. statements.PrunedScope (record { scope = x.0.scope; instructions = x.1.1 i }))
-      ∙ sym (statements.rolls-PrunedScope x.0),
+  (λ i. reactive.PrunedScope (record { scope = x.0.scope; instructions = x.1.1 i }))
+      ∙ sym (reactive.rolls-PrunedScope x.0),
 )
 
 terminal_plain : (y : PlainTerminalLayer) →
     IsPlain terminal_of (roll-ReactiveTerminal (bare_terminal y))
-terminal_plain (layers.Break target kind id) = (Break target kind id, sym (terminals.rolls-Break target kind id))
+terminal_plain (layers.Break target kind id) = (Break target kind id, sym (tree.rolls-Break target kind id))
 terminal_plain (layers.Continue target kind id) =
-    (Continue target kind id, sym (terminals.rolls-Continue target kind id))
-terminal_plain (layers.Return value id) = (Return value id, sym (terminals.rolls-Return value id))
-terminal_plain (layers.Throw value id) = (Throw value id, sym (terminals.rolls-Throw value id))
+    (Continue target kind id, sym (tree.rolls-Continue target kind id))
+terminal_plain (layers.Return value id) = (Return value id, sym (tree.rolls-Return value id))
+terminal_plain (layers.Throw value id) = (Throw value id, sym (tree.rolls-Throw value id))
 terminal_plain (layers.Switch test cases id) =
     let inner = cases_plain cases in (
       Switch test inner.0 id,
-      (λ i. terminals.Switch test (inner.1 i) id)
-          ∙ sym (terminals.rolls-Switch test (map (λ e. e.0) cases) id),
+      (λ i. tree.Switch test (inner.1 i) id)
+          ∙ sym (tree.rolls-Switch test (map (λ e. e.0) cases) id),
     )
 terminal_plain (layers.DoWhile body test id) =
     let value = every_value_is_plain test in (
       DoWhile body.1.0 value.0 id,
-      (λ i. terminals.DoWhile (body.1.1 i) (value.1 i) id)
-          ∙ sym (terminals.rolls-DoWhile body.0 test id),
+      (λ i. tree.DoWhile (body.1.1 i) (value.1 i) id)
+          ∙ sym (tree.rolls-DoWhile body.0 test id),
     )
 terminal_plain (layers.While test body id) =
     let value = every_value_is_plain test in (
       While value.0 body.1.0 id,
-      (λ i. terminals.While (value.1 i) (body.1.1 i) id)
-          ∙ sym (terminals.rolls-While test body.0 id),
+      (λ i. tree.While (value.1 i) (body.1.1 i) id)
+          ∙ sym (tree.rolls-While test body.0 id),
     )
 terminal_plain (layers.For init test update body id) =
     let first = every_value_is_plain init in
     let value = every_value_is_plain test in
     let last = option_value_plain update in (
       For first.0 value.0 last.0 body.1.0 id,
-      (λ i. terminals.For (first.1 i) (value.1 i) (last.1 i) (body.1.1 i) id)
-          ∙ sym (terminals.rolls-For init test update body.0 id),
+      (λ i. tree.For (first.1 i) (value.1 i) (last.1 i) (body.1.1 i) id)
+          ∙ sym (tree.rolls-For init test update body.0 id),
     )
 terminal_plain (layers.ForOf init test body span id) =
     let first = every_value_is_plain init in
     let value = every_value_is_plain test in (
       ForOf first.0 value.0 body.1.0 span id,
-      (λ i. terminals.ForOf (first.1 i) (value.1 i) (body.1.1 i) span id)
-          ∙ sym (terminals.rolls-ForOf init test body.0 span id),
+      (λ i. tree.ForOf (first.1 i) (value.1 i) (body.1.1 i) span id)
+          ∙ sym (tree.rolls-ForOf init test body.0 span id),
     )
 terminal_plain (layers.ForIn init body span id) =
     let first = every_value_is_plain init in (
       ForIn first.0 body.1.0 span id,
-      (λ i. terminals.ForIn (first.1 i) (body.1.1 i) span id)
-          ∙ sym (terminals.rolls-ForIn init body.0 span id),
+      (λ i. tree.ForIn (first.1 i) (body.1.1 i) span id)
+          ∙ sym (tree.rolls-ForIn init body.0 span id),
     )
 terminal_plain (layers.If test consequent alternate id) =
     let other = alternate_plain alternate in (
       If test consequent.1.0 other.0 id,
-      (λ i. terminals.If test (consequent.1.1 i) (other.1 i) id)
-          ∙ sym (terminals.rolls-If test consequent.0 (bare_if alternate) id),
+      (λ i. tree.If test (consequent.1.1 i) (other.1 i) id)
+          ∙ sym (tree.rolls-If test consequent.0 (bare_if alternate) id),
     )
 terminal_plain (layers.Label body id) =
-    (Label body.1.0 id, (λ i. terminals.Label (body.1.1 i) id) ∙ sym (terminals.rolls-Label body.0 id))
+    (Label body.1.0 id, (λ i. tree.Label (body.1.1 i) id) ∙ sym (tree.rolls-Label body.0 id))
 terminal_plain (layers.Try body binding handler id) = (
   Try body.1.0 binding handler.1.0 id,
-  (λ i. terminals.Try (body.1.1 i) binding (handler.1.1 i) id)
-      ∙ sym (terminals.rolls-Try body.0 binding handler.0 id),
+  (λ i. tree.Try (body.1.1 i) binding (handler.1.1 i) id)
+      ∙ sym (tree.rolls-Try body.0 binding handler.0 id),
 )
 
 case_plain : (test : Option Place) (x : Option PlainBlock) →

@@ -1,41 +1,13 @@
--- Blocks and scopes by their numbers, and what the look-ups of blocks say of each other.
+-- The lookups of blocks, compared with each other.
 use Rattle.std.proofs.Common.{◌≡◌, ℕ, List, Bool, true, false, Option, Some, None, ap, eqb-true, option_and_then}
 use Rattle.std.proofs.Common.{option_map, if◌then◌else◌}
 use Rattle.std.specs.Cmp.{IsEquivalence}
 use Rattle.std.proofs.lemmas.Cmp.{nat_eq_equiv}
-use Rattle.rc_names.specs.declared.numbers.BlockId.{BlockId}
-use Rattle.rc_names.specs.declared.numbers.ScopeId.{ScopeId}
-use Rattle.rc_hir.specs.declared.function.Instruction.{Instruction}
-use Rattle.rc_hir.specs.declared.function.BasicBlock.{BasicBlock}
-use Rattle.rc_hir.specs.declared.function.HirFunction.{HirFunction}
-use Rattle.rc_runs.specs.Graph.{Block, same_block, basic_block, rows_of, with_rows, block_at, has_all_ids, with_ids}
-use Rattle.rc_runs.specs.Graph.{under_own_number, usable_block, is_unreachable, ends_unreachable, is_dead}
-use Rattle.rc_runs.specs.Spelled.{same_scope}
-
--- blocks with one number are the same, and so are scopes
-pub same_block-eq : (a b : BlockId) → same_block a b ≡ true → a ≡ b
-same_block-eq a b same =
-    let of_number : ℕ → BlockId = λ number. record { 0 = number } in
-    ap of_number (eqb-true a.0 b.0 same)
-
-pub blocks_equivalence : IsEquivalence same_block
-blocks_equivalence = record {
-  refl = λ x. nat_eq_equiv.refl x.0;
-  symm = λ x y. nat_eq_equiv.symm x.0 y.0;
-  congr = λ x y z. nat_eq_equiv.congr x.0 y.0 z.0;
-}
-
-pub same_scope-eq : (a b : ScopeId) → same_scope a b ≡ true → a ≡ b
-same_scope-eq a b same =
-    let of_number : ℕ → ScopeId = λ number. record { 0 = number } in
-    ap of_number (eqb-true a.0 b.0 same)
-
-pub scopes_equivalence : IsEquivalence same_scope
-scopes_equivalence = record {
-  refl = λ x. nat_eq_equiv.refl x.0;
-  symm = λ x y. nat_eq_equiv.symm x.0 y.0;
-  congr = λ x y z. nat_eq_equiv.congr x.0 y.0 z.0;
-}
+use Rattle.rc_names.specs.Numbers.{BlockId, ScopeId, same_id}
+use Rattle.rc_hir.specs.Model.{Instruction, BasicBlock, HirFunction}
+use Rattle.rc_runs.specs.Graph.{Block, basic_block, rows_of, with_rows, block_at, has_all_ids, with_ids}
+use Rattle.rc_runs.specs.Graph.{under_own_number, usable_block, is_unreachable, block_ends_unreachable}
+use Rattle.rc_runs.specs.Graph.{ends_unreachable}
 
 -- a block whose ids are set is that block
 with_ids-same : (found : Option Block) (block : Block) → option_and_then with_ids found ≡ Some block
@@ -47,7 +19,7 @@ with_ids-same (Some other) block e = go (has_all_ids other) e
     go true e = e
     go false e = absurd (let bad : ⊥ = cc in bad)
 
--- a usable block is the block under its key
+-- a usable block is the block with its key
 pub usable_block-at : (hir : HirFunction) (key : BlockId) (block : Block) → usable_block hir key ≡ Some block
     → block_at hir key ≡ Some block
 unfolding usable_block block_at
@@ -65,13 +37,13 @@ usable_block-at hir key block e =
         ≡ Some block →
         option_and_then (with_rows hir) found ≡ Some block
     go None e = absurd (let bad : ⊥ = cc in bad)
-    go (Some basic) e = own basic (same_block basic.id key) e
+    go (Some basic) e = own basic (same_id basic.id key) e
 
--- whether a block is dead can be read off its terminal
-pub is_dead-at : (hir : HirFunction) (key : BlockId) (block : Block) → block_at hir key ≡ Some block
-    → is_dead hir key ≡ is_unreachable block.terminal
+-- a block ends in `Unreachable` exactly if its terminal is that
+pub ends_unreachable-at : (hir : HirFunction) (key : BlockId) (block : Block) → block_at hir key ≡ Some block
+    → ends_unreachable hir key ≡ is_unreachable block.terminal
 unfolding block_at
-is_dead-at hir key block e = go (basic_block hir key) e
+ends_unreachable-at hir key block e = go (basic_block hir key) e
   where
     same : (basic : BasicBlock) (rows : Option (List Instruction)) →
         option_map (λ (r : List Instruction). record { rows = r; terminal = basic.terminal }) rows ≡ Some block →
@@ -80,6 +52,6 @@ is_dead-at hir key block e = go (basic_block hir key) e
     same basic (Some rows) e = let equal : basic.terminal ≡ block.terminal = cc in ap is_unreachable equal
 
     go : (found : Option BasicBlock) → option_and_then (with_rows hir) found ≡ Some block
-        → ends_unreachable found ≡ is_unreachable block.terminal
+        → block_ends_unreachable found ≡ is_unreachable block.terminal
     go None e = absurd (let bad : ⊥ = cc in bad)
     go (Some basic) e = same basic (rows_of hir.instructions basic.instructions) e

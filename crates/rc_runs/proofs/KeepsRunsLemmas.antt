@@ -1,18 +1,14 @@
--- When each run of a list is one of another list: lists joined, and statements whose parts keep their runs.
+-- When each run of a list is a run of another list: joined lists, and statements whose parts keep their runs.
 use Rattle.std.proofs.Common.{◌≡◌, List, [], ◌++◌, Bool, true, false, Option, refl, sym, ap, ◌∙◌, subst, append_assoc}
 use Rattle.std.proofs.lemmas.List.{append-nil}
-use Rattle.rc_names.specs.declared.numbers.BlockId.{BlockId}
-use Rattle.rc_names.specs.declared.numbers.ScopeId.{ScopeId}
-use Rattle.rc_names.specs.declared.numbers.EvaluationOrder.{EvaluationOrder}
-use Rattle.rc_hir.specs.declared.environment.Environment.{Environment}
-use Rattle.rc_hir.specs.declared.place.Place.{Place}
-use Rattle.rc_tree.specs.declared.kind.ReactiveTerminalTargetKind.{ReactiveTerminalTargetKind}
-use Rattle.rc_tree.specs.declared.terminal.ReactiveLabel.{ReactiveLabel}
+use Rattle.rc_names.specs.Numbers.{BlockId, ScopeId, EvaluationOrder}
+use Rattle.rc_hir.specs.Model.{Environment, Place}
+use Rattle.rc_tree.specs.Model.{ReactiveTerminalTargetKind, ReactiveLabel}
 use Rattle.rc_runs.specs.Event.{Event, Open}
 use Rattle.rc_runs.specs.PlainTree.{Statements, Nil, Cons, Statement, TerminalStatement, ScopeStatement}
 use Rattle.rc_runs.specs.PlainTree.{PrunedScopeStatement, TreeTerminal, Break, Return, If, Label, Alternate, Absent}
 use Rattle.rc_runs.specs.PlainTree.{Present}
-use Rattle.rc_runs.specs.BodyRun.{Outcome, Normal, BreakTo, BreakLoop, ContinueTo, ContinueLoop, Ended, caught}
+use Rattle.rc_runs.specs.BodyRun.{Completion, Normal, BreakTo, BreakLoop, ContinueTo, ContinueLoop, Ended, caught}
 use Rattle.rc_runs.specs.BodyRun.{RunsList, stopped, nothing, and_then, RunsAfter, goes_on, leaves_list, RunsStatement}
 use Rattle.rc_runs.specs.BodyRun.{returned, break_implicit, break_labeled, break_unlabeled, took_arm, took_other}
 use Rattle.rc_runs.specs.BodyRun.{in_label, in_scope, in_pruned_scope, RunsAlternate, present}
@@ -22,11 +18,11 @@ append-Nil : (statements : Statements) → append statements Nil ≡ statements
 append-Nil Nil = refl
 append-Nil (Cons statement rest) = ap (Cons statement) (append-Nil rest)
 
--- both labels catch the same
+-- both labels catch the same breaks
 abbrev pub CatchAlike : Option ReactiveLabel → Option ReactiveLabel → Type 0
-CatchAlike label label' = (outcome : Outcome) → caught label outcome ≡ caught label' outcome
+CatchAlike label label' = (outcome : Completion) → caught label outcome ≡ caught label' outcome
 
--- no run goes through the terminal
+-- the terminal has no runs
 abbrev pub has_no_runs : TreeTerminal → Bool
 has_no_runs (Break target kind id) = false
 has_no_runs (Return value id) = false
@@ -34,12 +30,12 @@ has_no_runs (If test consequent alternate id) = false
 has_no_runs (Label body id) = false
 has_no_runs _ = true
 
--- each of the first runs is one of the second
-abbrev AreAmong : (List Event → Outcome → Type 0) → (List Event → Outcome → Type 0) → Type 0
-AreAmong first second = (events : List Event) (outcome : Outcome) → first events outcome → second events outcome
+-- each run of the first kind is one of the second
+abbrev AreAmong : (List Event → Completion → Type 0) → (List Event → Completion → Type 0) → Type 0
+AreAmong first second = (events : List Event) (outcome : Completion) → first events outcome → second events outcome
 
 module _ (env : Environment) where
-  -- each run of the first list is one of the second; the same of statements and of alternates
+  -- each run of the first list is a run of the second; the same for statements and for alternates
   abbrev pub KeepsRuns : Statements → Statements → Type 0
   KeepsRuns from to = AreAmong (RunsList env from) (RunsList env to)
 
@@ -49,15 +45,15 @@ module _ (env : Environment) where
   abbrev pub AlternateKeepsRuns : Alternate → Alternate → Type 0
   AlternateKeepsRuns from to = AreAmong (RunsAlternate env from) (RunsAlternate env to)
 
-  -- each run of the one is a run of the other
+  -- each list has the runs of the other
   abbrev pub SameRuns : Statements → Statements → Type 0
   SameRuns before after = KeepsRuns before after × KeepsRuns after before
 
   abbrev pub SameAlternateRuns : Alternate → Alternate → Type 0
   SameAlternateRuns before after = AlternateKeepsRuns before after × AlternateKeepsRuns after before
 
-  -- a run of a list, and a run of what follows it
-  joined : {front behind : Statements} {first second : List Event} {outcome last : Outcome} →
+  -- a run of a list, and a run of the statements after it
+  joined : {front behind : Statements} {first second : List Event} {outcome last : Completion} →
       RunsList env front first outcome → RunsAfter env outcome behind second last →
       RunsList env (append front behind) (first ++ second) last
   joined stopped (leaves_list l) = stopped
@@ -69,16 +65,16 @@ module _ (env : Environment) where
   joined (and_then {first = a} r (leaves_list l) e) (leaves_list m) =
       and_then r (leaves_list l) (ap (λ l. l ++ []) e ∙ append-nil (a ++ []))
 
-  -- a run of joined lists is a run of the one and a run of what follows it
-  record Joined (front behind : Statements) (events : List Event) (last : Outcome) : Type 0 where
+  -- a run of joined lists is a run of the first, and a run of the statements after it
+  record Joined (front behind : Statements) (events : List Event) (last : Completion) : Type 0 where
     first : List Event
     second : List Event
-    outcome : Outcome
+    outcome : Completion
     ahead : RunsList env front first outcome
     after : RunsAfter env outcome behind second last
     whole : events ≡ first ++ second
 
-  taken_apart : (front behind : Statements) {events : List Event} {last : Outcome} →
+  taken_apart : (front behind : Statements) {events : List Event} {last : Completion} →
       RunsList env (append front behind) events last → Joined front behind events last
   taken_apart Nil behind {events} h =
       record { first = []; second = events; outcome = Normal; ahead = nothing; after = goes_on h; whole = refl }
@@ -104,7 +100,7 @@ module _ (env : Environment) where
         whole = sym (append-nil events);
       }
 
-  after-keeps_runs : {from to : Statements} {outcome last : Outcome} {events : List Event} → KeepsRuns from to →
+  after-keeps_runs : {from to : Statements} {outcome last : Completion} {events : List Event} → KeepsRuns from to →
       RunsAfter env outcome from events last → RunsAfter env outcome to events last
   after-keeps_runs keeps (goes_on h) = goes_on (keeps _ _ h)
   after-keeps_runs keeps (leaves_list l) = leaves_list l
@@ -120,7 +116,7 @@ module _ (env : Environment) where
   same-keeps_runs statements events outcome r = r
 
   -- a statement as a list
-  as_list : {statement : Statement} {events : List Event} (outcome : Outcome) →
+  as_list : {statement : Statement} {events : List Event} (outcome : Completion) →
       RunsStatement env statement events outcome → RunsList env (alone statement) events outcome
   as_list {events = events} Normal r = and_then r (goes_on nothing) (sym (append-nil events))
   as_list {events = events} (BreakTo target) r = and_then r (leaves_list refl) (sym (append-nil events))
@@ -159,7 +155,8 @@ module _ (env : Environment) where
       inside : StatementKeepsRuns (PrunedScopeStatement scope from) (PrunedScopeStatement scope to)
       inside events outcome (in_pruned_scope r) = in_pruned_scope (keeps events outcome r)
 
-  -- what has the runs of the contents has those of the scope block, and the other way round; the same of a pruned one
+  -- a list that keeps the runs of the contents keeps those of the scope block, and the converse; the same for a pruned
+  -- one
   pub contents-keep_runs : (scope : ScopeId) (contents to : Statements) → KeepsRuns contents to →
       KeepsRuns (alone (ScopeStatement scope contents)) to
   contents-keep_runs scope contents to keeps = from_statement (ScopeStatement scope contents) to inside
@@ -196,14 +193,14 @@ module _ (env : Environment) where
       break_labeled (q ∙ alike (BreakTo target))
   relabeled_break target kind id label label' alike events outcome break_unlabeled = break_unlabeled
 
-  -- a break, which its own label catches
+  -- a break, which may be caught by its own label
   pub break-keeps_runs : (target : BlockId) (kind : ReactiveTerminalTargetKind) (id : EvaluationOrder)
       (label label' : Option ReactiveLabel) → CatchAlike label label' →
       KeepsRuns (labeled (Break target kind id) label) (labeled (Break target kind id) label')
   break-keeps_runs target kind id label label' alike =
       statement-keeps_runs _ _ (relabeled_break target kind id label label' alike)
 
-  -- a return, whose own label no run meets
+  -- a return, whose label is never met
   pub return-keeps_runs : (value : Place) (id : EvaluationOrder) (label label' : Option ReactiveLabel) →
       KeepsRuns (labeled (Return value id) label) (labeled (Return value id) label')
   return-keeps_runs value id label label' = statement-keeps_runs _ _ inside
@@ -235,11 +232,11 @@ module _ (env : Environment) where
       inside : TerminalKeepsRuns (Label from id) label (Label to id) label'
       inside events outcome (in_label {inner = inner} r q) = in_label (keeps events inner r) (q ∙ alike inner)
 
-  -- the label catches nothing that comes out of the list
+  -- the label catches no completion of the list
   abbrev pub CatchesNothing : Option ReactiveLabel → Statements → Type 0
   CatchesNothing label body = AreAmong (RunsList env body) (λ events outcome. caught label outcome ≡ outcome)
 
-  -- such a `Label` gives way to its statements
+  -- such a `Label` may be replaced by its statements
   pub flat-keeps_runs : (id : EvaluationOrder) (label : Option ReactiveLabel) (body to : Statements) →
       KeepsRuns body to → CatchesNothing label body → KeepsRuns (labeled (Label body id) label) to
   flat-keeps_runs id label body to keeps catches = from_statement (TerminalStatement (Label body id) label) to inside
@@ -248,14 +245,14 @@ module _ (env : Environment) where
       inside events outcome (in_label {inner = inner} r q) =
           subst (RunsList env to events) (sym (q ∙ catches events inner r)) (keeps events inner r)
 
-  -- and the statements to the `Label`
+  -- and the statements by the `Label`
   pub keeps_runs-flat : (id : EvaluationOrder) (label : Option ReactiveLabel) (from body : Statements) →
       KeepsRuns from body → CatchesNothing label body → KeepsRuns from (labeled (Label body id) label)
   keeps_runs-flat id label from body keeps catches events outcome r =
       let inside = keeps events outcome r in
       as_list outcome (in_label inside (sym (catches events outcome inside)))
 
-  never_runs : {terminal : TreeTerminal} {label : Option ReactiveLabel} {events : List Event} {outcome : Outcome} →
+  never_runs : {terminal : TreeTerminal} {label : Option ReactiveLabel} {events : List Event} {outcome : Completion} →
       has_no_runs terminal ≡ true → RunsStatement env (TerminalStatement terminal label) events outcome → ⊥
   never_runs none returned = cc
   never_runs none break_implicit = cc
@@ -265,7 +262,7 @@ module _ (env : Environment) where
   never_runs none (took_other r q) = cc
   never_runs none (in_label r q) = cc
 
-  -- a terminal that no run goes through
+  -- a terminal that has no runs
   pub no_runs-keeps_runs : (terminal : TreeTerminal) (label : Option ReactiveLabel) (to : Statement) →
       has_no_runs terminal ≡ true → KeepsRuns (labeled terminal label) (alone to)
   no_runs-keeps_runs terminal label to none =

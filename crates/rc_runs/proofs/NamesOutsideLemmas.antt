@@ -1,20 +1,18 @@
--- Where every number is in its table, no fault names one that is outside.
+-- If every number is in its table, no fault names one that is outside.
 use Rattle.std.proofs.Common.{inl, inr, ℕ, List, length, subst, arith}
 use Rattle.std.specs.List.{All, Any}
-use Rattle.rc_hir.specs.declared.fault.Fault.{Fault}
-use Rattle.rc_hir.specs.declared.function.HirFunction.{HirFunction}
-use Rattle.rc_hir.specs.declared.environment.Environment.{Environment}
+use Rattle.rc_hir.specs.Model.{Fault, HirFunction, Environment}
 use Rattle.rc_hir.specs.EnvironmentNames.{environment_names}
 use Rattle.rc_hir.specs.GraphNames.{Name, function_names}
 use Rattle.rc_hir.specs.Names.{NamesInTables, NamesOutside, NamesOutsideIn, IsInTable, IsOutside, lengths}
 use Rattle.rc_hir.specs.Names.{FunctionInTables}
 
 module _ {X : Type 0} (P : X → Type 0) where
-  -- what holds of each element holds of no element of which the contrary holds
+  -- if all elements have a property, none has one that excludes it
   none_outside : (Q : X → Type 0) → ((x : X) → P x → Q x → ⊥) → (xs : List X) → All P xs → Any Q xs → ⊥
   none_outside Q contrary xs all some = contrary some.1 (subst P some.3 (all some.0 some.1 some.2)) some.4
 
--- numbers that are in their tables are none that a fault names
+-- numbers that are in their tables aren't outside
 pub no_name_outside : (hir : HirFunction) (env : Environment) → NamesInTables hir env
     → (fault : Fault) → NamesOutside hir env fault → ⊥
 no_name_outside hir env names fault = outside

@@ -1,15 +1,13 @@
 -- A graph spells at most one tree, and the tree's blocks are used in one order.
 --
--- Two derivations over the same graph and context are compared; a terminal adds one case of `one_statement`, or of
--- `one_terminal` where it ends its list.
+-- Two derivations with the same graph and context are compared. A terminal adds one case of `one_statement`, or of
+-- `one_terminal` if it ends its list.
 use Rattle.std.proofs.Common.{◌≡◌, List, ◌∷◌, Option, Some, Bool, refl, sym, ap, ◌∙◌, subst}
-use Rattle.rc_names.specs.declared.numbers.BlockId.{BlockId}
-use Rattle.rc_hir.specs.declared.terminal.Terminal.{Terminal}
-use Rattle.rc_hir.specs.declared.function.HirFunction.{HirFunction}
-use Rattle.rc_hir.specs.declared.environment.Environment.{Environment}
-use Rattle.rc_tree.specs.declared.function.ReactiveFunction.{ReactiveFunction}
+use Rattle.rc_names.specs.Numbers.{BlockId}
+use Rattle.rc_hir.specs.Model.{Terminal, HirFunction, Environment}
+use Rattle.rc_tree.specs.Model.{ReactiveFunction}
 use Rattle.rc_runs.specs.declared.frames.Frame.{Frame}
-use Rattle.rc_runs.specs.declared.frames.Frame.TheVariants as frame
+use Rattle.rc_runs.specs.declared.frames.Frame.TheVariants as frame_kinds
 use Rattle.rc_runs.specs.Graph.{Block}
 use Rattle.rc_runs.specs.PlainTree.{Statements, Statement}
 use Rattle.rc_runs.specs.TreeOf.{block_of}
@@ -23,7 +21,7 @@ use Rattle.rc_runs.specs.Spelled.{with_header, SpellsBody, Spells}
 abbrev pub Same : {A : Type 0} → A → List BlockId → A → List BlockId → Type 0
 Same a a_used b b_used = (a ≡ b) × (a_used ≡ b_used)
 
--- what an option holds is one
+-- an option has at most one value
 pub one_held : {A : Type 0} {option : Option A} {a b : A} → option ≡ Some a → option ≡ Some b → b ≡ a
 one_held e f = cc
 
@@ -33,14 +31,14 @@ module _ {hir : HirFunction} {env : Environment} where
       → SpellsTerminal hir env b.terminal context rest used → SpellsTerminal hir env a.terminal context rest used
   terminal_at {context} {rest} {used} e d = subst (λ v. SpellsTerminal hir env v.terminal context rest used) e d
 
-  -- a part's derivation where the same is opened
+  -- a part's derivation, where the fallthrough is equally opened
   pub part_at : {key : BlockId} {part : Statements} {used : List BlockId} (frame : Frame) (context : ListContext)
       (a b : Bool) → b ≡ a → SpellsList hir env key (inside b frame context) part used
       → SpellsList hir env key (inside a frame context) part used
   part_at {key} {part} {used} frame context a b e d =
       subst (λ v. SpellsList hir env key (inside v frame context) part used) e d
 
-  -- the derivation of a rest where the same fallthrough is opened
+  -- the derivation of the rest, for an equal fallthrough that is equally opened
   pub rest_at : {f g : BlockId} {context : ListContext} {rest : Statements} {used : List BlockId} {a b : Bool} → g ≡ f
       → b ≡ a → SpellsRest hir env b g context rest used → SpellsRest hir env a f context rest used
   rest_at {f} {g} {context} {rest} {used} {a} {b} h e d =
@@ -71,35 +69,35 @@ module _ {hir : HirFunction} {env : Environment} where
         let k = one_rest r (rest_at (sym h.1) (sym h.0) r') in
         (cc, cc)
 
-    -- the fallthrough, and whether it is opened, are one too
+    -- the fallthrough, and whether it is opened, are the same too
     pub one_statement : {terminal : Terminal} {context : ListContext} {o p : Bool} {f g : BlockId} {s t : Statement}
         {u v : List BlockId} → SpellsStatement hir env terminal context o f s u
         → SpellsStatement hir env terminal context p g t v → (o ≡ p) × (f ≡ g) × (s ≡ t) × (u ≡ v)
     one_statement (if_only {fallthrough = f} {context = around} {opened = o} i l x y d)
         (if_only {opened = p} i' l' x' y' d') =
         let same : p ≡ o = i' ∙ sym i in
-        let h = one_list d (part_at (frame.If f) around o p same d') in
+        let h = one_list d (part_at (frame_kinds.Statement f) around o p same d') in
         (sym same, refl, cc, h.1)
     one_statement (if_only i l x y d) (if_else i' l' x' d' a' w') = absurd (let bad : ⊥ = cc in bad)
     one_statement (if_else i l x d a w) (if_only i' l' x' y' d') = absurd (let bad : ⊥ = cc in bad)
     one_statement (if_else {fallthrough = f} {context = around} {opened = o} i l x d a w)
         (if_else {opened = p} i' l' x' d' a' w') =
         let same : p ≡ o = i' ∙ sym i in
-        let h = one_list d (part_at (frame.If f) around o p same d') in
-        let k = one_list a (part_at (frame.If f) around o p same a') in
+        let h = one_list d (part_at (frame_kinds.Statement f) around o p same d') in
+        let k = one_list a (part_at (frame_kinds.Statement f) around o p same a') in
         (sym same, refl, cc, cc)
     one_statement (label {fallthrough = f} {context = around} {opened = o} i l d) (label {opened = p} i' l' d') =
         let same : p ≡ o = i' ∙ sym i in
-        let h = one_list d (part_at (frame.If f) around o p same d') in
+        let h = one_list d (part_at (frame_kinds.Statement f) around o p same d') in
         (sym same, refl, cc, h.1)
     one_statement (scope {fallthrough = f} {context = around} {opened = o} i d) (scope {opened = p} i' d') =
         let same : p ≡ o = i' ∙ sym i in
-        let h = one_list d (part_at (frame.Scope f) around o p same d') in
+        let h = one_list d (part_at (frame_kinds.Scope f) around o p same d') in
         (sym same, refl, cc, h.1)
     one_statement (pruned_scope {fallthrough = f} {context = around} {opened = o} i d)
         (pruned_scope {opened = p} i' d') =
         let same : p ≡ o = i' ∙ sym i in
-        let h = one_list d (part_at (frame.Scope f) around o p same d') in
+        let h = one_list d (part_at (frame_kinds.Scope f) around o p same d') in
         (sym same, refl, cc, h.1)
 
     pub one_rest : {o : Bool} {f : BlockId} {context : ListContext} {a b : Statements} {u v : List BlockId}

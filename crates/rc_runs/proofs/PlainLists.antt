@@ -1,6 +1,6 @@
--- Lists of plain statements: one statement, and one list behind another.
+-- Lists of plain statements: a list of one statement, and one list after another.
 use Rattle.std.proofs.Common.{◌≡◌, ◌∷◌, ◌++◌, Option, refl, ap}
-use Rattle.rc_tree.specs.declared.terminal.ReactiveLabel.{ReactiveLabel}
+use Rattle.rc_tree.specs.Model.{ReactiveLabel}
 use Rattle.rc_runs.specs.PlainTree.{Statements, Nil, Cons, Statement, TerminalStatement, TreeTerminal}
 use Rattle.rc_runs.specs.TreeOf.{statement_of, statements_of}
 
@@ -17,7 +17,7 @@ abbrev pub append : Statements → Statements → Statements
 append Nil behind = behind
 append (Cons statement rest) behind = Cons statement (append rest behind)
 
--- its tree is that of the one, and then that of the other
+-- the tree of two lists is the tree of the first, and then that of the second
 pub statements_of-append : (front behind : Statements) →
     statements_of (append front behind) ≡ statements_of front ++ statements_of behind
 statements_of-append Nil behind = refl

@@ -1,28 +1,22 @@
--- Where rules fault at the scope blocks alone, the fault of a rebuilt tree is one of a number that stands in the tree.
+-- If rules fail only at scope blocks, the fault of a rebuilt tree comes from a number of the tree.
 use Rattle.std.proofs.Common.{◌≡◌, ◌∙◌, ◌⊎◌, inl, inr, List, ◌++◌, Option, option_map, map, Result, Ok, Err, refl}
 use Rattle.std.proofs.Common.{sym, ap, subst}
 use Rattle.std.specs.List.{Any}
-use Rattle.rc_hir.specs.PartNames.{Name, perhaps, place_names, scope_name}
-use Rattle.rc_names.specs.declared.numbers.EvaluationOrder.{EvaluationOrder}
-use Rattle.rc_names.specs.declared.numbers.ScopeId.{ScopeId}
-use Rattle.rc_hir.specs.declared.fault.Fault.{Fault}
-use Rattle.rc_tree.specs.Outcome.{bind}
+use Rattle.rc_hir.specs.PartNames.{Name, names_if, place_names, scope_name}
+use Rattle.rc_names.specs.Numbers.{EvaluationOrder, ScopeId}
+use Rattle.rc_hir.specs.Model.{Fault}
+use Rattle.rc_tree.specs.Step.{bind}
 use Rattle.rc_tree.specs.Rebuilt.{Rules, joined, in_order, rebuilt_block, rebuilt_case, rebuilt_labeled}
 use Rattle.rc_tree.specs.Rebuilt.{rebuilt_pruned_scope, rebuilt_scope, rebuilt_statement, rebuilt_terminal}
 use Rattle.rc_tree.specs.Collected.{collected_case, collected_cases, collected_if}
 use Rattle.rc_tree.specs.CollectedValues.{collected_value}
 use Rattle.rc_tree.specs.TreeNames.{Names, names_in, names_in_list, names_in_statement, names_in_terminal}
 use Rattle.rc_tree.specs.TreeNames.{names_of_parts, names_of_values}
-use Rattle.rc_tree.specs.declared.scope.PrunedReactiveScopeBlock.{PrunedReactiveScopeBlock}
-use Rattle.rc_tree.specs.declared.scope.ReactiveScopeBlock.{ReactiveScopeBlock}
-use Rattle.rc_tree.specs.declared.statement.ReactiveBlock.{ReactiveBlock}
-use Rattle.rc_tree.specs.declared.statement.ReactiveStatement.{ReactiveStatement}
-use Rattle.rc_tree.specs.declared.statement.ReactiveStatement.TheVariants as stmt
+use Rattle.rc_tree.specs.Model.{PrunedReactiveScopeBlock, ReactiveScopeBlock, ReactiveBlock, ReactiveStatement}
+use Rattle.rc_tree.specs.Model.{ReactiveTerminalStatement, ReactiveInstruction, ReactiveValue}
+use Rattle.rc_tree.specs.declared.statement.ReactiveStatement.TheVariants as reactive
 use Rattle.rc_tree.specs.declared.terminal.ReactiveSwitchCase.{ReactiveSwitchCase, roll-ReactiveSwitchCase}
 use Rattle.rc_tree.specs.declared.terminal.ReactiveSwitchCase.{out-roll-ReactiveSwitchCase}
-use Rattle.rc_tree.specs.declared.terminal.ReactiveTerminalStatement.{ReactiveTerminalStatement}
-use Rattle.rc_tree.specs.declared.value.ReactiveInstruction.{ReactiveInstruction}
-use Rattle.rc_tree.specs.declared.value.ReactiveValue.{ReactiveValue}
 use Rattle.rc_tree.proofs.RebuiltLemmas.{if_some, rebuilt-block, rebuilt-labeled, rebuilt-scope, rebuilt-pruned_scope}
 use Rattle.rc_tree.proofs.RebuiltLemmas.{rebuilt-case, rebuilt-Instruction, rebuilt-Terminal, rebuilt-Scope}
 use Rattle.rc_tree.proofs.RebuiltLemmas.{rebuilt-PrunedScope, rebuilt-Break, rebuilt-Continue, rebuilt-Return}
@@ -40,11 +34,11 @@ use Rattle.rc_runs.specs.TreeOf.{alternate_of, block_of, cases_of, statement_of,
 use Rattle.rc_runs.proofs.AnyLemmas.{Any-left, Any-right}
 use Rattle.rc_runs.proofs.EveryBlockIsPlain.{every_block_is_plain}
 
--- no answer is a fault
+-- a success is no fault
 pub answered : {A : Type 0} (a : A) (fault : Fault) → ◌≡◌ {A = Result A Fault} (Ok a) (Err fault) → ⊥
 answered a fault e = cc
 
--- a fault of two steps is one of either, and what is made of an answer adds none
+-- a fault of two steps is that of one of them, and using the results adds none
 fault_of : {A B : Type 0} (fault : Fault) (first : Result A Fault) (next : A → Result B Fault)
     → bind first next ≡ Err fault
     → (first ≡ Err fault) ⊎ ((a : A) × (first ≡ Ok a) × (next a ≡ Err fault))
@@ -70,7 +64,7 @@ module _ {S : Type 0} (rules : Rules S) (fault : Fault) (Q : Name → Type 0)
     (pruned_scope : (x : PrunedReactiveScopeBlock) (s : S) → rules.pruned_scope x s ≡ Err fault → ⊥)
     (scope : (met : S) (x : ReactiveScopeBlock) (s : S) → rules.scope met x s ≡ Err fault → Any Q (scope_name x.scope))
   where
-    -- the numbers of a block that may be left out, of a value, of a case, and of cases
+    -- the numbers of an optional block, of a value, of a case, and of cases
     abbrev names_in_if : Option ReactiveBlock → Names
     names_in_if = collected_if names_of_parts
 
@@ -83,11 +77,11 @@ module _ {S : Type 0} (rules : Rules S) (fault : Fault) (Q : Name → Type 0)
     abbrev names_in_cases : EvaluationOrder → List ReactiveSwitchCase → Names
     names_in_cases = collected_cases names_of_parts
 
-    -- these numbers, which are those, have it
+    -- if one of these numbers has the property, so has one of an equal list
     by_same : (names others : List Name) → names ≡ others → Any Q others → Any Q names
     by_same names others e some = subst (Any Q) (sym e) some
 
-    -- what a block's statements have, the block has
+    -- a number of the block's statements is one of the block
     within : (p : Statements) → ((s : S) → joined (map (rebuilt_statement rules) (statements_of p)) s ≡ Err fault
         → Any Q (names_in_list (statements_of p)))
         → (s : S) → rebuilt_block rules (block_of p) s ≡ Err fault → Any Q (names_in (block_of p))
@@ -107,7 +101,7 @@ module _ {S : Type 0} (rules : Rules S) (fault : Fault) (Q : Name → Type 0)
         by (inl is) = Any-left Q names others (here is)
         by (inr some) = Any-right Q names others (later some.0 some.1 some.2)
 
-    -- a part that is rebuilt, and the rule for it, which doesn't fault
+    -- a part that is rebuilt, and then its rule, which doesn't fail
     before_rule : {A B : Type 0} (first : Result A Fault) (next : A → Result B Fault) (names : List Name)
         → bind first next ≡ Err fault
         → (first ≡ Err fault → Any Q names) → ((a : A) → next a ≡ Err fault → ⊥) → Any Q names
@@ -152,7 +146,7 @@ module _ {S : Type 0} (rules : Rules S) (fault : Fault) (Q : Name → Type 0)
           absurd (row x s (sym (rebuilt-Instruction rules x s) ∙ e))
       statement_faults (TerminalStatement t own) s e =
           let x : ReactiveTerminalStatement = record { terminal = terminal_of t; label = own } in
-          by_same (names_in_statement (stmt.Terminal x)) (names_in_terminal (terminal_of t))
+          by_same (names_in_statement (reactive.Terminal x)) (names_in_terminal (terminal_of t))
           (collected-Terminal names_of_parts x)
           (before_rule (rebuilt_labeled rules x s) (λ a. rules.terminal a.1 a.0) (names_in_terminal (terminal_of t))
           (sym (rebuilt-Terminal rules x s) ∙ e)
@@ -161,7 +155,7 @@ module _ {S : Type 0} (rules : Rules S) (fault : Fault) (Q : Name → Type 0)
       statement_faults (ScopeStatement of body) s e =
           let x : ReactiveScopeBlock = record { scope = of; instructions = block_of body } in
           let inner = rules.into_scope s in
-          by_same (names_in_statement (stmt.Scope x)) (scope_name of ++ names_in (block_of body))
+          by_same (names_in_statement (reactive.Scope x)) (scope_name of ++ names_in (block_of body))
           (collected-Scope names_of_parts x)
           (split of (names_in (block_of body)) (fault_of fault (rebuilt_scope rules x inner)
           (λ a. rules.scope s a.1 a.0)
@@ -179,7 +173,7 @@ module _ {S : Type 0} (rules : Rules S) (fault : Fault) (Q : Name → Type 0)
           split of names (inr some) inside own = Any-left Q (scope_name of) names (own some.0 some.1 some.2)
       statement_faults (PrunedScopeStatement of body) s e =
           let x : PrunedReactiveScopeBlock = record { scope = of; instructions = block_of body } in
-          by_same (names_in_statement (stmt.PrunedScope x)) (scope_name of ++ names_in (block_of body))
+          by_same (names_in_statement (reactive.PrunedScope x)) (scope_name of ++ names_in (block_of body))
           (collected-PrunedScope names_of_parts x)
           (Any-right Q (scope_name of) (names_in (block_of body))
           (before_rule (rebuilt_pruned_scope rules x s) (λ a. rules.pruned_scope a.1 a.0) (names_in (block_of body))
@@ -200,9 +194,9 @@ module _ {S : Type 0} (rules : Rules S) (fault : Fault) (Q : Name → Type 0)
       cases_faults id (Case test body rest) s e =
           let x : ReactiveSwitchCase = roll-ReactiveSwitchCase (record { test = test; block = alternate_of body }) in
           either (rebuilt_case rules x s) _ (names_in_case x id) (names_in_cases id (cases_of rest)) e
-          (λ is. by_same (names_in_case x id) (perhaps place_names test ++ names_in_if (alternate_of body))
+          (λ is. by_same (names_in_case x id) (names_if place_names test ++ names_in_if (alternate_of body))
           (collected-case names_of_parts test (alternate_of body) id)
-          (Any-right Q (perhaps place_names test) (names_in_if (alternate_of body))
+          (Any-right Q (names_if place_names test) (names_in_if (alternate_of body))
           (alternate_faults body s (made_of fault (if_some (rebuilt_block rules) (alternate_of body) s) _
           (ap (λ c. bind (if_some (rebuilt_block rules) c.block s)
           (λ a. Ok (a.0, roll-ReactiveSwitchCase (record { test = c.test; block = a.1 }))))
@@ -277,11 +271,11 @@ module _ {S : Type 0} (rules : Rules S) (fault : Fault) (Q : Name → Type 0)
           (either (rebuilt_block rules (block_of body) s) _ (names_in (block_of body)) _
           (sym (rebuilt-Try rules (block_of body) binding (block_of handler) id s) ∙ e)
           (within body (list_faults body) s)
-          (λ a is later. Any-right Q (perhaps place_names binding) _
+          (λ a is later. Any-right Q (names_if place_names binding) _
           (within handler (list_faults handler) a.0 (made_of fault (rebuilt_block rules (block_of handler) a.0) _
           later))))
 
-    -- a rebuilt tree that ends in the fault has a number of which that holds
+    -- if rebuilding a tree ends in the fault, some number of the tree has the property
     pub rebuilt_faults : (x : ReactiveBlock) (s : S) → rebuilt_block rules x s ≡ Err fault → Any Q (names_in x)
     rebuilt_faults x s e =
         let plain = every_block_is_plain x in

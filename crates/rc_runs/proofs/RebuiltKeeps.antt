@@ -1,23 +1,17 @@
--- Rules that keep a measure of what they are given keep it for the whole tree.
+-- Rules that keep a measure of their parts keep it for the whole tree.
 use Rattle.std.proofs.Common.{◌≡◌, ◌∙◌, List, [], ◌∷◌, ◌++◌, Option, None, Some, option_map, map, Result, Ok, Err, refl}
 use Rattle.std.proofs.Common.{sym, ap, subst}
-use Rattle.rc_hir.specs.declared.fault.Fault.{Fault}
-use Rattle.rc_tree.specs.Outcome.{bind}
+use Rattle.rc_hir.specs.Model.{Fault}
+use Rattle.rc_tree.specs.Step.{bind}
 use Rattle.rc_tree.specs.Rebuilt.{Rules, joined, in_order, rebuilt_block, rebuilt_case, rebuilt_labeled}
 use Rattle.rc_tree.specs.Rebuilt.{rebuilt_pruned_scope, rebuilt_scope, rebuilt_statement, rebuilt_terminal}
-use Rattle.rc_tree.specs.RewriteKeeps.{AlikeIf, Measure, block, one, Compositional}
-use Rattle.rc_tree.specs.declared.scope.PrunedReactiveScopeBlock.{PrunedReactiveScopeBlock}
-use Rattle.rc_tree.specs.declared.scope.ReactiveScopeBlock.{ReactiveScopeBlock}
-use Rattle.rc_tree.specs.declared.statement.ReactiveBlock.{ReactiveBlock}
-use Rattle.rc_tree.specs.declared.statement.ReactiveStatement.{ReactiveStatement}
-use Rattle.rc_tree.specs.declared.statement.ReactiveStatement.TheVariants as stmt
+use Rattle.rc_tree.specs.inside.RewriteKeeps.{AlikeIf, Measure, block, one, Compositional}
+use Rattle.rc_tree.specs.Model.{PrunedReactiveScopeBlock, ReactiveScopeBlock, ReactiveBlock, ReactiveStatement}
+use Rattle.rc_tree.specs.Model.{ReactiveTerminal, ReactiveTerminalStatement, ReactiveInstruction, ReactiveValue}
+use Rattle.rc_tree.specs.declared.statement.ReactiveStatement.TheVariants as reactive
 use Rattle.rc_tree.specs.declared.terminal.ReactiveSwitchCase.{ReactiveSwitchCase, roll-ReactiveSwitchCase}
 use Rattle.rc_tree.specs.declared.terminal.ReactiveSwitchCase.{out-roll-ReactiveSwitchCase}
-use Rattle.rc_tree.specs.declared.terminal.ReactiveTerminal.{ReactiveTerminal}
-use Rattle.rc_tree.specs.declared.terminal.ReactiveTerminalStatement.{ReactiveTerminalStatement}
-use Rattle.rc_tree.specs.declared.value.ReactiveInstruction.{ReactiveInstruction}
-use Rattle.rc_tree.specs.declared.value.ReactiveValue.{ReactiveValue}
-use Rattle.rc_tree.proofs.OutcomeLemmas.{Ok-injective}
+use Rattle.rc_tree.proofs.StepLemmas.{Ok-injective}
 use Rattle.rc_tree.proofs.RebuiltLemmas.{if_some, rebuilt-block, rebuilt-labeled, rebuilt-scope, rebuilt-pruned_scope}
 use Rattle.rc_tree.proofs.RebuiltLemmas.{rebuilt-case, rebuilt-Instruction, rebuilt-Terminal, rebuilt-Scope}
 use Rattle.rc_tree.proofs.RebuiltLemmas.{rebuilt-PrunedScope, rebuilt-Break, rebuilt-Continue, rebuilt-Return}
@@ -30,7 +24,7 @@ use Rattle.rc_runs.specs.PlainTree.{NoCases, Case}
 use Rattle.rc_runs.specs.TreeOf.{alternate_of, block_of, cases_of, statement_of, statements_of, terminal_of, value_of}
 use Rattle.rc_runs.proofs.EveryBlockIsPlain.{every_block_is_plain}
 
--- an answer of two steps is one of both, and one that is made is made of an answer
+-- a success of two steps is a success of both, and a result that is made comes from a success
 answer_of : {A B : Type 0} (first : Result A Fault) (next : A → Result B Fault) (b : B) → bind first next ≡ Ok b
     → (a : A) × (first ≡ Ok a) × (next a ≡ Ok b)
 answer_of (Ok a) next b e = (a, refl, e)
@@ -45,7 +39,7 @@ made_answer first make b e =
     let found = answer_of first (λ a. Ok (make a)) b e in
     (found.0, found.1, sym (Ok-injective (make found.0) b found.2))
 
--- a rule that always answers with that list
+-- a rule that always gives that list
 pub only_answer : {S L : Type 0} (measure : List ReactiveStatement → L) (s : S) (xs : List ReactiveStatement)
     (a : S × List ReactiveStatement)
     → ◌≡◌ {A = Result (S × List ReactiveStatement) Fault} (Ok (s, xs)) (Ok a) → measure a.1 ≡ measure xs
@@ -53,13 +47,13 @@ only_answer measure s xs a e = ap (λ b. measure b.1) (sym (Ok-injective (s, xs)
 
 module _ {S V I L C P : Type 0} (m : Measure V I L C P) (laws : Compositional m) (rules : Rules S)
     (row : (x : ReactiveInstruction) (s : S) (a : S × List ReactiveStatement) → rules.row x s ≡ Ok a
-    → m.statements a.1 ≡ one m (stmt.Instruction x))
+    → m.statements a.1 ≡ one m (reactive.Instruction x))
     (terminal : (x : ReactiveTerminalStatement) (s : S) (a : S × List ReactiveStatement) → rules.terminal x s ≡ Ok a
-    → m.statements a.1 ≡ one m (stmt.Terminal x))
+    → m.statements a.1 ≡ one m (reactive.Terminal x))
     (pruned_scope : (x : PrunedReactiveScopeBlock) (s : S) (a : S × List ReactiveStatement)
-    → rules.pruned_scope x s ≡ Ok a → m.statements a.1 ≡ one m (stmt.PrunedScope x))
+    → rules.pruned_scope x s ≡ Ok a → m.statements a.1 ≡ one m (reactive.PrunedScope x))
     (scope : (met : S) (x : ReactiveScopeBlock) (s : S) (a : S × List ReactiveStatement) → rules.scope met x s ≡ Ok a
-    → m.statements a.1 ≡ one m (stmt.Scope x)) where
+    → m.statements a.1 ≡ one m (reactive.Scope x)) where
   -- a block whose statements are kept
   within : (p : Statements) → ((s : S) (a : S × List ReactiveStatement)
       → joined (map (rebuilt_statement rules) (statements_of p)) s ≡ Ok a
@@ -70,12 +64,12 @@ module _ {S V I L C P : Type 0} (m : Measure V I L C P) (laws : Compositional m)
       (sym (rebuilt-block rules (block_of p) s) ∙ e) in
       ap (λ b. block m b.1) found.2 ∙ claim s found.0 found.1
 
-  -- a terminal that is made of an answer
+  -- a terminal that is made of a rebuilt one
   by_law : (t : ReactiveTerminal) (a b : S × ReactiveTerminal) → a ≡ b → m.terminal b.1 ≡ m.terminal t
       → m.terminal a.1 ≡ m.terminal t
   by_law t a b same law = ap (λ c. m.terminal c.1) same ∙ law
 
-  -- the same terminal
+  -- a terminal that isn't changed
   left_as_is : (t : ReactiveTerminal) (s : S) (a : S × ReactiveTerminal)
       → ◌≡◌ {A = Result (S × ReactiveTerminal) Fault} (Ok (s, t)) (Ok a) → m.terminal a.1 ≡ m.terminal t
   left_as_is t s a e = by_law t a (s, t) (sym (Ok-injective (s, t) a e)) refl
@@ -107,7 +101,7 @@ module _ {S V I L C P : Type 0} (m : Measure V I L C P) (laws : Compositional m)
         let made = made_answer (rebuilt_terminal rules (terminal_of t) s)
         (λ b. (b.0, record { terminal = b.1; label = own })) inner.0 (sym (rebuilt-labeled rules x s) ∙ inner.1)
         in
-        terminal inner.0.1 inner.0.0 a inner.2 ∙ ap (λ b. one m (stmt.Terminal b.1)) made.2
+        terminal inner.0.1 inner.0.0 a inner.2 ∙ ap (λ b. one m (reactive.Terminal b.1)) made.2
         ∙ laws.labeled x made.0.1 (terminal_kept t s made.0 made.1)
     statement_kept (ScopeStatement of body) s a e =
         let x : ReactiveScopeBlock = record { scope = of; instructions = block_of body } in
@@ -116,7 +110,7 @@ module _ {S V I L C P : Type 0} (m : Measure V I L C P) (laws : Compositional m)
         let made = made_answer (rebuilt_block rules (block_of body) (rules.into_scope s))
         (λ b. (b.0, record { scope = of; instructions = b.1 })) inner.0
         (sym (rebuilt-scope rules x (rules.into_scope s)) ∙ inner.1) in
-        scope s inner.0.1 inner.0.0 a inner.2 ∙ ap (λ b. one m (stmt.Scope b.1)) made.2
+        scope s inner.0.1 inner.0.0 a inner.2 ∙ ap (λ b. one m (reactive.Scope b.1)) made.2
         ∙ laws.scope x made.0.1 (within body (list_kept body) (rules.into_scope s) made.0 made.1)
     statement_kept (PrunedScopeStatement of body) s a e =
         let x : PrunedReactiveScopeBlock = record { scope = of; instructions = block_of body } in
@@ -125,7 +119,7 @@ module _ {S V I L C P : Type 0} (m : Measure V I L C P) (laws : Compositional m)
         let made = made_answer (rebuilt_block rules (block_of body) s)
         (λ b. (b.0, record { scope = of; instructions = b.1 })) inner.0
         (sym (rebuilt-pruned_scope rules x s) ∙ inner.1) in
-        pruned_scope inner.0.1 inner.0.0 a inner.2 ∙ ap (λ b. one m (stmt.PrunedScope b.1)) made.2
+        pruned_scope inner.0.1 inner.0.0 a inner.2 ∙ ap (λ b. one m (reactive.PrunedScope b.1)) made.2
         ∙ laws.pruned_scope x made.0.1 (within body (list_kept body) s made.0 made.1)
 
     alternate_kept : (x : Alternate) (s : S) (a : S × Option ReactiveBlock)

@@ -1,15 +1,12 @@
 -- The statements of a block row by row: first those of its rows, then those of its terminal.
 use Rattle.std.proofs.Common.{List, [], ◌∷◌, Some}
-use Rattle.rc_names.specs.declared.numbers.BlockId.{BlockId}
-use Rattle.rc_hir.specs.declared.terminal.Terminal.{Terminal}
-use Rattle.rc_hir.specs.declared.function.Instruction.{Instruction}
-use Rattle.rc_hir.specs.declared.function.HirFunction.{HirFunction}
-use Rattle.rc_hir.specs.declared.environment.Environment.{Environment}
+use Rattle.rc_names.specs.Numbers.{BlockId}
+use Rattle.rc_hir.specs.Model.{Terminal, Instruction, HirFunction, Environment}
 use Rattle.rc_runs.specs.PlainTree.{Base, Statements, Cons, RowStatement}
 use Rattle.rc_runs.specs.ListContext.{ListContext}
 use Rattle.rc_runs.specs.Grammar.{rows_before, SpellsTerminal}
 
--- the statements of the rows that are left of a block, and of its terminal
+-- the statements of the remaining rows of a block, and of its terminal
 pub data SpellsRows (hir : HirFunction) (env : Environment) : List Instruction → Terminal → ListContext → Statements
     → List BlockId → Type 0 where
   row_then : {row : Instruction} {rows : List Instruction} {terminal : Terminal} {context : ListContext}
@@ -19,7 +16,7 @@ pub data SpellsRows (hir : HirFunction) (env : Environment) : List Instruction �
   rows_done : {terminal : Terminal} {context : ListContext} {statements : Statements} {used : List BlockId}
       → SpellsTerminal hir env terminal context statements used → SpellsRows hir env [] terminal context statements used
 
--- the rows of a block stand before what its terminal spells
+-- the rows of a block come before the statements of its terminal
 pub rows_spelled : {hir : HirFunction} {env : Environment} {terminal : Terminal} {context : ListContext}
     {rest : Statements} {used : List BlockId} (rows : List Instruction)
     → SpellsTerminal hir env terminal context rest used

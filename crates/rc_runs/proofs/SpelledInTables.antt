@@ -1,24 +1,22 @@
--- Every number of a spelled function and of its environment is in its table, where those of the graph are.
+-- Every number of a spelled function and of its environment is in its table if those of the graph are.
 use Rattle.std.proofs.Common.{List, [], ◌∷◌, length, sym, ap, subst}
 use Rattle.std.specs.List.{All, flat_map}
 use Rattle.std.proofs.lemmas.List.Elements.{All-append, All-nil}
 use Rattle.rc_hir.specs.Names.{IsInTable, NamesInTables, lengths}
 use Rattle.rc_hir.specs.PartNames.{parameter_names}
-use Rattle.rc_hir.specs.declared.environment.Environment.{Environment}
-use Rattle.rc_hir.specs.declared.function.HirFunction.{HirFunction}
-use Rattle.rc_hir.specs.declared.place.ParamPattern.{ParamPattern}
-use Rattle.rc_hir.specs.declared.place.ParamPattern.TheVariants as parameter
+use Rattle.rc_hir.specs.Model.{Environment, HirFunction, ParamPattern}
+use Rattle.rc_hir.specs.declared.place.ParamPattern.TheVariants as param
 use Rattle.rc_tree.specs.TreeNames.{TreeInTables}
-use Rattle.rc_tree.specs.declared.function.ReactiveFunction.{ReactiveFunction}
+use Rattle.rc_tree.specs.Model.{ReactiveFunction}
 use Rattle.rc_runs.specs.Spelled.{Spells}
 use Rattle.rc_runs.proofs.AllLemmas.{All-left}
 use Rattle.rc_runs.proofs.NoRowNamed.{IsNoRow, NoRows, all_in_environment, place_no_row}
 use Rattle.rc_runs.proofs.SpelledNames.{spelled_names_held}
 
--- a parameter names no row
+-- a parameter has no row's number
 parameter_no_row : (x : ParamPattern) → NoRows (parameter_names x)
-parameter_no_row (parameter.Place place) = place_no_row place
-parameter_no_row (parameter.Spread spread) = place_no_row spread.place
+parameter_no_row (param.Place place) = place_no_row place
+parameter_no_row (param.Spread spread) = place_no_row spread.place
 
 params_no_row : (params : List ParamPattern) → NoRows (flat_map parameter_names params)
 params_no_row [] = All-nil IsNoRow

@@ -1,33 +1,21 @@
--- The numbers of a spelled tree are in their tables, where those of its graph are; none of them names a row.
+-- The numbers of a spelled tree are in their tables if those of its graph are; none of them is a row's.
 use Rattle.std.proofs.Common.{◌≡◌, ◌∙◌, ◌⊎◌, inl, inr, ℕ, ◌<◌, ◌≤◌, List, [], ◌∷◌, ◌++◌, length, get_or, Bool, Option}
 use Rattle.std.proofs.Common.{None, Some, option_and_then, option_map, slice_get, refl, sym, ap, subst}
 use Rattle.std.specs.List.{All, flat_map}
 use Rattle.std.proofs.lemmas.List.Elements.{All-append, All-nil}
 use Rattle.std.proofs.lemmas.Map.Views.{Contains-from_lookup}
 use Rattle.std.proofs.lemmas.Option.{slice_get_cases}
-use Rattle.rc_names.specs.declared.numbers.BlockId.{BlockId}
-use Rattle.rc_names.specs.declared.numbers.EvaluationOrder.{EvaluationOrder}
-use Rattle.rc_names.specs.declared.numbers.InstructionId.{InstructionId}
-use Rattle.rc_names.specs.declared.numbers.ScopeId.{ScopeId}
+use Rattle.rc_names.specs.Numbers.{BlockId, EvaluationOrder, InstructionId, ScopeId}
 use Rattle.rc_hir.specs.GraphNames.{Name, block_names, instruction_names, parameter_names, place_names}
 use Rattle.rc_hir.specs.GraphNames.{row_name, terminal_names, under_key}
 use Rattle.rc_hir.specs.PartNames.{scope_name}
 use Rattle.rc_hir.specs.ValueNames.{value_names}
 use Rattle.rc_hir.specs.Names.{FunctionInTables, IsInTable, lengths}
-use Rattle.rc_hir.specs.declared.environment.Environment.{Environment}
-use Rattle.rc_hir.specs.declared.function.BasicBlock.{BasicBlock}
-use Rattle.rc_hir.specs.declared.function.HirFunction.{HirFunction}
-use Rattle.rc_hir.specs.declared.function.Instruction.{Instruction}
-use Rattle.rc_hir.specs.declared.place.Place.{Place}
-use Rattle.rc_hir.specs.declared.terminal.Terminal.{Terminal}
-use Rattle.rc_tree.specs.declared.function.ReactiveFunction.{ReactiveFunction}
-use Rattle.rc_tree.specs.declared.scope.PrunedReactiveScopeBlock.{PrunedReactiveScopeBlock}
-use Rattle.rc_tree.specs.declared.scope.ReactiveScopeBlock.{ReactiveScopeBlock}
-use Rattle.rc_tree.specs.declared.statement.ReactiveStatement.TheVariants as stmt
-use Rattle.rc_tree.specs.declared.terminal.ReactiveLabel.{ReactiveLabel}
-use Rattle.rc_tree.specs.declared.terminal.ReactiveTerminalStatement.{ReactiveTerminalStatement}
-use Rattle.rc_tree.specs.declared.value.ReactiveInstruction.{ReactiveInstruction}
-use Rattle.rc_tree.specs.declared.value.ReactiveValue.TheVariants as val
+use Rattle.rc_hir.specs.Model.{Environment, BasicBlock, HirFunction, Instruction, Place, Terminal}
+use Rattle.rc_tree.specs.Model.{ReactiveFunction, PrunedReactiveScopeBlock, ReactiveScopeBlock, ReactiveLabel}
+use Rattle.rc_tree.specs.Model.{ReactiveTerminalStatement, ReactiveInstruction}
+use Rattle.rc_tree.specs.declared.statement.ReactiveStatement.TheVariants as reactive
+use Rattle.rc_tree.specs.declared.value.ReactiveValue.TheVariants as reactive_values
 use Rattle.rc_runs.specs.Graph.{Block, basic_block, block_at, rows_of, with_rows}
 use Rattle.rc_runs.specs.ListContext.{ListContext}
 use Rattle.rc_runs.specs.Grammar.{SpellsList, SpellsRest, SpellsStatement, SpellsTerminal, break_statements}
@@ -38,10 +26,11 @@ use Rattle.rc_runs.specs.PlainTree.{Base, Statement, RowStatement, TerminalState
 use Rattle.rc_runs.specs.PlainTree.{TreeTerminal, Break, Return, If, Label, Absent, Present}
 use Rattle.rc_runs.specs.Spelled.{Spells}
 use Rattle.rc_runs.specs.TreeOf.{block_of, statement_of, statements_of, terminal_of}
-use Rattle.rc_runs.specs.Frames.{break_way}
-use Rattle.rc_runs.specs.declared.frames.Way.{Way}
-use Rattle.rc_runs.specs.declared.frames.Way.TheVariants.{NoFrame, LeavesScope, LeavesCase, FallsOff, Breaks}
-use Rattle.rc_runs.proofs.GraphLemmas.{same_block-eq, usable_block-at}
+use Rattle.rc_runs.specs.Frames.{resolve_break}
+use Rattle.rc_runs.specs.declared.frames.BreakResult.{BreakResult}
+use Rattle.rc_runs.specs.declared.frames.BreakResult.TheVariants.{NoFrame, LeavesScope, LeavesCase, FallsOff, Breaks}
+use Rattle.rc_names.proofs.NumbersLemmas.{same_id-eq}
+use Rattle.rc_runs.proofs.GraphLemmas.{usable_block-at}
 use Rattle.rc_tree.specs.TreeNames.{names_in, names_in_list, names_in_statement, names_in_terminal, names_of_parts}
 use Rattle.rc_tree.specs.TreeNames.{names_of_values}
 use Rattle.rc_runs.proofs.AllLemmas.{All-left, All-right, All-flat_map}
@@ -58,21 +47,21 @@ module _ (hir : HirFunction) (env : Environment) (named : FunctionInTables env h
   abbrev Held : List Name → Type 0
   Held names = All InTable names
 
-  -- the same where the rows of the graph are a table too
+  -- the same, where the rows of the graph are a table too
   abbrev InGraph : Name → Type 0
   InGraph = IsInTable (lengths env (length hir.instructions))
 
   abbrev HeldByGraph : List Name → Type 0
   HeldByGraph names = All InGraph names
 
-  -- what stands behind the parameters and the context
+  -- the numbers after those of the parameters and the context
   blocks_and_rows : HeldByGraph
       (flat_map (under_key block_names) hir.body.blocks ++ flat_map instruction_names hir.instructions)
   blocks_and_rows =
       All-right InGraph (flat_map place_names hir.context) _
       (All-right InGraph (flat_map parameter_names hir.params) _ named)
 
-  -- numbers that name no row
+  -- numbers that are no rows'
   rowless : (names : List Name) → NoRows names → HeldByGraph names → Held names
   rowless names = all_in_environment env (length hir.instructions) names
 
@@ -139,7 +128,7 @@ module _ (hir : HirFunction) (env : Environment) (named : FunctionInTables env h
           → BlockHeld b
       filled basic found None f w = absurd (let no : ⊥ = cc in no)
       filled basic found (Some rows) f w =
-          let held = Contains-from_lookup same_block-eq key basic hir.body.blocks found in
+          let held = Contains-from_lookup same_id-eq key basic hir.body.blocks found in
           let here : HeldByGraph (flat_map row_name basic.instructions ++ terminal_names basic.terminal) =
           All-flat_map InGraph (under_key block_names) hir.body.blocks
           (All-left InGraph (flat_map (under_key block_names) hir.body.blocks) _ blocks_and_rows)
@@ -157,7 +146,7 @@ module _ (hir : HirFunction) (env : Environment) (named : FunctionInTables env h
       go None found e = absurd (let no : ⊥ = cc in no)
       go (Some basic) found e = filled basic found (rows_of hir.instructions basic.instructions) refl e
 
-  -- numbers that are these
+  -- equal lists of numbers
   by_same : (names others : List Name) → names ≡ others → Held others → Held names
   by_same names others e held = subst Held (sym e) held
 
@@ -171,13 +160,19 @@ module _ (hir : HirFunction) (env : Environment) (named : FunctionInTables env h
   rows_first [] rest held later = later
   rows_first (row ∷ rows) rest held later =
       let x : ReactiveInstruction =
-      record { id = row.id; lvalue = Some row.lvalue; value = val.Instruction row.value; span = row.span } in
-      let names : names_in_statement (stmt.Instruction x) ≡ instruction_names row =
+      record {
+        id = row.id;
+        lvalue = Some row.lvalue;
+        value = reactive_values.Instruction row.value;
+        span =
+            row.span;
+      } in
+      let names : names_in_statement (reactive.Instruction x) ≡ instruction_names row =
       collected-Instruction names_of_parts x ∙ collected-row names_of_values x
       ∙ ap (λ names. place_names row.lvalue ++ names) (collected-Base names_of_values row.value row.id)
       in
       one_statement (RowStatement row.id (Some row.lvalue) (Base row.value) row.span) (rows_before rows rest)
-      (by_same (names_in_statement (stmt.Instruction x)) (instruction_names row) names held.0)
+      (by_same (names_in_statement (reactive.Instruction x)) (instruction_names row) names held.0)
       (rows_first rows rest held.1 later)
 
   -- a terminal's statement has the terminal's numbers
@@ -186,10 +181,10 @@ module _ (hir : HirFunction) (env : Environment) (named : FunctionInTables env h
       → Held (names_in_statement (statement_of (TerminalStatement terminal own)))
   terminal_first terminal own names e held =
       let x : ReactiveTerminalStatement = record { terminal = terminal_of terminal; label = own } in
-      by_same (names_in_statement (stmt.Terminal x)) names (collected-Terminal names_of_parts x ∙ e) held
+      by_same (names_in_statement (reactive.Terminal x)) names (collected-Terminal names_of_parts x ∙ e) held
 
-  -- a break names nothing of a table
-  break_held : (way : Way) (target : BlockId) (id : EvaluationOrder) (statements : Statements)
+  -- a break has no number of a table
+  break_held : (way : BreakResult) (target : BlockId) (id : EvaluationOrder) (statements : Statements)
       → break_statements way target id ≡ Some statements → Held (names_in_list (statements_of statements))
   break_held NoFrame target id statements e = absurd (let no : ⊥ = cc in no)
   break_held LeavesScope target id statements e = absurd (let no : ⊥ = cc in no)
@@ -227,7 +222,7 @@ module _ (hir : HirFunction) (env : Environment) (named : FunctionInTables env h
         (All-nil InTable)
     held_terminal held unreachable = All-nil InTable
     held_terminal held (breaks {target = target} {id = id} {context = around} {statements = statements} e) =
-        break_held (break_way around.frames target) target id statements e
+        break_held (resolve_break around.frames target) target id statements e
     held_terminal held (and_rest {statement = statement} {rest = rest} d r w) =
         one_statement statement rest (held_statement held d) (held_rest r)
 
@@ -252,13 +247,13 @@ module _ (hir : HirFunction) (env : Environment) (named : FunctionInTables env h
         (block_first part (held_list d))
     held_statement held (scope {scope = of} {part = part} i d) =
         let x : ReactiveScopeBlock = record { scope = of; instructions = block_of part } in
-        by_same (names_in_statement (stmt.Scope x)) (scope_name of ++ names_in (block_of part))
+        by_same (names_in_statement (reactive.Scope x)) (scope_name of ++ names_in (block_of part))
         (collected-Scope names_of_parts x)
         (All-append InTable (scope_name of) (names_in (block_of part)) (scope_held of held)
         (block_first part (held_list d)))
     held_statement held (pruned_scope {scope = of} {part = part} i d) =
         let x : PrunedReactiveScopeBlock = record { scope = of; instructions = block_of part } in
-        by_same (names_in_statement (stmt.PrunedScope x)) (scope_name of ++ names_in (block_of part))
+        by_same (names_in_statement (reactive.PrunedScope x)) (scope_name of ++ names_in (block_of part))
         (collected-PrunedScope names_of_parts x)
         (All-append InTable (scope_name of) (names_in (block_of part)) (scope_held of held)
         (block_first part (held_list d)))

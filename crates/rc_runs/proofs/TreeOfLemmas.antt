@@ -1,52 +1,24 @@
--- A tree of the program stands for one plain tree at most.
+-- A tree of the program is the tree of at most one plain tree.
 --
--- The first layer of the program's tree is plain data, whose variants are distinct and give back their parts; so two
--- plain trees with one tree have equal first layers, and their parts again have one tree.
+-- The form of the program's tree is plain data, whose variants are distinct and determine their parts. So two plain
+-- trees with the same tree have equal forms, and their parts again have the same tree.
+pub mod Layers
 use Rattle.std.proofs.Common.{◌≡◌, List, ◌∷◌, Option, Some, None, refl, sym, ap, ◌∙◌, option_map}
-use Rattle.rc_tree.specs.Opened.{OpenStatement, OpenTerminal, OpenCase}
-use Rattle.rc_tree.specs.declared.value.ReactiveInstruction.{ReactiveInstruction}
-use Rattle.rc_tree.specs.declared.value.ReactiveValue.{ReactiveValue, ReactiveValue-F, out-ReactiveValue}
-use Rattle.rc_tree.specs.declared.value.ReactiveValue.TheVariants as values
-use Rattle.rc_tree.specs.declared.value.ReactiveValue.TheOpen as value_layers
-use Rattle.rc_tree.specs.declared.statement.ReactiveBlock.{ReactiveBlock}
-use Rattle.rc_tree.specs.declared.statement.ReactiveStatement.{out-ReactiveStatement}
-use Rattle.rc_tree.specs.declared.statement.ReactiveStatement.TheVariants as statements
+use Rattle.rc_tree.specs.Unrolled.{UnrolledStatement, UnrolledCase}
+use Rattle.rc_tree.specs.Model.{ReactiveInstruction, ReactiveBlock, ReactiveScopeBlock, PrunedReactiveScopeBlock}
+use Rattle.rc_tree.specs.Model.{ReactiveTerminalStatement}
 use Rattle.rc_tree.specs.declared.statement.ReactiveStatement.TheOpen as layers
-use Rattle.rc_tree.specs.declared.scope.ReactiveScopeBlock.{ReactiveScopeBlock}
-use Rattle.rc_tree.specs.declared.scope.PrunedReactiveScopeBlock.{PrunedReactiveScopeBlock}
-use Rattle.rc_tree.specs.declared.terminal.ReactiveTerminal.{out-ReactiveTerminal}
-use Rattle.rc_tree.specs.declared.terminal.ReactiveTerminal.TheVariants as terminals
-use Rattle.rc_tree.specs.declared.terminal.ReactiveTerminalStatement.{ReactiveTerminalStatement}
 use Rattle.rc_tree.specs.declared.terminal.ReactiveSwitchCase.{out-ReactiveSwitchCase, roll-ReactiveSwitchCase}
 use Rattle.rc_tree.specs.declared.terminal.ReactiveSwitchCase.{out-roll-ReactiveSwitchCase}
-use Rattle.rc_hir.specs.declared.place.Place.{Place}
+use Rattle.rc_hir.specs.Model.{Place}
 use Rattle.rc_runs.specs.PlainTree.{Value, Base, Logical, Conditional, Sequence, Optional, Rows, NoRows, Row}
 use Rattle.rc_runs.specs.PlainTree.{Statements, Nil, Cons, Statement, RowStatement, TerminalStatement, ScopeStatement}
-use Rattle.rc_runs.specs.PlainTree.{PrunedScopeStatement, TreeTerminal, Break, Continue, Return, Throw, Switch, DoWhile}
-use Rattle.rc_runs.specs.PlainTree.{While, For, ForOf, ForIn, If, Label, Try, Alternate, Absent, Present, Cases}
-use Rattle.rc_runs.specs.PlainTree.{NoCases, Case}
-use Rattle.rc_runs.specs.TreeOf.{value_of, instructions_of, statements_of, statement_of, terminal_of, alternate_of, cases_of}
-use Rattle.rc_runs.specs.TreeOf.{block_of}
-
--- the first layer of a value's tree
-abbrev value_layer : Value → ReactiveValue-F ReactiveValue ReactiveInstruction
-value_layer (Base value) = value_layers.Instruction value
-value_layer (Logical operator left right) = value_layers.LogicalExpression operator (value_of left) (value_of right)
-value_layer (Conditional test consequent alternate) =
-    value_layers.ConditionalExpression (value_of test) (value_of consequent) (value_of alternate)
-value_layer (Sequence rows id value) = value_layers.SequenceExpression (instructions_of rows) id (value_of value)
-value_layer (Optional value optional) = value_layers.OptionalExpression (value_of value) optional
-
-out-value_of : (value : Value) → out-ReactiveValue (value_of value) ≡ value_layer value
-out-value_of (Base value) = values.outs-Instruction value
-out-value_of (Logical operator left right) = values.outs-LogicalExpression operator (value_of left) (value_of right)
-out-value_of (Conditional test consequent alternate) =
-    values.outs-ConditionalExpression (value_of test) (value_of consequent) (value_of alternate)
-out-value_of (Sequence rows id value) = values.outs-SequenceExpression (instructions_of rows) id (value_of value)
-out-value_of (Optional value optional) = values.outs-OptionalExpression (value_of value) optional
-
-same_value_layer : (a b : Value) → value_of a ≡ value_of b → value_layer a ≡ value_layer b
-same_value_layer a b e = sym (out-value_of a) ∙ (ap out-ReactiveValue e ∙ out-value_of b)
+use Rattle.rc_runs.specs.PlainTree.{PrunedScopeStatement, TreeTerminal, Break, Continue, Return, Throw, Switch}
+use Rattle.rc_runs.specs.PlainTree.{DoWhile, While, For, ForOf, ForIn, If, Label, Try, Alternate, Absent, Present}
+use Rattle.rc_runs.specs.PlainTree.{Cases, NoCases, Case}
+use Rattle.rc_runs.specs.TreeOf.{value_of, instructions_of, statements_of, alternate_of, cases_of, block_of}
+use Rattle.rc_runs.proofs.TreeOfLemmas.Layers.{value_layer, statement_layer, terminal_layer, same_value_layer}
+use Rattle.rc_runs.proofs.TreeOfLemmas.Layers.{same_statement_layer, same_terminal_layer}
 
 first_same : {A : Type 0} (x y : A) (xs ys : List A) → x ∷ xs ≡ y ∷ ys → x ≡ y
 first_same x y xs ys e = cc
@@ -101,62 +73,6 @@ option_value-injective None None e = refl
 option_value-injective (Some a) (Some b) e = ap Some (value_of-injective a b (cc))
 option_value-injective a b e = absurd (let bad : ⊥ = cc in bad)
 
--- the first layers of a statement's tree and of a terminal's
-abbrev statement_layer : Statement → OpenStatement
-statement_layer (RowStatement id target value span) =
-    layers.Instruction (record { id = id; lvalue = target; value = value_of value; span = span })
-statement_layer (TerminalStatement terminal label) =
-    layers.Terminal (record { terminal = terminal_of terminal; label = label })
-statement_layer (ScopeStatement scope body) = layers.Scope (record { scope = scope; instructions = block_of body })
-statement_layer (PrunedScopeStatement scope body) =
-    layers.PrunedScope (record { scope = scope; instructions = block_of body })
-
-abbrev terminal_layer : TreeTerminal → OpenTerminal
-terminal_layer (Break target kind id) = layers.Break target kind id
-terminal_layer (Continue target kind id) = layers.Continue target kind id
-terminal_layer (Return value id) = layers.Return value id
-terminal_layer (Throw value id) = layers.Throw value id
-terminal_layer (Switch test cases id) = layers.Switch test (cases_of cases) id
-terminal_layer (DoWhile body test id) = layers.DoWhile (block_of body) (value_of test) id
-terminal_layer (While test body id) = layers.While (value_of test) (block_of body) id
-terminal_layer (For init test update body id) =
-    layers.For (value_of init) (value_of test) (option_map value_of update) (block_of body) id
-terminal_layer (ForOf init test body span id) = layers.ForOf (value_of init) (value_of test) (block_of body) span id
-terminal_layer (ForIn init body span id) = layers.ForIn (value_of init) (block_of body) span id
-terminal_layer (If test consequent alternate id) = layers.If test (block_of consequent) (alternate_of alternate) id
-terminal_layer (Label body id) = layers.Label (block_of body) id
-terminal_layer (Try body binding handler id) = layers.Try (block_of body) binding (block_of handler) id
-
-out-statement_of : (statement : Statement) → out-ReactiveStatement (statement_of statement) ≡ statement_layer statement
-out-statement_of (RowStatement id target value span) = statements.outs-Instruction _
-out-statement_of (TerminalStatement terminal label) = statements.outs-Terminal _
-out-statement_of (ScopeStatement scope body) = statements.outs-Scope _
-out-statement_of (PrunedScopeStatement scope body) = statements.outs-PrunedScope _
-
-out-terminal_of : (terminal : TreeTerminal) → out-ReactiveTerminal (terminal_of terminal) ≡ terminal_layer terminal
-out-terminal_of (Break target kind id) = terminals.outs-Break target kind id
-out-terminal_of (Continue target kind id) = terminals.outs-Continue target kind id
-out-terminal_of (Return value id) = terminals.outs-Return value id
-out-terminal_of (Throw value id) = terminals.outs-Throw value id
-out-terminal_of (Switch test cases id) = terminals.outs-Switch test (cases_of cases) id
-out-terminal_of (DoWhile body test id) = terminals.outs-DoWhile (block_of body) (value_of test) id
-out-terminal_of (While test body id) = terminals.outs-While (value_of test) (block_of body) id
-out-terminal_of (For init test update body id) =
-    terminals.outs-For (value_of init) (value_of test) (option_map value_of update) (block_of body) id
-out-terminal_of (ForOf init test body span id) =
-    terminals.outs-ForOf (value_of init) (value_of test) (block_of body) span id
-out-terminal_of (ForIn init body span id) = terminals.outs-ForIn (value_of init) (block_of body) span id
-out-terminal_of (If test consequent alternate id) =
-    terminals.outs-If test (block_of consequent) (alternate_of alternate) id
-out-terminal_of (Label body id) = terminals.outs-Label (block_of body) id
-out-terminal_of (Try body binding handler id) = terminals.outs-Try (block_of body) binding (block_of handler) id
-
-same_statement_layer : (a b : Statement) → statement_of a ≡ statement_of b → statement_layer a ≡ statement_layer b
-same_statement_layer a b e = sym (out-statement_of a) ∙ (ap out-ReactiveStatement e ∙ out-statement_of b)
-
-same_terminal_layer : (a b : TreeTerminal) → terminal_of a ≡ terminal_of b → terminal_layer a ≡ terminal_layer b
-same_terminal_layer a b e = sym (out-terminal_of a) ∙ (ap out-ReactiveTerminal e ∙ out-terminal_of b)
-
 -- the parts of equal blocks and cases
 block_part : (a b : ReactiveBlock) → a ≡ b → a.statements ≡ b.statements
 block_part a b e = ap (λ (block : ReactiveBlock). block.statements) e
@@ -167,19 +83,19 @@ case_parts : (test test' : Option Place) (body body' : Option ReactiveBlock) →
     (test ≡ test') × (body ≡ body')
 case_parts test test' body body' e =
     let same = sym (out-roll-ReactiveSwitchCase _) ∙ (ap out-ReactiveSwitchCase e ∙ out-roll-ReactiveSwitchCase _) in
-    (ap (λ (c : OpenCase). c.test) same, ap (λ (c : OpenCase). c.block) same)
+    (ap (λ (c : UnrolledCase). c.test) same, ap (λ (c : UnrolledCase). c.block) same)
 
--- the parts of statements with equal first layers
-abbrev row_of : ReactiveInstruction → OpenStatement
+-- the parts of statements with equal forms
+abbrev row_of : ReactiveInstruction → UnrolledStatement
 row_of row = layers.Instruction row
 
-abbrev terminal_statement_of : ReactiveTerminalStatement → OpenStatement
+abbrev terminal_statement_of : ReactiveTerminalStatement → UnrolledStatement
 terminal_statement_of statement = layers.Terminal statement
 
-abbrev scope_of : ReactiveScopeBlock → OpenStatement
+abbrev scope_of : ReactiveScopeBlock → UnrolledStatement
 scope_of scope = layers.Scope scope
 
-abbrev pruned_scope_of : PrunedReactiveScopeBlock → OpenStatement
+abbrev pruned_scope_of : PrunedReactiveScopeBlock → UnrolledStatement
 pruned_scope_of scope = layers.PrunedScope scope
 
 row_statement_parts : (a b : ReactiveInstruction) → row_of a ≡ row_of b → RowParts a b

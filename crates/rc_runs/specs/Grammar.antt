@@ -1,31 +1,25 @@
--- Which statements a graph asks for from a block on, and which blocks they use.
+-- The statements that a graph spells from a block on, and the blocks that they use.
 --
--- A fallthrough is the block where the parts of a statement meet again. To open it is to let the parts fall off to it
--- and jumps in them name it, and to spell it once, behind the statement. One that a jump can name already is spelled
--- further out, so it isn't opened again, and the list ends with the statement.
--- No rule reads `env` or the handler yet: `env` waits for nested values, and the handler for throws.
+-- A fallthrough is the block where the parts of a statement meet again. If it is opened, the parts fall off to it, the
+-- jumps in them may name it, and it is spelled once, after the statement. A fallthrough that a jump can name already
+-- is spelled further out. So it isn't opened again, and the list ends with the statement.
+-- No rule reads `env` or the handler yet: `env` is for nested values, and the handler for throws.
 --
--- Every family has the indices: what it speaks of (a block or a terminal), what stands around the list, the
--- statements, and the used blocks in the order in which they are marked.
+-- The indices of each family are: a block or a terminal, the context of the list, the statements, and the used blocks
+-- in the order in which they are marked.
 use Rattle.std.specs.Prelude.{◌≡◌, Bool, true, false, List, [], ◌∷◌, ◌++◌, Option, Some, None, not, if◌then◌else◌}
-use Rattle.rc_names.specs.declared.numbers.BlockId.{BlockId}
-use Rattle.rc_names.specs.declared.numbers.ScopeId.{ScopeId}
-use Rattle.rc_names.specs.declared.numbers.EvaluationOrder.{EvaluationOrder}
+use Rattle.rc_names.specs.Numbers.{BlockId, ScopeId, EvaluationOrder, same_id}
 use Rattle.rc_names.specs.declared.span.Span.{Span}
-use Rattle.rc_hir.specs.declared.place.Place.{Place}
+use Rattle.rc_hir.specs.Model.{Place, Terminal, Instruction, HirFunction, Environment}
 use Rattle.rc_hir.specs.declared.terminal.GotoVariant.TheVariants as variants
-use Rattle.rc_hir.specs.declared.terminal.Terminal.{Terminal}
 use Rattle.rc_hir.specs.declared.terminal.Terminal.TheVariants as terminals
-use Rattle.rc_hir.specs.declared.function.Instruction.{Instruction}
-use Rattle.rc_hir.specs.declared.function.HirFunction.{HirFunction}
-use Rattle.rc_hir.specs.declared.environment.Environment.{Environment}
-use Rattle.rc_tree.specs.declared.terminal.ReactiveLabel.{ReactiveLabel}
+use Rattle.rc_tree.specs.Model.{ReactiveLabel}
 use Rattle.rc_runs.specs.declared.frames.Frame.{Frame}
-use Rattle.rc_runs.specs.declared.frames.Frame.TheVariants as frame
-use Rattle.rc_runs.specs.declared.frames.Way.{Way}
-use Rattle.rc_runs.specs.declared.frames.Way.TheVariants.{NoFrame, LeavesScope, LeavesCase, FallsOff, Breaks}
-use Rattle.rc_runs.specs.Graph.{Block, same_block, usable_block, is_dead}
-use Rattle.rc_runs.specs.Frames.{is_live, break_way}
+use Rattle.rc_runs.specs.declared.frames.Frame.TheVariants as frame_kinds
+use Rattle.rc_runs.specs.declared.frames.BreakResult.{BreakResult}
+use Rattle.rc_runs.specs.declared.frames.BreakResult.TheVariants.{NoFrame, LeavesScope, LeavesCase, FallsOff, Breaks}
+use Rattle.rc_runs.specs.Graph.{Block, usable_block, ends_unreachable}
+use Rattle.rc_runs.specs.Frames.{is_jump_target, resolve_break}
 use Rattle.rc_runs.specs.ListContext.{ListContext, inside}
 use Rattle.rc_runs.specs.PlainTree.{Base, Statements, Nil, Cons, Statement, RowStatement, TerminalStatement}
 use Rattle.rc_runs.specs.PlainTree.{ScopeStatement, PrunedScopeStatement, TreeTerminal, Break, Return, If, Label}
@@ -33,21 +27,21 @@ use Rattle.rc_runs.specs.PlainTree.{Absent, Present}
 
 -- a fallthrough is opened unless a jump can name it already
 abbrev pub opens : List Frame → BlockId → Bool
-opens frames fallthrough = not (is_live frames fallthrough)
+opens frames fallthrough = not (is_jump_target frames fallthrough)
 
 -- the same, but a fallthrough that ends in `Unreachable` isn't opened either
 abbrev pub opens_reachable : HirFunction → List Frame → BlockId → Bool
 opens_reachable hir frames fallthrough =
-    if is_live frames fallthrough then false else not (is_dead hir fallthrough)
+    if is_jump_target frames fallthrough then false else not (ends_unreachable hir fallthrough)
 
--- the label of a statement: its fallthrough where that is opened
+-- the label of a statement, which is its fallthrough if that is opened
 abbrev pub label_of : Bool → BlockId → Option ReactiveLabel
 label_of opened fallthrough = if opened then Some (record { id = fallthrough; implicit = false }) else None
 
 -- falling off reaches the block
 abbrev pub is_next : Option BlockId → BlockId → Bool
 is_next None key = false
-is_next (Some next) key = same_block next key
+is_next (Some next) key = same_id next key
 
 -- leaving a statement leads to its fallthrough, in the tree as in the graph
 abbrev pub falls_to : Bool → BlockId → Option BlockId → Bool
@@ -63,8 +57,8 @@ rows_before (row ∷ rows) rest = Cons (RowStatement row.id (Some row.lvalue) (B
 abbrev pub unlabeled : TreeTerminal → Statements
 unlabeled terminal = Cons (TerminalStatement terminal None) Nil
 
--- the statements of a break, where there may be one
-abbrev pub break_statements : Way → BlockId → EvaluationOrder → Option Statements
+-- the statements of a break; none if the break can't be written
+abbrev pub break_statements : BreakResult → BlockId → EvaluationOrder → Option Statements
 break_statements NoFrame target id = None
 break_statements LeavesScope target id = None
 break_statements LeavesCase target id = None
@@ -77,22 +71,22 @@ mutual
       List BlockId → Type 0 where
     block : {key : BlockId} {context : ListContext} {rest statements : Statements} {used : List BlockId}
         {block : Block} →
-        usable_block hir key ≡ Some block → is_live context.frames key ≡ false →
+        usable_block hir key ≡ Some block → is_jump_target context.frames key ≡ false →
         SpellsTerminal hir env block.terminal context rest used → statements ≡ rows_before block.rows rest →
         SpellsList hir env key context statements (key ∷ used)
 
-  -- the statements of a terminal, and of what follows it
+  -- the statements of a terminal, and those that follow
   pub data SpellsTerminal (hir : HirFunction) (env : Environment) : Terminal → ListContext → Statements →
       List BlockId → Type 0 where
     returns : {value : Place} {id : EvaluationOrder} {span : Option Span} {context : ListContext} →
         SpellsTerminal hir env (terminals.Return value id span) context (unlabeled (Return value id)) []
-    -- nothing is written for a block that is never left
+    -- a block that is never left has no statement for its end
     unreachable : {id : EvaluationOrder} {span : Option Span} {context : ListContext} →
         SpellsTerminal hir env (terminals.Unreachable id span) context Nil []
     breaks : {target : BlockId} {id : EvaluationOrder} {span : Option Span} {context : ListContext}
-        {statements : Statements} → break_statements (break_way context.frames target) target id ≡ Some statements →
+        {statements : Statements} → break_statements (resolve_break context.frames target) target id ≡ Some statements →
         SpellsTerminal hir env (terminals.Goto target variants.Break id span) context statements []
-    -- a statement with parts, and then what its fallthrough spells, where that is opened
+    -- a statement with parts, and then the statements of its fallthrough, if that is opened
     and_rest : {terminal : Terminal} {opened : Bool} {fallthrough : BlockId} {context : ListContext}
         {statement : Statement} {rest : Statements} {part_used rest_used used : List BlockId} →
         SpellsStatement hir env terminal context opened fallthrough statement part_used →
@@ -102,46 +96,46 @@ mutual
   -- the statement of a terminal that has a fallthrough, which is opened or not
   pub data SpellsStatement (hir : HirFunction) (env : Environment) : Terminal → ListContext → Bool →
       BlockId → Statement → List BlockId → Type 0 where
-    -- an alternate that is the fallthrough gives none; then leaving the statement leads there
+    -- an alternate that is the fallthrough is left out; then leaving the statement must lead there
     if_only : {test : Place} {consequent alternate fallthrough : BlockId} {id : EvaluationOrder}
         {span : Option Span} {context : ListContext} {opened : Bool} {label : Option ReactiveLabel}
         {part : Statements} {used : List BlockId} →
         opened ≡ opens_reachable hir context.frames fallthrough → label ≡ label_of opened fallthrough →
-        same_block alternate fallthrough ≡ true → falls_to opened fallthrough context.next ≡ true →
-        SpellsList hir env consequent (inside opened (frame.If fallthrough) context) part used →
+        same_id alternate fallthrough ≡ true → falls_to opened fallthrough context.next ≡ true →
+        SpellsList hir env consequent (inside opened (frame_kinds.Statement fallthrough) context) part used →
         SpellsStatement hir env (terminals.If test consequent alternate fallthrough id span) context
         opened fallthrough (TerminalStatement (If test part Absent id) label) used
     if_else : {test : Place} {consequent alternate fallthrough : BlockId} {id : EvaluationOrder}
         {span : Option Span} {context : ListContext} {opened : Bool} {label : Option ReactiveLabel}
         {part other : Statements} {part_used other_used used : List BlockId} →
         opened ≡ opens_reachable hir context.frames fallthrough → label ≡ label_of opened fallthrough →
-        same_block alternate fallthrough ≡ false →
-        SpellsList hir env consequent (inside opened (frame.If fallthrough) context) part part_used →
-        SpellsList hir env alternate (inside opened (frame.If fallthrough) context) other other_used →
+        same_id alternate fallthrough ≡ false →
+        SpellsList hir env consequent (inside opened (frame_kinds.Statement fallthrough) context) part part_used →
+        SpellsList hir env alternate (inside opened (frame_kinds.Statement fallthrough) context) other other_used →
         used ≡ part_used ++ other_used →
         SpellsStatement hir env (terminals.If test consequent alternate fallthrough id span) context
         opened fallthrough (TerminalStatement (If test part (Present other) id) label) used
     label : {inner fallthrough : BlockId} {id : EvaluationOrder} {span : Option Span} {context : ListContext}
         {opened : Bool} {label : Option ReactiveLabel} {part : Statements} {used : List BlockId} →
         opened ≡ opens_reachable hir context.frames fallthrough → label ≡ label_of opened fallthrough →
-        SpellsList hir env inner (inside opened (frame.If fallthrough) context) part used →
+        SpellsList hir env inner (inside opened (frame_kinds.Statement fallthrough) context) part used →
         SpellsStatement hir env (terminals.Label inner fallthrough id span) context
         opened fallthrough (TerminalStatement (Label part id) label) used
     -- scopes have no label, and open an `Unreachable` fallthrough like any other
     scope : {inner fallthrough : BlockId} {scope : ScopeId} {id : EvaluationOrder} {span : Option Span}
         {context : ListContext} {opened : Bool} {part : Statements} {used : List BlockId} →
         opened ≡ opens context.frames fallthrough →
-        SpellsList hir env inner (inside opened (frame.Scope fallthrough) context) part used →
+        SpellsList hir env inner (inside opened (frame_kinds.Scope fallthrough) context) part used →
         SpellsStatement hir env (terminals.Scope fallthrough inner scope id span) context
         opened fallthrough (ScopeStatement scope part) used
     pruned_scope : {inner fallthrough : BlockId} {scope : ScopeId} {id : EvaluationOrder}
         {span : Option Span} {context : ListContext} {opened : Bool} {part : Statements} {used : List BlockId} →
         opened ≡ opens context.frames fallthrough →
-        SpellsList hir env inner (inside opened (frame.Scope fallthrough) context) part used →
+        SpellsList hir env inner (inside opened (frame_kinds.Scope fallthrough) context) part used →
         SpellsStatement hir env (terminals.PrunedScope fallthrough inner scope id span) context
         opened fallthrough (PrunedScopeStatement scope part) used
 
-  -- the statements behind a statement: those of its fallthrough where that is opened
+  -- the statements after a statement: those of its fallthrough, if that is opened
   pub data SpellsRest (hir : HirFunction) (env : Environment) : Bool → BlockId → ListContext →
       Statements → List BlockId → Type 0 where
     closed : {fallthrough : BlockId} {context : ListContext} → SpellsRest hir env false fallthrough context Nil []

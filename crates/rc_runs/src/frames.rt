@@ -1,4 +1,6 @@
-//! Frames: what stands around the list that is built, and where its jumps go.
+//! The frames around the list that is built, and the resolution of breaks.
+//!
+//! After the frames of oxc's build_reactive_function.
 
 ghost use Rattle.std.specs.Prelude.{◌≡◌};
 ghost use Rattle.rc_runs.specs.Frames as spec;
@@ -6,50 +8,54 @@ ghost use Rattle.rc_runs.specs.Frames as spec;
 use rc_names::BlockId;
 use rc_tree::ReactiveTerminalTargetKind;
 
-/// A statement around the list that is built, by the blocks that its jumps name.
+/// A statement around the list that is built, given by the blocks that its jumps name.
 #[derive(Clone, Copy, Debug, PartialEq, Eq)]
 pub enum Frame {
-    If {
+    /// An `If` or a `Label`.
+    Statement {
         block: BlockId,
     },
+    /// A switch, around all its cases.
     Switch {
         block: BlockId,
     },
-    /// A later case of a switch, into which the case falls that is built.
+    /// The later case of a switch into which the case that is built falls.
     Case {
         block: BlockId,
     },
+    /// A scope, kept or pruned.
     Scope {
         block: BlockId,
     },
+    /// A loop of any of the five kinds.
     Loop {
         block: BlockId,
         continue_block: BlockId,
     },
 }
 
-/// What becomes of a break.
+/// The resolution of a break.
 #[derive(Clone, Copy, Debug, PartialEq, Eq)]
-pub enum Way {
+pub enum BreakResult {
     /// No frame has that break block.
     NoFrame,
-    /// It would leave a scope from further inside than its list.
+    /// The break would leave a scope from further inside than the scope's own list.
     LeavesScope,
-    /// It would name a later case from further inside than the case's list.
+    /// The break would name a later case from further inside than the list of its own case.
     LeavesCase,
-    /// It falls off the end of its scope, and gives no statement.
+    /// The break falls off the end of its scope, and needs no statement.
     FallsOff,
-    /// It is a break of that kind.
+    /// The break is a statement of that kind.
     Breaks(ReactiveTerminalTargetKind),
 }
 
 impl Frame {
-    /// The block that a break out of the frame names.
+    /// Returns the block that a break out of the frame names.
     pub fn break_block(self) -> BlockId
         ensures { result ≡ spec.break_block self }
     {
         match self {
-            Frame::If { block }
+            Frame::Statement { block }
             | Frame::Switch { block }
             | Frame::Case { block }
             | Frame::Scope { block }
@@ -57,23 +63,25 @@ impl Frame {
         }
     }
 
-    /// The block that a continue of the frame names.
+    /// Returns the block that a continue of the frame names, and `None` if it isn't a loop.
     pub fn continue_block(self) -> Option<BlockId>
         ensures { result ≡ spec.continue_block self }
     {
         match self {
-            Frame::If { .. } | Frame::Switch { .. } | Frame::Case { .. } | Frame::Scope { .. } =>
-                None,
+            Frame::Statement { .. }
+            | Frame::Switch { .. }
+            | Frame::Case { .. }
+            | Frame::Scope { .. } => None,
             Frame::Loop { continue_block, .. } => Some(continue_block),
         }
     }
 
-    /// The block that falling off a part of the frame reaches.
+    /// Returns the block that falling off a part of the frame reaches.
     pub fn fall_block(self) -> BlockId
         ensures { result ≡ spec.fall_block self }
     {
         match self {
-            Frame::If { block }
+            Frame::Statement { block }
             | Frame::Switch { block }
             | Frame::Case { block }
             | Frame::Scope { block } => block,
@@ -81,40 +89,42 @@ impl Frame {
         }
     }
 
-    /// Whether an unlabeled break leaves it.
+    /// Returns whether an unlabeled break leaves the frame.
     pub fn is_loop(self) -> bool
         ensures { result ≡ spec.is_loop self }
     {
         match self {
             Frame::Loop { .. } => true,
-            Frame::If { .. } | Frame::Switch { .. } | Frame::Case { .. } | Frame::Scope { .. } =>
-                false,
+            Frame::Statement { .. }
+            | Frame::Switch { .. }
+            | Frame::Case { .. }
+            | Frame::Scope { .. } => false,
         }
     }
 
-    /// A break out of a frame that is the innermost or not, and that has a loop further inside or not.
-    pub fn way_out(self, innermost: bool, in_loop: bool) -> Way
-        ensures { result ≡ spec.way_out_of innermost in_loop self }
+    /// Resolves a break to this frame. `innermost`: no frame is inside it; `in_loop`: a loop is inside it.
+    pub fn resolve_break(self, innermost: bool, in_loop: bool) -> BreakResult
+        ensures { result ≡ spec.resolve_at innermost in_loop self }
     {
         match self {
-            Frame::If { .. } | Frame::Switch { .. } => Way::Breaks(if innermost {
+            Frame::Statement { .. } | Frame::Switch { .. } => BreakResult::Breaks(if innermost {
                 ReactiveTerminalTargetKind::Implicit
             } else {
                 ReactiveTerminalTargetKind::Labeled
             }),
             Frame::Case { .. } => {
                 if innermost {
-                    Way::Breaks(ReactiveTerminalTargetKind::Implicit)
+                    BreakResult::Breaks(ReactiveTerminalTargetKind::Implicit)
                 } else {
-                    Way::LeavesCase
+                    BreakResult::LeavesCase
                 }
             }
             Frame::Scope { .. } => if innermost {
-                Way::FallsOff
+                BreakResult::FallsOff
             } else {
-                Way::LeavesScope
+                BreakResult::LeavesScope
             },
-            Frame::Loop { .. } => Way::Breaks(if in_loop {
+            Frame::Loop { .. } => BreakResult::Breaks(if in_loop {
                 ReactiveTerminalTargetKind::Labeled
             } else {
                 ReactiveTerminalTargetKind::Unlabeled

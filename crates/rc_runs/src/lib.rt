@@ -1,9 +1,9 @@
-//! What runs of graphs and of bodies are, and which body a graph asks for.
+//! The runs of graphs and of bodies, and the body that a graph spells.
 //!
-//! The definitions stand in `specs/`, with the frames that the builder and they share in `src/`; `proofs/` has what holds
-//! of them whoever builds: one tree for one graph, and the runs of both.
+//! The definitions are in `specs/`, and the frames, which the builder shares with them, in `src/`. `proofs/` has
+//! theorems that hold for every builder: a graph spells one tree, and both have the same runs.
 #![tactic(auto)]
 
 mod frames;
 
-pub use frames::{Frame, Way};
+pub use frames::{BreakResult, Frame};

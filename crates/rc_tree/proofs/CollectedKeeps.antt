@@ -1,22 +1,18 @@
--- What is collected goes by the parts: parts that hold the same make a whole that holds the same.
+-- The contents of a tree are determined by those of its parts: parts with the same contents make a whole with the same
+-- contents.
 use Rattle.std.proofs.Common.{◌≡◌, ◌∙◌, Bool, List, ◌++◌, Option, None, Some, map, refl, sym, ap}
 use Rattle.std.proofs.lemmas.List.{map-append}
-use Rattle.rc_hir.specs.declared.instruction.LogicalOperator.{LogicalOperator}
-use Rattle.rc_names.specs.declared.numbers.EvaluationOrder.{EvaluationOrder}
-use Rattle.rc_tree.specs.Collected.{OfParts, collected, collected_statement, collected_terminal, collected_case}
+use Rattle.rc_hir.specs.Model.{LogicalOperator}
+use Rattle.rc_names.specs.Numbers.{EvaluationOrder}
+use Rattle.rc_tree.specs.Collected.{Contributions, collected, collected_statement, collected_terminal, collected_case}
 use Rattle.rc_tree.specs.Collected.{collected_if, collected_list}
-use Rattle.rc_tree.specs.CollectedValues.{OfValues, collected_value, collected_row}
+use Rattle.rc_tree.specs.CollectedValues.{ValueContributions, collected_value, collected_row}
 use Rattle.rc_tree.specs.Joining.{IsMonoid, all_of}
-use Rattle.rc_tree.specs.RewriteKeeps.{AlikeIf, Measure, block, one, Compositional}
-use Rattle.rc_tree.specs.declared.scope.PrunedReactiveScopeBlock.{PrunedReactiveScopeBlock}
-use Rattle.rc_tree.specs.declared.scope.ReactiveScopeBlock.{ReactiveScopeBlock}
-use Rattle.rc_tree.specs.declared.statement.ReactiveBlock.{ReactiveBlock}
-use Rattle.rc_tree.specs.declared.statement.ReactiveStatement.{ReactiveStatement}
-use Rattle.rc_tree.specs.declared.statement.ReactiveStatement.TheVariants as stmt
-use Rattle.rc_tree.specs.declared.terminal.ReactiveTerminalStatement.{ReactiveTerminalStatement}
-use Rattle.rc_tree.specs.declared.value.ReactiveInstruction.{ReactiveInstruction}
-use Rattle.rc_tree.specs.declared.value.ReactiveValue.{ReactiveValue}
-use Rattle.rc_tree.specs.declared.value.ReactiveValue.TheVariants as val
+use Rattle.rc_tree.specs.inside.RewriteKeeps.{AlikeIf, Measure, block, one, Compositional}
+use Rattle.rc_tree.specs.Model.{PrunedReactiveScopeBlock, ReactiveScopeBlock, ReactiveBlock, ReactiveStatement}
+use Rattle.rc_tree.specs.Model.{ReactiveTerminalStatement, ReactiveInstruction, ReactiveValue}
+use Rattle.rc_tree.specs.declared.statement.ReactiveStatement.TheVariants as reactive
+use Rattle.rc_tree.specs.declared.value.ReactiveValue.TheVariants as reactive_values
 use Rattle.rc_tree.proofs.JoiningLemmas.{all_of-append}
 use Rattle.rc_tree.proofs.CollectedLemmas.{collected-row, collected-Logical}
 use Rattle.rc_tree.proofs.CollectedLemmas.{collected-Conditional, collected-Sequence, collected-Optional}
@@ -25,28 +21,31 @@ use Rattle.rc_tree.proofs.CollectedLemmas.{collected-Scope, collected-PrunedScop
 use Rattle.rc_tree.proofs.CollectedLemmas.{collected-While, collected-For, collected-ForOf, collected-ForIn}
 use Rattle.rc_tree.proofs.CollectedLemmas.{collected-If, collected-Label, collected-Try}
 
--- what is the same at each id is the same
+-- functions of the id that agree at each id are the same
 same_at : {A : Type 0} {x y : EvaluationOrder → A} → ((id : EvaluationOrder) → x id ≡ y id) → x ≡ y
 same_at e = λ i id. e id i
 
--- what is asked of values and rows: the part of `Compositional` that speaks of them
+-- the part of `Compositional` that speaks of values and rows
 pub record CompositionalValues {V I : Type 0} (of_value : ReactiveValue → V) (of_row : ReactiveInstruction → I) : Type 0
   where
     pub logical : (operator : LogicalOperator) (x x1 y y1 : ReactiveValue) → of_value x1 ≡ of_value x
         → of_value y1 ≡ of_value y
-        → of_value (val.LogicalExpression operator x1 y1) ≡ of_value (val.LogicalExpression operator x y)
+        → of_value (reactive_values.LogicalExpression operator x1 y1)
+        ≡ of_value (reactive_values.LogicalExpression operator x y)
     pub conditional : (x x1 y y1 z z1 : ReactiveValue) → of_value x1 ≡ of_value x → of_value y1 ≡ of_value y
         → of_value z1 ≡ of_value z
-        → of_value (val.ConditionalExpression x1 y1 z1) ≡ of_value (val.ConditionalExpression x y z)
+        → of_value (reactive_values.ConditionalExpression x1 y1 z1)
+        ≡ of_value (reactive_values.ConditionalExpression x y z)
     pub sequence : (rows rows1 : List ReactiveInstruction) (own : EvaluationOrder) (x x1 : ReactiveValue)
         → map of_row rows1 ≡ map of_row rows → of_value x1 ≡ of_value x
-        → of_value (val.SequenceExpression rows1 own x1) ≡ of_value (val.SequenceExpression rows own x)
+        → of_value (reactive_values.SequenceExpression rows1 own x1)
+        ≡ of_value (reactive_values.SequenceExpression rows own x)
     pub optional : (x x1 : ReactiveValue) (mark : Bool) → of_value x1 ≡ of_value x
-        → of_value (val.OptionalExpression x1 mark) ≡ of_value (val.OptionalExpression x mark)
+        → of_value (reactive_values.OptionalExpression x1 mark) ≡ of_value (reactive_values.OptionalExpression x mark)
     pub row : (x : ReactiveInstruction) (y : ReactiveValue) → of_value y ≡ of_value x.value
         → of_row (record { id = x.id; lvalue = x.lvalue; value = y; span = x.span }) ≡ of_row x
 
-module _ {A : Type 0} (adds : OfValues A) where
+module _ {A : Type 0} (adds : ValueContributions A) where
   pub value_laws : CompositionalValues (collected_value adds) (collected_row adds)
   value_laws = record {
     logical = λ operator x x1 y y1 e f. same_at (λ id.
@@ -67,7 +66,7 @@ module _ {A : Type 0} (adds : OfValues A) where
         ∙ (λ i. adds.joining.both (adds.target x.id x.lvalue) (e i x.id)) ∙ sym (collected-row adds x);
   }
 
--- values and rows that add nothing
+-- values and rows that contribute nothing
 pub nothing_laws : {V I : Type 0} (nothing : V) (none : I) → CompositionalValues (λ x. nothing) (λ x. none)
 nothing_laws nothing none = record {
   logical = λ operator x x1 y y1 e f. refl;
@@ -77,12 +76,13 @@ nothing_laws nothing none = record {
   row = λ x y e. refl;
 }
 
--- what a value of a terminal adds, at each id
-abbrev pub added_by_value : {A : Type 0} → OfParts A → ReactiveValue → EvaluationOrder → A
+-- the contribution of a terminal's value, at each id
+abbrev pub added_by_value : {A : Type 0} → Contributions A → ReactiveValue → EvaluationOrder → A
 added_by_value adds x id = adds.value id (Some x)
 
--- the measure of a part is what it holds; a value's and a case's, what it holds at each id
-abbrev pub collected_measure : {A : Type 0} → OfParts A → Measure (EvaluationOrder → A) A A (EvaluationOrder → A) A
+-- the contents of a part as its measure; for a value and a case, the contents at each id
+abbrev pub collected_measure : {A : Type 0} → Contributions A
+    → Measure (EvaluationOrder → A) A A (EvaluationOrder → A) A
 collected_measure adds = record {
   value = added_by_value adds;
   row = adds.row;
@@ -91,11 +91,11 @@ collected_measure adds = record {
   terminal = collected_terminal adds;
 }
 
-module _ {A : Type 0} (adds : OfParts A) where
+module _ {A : Type 0} (adds : Contributions A) where
   abbrev both : A → A → A
   both = adds.joining.both
 
-  -- parts that hold the same: a block by its statements, a block and a value that may be left out, a statement alone
+  -- parts with the same contents: a block by its statements, an optional block and value, a statement alone
   pub same_block : (x x1 : ReactiveBlock) → block (collected_measure adds) x1 ≡ block (collected_measure adds) x
       → collected adds x1 ≡ collected adds x
   same_block x x1 e = collected-block adds x1 ∙ e ∙ sym (collected-block adds x)
@@ -119,14 +119,14 @@ module _ {A : Type 0} (adds : OfParts A) where
       → one (collected_measure adds) x1 ≡ one (collected_measure adds) x
   same_alone x x1 e = ap (λ held. both held adds.joining.nothing) e
 
-module _ {A : Type 0} (adds : OfParts A) (monoid : IsMonoid adds.joining) where
-  -- what two lists of statements hold, one after the other
+module _ {A : Type 0} (adds : Contributions A) (monoid : IsMonoid adds.joining) where
+  -- the contents of two lists of statements, one after the other
   pub collected_list-append : (xs ys : List ReactiveStatement)
       → collected_list adds (xs ++ ys) ≡ adds.joining.both (collected_list adds xs) (collected_list adds ys)
   collected_list-append xs ys = ap (all_of adds.joining) (map-append (collected_statement adds) xs ys)
       ∙ all_of-append adds.joining monoid (map (collected_statement adds) xs) (map (collected_statement adds) ys)
 
-module _ {A : Type 0} (adds : OfParts A) (monoid : IsMonoid adds.joining)
+module _ {A : Type 0} (adds : Contributions A) (monoid : IsMonoid adds.joining)
     (values : CompositionalValues (added_by_value adds) adds.row) where
   pub collected_laws : Compositional (collected_measure adds)
   collected_laws = record {
@@ -138,20 +138,20 @@ module _ {A : Type 0} (adds : OfParts A) (monoid : IsMonoid adds.joining)
     append = λ xs xs1 ys ys1 e f.
         collected_list-append adds monoid xs1 ys1 ∙ (λ i. both adds (e i) (f i))
         ∙ sym (collected_list-append adds monoid xs ys);
-    instruction = λ x x1 e. same_alone adds (stmt.Instruction x) (stmt.Instruction x1)
+    instruction = λ x x1 e. same_alone adds (reactive.Instruction x) (reactive.Instruction x1)
         (collected-Instruction adds x1 ∙ e ∙ sym (collected-Instruction adds x));
     labeled = λ x t e.
         let y : ReactiveTerminalStatement = record { terminal = t; label = x.label } in
-        same_alone adds (stmt.Terminal x) (stmt.Terminal y)
+        same_alone adds (reactive.Terminal x) (reactive.Terminal y)
         (collected-Terminal adds y ∙ ap (both adds (adds.label x.label)) e ∙ sym (collected-Terminal adds x));
     scope = λ x b e.
         let y : ReactiveScopeBlock = record { scope = x.scope; instructions = b } in
-        same_alone adds (stmt.Scope x) (stmt.Scope y)
+        same_alone adds (reactive.Scope x) (reactive.Scope y)
         (collected-Scope adds y ∙ ap (adds.scope x.scope) (same_block adds x.instructions b e)
         ∙ sym (collected-Scope adds x));
     pruned_scope = λ x b e.
         let y : PrunedReactiveScopeBlock = record { scope = x.scope; instructions = b } in
-        same_alone adds (stmt.PrunedScope x) (stmt.PrunedScope y)
+        same_alone adds (reactive.PrunedScope x) (reactive.PrunedScope y)
         (collected-PrunedScope adds y ∙ ap (adds.pruned_scope x.scope) (same_block adds x.instructions b e)
         ∙ sym (collected-PrunedScope adds x));
     case = λ test b b1 e. same_at (λ id.

@@ -1,20 +1,18 @@
--- What two notions collect of a tree is related, where what each part adds is.
+-- Two kinds of contents of a tree are related if the contributions of each part are.
 --
--- By induction over the tree. A fact of all that one notion collects is a relation to any other.
+-- By induction over the tree. A fact of all contents of one kind is a relation to any other kind.
 use Rattle.std.proofs.Common.{◌≡◌, List, [], ◌∷◌, Option, None, Some, map, sym, subst}
-use Rattle.rc_hir.specs.declared.instruction.InstructionValue.{InstructionValue}
-use Rattle.rc_hir.specs.declared.place.Place.{Place}
-use Rattle.rc_names.specs.declared.numbers.BlockId.{BlockId}
-use Rattle.rc_names.specs.declared.numbers.EvaluationOrder.{EvaluationOrder}
-use Rattle.rc_names.specs.declared.numbers.ScopeId.{ScopeId}
-use Rattle.rc_tree.specs.Collected.{OfParts, of_statement, of_terminal, collected, collected_statement}
+use Rattle.rc_hir.specs.Model.{InstructionValue, Place}
+use Rattle.rc_names.specs.Numbers.{BlockId, EvaluationOrder, ScopeId}
+use Rattle.rc_tree.specs.Collected.{Contributions, of_statement, of_terminal, collected, collected_statement}
 use Rattle.rc_tree.specs.Collected.{collected_terminal, collected_pruned_scope, collected_scope, collected_case}
 use Rattle.rc_tree.specs.Collected.{collected_cases, collected_if, collected_labeled}
-use Rattle.rc_tree.specs.CollectedValues.{OfValues, of_value, collected_value, collected_row, collected_value_if}
+use Rattle.rc_tree.specs.CollectedValues.{ValueContributions, of_value, collected_value, collected_row}
+use Rattle.rc_tree.specs.CollectedValues.{collected_value_if}
 use Rattle.rc_tree.specs.Joining.{Joining, all_of, if_there}
-use Rattle.rc_tree.specs.Opened.{OpenStatement, OpenTerminal}
-use Rattle.rc_tree.specs.declared.scope.PrunedReactiveScopeBlock.{PrunedReactiveScopeBlock}
-use Rattle.rc_tree.specs.declared.scope.ReactiveScopeBlock.{ReactiveScopeBlock}
+use Rattle.rc_tree.specs.Unrolled.{UnrolledStatement, UnrolledTerminal}
+use Rattle.rc_tree.specs.Model.{PrunedReactiveScopeBlock, ReactiveScopeBlock, ReactiveLabel, ReactiveTerminalStatement}
+use Rattle.rc_tree.specs.Model.{ReactiveInstruction}
 use Rattle.rc_tree.specs.declared.statement.ReactiveBlock.{ReactiveBlock, roll-ReactiveBlock}
 use Rattle.rc_tree.specs.declared.statement.ReactiveStatement.{ReactiveStatement, roll-ReactiveStatement}
 use Rattle.rc_tree.specs.declared.statement.ReactiveStatement.TheFolds.{map-ReactiveStatement, map-ReactiveTerminal}
@@ -22,11 +20,8 @@ use Rattle.rc_tree.specs.declared.statement.ReactiveStatement.TheFolds.{ind-Reac
 use Rattle.rc_tree.specs.declared.statement.ReactiveStatement.TheOpen as layer
 use Rattle.rc_tree.specs.declared.statement.ReactiveStatement.TheOpen.{ReactiveStatement-F, ReactiveTerminal-F}
 use Rattle.rc_tree.specs.declared.statement.ReactiveStatement.TheShapes.{former-ReactiveTerminal-If-2}
-use Rattle.rc_tree.specs.declared.terminal.ReactiveLabel.{ReactiveLabel}
 use Rattle.rc_tree.specs.declared.terminal.ReactiveSwitchCase.{ReactiveSwitchCase, roll-ReactiveSwitchCase}
 use Rattle.rc_tree.specs.declared.terminal.ReactiveTerminal.{ReactiveTerminal, roll-ReactiveTerminal}
-use Rattle.rc_tree.specs.declared.terminal.ReactiveTerminalStatement.{ReactiveTerminalStatement}
-use Rattle.rc_tree.specs.declared.value.ReactiveInstruction.{ReactiveInstruction}
 use Rattle.rc_tree.specs.declared.value.ReactiveValue.{ReactiveValue, roll-ReactiveValue}
 use Rattle.rc_tree.specs.declared.value.ReactiveValue.TheFolds.{map-ReactiveValue, ind-ReactiveValue}
 use Rattle.rc_tree.specs.declared.value.ReactiveValue.TheOpen as value
@@ -36,19 +31,21 @@ use Rattle.rc_tree.proofs.CollectedLemmas.{parts_of_statement, parts_of_terminal
 use Rattle.rc_tree.proofs.CollectedLemmas.{collected-block, collected-scope, collected-pruned_scope, collected-labeled}
 use Rattle.rc_tree.proofs.CollectedLemmas.{collected-case}
 
--- nothing is related to nothing, and what two parts hold to what two others do
+-- no contents are related to no contents, and the contents of two parts to those of two others
 pub record Joined {A B : Type 0} (IsRelated : A → B → Type 0) (j : Joining A) (k : Joining B) : Type 0 where
   pub nothing : IsRelated j.nothing k.nothing
   pub both : (x x1 : A) (y y1 : B) → IsRelated x y → IsRelated x1 y1 → IsRelated (j.both x x1) (k.both y y1)
 
--- what the parts of values and rows add is related
-pub record RelatedValues {A B : Type 0} (IsRelated : A → B → Type 0) (a : OfValues A) (b : OfValues B) : Type 0 where
+-- the contributions of the parts of values and rows are related
+pub record RelatedValues {A B : Type 0} (IsRelated : A → B → Type 0) (a : ValueContributions A)
+    (b : ValueContributions B) : Type 0 where
   pub joined : Joined IsRelated a.joining b.joining
   pub instruction : (id : EvaluationOrder) (x : InstructionValue) → IsRelated (a.instruction id x) (b.instruction id x)
   pub target : (id : EvaluationOrder) (x : Option Place) → IsRelated (a.target id x) (b.target id x)
 
--- what the parts of a tree add is related
-pub record RelatedParts {A B : Type 0} (IsRelated : A → B → Type 0) (a : OfParts A) (b : OfParts B) : Type 0 where
+-- the contributions of the parts of a tree are related
+pub record RelatedParts {A B : Type 0} (IsRelated : A → B → Type 0) (a : Contributions A)
+    (b : Contributions B) : Type 0 where
   pub joined : Joined IsRelated a.joining b.joining
   pub row : (x : ReactiveInstruction) → IsRelated (a.row x) (b.row x)
   pub value : (id : EvaluationOrder) (x : Option ReactiveValue) → IsRelated (a.value id x) (b.value id x)
@@ -61,12 +58,12 @@ pub record RelatedParts {A B : Type 0} (IsRelated : A → B → Type 0) (a : OfP
       → IsRelated (a.pruned_scope scope x) (b.pruned_scope scope y)
 
 module _ {A B : Type 0} (IsRelated : A → B → Type 0) where
-  -- what is the same as what is related
+  -- values that are equal to related values are related
   moved : {x x1 : A} {y y1 : B} → x ≡ x1 → y ≡ y1 → IsRelated x1 y1 → IsRelated x y
   moved {x} {x1} {y} {y1} e f related =
       subst (λ z. IsRelated z y) (sym e) (subst (λ z. IsRelated x1 z) (sym f) related)
 
-  -- the parts of a list, each with what is claimed of it
+  -- the parts of a list, each with the claim about it
   list_related : {X : Type 0} (j : Joining A) (k : Joining B) → Joined IsRelated j k → (left : X → A) (right : X → B)
       → (xs : List ((x : X) × IsRelated (left x) (right x)))
       → IsRelated (all_of j (map left (map (λ e. e.0) xs))) (all_of k (map right (map (λ e. e.0) xs)))
@@ -74,7 +71,7 @@ module _ {A B : Type 0} (IsRelated : A → B → Type 0) where
   list_related j k joined left right (x ∷ xs) = joined.both (left x.0) _ (right x.0) _ x.1
       (list_related j k joined left right xs)
 
-module _ {A B : Type 0} (IsRelated : A → B → Type 0) (a : OfValues A) (b : OfValues B)
+module _ {A B : Type 0} (IsRelated : A → B → Type 0) (a : ValueContributions A) (b : ValueContributions B)
     (related : RelatedValues IsRelated a b) where
   abbrev ValueRelated : ReactiveValue → Type 0
   ValueRelated x = (id : EvaluationOrder) → IsRelated (collected_value a x id) (collected_value b x id)
@@ -82,7 +79,7 @@ module _ {A B : Type 0} (IsRelated : A → B → Type 0) (a : OfValues A) (b : O
   abbrev RowRelated : ReactiveInstruction → Type 0
   RowRelated x = IsRelated (collected_row a x) (collected_row b x)
 
-  -- each part, with what is claimed of it
+  -- each part, with the claim about it
   abbrev OfValue : Type 0
   OfValue = (x : ReactiveValue) × ValueRelated x
 
@@ -115,7 +112,7 @@ module _ {A B : Type 0} (IsRelated : A → B → Type 0) (a : OfValues A) (b : O
   row_related x inner = moved IsRelated (collected-row a x) (collected-row b x)
       (related.joined.both _ _ _ _ (related.target x.id x.lvalue) (inner x.id))
 
-  -- what a value holds, and what a row holds
+  -- the contents of a value, and of a row, are related
   pub values_related : (x : ReactiveValue) → ValueRelated x
   values_related = ind-ReactiveValue ValueRelated RowRelated
       (λ x y is. subst (λ l. ValueRelated (roll-ReactiveValue l)) is (value_rolled y))
@@ -130,9 +127,9 @@ module _ {A B : Type 0} (IsRelated : A → B → Type 0) (a : OfValues A) (b : O
   values_related_if id None = related.joined.nothing
   values_related_if id (Some x) = values_related x id
 
-module _ {A B : Type 0} (IsRelated : A → B → Type 0) (a : OfParts A) (b : OfParts B)
+module _ {A B : Type 0} (IsRelated : A → B → Type 0) (a : Contributions A) (b : Contributions B)
     (related : RelatedParts IsRelated a b) where
-  -- each part, with what is claimed of it
+  -- each part, with the claim about it
   abbrev OfStatement : Type 0
   OfStatement = (x : ReactiveStatement) × IsRelated (collected_statement a x) (collected_statement b x)
 
@@ -159,14 +156,14 @@ module _ {A B : Type 0} (IsRelated : A → B → Type 0) (a : OfParts A) (b : Of
   OfLabeled = (x : ReactiveTerminalStatement) × IsRelated (collected_labeled a x) (collected_labeled b x)
 
   abbrev bare_statement : ReactiveStatement-F OfStatement OfTerminal OfPrunedScope OfScope OfBlock OfCase OfLabeled
-      → OpenStatement
+      → UnrolledStatement
   bare_statement = map-ReactiveStatement OfStatement OfTerminal OfPrunedScope OfScope OfBlock OfCase OfLabeled
       ReactiveStatement ReactiveTerminal PrunedReactiveScopeBlock ReactiveScopeBlock ReactiveBlock ReactiveSwitchCase
       ReactiveTerminalStatement
       (λ e. e.0) (λ e. e.0) (λ e. e.0) (λ e. e.0) (λ e. e.0) (λ e. e.0) (λ e. e.0)
 
   abbrev bare_terminal : ReactiveTerminal-F OfStatement OfTerminal OfPrunedScope OfScope OfBlock OfCase OfLabeled
-      → OpenTerminal
+      → UnrolledTerminal
   bare_terminal = map-ReactiveTerminal OfStatement OfTerminal OfPrunedScope OfScope OfBlock OfCase OfLabeled
       ReactiveStatement ReactiveTerminal PrunedReactiveScopeBlock ReactiveScopeBlock ReactiveBlock ReactiveSwitchCase
       ReactiveTerminalStatement
@@ -223,7 +220,7 @@ module _ {A B : Type 0} (IsRelated : A → B → Type 0) (a : OfParts A) (b : Of
   terminal_layer (layer.Label body id) = body.1
   terminal_layer (layer.Try body binding handler id) = both body.1 (both (related.place id binding) handler.1)
 
-  -- what the tree holds
+  -- the contents of the tree are related
   pub collected_related : (x : ReactiveBlock) → IsRelated (collected a x) (collected b x)
   collected_related =
       ind-ReactiveBlock

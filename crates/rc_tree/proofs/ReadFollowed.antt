@@ -1,24 +1,22 @@
--- A read walk goes through what a tree holds, where its hooks do what each part adds.
+-- A read walk follows the contents of a tree if its hooks follow the contribution of each part.
 --
 -- By induction over the tree.
 use Rattle.std.proofs.Common.{◌∙◌, List, [], ◌∷◌, Option, None, Some, map, refl, sym, ap, subst}
-use Rattle.rc_hir.specs.declared.function.HirFunction.{HirFunction}
-use Rattle.rc_hir.specs.declared.place.Place.{Place}
-use Rattle.rc_names.specs.declared.numbers.BlockId.{BlockId}
-use Rattle.rc_names.specs.declared.numbers.EvaluationOrder.{EvaluationOrder}
-use Rattle.rc_tree.specs.Collected.{OfParts, of_statement, of_terminal, collected, collected_statement}
+use Rattle.rc_hir.specs.Model.{HirFunction, Place}
+use Rattle.rc_names.specs.Numbers.{BlockId, EvaluationOrder}
+use Rattle.rc_tree.specs.Collected.{Contributions, of_statement, of_terminal, collected, collected_statement}
 use Rattle.rc_tree.specs.Collected.{collected_terminal, collected_pruned_scope, collected_scope, collected_case}
 use Rattle.rc_tree.specs.Collected.{collected_cases, collected_if, collected_labeled}
 use Rattle.rc_tree.specs.Joining.{all_of, if_there}
-use Rattle.rc_tree.specs.Opened.{OpenStatement, OpenTerminal}
-use Rattle.rc_tree.specs.Outcome.{Walk, next_to, each, perhaps}
-use Rattle.rc_tree.specs.Read.{WalkAt, around, around_block, statement_step, parts_step, inside_block, inside_scope}
-use Rattle.rc_tree.specs.Read.{inside_pruned_scope, inside_terminal}
-use Rattle.rc_tree.specs.Read.{read_value, read_instruction, read_statement, read_parts, read_case, read_block}
+use Rattle.rc_tree.specs.Unrolled.{UnrolledStatement, UnrolledTerminal}
+use Rattle.rc_tree.specs.Step.{Walk, next_to, each, perhaps, around}
+use Rattle.rc_tree.specs.Read.{around_block, statement_step, parts_step, inside_block, inside_scope}
+use Rattle.rc_tree.specs.Read.{inside_pruned_scope, inside_terminal, read_statement, read_parts, read_case, read_block}
 use Rattle.rc_tree.specs.Read.{read_scope, read_pruned_scope, read_terminal}
-use Rattle.rc_tree.specs.Steps.{ReadSteps}
-use Rattle.rc_tree.specs.declared.scope.PrunedReactiveScopeBlock.{PrunedReactiveScopeBlock}
-use Rattle.rc_tree.specs.declared.scope.ReactiveScopeBlock.{ReactiveScopeBlock}
+use Rattle.rc_tree.specs.Read.Values.{WalkAt, read_value, read_instruction}
+use Rattle.rc_tree.specs.ReadSteps.{ReadSteps}
+use Rattle.rc_tree.specs.Model.{PrunedReactiveScopeBlock, ReactiveScopeBlock, ReactiveTerminalStatement}
+use Rattle.rc_tree.specs.Model.{ReactiveInstruction, ReactiveValue}
 use Rattle.rc_tree.specs.declared.statement.ReactiveBlock.{ReactiveBlock, roll-ReactiveBlock}
 use Rattle.rc_tree.specs.declared.statement.ReactiveStatement.{ReactiveStatement, roll-ReactiveStatement}
 use Rattle.rc_tree.specs.declared.statement.ReactiveStatement.TheFolds.{map-ReactiveStatement, map-ReactiveTerminal}
@@ -29,21 +27,18 @@ use Rattle.rc_tree.specs.declared.statement.ReactiveStatement.TheShapes.{former-
 use Rattle.rc_tree.specs.declared.terminal.ReactiveSwitchCase.{ReactiveSwitchCase, roll-ReactiveSwitchCase}
 use Rattle.rc_tree.specs.declared.terminal.ReactiveSwitchCase.{out-roll-ReactiveSwitchCase}
 use Rattle.rc_tree.specs.declared.terminal.ReactiveTerminal.{ReactiveTerminal, roll-ReactiveTerminal}
-use Rattle.rc_tree.specs.declared.terminal.ReactiveTerminalStatement.{ReactiveTerminalStatement}
-use Rattle.rc_tree.specs.declared.value.ReactiveInstruction.{ReactiveInstruction}
-use Rattle.rc_tree.specs.declared.value.ReactiveValue.{ReactiveValue}
 use Rattle.rc_tree.proofs.CollectedLemmas.{opened_statement, opened_terminal, parts_of_statement, parts_of_terminal}
 use Rattle.rc_tree.proofs.CollectedLemmas.{collected-block, collected-scope, collected-pruned_scope}
 use Rattle.rc_tree.proofs.CollectedLemmas.{collected-labeled, collected-case}
-use Rattle.rc_tree.proofs.ReadStatementLemmas.{walked_parts, walked_statement, opened_parts}
-use Rattle.rc_tree.proofs.ReadStatementLemmas.{opened_statement as read_opened_statement}
+use Rattle.rc_tree.proofs.ReadStatementLemmas.Layers.{walked_parts, walked_statement, opened_parts}
+use Rattle.rc_tree.proofs.ReadStatementLemmas.Layers.{opened_statement as read_opened_statement}
 use Rattle.rc_tree.proofs.ReadStatementLemmas.{inside_block-each, inside_scope-block, inside_pruned_scope-block}
 use Rattle.rc_tree.proofs.ReadStatementLemmas.{inside_terminal-parts, read_case-parts}
 use Rattle.rc_tree.proofs.ReadFollowedValues.{FollowedInTurn, moved}
 
 module _ {S A : Type 0} (v : ReadSteps S) (IsFollowed : Walk S → A → Type 0) where
-  -- what is asked of the hooks of the other parts; the one of a terminal's id comes before its parts
-  pub record FollowedParts (functions : List HirFunction) (adds : OfParts A) : Type 0 where
+  -- the conditions on the hooks of the other parts; the hook of a terminal's id comes before the terminal's parts
+  pub record FollowedParts (functions : List HirFunction) (adds : Contributions A) : Type 0 where
     pub in_turn : FollowedInTurn IsFollowed adds.joining
     pub row : (x : ReactiveInstruction) → IsFollowed (read_instruction v functions x) (adds.row x)
     pub value : (id : EvaluationOrder) (x : Option ReactiveValue)
@@ -65,8 +60,8 @@ module _ {S A : Type 0} (v : ReadSteps S) (IsFollowed : Walk S → A → Type 0)
         (adds.joining.both (adds.label x.label) held)
 
 module _ {S A : Type 0} (v : ReadSteps S) (IsFollowed : Walk S → A → Type 0) (functions : List HirFunction)
-    (adds : OfParts A) (followed : FollowedParts v IsFollowed functions adds) where
-  -- what is claimed of each part
+    (adds : Contributions A) (followed : FollowedParts v IsFollowed functions adds) where
+  -- the claim about each part
   abbrev StatementFollowed : ReactiveStatement → Type 0
   StatementFollowed x = IsFollowed (read_statement v functions x) (collected_statement adds x)
 
@@ -88,7 +83,7 @@ module _ {S A : Type 0} (v : ReadSteps S) (IsFollowed : Walk S → A → Type 0)
   abbrev TerminalFollowed : ReactiveTerminalStatement → Type 0
   TerminalFollowed x = IsFollowed (read_terminal v functions x) (collected_labeled adds x)
 
-  -- each part, with what is claimed of it
+  -- each part, with the claim about it
   abbrev AStatement : Type 0
   AStatement = (x : ReactiveStatement) × StatementFollowed x
 
@@ -111,13 +106,13 @@ module _ {S A : Type 0} (v : ReadSteps S) (IsFollowed : Walk S → A → Type 0)
   ATerminal = (x : ReactiveTerminalStatement) × TerminalFollowed x
 
   abbrev bare_statement : ReactiveStatement-F AStatement AParts APrunedScope AScope ABlock ACase ATerminal
-      → OpenStatement
+      → UnrolledStatement
   bare_statement = map-ReactiveStatement AStatement AParts APrunedScope AScope ABlock ACase ATerminal
       ReactiveStatement ReactiveTerminal PrunedReactiveScopeBlock ReactiveScopeBlock ReactiveBlock ReactiveSwitchCase
       ReactiveTerminalStatement
       (λ e. e.0) (λ e. e.0) (λ e. e.0) (λ e. e.0) (λ e. e.0) (λ e. e.0) (λ e. e.0)
 
-  abbrev bare_parts : ReactiveTerminal-F AStatement AParts APrunedScope AScope ABlock ACase ATerminal → OpenTerminal
+  abbrev bare_parts : ReactiveTerminal-F AStatement AParts APrunedScope AScope ABlock ACase ATerminal → UnrolledTerminal
   bare_parts = map-ReactiveTerminal AStatement AParts APrunedScope AScope ABlock ACase ATerminal
       ReactiveStatement ReactiveTerminal PrunedReactiveScopeBlock ReactiveScopeBlock ReactiveBlock ReactiveSwitchCase
       ReactiveTerminalStatement
@@ -148,7 +143,7 @@ module _ {S A : Type 0} (v : ReadSteps S) (IsFollowed : Walk S → A → Type 0)
   case_block (Some x) = x.1
 
   each_case : (xs : List ACase) (id : EvaluationOrder) → IsFollowed
-      (each (λ (c : ReactiveSwitchCase × WalkAt v functions). c.1 id)
+      (each (λ (c : ReactiveSwitchCase × WalkAt S). c.1 id)
       (map (λ c. (c, read_case v functions c)) (map (λ e. e.0) xs)))
       (collected_cases adds id (map (λ e. e.0) xs))
   each_case [] id = followed.in_turn.none
@@ -231,7 +226,7 @@ module _ {S A : Type 0} (v : ReadSteps S) (IsFollowed : Walk S → A → Type 0)
       (sym (collected-labeled adds x))
       (followed.terminal x _ _ (moved IsFollowed _ _ _ _ (inside_terminal-parts v functions x) refl h))
 
-  -- the walk of a block goes through what the block holds
+  -- the walk of a block follows the block's contents
   pub block_followed : (x : ReactiveBlock) → BlockFollowed x
   block_followed =
       ind-ReactiveBlock StatementFollowed PartsFollowed PrunedScopeFollowed ScopeFollowed BlockFollowed CaseFollowed

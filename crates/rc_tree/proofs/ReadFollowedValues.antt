@@ -1,18 +1,17 @@
--- A read walk goes through what values and rows hold, where its hooks do what each part adds.
+-- A read walk follows the contents of values and rows if its hooks follow the contribution of each part.
 --
--- By induction over the value. A visitor says what it means that a walk follows what is held, and shows it of its
--- hooks.
+-- By induction over the value. A visitor defines when a walk follows contents, and shows this for its hooks.
 use Rattle.std.proofs.Common.{◌≡◌, List, [], ◌∷◌, Option, None, Some, Ok, map, sym, subst}
-use Rattle.rc_hir.specs.declared.function.HirFunction.{HirFunction}
-use Rattle.rc_hir.specs.declared.instruction.InstructionValue.{InstructionValue}
-use Rattle.rc_names.specs.declared.numbers.EvaluationOrder.{EvaluationOrder}
-use Rattle.rc_tree.specs.CollectedValues.{OfValues, of_value, collected_value, collected_row, collected_value_if}
+use Rattle.rc_hir.specs.Model.{HirFunction, InstructionValue}
+use Rattle.rc_names.specs.Numbers.{EvaluationOrder}
+use Rattle.rc_tree.specs.CollectedValues.{ValueContributions, of_value, collected_value, collected_row}
+use Rattle.rc_tree.specs.CollectedValues.{collected_value_if}
 use Rattle.rc_tree.specs.Joining.{Joining, all_of}
-use Rattle.rc_tree.specs.Outcome.{Walk, next_to, each, perhaps}
-use Rattle.rc_tree.specs.Read.{WalkAt, around, around_instruction, inside_base, value_step, inside_value}
-use Rattle.rc_tree.specs.Read.{inside_instruction, read_value, read_instruction}
-use Rattle.rc_tree.specs.Steps.{ReadSteps, targets_of}
-use Rattle.rc_tree.specs.declared.value.ReactiveInstruction.{ReactiveInstruction}
+use Rattle.rc_tree.specs.Step.{Walk, next_to, each, perhaps, around}
+use Rattle.rc_tree.specs.Read.Values.{WalkAt, around_instruction, inside_base, value_step, inside_value}
+use Rattle.rc_tree.specs.Read.Values.{inside_instruction, read_value, read_instruction}
+use Rattle.rc_tree.specs.ReadSteps.{ReadSteps, targets_of}
+use Rattle.rc_tree.specs.Model.{ReactiveInstruction}
 use Rattle.rc_tree.specs.declared.value.ReactiveValue.{ReactiveValue, roll-ReactiveValue}
 use Rattle.rc_tree.specs.declared.value.ReactiveValue.TheFolds.{map-ReactiveValue, ind-ReactiveValue}
 use Rattle.rc_tree.specs.declared.value.ReactiveValue.TheOpen as value
@@ -21,13 +20,13 @@ use Rattle.rc_tree.proofs.CollectedLemmas.{opened_value, parts_of_value, collect
 use Rattle.rc_tree.proofs.ReadLemmas.{opened as read_opened_value, inside_instruction-parts}
 
 module _ {S A : Type 0} (IsFollowed : Walk S → A → Type 0) where
-  -- what is asked of walks that come one after the other
+  -- the conditions on walks that come one after the other
   pub record FollowedInTurn (j : Joining A) : Type 0 where
     pub none : IsFollowed (λ s. Ok (tt, s)) j.nothing
     pub next : (first second : Walk S) (x y : A) → IsFollowed first x → IsFollowed second y
         → IsFollowed (next_to first second) (j.both x y)
 
-  -- what is the same as a walk that follows what is held
+  -- a walk that equals one that follows the contents follows them too
   pub moved : (walk other : Walk S) (x y : A) → ((s : S) → walk s ≡ other s) → x ≡ y → IsFollowed other y
       → IsFollowed walk x
   moved walk other x y e f followed =
@@ -35,8 +34,8 @@ module _ {S A : Type 0} (IsFollowed : Walk S → A → Type 0) where
       subst (λ w. IsFollowed w x) (sym same) (subst (λ z. IsFollowed other z) (sym f) followed)
 
 module _ {S A : Type 0} (v : ReadSteps S) (IsFollowed : Walk S → A → Type 0) where
-  -- what is asked of the hooks of values and rows; the ones of a row's id and of its targets come before its value
-  pub record FollowedValues (functions : List HirFunction) (adds : OfValues A) : Type 0 where
+  -- the conditions on the hooks of values and rows; the hooks of a row's id and of its targets come before its value
+  pub record FollowedValues (functions : List HirFunction) (adds : ValueContributions A) : Type 0 where
     pub in_turn : FollowedInTurn IsFollowed adds.joining
     pub operands : (id : EvaluationOrder) (x : InstructionValue)
         → IsFollowed (inside_base v functions x id) (adds.instruction id x)
@@ -50,14 +49,14 @@ module _ {S A : Type 0} (v : ReadSteps S) (IsFollowed : Walk S → A → Type 0)
         (adds.joining.both (adds.target x.id x.lvalue) held)
 
 module _ {S A : Type 0} (v : ReadSteps S) (IsFollowed : Walk S → A → Type 0) (functions : List HirFunction)
-    (adds : OfValues A) (followed : FollowedValues v IsFollowed functions adds) where
+    (adds : ValueContributions A) (followed : FollowedValues v IsFollowed functions adds) where
   abbrev ValueFollowed : ReactiveValue → Type 0
   ValueFollowed x = (id : EvaluationOrder) → IsFollowed (read_value v functions x id) (collected_value adds x id)
 
   abbrev RowFollowed : ReactiveInstruction → Type 0
   RowFollowed x = IsFollowed (read_instruction v functions x) (collected_row adds x)
 
-  -- each part, with what is claimed of it
+  -- each part, with the claim about it
   abbrev OfValue : Type 0
   OfValue = (x : ReactiveValue) × ValueFollowed x
 
@@ -67,10 +66,10 @@ module _ {S A : Type 0} (v : ReadSteps S) (IsFollowed : Walk S → A → Type 0)
   abbrev bare_value : ReactiveValue-F OfValue OfRow → ReactiveValue-F ReactiveValue ReactiveInstruction
   bare_value = map-ReactiveValue OfValue OfRow ReactiveValue ReactiveInstruction (λ e. e.0) (λ e. e.0)
 
-  -- a value by its variant, each part in it with the walk of its inside
+  -- a value by its variant, where each part has the walk of its inside
   abbrev walked_value : ReactiveValue-F ReactiveValue ReactiveInstruction
-      → ReactiveValue-F (ReactiveValue × WalkAt v functions) (ReactiveInstruction × Walk S)
-  walked_value = map-ReactiveValue ReactiveValue ReactiveInstruction (ReactiveValue × WalkAt v functions)
+      → ReactiveValue-F (ReactiveValue × WalkAt S) (ReactiveInstruction × Walk S)
+  walked_value = map-ReactiveValue ReactiveValue ReactiveInstruction (ReactiveValue × WalkAt S)
       (ReactiveInstruction × Walk S) (λ y. (y, inside_value v functions y))
       (λ y. (y, inside_instruction v functions y))
 
@@ -113,7 +112,7 @@ module _ {S A : Type 0} (v : ReadSteps S) (IsFollowed : Walk S → A → Type 0)
       (λ x y is. subst (λ l. RowFollowed (record { id = l.id; lvalue = l.lvalue; value = l.value; span = l.span })) is
       (row_followed (record { id = y.id; lvalue = y.lvalue; value = y.value.0; span = y.span }) y.value.1))
 
-  -- what is read of a row, and of a value that may be left out
+  -- the walk of a row, and of an optional value, follows the contents
   pub rows_followed : (x : ReactiveInstruction) → RowFollowed x
   rows_followed x = row_followed x (value_followed x.value)
 

@@ -1,18 +1,17 @@
--- How the walk of a graph's function goes from a function to those inside it: the marks of the entered ones.
+-- The walk of a graph's function goes on to the functions inside it: the marks of the entered ones.
 use Rattle.std.proofs.Common.{◌≡◌, ◌<◌, ◌+◌, ℕ, zero, suc, Bool, true, false, List, [], ◌∷◌, Option, None, Some}
 use Rattle.std.proofs.Common.{Result, Ok, Err, arith, add-one, ap, drop, length, inl, inr, refl, sym, ◌∙◌}
 use Rattle.std.specs.Prelude.{slice_get, slice_set}
 use Rattle.std.proofs.lemmas.List.{set_past}
-use Rattle.rc_hir.specs.declared.fault.Fault.{Fault}
-use Rattle.rc_hir.specs.declared.function.HirFunction.{HirFunction}
-use Rattle.rc_names.specs.declared.numbers.FunctionId.{FunctionId}
-use Rattle.rc_tree.proofs.OutcomeLemmas.{gives_next, gives_fault}
+use Rattle.rc_hir.specs.Model.{Fault, HirFunction}
+use Rattle.rc_names.specs.Numbers.{FunctionId}
+use Rattle.rc_tree.proofs.StepLemmas.{gives_next, gives_fault}
 use Rattle.rc_tree.proofs.PlaceLemmas.{past_end}
-use Rattle.rc_tree.specs.Outcome.{Walk, Gives, bind, each, perhaps}
-use Rattle.rc_tree.specs.Steps.{ReadSteps}
+use Rattle.rc_tree.specs.Step.{Walk, IsStep, bind, each, perhaps}
+use Rattle.rc_tree.specs.ReadSteps.{ReadSteps}
 use Rattle.rc_tree.specs.ReadFunction.{not_entered, by_mark, numbered_at, function_to, function_at}
 
--- one function fewer is left once one is marked
+-- one function fewer isn't entered once one is marked
 pub left_marked : (marks : List Bool) (i : ℕ) → slice_get marks i ≡ Some false
     → suc (not_entered (slice_set marks i true)) ≡ not_entered marks
 left_marked [] i e = cc
@@ -21,19 +20,19 @@ left_marked (false ∷ marks) zero e = refl
 left_marked (true ∷ marks) (suc i) e = left_marked marks i e
 left_marked (false ∷ marks) (suc i) e = ap suc (left_marked marks i e)
 
--- a mark that is taken back
+-- a mark that is set and then taken back
 pub marked_back : (marks : List Bool) (i : ℕ) → slice_get marks i ≡ Some false
     → slice_set (slice_set marks i true) i false ≡ marks
 marked_back [] i e = refl
 marked_back (mark ∷ marks) zero e = cc
 marked_back (mark ∷ marks) (suc i) e = ap (λ l. mark ∷ l) (marked_back marks i e)
 
--- nothing is marked past the end
+-- no mark is set past the end
 pub marked_past : (marks : List Bool) (i : ℕ) (mark : Bool) → slice_get marks i ≡ None → marks ≡ slice_set marks i mark
 marked_past marks i mark e = sym (set_past marks i mark (past_end marks i e))
 
 module _ {S X : Type 0} (step : X → Walk S) where
-  -- the steps that are left, at a place
+  -- the walk of the entries from an index on
   each_at : (xs : List X) (i : ℕ) (s : S) → i < length xs
       → each step (drop i xs) s ≡ bind (perhaps step (slice_get xs i) s) (λ r. each step (drop (suc i) xs) r.1)
   each_at [] i s lt = absurd (omega (arith, lt))
@@ -47,8 +46,8 @@ module _ {S X : Type 0} (step : X → Walk S) where
       rw add-one (e ∙ each_at xs i s (omega arith) ∙ ap (λ f. bind f (λ r. each step (drop (suc i) xs) r.1)) ok)
 
   pub place_fault : (whole : Result (Unit {0} × S) Fault) (xs : List X) (i n : ℕ) (s t : S) (fault : Fault)
-      → whole ≡ each step (drop i xs) s → i < n → n ≡ length xs → Gives (perhaps step (slice_get xs i) s) (Err fault) t
-      → Gives whole (Err fault) t
+      → whole ≡ each step (drop i xs) s → i < n → n ≡ length xs → IsStep (perhaps step (slice_get xs i) s) (Err fault) t
+      → IsStep whole (Err fault) t
   place_fault whole xs i n s t fault e lt is (inl none) = inl none
   place_fault whole xs i n s t fault e lt is (inr bad) =
       inr (e ∙ each_at xs i s (omega arith) ∙ ap (λ f. bind f (λ r. each step (drop (suc i) xs) r.1)) bad)

@@ -1,45 +1,33 @@
 -- The equations of the read walk of blocks, statements and terminals: one for each form.
+pub mod Layers
 use Rattle.std.proofs.Common.{◌≡◌, List, Option, None, Some, refl, sym, ap, ◌∙◌}
-use Rattle.rc_hir.specs.declared.function.HirFunction.{HirFunction}
-use Rattle.rc_hir.specs.declared.place.Place.{Place}
-use Rattle.rc_names.specs.declared.numbers.BlockId.{BlockId}
-use Rattle.rc_names.specs.declared.numbers.EvaluationOrder.{EvaluationOrder}
+use Rattle.rc_hir.specs.Model.{HirFunction, Place}
+use Rattle.rc_names.specs.Numbers.{BlockId, EvaluationOrder}
 use Rattle.rc_names.specs.declared.span.Span.{Span}
-use Rattle.rc_tree.proofs.OutcomeLemmas.{gives_next, gives_fault, each-map, same_rest}
-use Rattle.rc_tree.specs.Opened.{OpenStatement, OpenTerminal}
-use Rattle.rc_tree.specs.Outcome.{Walk, next_to, each, perhaps}
-use Rattle.rc_tree.specs.Steps.{ReadSteps}
-use Rattle.rc_tree.specs.Read.{WalkAt, around, OfStatement, OfParts, OfPruned, OfScope, OfBlock, OfCase, OfTerminal}
+use Rattle.rc_tree.proofs.StepLemmas.{gives_next, gives_fault, each-map, same_rest}
+use Rattle.rc_tree.specs.Step.{Walk, next_to, each, perhaps, around}
+use Rattle.rc_tree.specs.ReadSteps.{ReadSteps}
 use Rattle.rc_tree.specs.Read.{around_block, statement_step, parts_step, pruned_step, scope_step, block_step, case_step}
-use Rattle.rc_tree.specs.Read.{terminal_step, read_value, read_instruction, read_statement, read_parts, read_case}
-use Rattle.rc_tree.specs.Read.{inside_block, inside_scope, inside_pruned_scope, inside_terminal, read_block, read_scope}
-use Rattle.rc_tree.specs.Read.{read_pruned_scope, read_terminal}
-use Rattle.rc_tree.specs.declared.kind.ReactiveTerminalTargetKind.{ReactiveTerminalTargetKind}
-use Rattle.rc_tree.specs.declared.scope.PrunedReactiveScopeBlock.{PrunedReactiveScopeBlock}
-use Rattle.rc_tree.specs.declared.scope.ReactiveScopeBlock.{ReactiveScopeBlock}
-use Rattle.rc_tree.specs.declared.statement.ReactiveBlock.{ReactiveBlock}
-use Rattle.rc_tree.specs.declared.statement.ReactiveStatement.{ReactiveStatement}
-use Rattle.rc_tree.specs.declared.statement.ReactiveStatement.TheOpen as layer
+use Rattle.rc_tree.specs.Read.{terminal_step, read_statement, read_parts, read_case, inside_block, inside_scope}
+use Rattle.rc_tree.specs.Read.{inside_pruned_scope, inside_terminal, read_block, read_scope, read_pruned_scope}
+use Rattle.rc_tree.specs.Read.{read_terminal}
+use Rattle.rc_tree.specs.Read.Values.{WalkAt, read_value, read_instruction}
+use Rattle.rc_tree.specs.Model.{ReactiveTerminalTargetKind, PrunedReactiveScopeBlock, ReactiveScopeBlock, ReactiveBlock}
+use Rattle.rc_tree.specs.Model.{ReactiveSwitchCase, ReactiveTerminalStatement, ReactiveInstruction, ReactiveValue}
 use Rattle.rc_tree.specs.declared.statement.ReactiveStatement.TheShapes.{former-ReactiveTerminal-If-2}
-use Rattle.rc_tree.specs.declared.statement.ReactiveStatement.TheVariants as stmt
-use Rattle.rc_tree.specs.declared.statement.ReactiveStatement.TheViews.{roll-ReactiveTerminal, roll-ReactiveStatement}
+use Rattle.rc_tree.specs.declared.statement.ReactiveStatement.TheOpen as layer
+use Rattle.rc_tree.specs.declared.statement.ReactiveStatement.TheVariants as reactive
 use Rattle.rc_tree.specs.declared.statement.ReactiveStatement.TheViews.{out-ReactiveSwitchCase}
 use Rattle.rc_tree.specs.declared.statement.ReactiveStatement.TheViews.{roll-out-ReactiveSwitchCase}
-use Rattle.rc_tree.specs.declared.statement.ReactiveStatement.TheFolds.{map-ReactiveTerminal, map-ReactiveStatement}
-use Rattle.rc_tree.specs.declared.statement.ReactiveStatement.TheFolds.{para-roll-ReactiveStatement}
-use Rattle.rc_tree.specs.declared.statement.ReactiveStatement.TheFolds.{para-roll-ReactiveTerminal}
 use Rattle.rc_tree.specs.declared.statement.ReactiveStatement.TheFolds.{para-roll-PrunedReactiveScopeBlock}
 use Rattle.rc_tree.specs.declared.statement.ReactiveStatement.TheFolds.{para-roll-ReactiveBlock}
 use Rattle.rc_tree.specs.declared.statement.ReactiveStatement.TheFolds.{para-roll-ReactiveScopeBlock}
 use Rattle.rc_tree.specs.declared.statement.ReactiveStatement.TheFolds.{para-roll-ReactiveSwitchCase}
 use Rattle.rc_tree.specs.declared.statement.ReactiveStatement.TheFolds.{para-roll-ReactiveTerminalStatement}
-use Rattle.rc_tree.specs.declared.terminal.ReactiveSwitchCase.{ReactiveSwitchCase}
-use Rattle.rc_tree.specs.declared.terminal.ReactiveTerminal.{ReactiveTerminal}
-use Rattle.rc_tree.specs.declared.terminal.ReactiveTerminal.TheVariants as term
-use Rattle.rc_tree.specs.declared.terminal.ReactiveTerminalStatement.{ReactiveTerminalStatement}
-use Rattle.rc_tree.specs.declared.value.ReactiveInstruction.{ReactiveInstruction}
-use Rattle.rc_tree.specs.declared.value.ReactiveValue.{ReactiveValue}
+use Rattle.rc_tree.specs.declared.terminal.ReactiveTerminal.TheVariants as tree
+use Rattle.rc_tree.proofs.ReadStatementLemmas.Layers.{opened_parts, opened_statement}
 
+-- a walk of an optional part, through a function of it
 perhaps-map : {S X Y : Type 0} (step : Y → Walk S) (f : X → Y) (x : Option X) (s : S)
     → perhaps step (former-ReactiveTerminal-If-2.map X Y f x) s ≡ perhaps (λ y. step (f y)) x s
 perhaps-map step f None s = refl
@@ -68,51 +56,11 @@ module _ {S : Type 0} (v : ReadSteps S) (functions : List HirFunction) where
   unfolding read_terminal
   read_terminal-around x s = refl
 
-  -- a layer, each part in it with the walk of its inside
-  abbrev pub walked_parts : OpenTerminal
-      → layer.ReactiveTerminal-F (OfStatement v functions) (OfParts v functions) (OfPruned v functions)
-      (OfScope v functions) (OfBlock v functions) (OfCase v functions) (OfTerminal v functions)
-  walked_parts = map-ReactiveTerminal ReactiveStatement ReactiveTerminal PrunedReactiveScopeBlock ReactiveScopeBlock
-      ReactiveBlock ReactiveSwitchCase ReactiveTerminalStatement
-      (OfStatement v functions) (OfParts v functions) (OfPruned v functions) (OfScope v functions) (OfBlock v functions)
-      (OfCase v functions) (OfTerminal v functions)
-      (λ y. (y, read_statement v functions y)) (λ y. (y, read_parts v functions y))
-      (λ y. (y, inside_pruned_scope v functions y)) (λ y. (y, inside_scope v functions y))
-      (λ y. (y, inside_block v functions y)) (λ y. (y, read_case v functions y))
-      (λ y. (y, inside_terminal v functions y))
-
-  abbrev pub walked_statement : OpenStatement
-      → layer.ReactiveStatement-F (OfStatement v functions) (OfParts v functions) (OfPruned v functions)
-      (OfScope v functions) (OfBlock v functions) (OfCase v functions) (OfTerminal v functions)
-  walked_statement = map-ReactiveStatement ReactiveStatement ReactiveTerminal PrunedReactiveScopeBlock
-      ReactiveScopeBlock ReactiveBlock ReactiveSwitchCase ReactiveTerminalStatement
-      (OfStatement v functions) (OfParts v functions) (OfPruned v functions) (OfScope v functions) (OfBlock v functions)
-      (OfCase v functions) (OfTerminal v functions)
-      (λ y. (y, read_statement v functions y)) (λ y. (y, read_parts v functions y))
-      (λ y. (y, inside_pruned_scope v functions y)) (λ y. (y, inside_scope v functions y))
-      (λ y. (y, inside_block v functions y)) (λ y. (y, read_case v functions y))
-      (λ y. (y, inside_terminal v functions y))
-
-  -- the walk of a part is the step of its layer
-  pub opened_parts : (x : OpenTerminal) (s : S) → read_parts v functions (roll-ReactiveTerminal x) s
-      ≡ parts_step v functions (walked_parts x) s
-  unfolding read_statement read_parts inside_pruned_scope inside_scope inside_block read_case inside_terminal
-  opened_parts x s = ap (λ f. f s) (para-roll-ReactiveTerminal (Walk S) (Walk S) (Walk S) (Walk S) (Walk S)
-      (WalkAt v functions) (Walk S) (statement_step v functions) (parts_step v functions) (pruned_step v functions)
-      (scope_step v functions) (block_step v functions) (case_step v functions) (terminal_step v functions) x)
-
-  pub opened_statement : (x : OpenStatement) (s : S) → read_statement v functions (roll-ReactiveStatement x) s
-      ≡ statement_step v functions (walked_statement x) s
-  unfolding read_statement read_parts inside_pruned_scope inside_scope inside_block read_case inside_terminal
-  opened_statement x s = ap (λ f. f s) (para-roll-ReactiveStatement (Walk S) (Walk S) (Walk S) (Walk S) (Walk S)
-      (WalkAt v functions) (Walk S) (statement_step v functions) (parts_step v functions) (pruned_step v functions)
-      (scope_step v functions) (block_step v functions) (case_step v functions) (terminal_step v functions) x)
-
   pub inside_block-each : (x : ReactiveBlock) (s : S) → inside_block v functions x s
       ≡ each (read_statement v functions) x.statements s
   unfolding read_statement read_parts inside_pruned_scope inside_scope inside_block read_case inside_terminal
   inside_block-each x s =
-      ap (λ f. f s) (para-roll-ReactiveBlock (Walk S) (Walk S) (Walk S) (Walk S) (Walk S) (WalkAt v functions) (Walk S)
+      ap (λ f. f s) (para-roll-ReactiveBlock (Walk S) (Walk S) (Walk S) (Walk S) (Walk S) (WalkAt S) (Walk S)
       (statement_step v functions) (parts_step v functions) (pruned_step v functions)
       (scope_step v functions) (block_step v functions) (case_step v functions) (terminal_step v functions)
       (record { statements = x.statements }))
@@ -122,7 +70,7 @@ module _ {S : Type 0} (v : ReadSteps S) (functions : List HirFunction) where
       → inside_scope v functions x s ≡ read_block v functions x.instructions s
   unfolding read_statement read_parts inside_pruned_scope inside_scope inside_block read_case inside_terminal read_block
   inside_scope-block x s = ap (λ f. f s) (para-roll-ReactiveScopeBlock (Walk S) (Walk S) (Walk S) (Walk S) (Walk S)
-      (WalkAt v functions) (Walk S) (statement_step v functions) (parts_step v functions) (pruned_step v functions)
+      (WalkAt S) (Walk S) (statement_step v functions) (parts_step v functions) (pruned_step v functions)
       (scope_step v functions) (block_step v functions) (case_step v functions) (terminal_step v functions)
       (record { scope = x.scope; instructions = x.instructions }))
 
@@ -130,7 +78,7 @@ module _ {S : Type 0} (v : ReadSteps S) (functions : List HirFunction) where
       → inside_pruned_scope v functions x s ≡ read_block v functions x.instructions s
   unfolding read_statement read_parts inside_pruned_scope inside_scope inside_block read_case inside_terminal read_block
   inside_pruned_scope-block x s = ap (λ f. f s) (para-roll-PrunedReactiveScopeBlock (Walk S) (Walk S) (Walk S) (Walk S)
-      (Walk S) (WalkAt v functions) (Walk S) (statement_step v functions) (parts_step v functions)
+      (Walk S) (WalkAt S) (Walk S) (statement_step v functions) (parts_step v functions)
       (pruned_step v functions)
       (scope_step v functions) (block_step v functions) (case_step v functions) (terminal_step v functions)
       (record { scope = x.scope; instructions = x.instructions }))
@@ -139,7 +87,7 @@ module _ {S : Type 0} (v : ReadSteps S) (functions : List HirFunction) where
       → inside_terminal v functions x s ≡ read_parts v functions x.terminal s
   unfolding read_statement read_parts inside_pruned_scope inside_scope inside_block read_case inside_terminal
   inside_terminal-parts x s = ap (λ f. f s) (para-roll-ReactiveTerminalStatement (Walk S) (Walk S) (Walk S) (Walk S)
-      (Walk S) (WalkAt v functions) (Walk S) (statement_step v functions) (parts_step v functions)
+      (Walk S) (WalkAt S) (Walk S) (statement_step v functions) (parts_step v functions)
       (pruned_step v functions)
       (scope_step v functions) (block_step v functions) (case_step v functions) (terminal_step v functions)
       (record { terminal = x.terminal; label = x.label }))
@@ -151,7 +99,7 @@ module _ {S : Type 0} (v : ReadSteps S) (functions : List HirFunction) where
   unfolding read_statement read_parts inside_pruned_scope inside_scope inside_block read_case inside_terminal read_block
   read_case-parts x id s =
       ap (λ y. read_case v functions y id s) (sym (roll-out-ReactiveSwitchCase x))
-      ∙ ap (λ f. f id s) (para-roll-ReactiveSwitchCase (Walk S) (Walk S) (Walk S) (Walk S) (Walk S) (WalkAt v functions)
+      ∙ ap (λ f. f id s) (para-roll-ReactiveSwitchCase (Walk S) (Walk S) (Walk S) (Walk S) (Walk S) (WalkAt S)
       (Walk S) (statement_step v functions) (parts_step v functions) (pruned_step v functions)
       (scope_step v functions) (block_step v functions) (case_step v functions) (terminal_step v functions)
       (out-ReactiveSwitchCase x))
@@ -160,139 +108,144 @@ module _ {S : Type 0} (v : ReadSteps S) (functions : List HirFunction) where
       (out-ReactiveSwitchCase x).block r.1)
 
   pub statement-Instruction : (x : ReactiveInstruction) (s : S)
-      → read_statement v functions (stmt.Instruction x) s ≡ read_instruction v functions x s
-  statement-Instruction x s = ap (λ y. read_statement v functions y s) (sym (stmt.rolls-Instruction x))
-      ∙ opened_statement (layer.Instruction x) s
+      → read_statement v functions (reactive.Instruction x) s ≡ read_instruction v functions x s
+  statement-Instruction x s = ap (λ y. read_statement v functions y s) (sym (reactive.rolls-Instruction x))
+      ∙ opened_statement v functions (layer.Instruction x) s
 
   pub statement-Terminal : (x : ReactiveTerminalStatement) (s : S)
-      → read_statement v functions (stmt.Terminal x) s ≡ read_terminal v functions x s
+      → read_statement v functions (reactive.Terminal x) s ≡ read_terminal v functions x s
   unfolding read_terminal
   statement-Terminal x s =
-      ap (λ y. read_statement v functions y s) (sym (stmt.rolls-Terminal x)) ∙ opened_statement (layer.Terminal x) s
+      ap (λ y. read_statement v functions y s) (sym (reactive.rolls-Terminal x))
+      ∙ opened_statement v functions (layer.Terminal x) s
 
   pub statement-Scope : (x : ReactiveScopeBlock) (s : S)
-      → read_statement v functions (stmt.Scope x) s ≡ read_scope v functions x s
+      → read_statement v functions (reactive.Scope x) s ≡ read_scope v functions x s
   unfolding read_scope
   statement-Scope x s =
-      ap (λ y. read_statement v functions y s) (sym (stmt.rolls-Scope x)) ∙ opened_statement (layer.Scope x) s
+      ap (λ y. read_statement v functions y s) (sym (reactive.rolls-Scope x))
+      ∙ opened_statement v functions (layer.Scope x) s
 
   pub statement-PrunedScope : (x : PrunedReactiveScopeBlock) (s : S)
-      → read_statement v functions (stmt.PrunedScope x) s ≡ read_pruned_scope v functions x s
+      → read_statement v functions (reactive.PrunedScope x) s ≡ read_pruned_scope v functions x s
   unfolding read_pruned_scope
-  statement-PrunedScope x s = ap (λ y. read_statement v functions y s) (sym (stmt.rolls-PrunedScope x))
-      ∙ opened_statement (layer.PrunedScope x) s
+  statement-PrunedScope x s = ap (λ y. read_statement v functions y s) (sym (reactive.rolls-PrunedScope x))
+      ∙ opened_statement v functions (layer.PrunedScope x) s
 
   pub parts-Break : (target : BlockId) (kind : ReactiveTerminalTargetKind) (id : EvaluationOrder) (s : S)
-      → read_parts v functions (term.Break target kind id) s
+      → read_parts v functions (tree.Break target kind id) s
       ≡ v.visit_id id s
   parts-Break target kind id s =
-      ap (λ y. read_parts v functions y s) (sym (term.rolls-Break target kind id))
-      ∙ opened_parts (layer.Break target kind id) s
+      ap (λ y. read_parts v functions y s) (sym (tree.rolls-Break target kind id))
+      ∙ opened_parts v functions (layer.Break target kind id) s
 
   pub parts-Continue : (target : BlockId) (kind : ReactiveTerminalTargetKind) (id : EvaluationOrder) (s : S)
-      → read_parts v functions (term.Continue target kind id) s
+      → read_parts v functions (tree.Continue target kind id) s
       ≡ v.visit_id id s
   parts-Continue target kind id s =
-      ap (λ y. read_parts v functions y s) (sym (term.rolls-Continue target kind id))
-      ∙ opened_parts (layer.Continue target kind id) s
+      ap (λ y. read_parts v functions y s) (sym (tree.rolls-Continue target kind id))
+      ∙ opened_parts v functions (layer.Continue target kind id) s
 
   pub parts-Return : (place : Place) (id : EvaluationOrder) (s : S)
-      → read_parts v functions (term.Return place id) s
+      → read_parts v functions (tree.Return place id) s
       ≡ next_to (v.visit_id id) (v.visit_place id place) s
   parts-Return place id s =
-      ap (λ y. read_parts v functions y s) (sym (term.rolls-Return place id)) ∙ opened_parts (layer.Return place id) s
+      ap (λ y. read_parts v functions y s) (sym (tree.rolls-Return place id))
+      ∙ opened_parts v functions (layer.Return place id) s
 
   pub parts-Throw : (place : Place) (id : EvaluationOrder) (s : S)
-      → read_parts v functions (term.Throw place id) s
+      → read_parts v functions (tree.Throw place id) s
       ≡ next_to (v.visit_id id) (v.visit_place id place) s
   parts-Throw place id s =
-      ap (λ y. read_parts v functions y s) (sym (term.rolls-Throw place id)) ∙ opened_parts (layer.Throw place id) s
+      ap (λ y. read_parts v functions y s) (sym (tree.rolls-Throw place id))
+      ∙ opened_parts v functions (layer.Throw place id) s
 
   pub parts-Switch : (test : Place) (cases : List ReactiveSwitchCase) (id : EvaluationOrder) (s : S)
-      → read_parts v functions (term.Switch test cases id) s
+      → read_parts v functions (tree.Switch test cases id) s
       ≡ next_to (v.visit_id id) (next_to (v.visit_place id test) (each (λ c. read_case v functions c id) cases)) s
   parts-Switch test cases id s =
-      ap (λ y. read_parts v functions y s) (sym (term.rolls-Switch test cases id))
-      ∙ opened_parts (layer.Switch test cases id) s
+      ap (λ y. read_parts v functions y s) (sym (tree.rolls-Switch test cases id))
+      ∙ opened_parts v functions (layer.Switch test cases id) s
       ∙ same_rest (v.visit_id id s) _ _ (λ r. same_rest (v.visit_place id test r.1) _ _
       (λ q. each-map (λ e. e.1 id) (λ y. (y, read_case v functions y)) cases q.1))
 
   pub parts-DoWhile : (body : ReactiveBlock) (test : ReactiveValue) (id : EvaluationOrder) (s : S)
-      → read_parts v functions (term.DoWhile body test id) s
+      → read_parts v functions (tree.DoWhile body test id) s
       ≡ next_to (v.visit_id id) (next_to (read_block v functions body) (read_value v functions test id)) s
   unfolding read_block
   parts-DoWhile body test id s =
-      ap (λ y. read_parts v functions y s) (sym (term.rolls-DoWhile body test id))
-      ∙ opened_parts (layer.DoWhile body test id) s
+      ap (λ y. read_parts v functions y s) (sym (tree.rolls-DoWhile body test id))
+      ∙ opened_parts v functions (layer.DoWhile body test id) s
 
   pub parts-While : (test : ReactiveValue) (body : ReactiveBlock) (id : EvaluationOrder) (s : S)
-      → read_parts v functions (term.While test body id) s
+      → read_parts v functions (tree.While test body id) s
       ≡ next_to (v.visit_id id) (next_to (read_value v functions test id) (read_block v functions body)) s
   unfolding read_block
   parts-While test body id s =
-      ap (λ y. read_parts v functions y s) (sym (term.rolls-While test body id))
-      ∙ opened_parts (layer.While test body id) s
+      ap (λ y. read_parts v functions y s) (sym (tree.rolls-While test body id))
+      ∙ opened_parts v functions (layer.While test body id) s
 
   pub parts-For : (init : ReactiveValue) (test : ReactiveValue) (update : Option ReactiveValue) (body : ReactiveBlock)
       (id : EvaluationOrder) (s : S)
-      → read_parts v functions (term.For init test update body id) s
+      → read_parts v functions (tree.For init test update body id) s
       ≡ next_to (v.visit_id id) (next_to (read_value v functions init id)
       (next_to (read_value v functions test id) (next_to (read_block v functions body)
       (perhaps (λ x. read_value v functions x id) update)))) s
   unfolding read_block
   parts-For init test update body id s =
-      ap (λ y. read_parts v functions y s) (sym (term.rolls-For init test update body id))
-      ∙ opened_parts (layer.For init test update body id) s
+      ap (λ y. read_parts v functions y s) (sym (tree.rolls-For init test update body id))
+      ∙ opened_parts v functions (layer.For init test update body id) s
 
   pub parts-ForOf : (init : ReactiveValue) (test : ReactiveValue) (body : ReactiveBlock) (span : Option Span)
       (id : EvaluationOrder) (s : S)
-      → read_parts v functions (term.ForOf init test body span id) s
+      → read_parts v functions (tree.ForOf init test body span id) s
       ≡ next_to (v.visit_id id) (next_to (read_value v functions init id)
       (next_to (read_value v functions test id) (read_block v functions body))) s
   unfolding read_block
   parts-ForOf init test body span id s =
-      ap (λ y. read_parts v functions y s) (sym (term.rolls-ForOf init test body span id))
-      ∙ opened_parts (layer.ForOf init test body span id) s
+      ap (λ y. read_parts v functions y s) (sym (tree.rolls-ForOf init test body span id))
+      ∙ opened_parts v functions (layer.ForOf init test body span id) s
 
   pub parts-ForIn : (init : ReactiveValue) (body : ReactiveBlock) (span : Option Span) (id : EvaluationOrder) (s : S)
-      → read_parts v functions (term.ForIn init body span id) s
+      → read_parts v functions (tree.ForIn init body span id) s
       ≡ next_to (v.visit_id id) (next_to (read_value v functions init id) (read_block v functions body)) s
   unfolding read_block
   parts-ForIn init body span id s =
-      ap (λ y. read_parts v functions y s) (sym (term.rolls-ForIn init body span id))
-      ∙ opened_parts (layer.ForIn init body span id) s
+      ap (λ y. read_parts v functions y s) (sym (tree.rolls-ForIn init body span id))
+      ∙ opened_parts v functions (layer.ForIn init body span id) s
 
   pub parts-If : (test : Place) (consequent : ReactiveBlock) (alternate : Option ReactiveBlock) (id : EvaluationOrder)
       (s : S)
-      → read_parts v functions (term.If test consequent alternate id) s
+      → read_parts v functions (tree.If test consequent alternate id) s
       ≡ next_to (v.visit_id id) (next_to (v.visit_place id test)
       (next_to (read_block v functions consequent) (perhaps (read_block v functions) alternate))) s
   unfolding read_block
   parts-If test consequent alternate id s =
-      ap (λ y. read_parts v functions y s) (sym (term.rolls-If test consequent alternate id))
-      ∙ opened_parts (layer.If test consequent alternate id) s
+      ap (λ y. read_parts v functions y s) (sym (tree.rolls-If test consequent alternate id))
+      ∙ opened_parts v functions (layer.If test consequent alternate id) s
       ∙ same_rest (v.visit_id id s) _ _ (λ r. same_rest (v.visit_place id test r.1) _ _
       (λ q. same_rest (read_block v functions consequent q.1) _ _
       (λ p. perhaps-map (around_block v functions) (λ y. (y, inside_block v functions y)) alternate p.1)))
 
   pub parts-Label : (body : ReactiveBlock) (id : EvaluationOrder) (s : S)
-      → read_parts v functions (term.Label body id) s
+      → read_parts v functions (tree.Label body id) s
       ≡ next_to (v.visit_id id) (read_block v functions body) s
   unfolding read_block
   parts-Label body id s =
-      ap (λ y. read_parts v functions y s) (sym (term.rolls-Label body id)) ∙ opened_parts (layer.Label body id) s
+      ap (λ y. read_parts v functions y s) (sym (tree.rolls-Label body id))
+      ∙ opened_parts v functions (layer.Label body id) s
 
   pub parts-Try : (body : ReactiveBlock) (binding : Option Place) (handler : ReactiveBlock) (id : EvaluationOrder)
       (s : S)
-      → read_parts v functions (term.Try body binding handler id) s
+      → read_parts v functions (tree.Try body binding handler id) s
       ≡ next_to (v.visit_id id) (next_to (read_block v functions body)
       (next_to (perhaps (v.visit_place id) binding) (read_block v functions handler))) s
   unfolding read_block
   parts-Try body binding handler id s =
-      ap (λ y. read_parts v functions y s) (sym (term.rolls-Try body binding handler id))
-      ∙ opened_parts (layer.Try body binding handler id) s
+      ap (λ y. read_parts v functions y s) (sym (tree.rolls-Try body binding handler id))
+      ∙ opened_parts v functions (layer.Try body binding handler id) s
 
--- with these `search` follows the walk of a statement through its calls
+-- with these, `search` follows the walk of a statement through its calls
 pub ruleset reading_statements = (
   gives_next,
   gives_fault,

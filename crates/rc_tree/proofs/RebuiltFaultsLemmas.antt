@@ -1,34 +1,29 @@
 -- The faults of a rebuilt tree are those of the rules.
 use Rattle.std.proofs.Common.{◌≡◌, ◌⊎◌, inl, inr, List, [], ◌∷◌, ◌++◌, Option, None, Some, map, Result, Ok, Err, IfErr}
 use Rattle.std.proofs.Common.{sym, subst}
-use Rattle.rc_hir.specs.declared.fault.Fault.{Fault}
+use Rattle.rc_hir.specs.Model.{Fault}
 use Rattle.rc_hir.specs.declared.fault.Fault.TheVariants.{NoMemory}
 use Rattle.rc_tree.proofs.RebuiltLemmas.{terminal_rebuilt, statement_rebuilt}
 use Rattle.rc_tree.proofs.RebuiltLemmas.{opened_terminal, opened_statement, if_some, rebuilt-block, rebuilt-labeled}
 use Rattle.rc_tree.proofs.RebuiltLemmas.{rebuilt-scope, rebuilt-pruned_scope, opened_case}
-use Rattle.rc_tree.specs.Follows.{Leaves}
-use Rattle.rc_tree.specs.Opened.{OpenStatement, OpenTerminal}
-use Rattle.rc_tree.specs.Outcome.{bind}
+use Rattle.rc_tree.specs.inside.Refines.{RebuildsTo}
+use Rattle.rc_tree.specs.Unrolled.{UnrolledStatement, UnrolledTerminal}
+use Rattle.rc_tree.specs.Step.{bind}
 use Rattle.rc_tree.specs.Rebuilt.{Rebuilds, Rules, FaultsOnly, in_order, joined, if_there, of_terminal, of_statement}
 use Rattle.rc_tree.specs.Rebuilt.{rebuilt_block, rebuilt_statement, rebuilt_terminal, rebuilt_labeled, rebuilt_scope}
 use Rattle.rc_tree.specs.Rebuilt.{rebuilt_pruned_scope, rebuilt_case}
-use Rattle.rc_tree.specs.declared.scope.PrunedReactiveScopeBlock.{PrunedReactiveScopeBlock}
-use Rattle.rc_tree.specs.declared.scope.ReactiveScopeBlock.{ReactiveScopeBlock}
-use Rattle.rc_tree.specs.declared.statement.ReactiveBlock.{ReactiveBlock}
-use Rattle.rc_tree.specs.declared.statement.ReactiveStatement.{ReactiveStatement}
+use Rattle.rc_tree.specs.Model.{PrunedReactiveScopeBlock, ReactiveScopeBlock, ReactiveBlock, ReactiveStatement}
+use Rattle.rc_tree.specs.Model.{ReactiveSwitchCase, ReactiveTerminal, ReactiveTerminalStatement}
 use Rattle.rc_tree.specs.declared.statement.ReactiveStatement.TheFolds.{ind-ReactiveBlock, map-ReactiveTerminal}
 use Rattle.rc_tree.specs.declared.statement.ReactiveStatement.TheFolds.{map-ReactiveStatement}
 use Rattle.rc_tree.specs.declared.statement.ReactiveStatement.TheOpen as layer
 use Rattle.rc_tree.specs.declared.statement.ReactiveStatement.TheShapes.{former-ReactiveTerminal-If-2}
 use Rattle.rc_tree.specs.declared.statement.ReactiveStatement.TheViews.{roll-ReactiveTerminal, roll-ReactiveStatement}
 use Rattle.rc_tree.specs.declared.statement.ReactiveStatement.TheViews.{roll-ReactiveSwitchCase}
-use Rattle.rc_tree.specs.declared.terminal.ReactiveSwitchCase.{ReactiveSwitchCase}
-use Rattle.rc_tree.specs.declared.terminal.ReactiveTerminal.{ReactiveTerminal}
-use Rattle.rc_tree.specs.declared.terminal.ReactiveTerminal.TheVariants as term
-use Rattle.rc_tree.specs.declared.terminal.ReactiveTerminalStatement.{ReactiveTerminalStatement}
+use Rattle.rc_tree.specs.declared.terminal.ReactiveTerminal.TheVariants as tree
 
 module _ (IsSuch : Fault → Type 0) where
-  -- its fault, if it is one, is such
+  -- a fault, if there is one, is one of these
   unfoldable Only : {A : Type 0} → Result A Fault → Type 0
   Only r = IfErr r IsSuch
 
@@ -43,7 +38,7 @@ module _ (IsSuch : Fault → Type 0) where
   only_bind (Err fault) next h k = h
 
   module _ {S : Type 0} (rules : Rules S) (only : FaultsOnly rules IsSuch) where
-    -- each part, with what is claimed of it
+    -- each part, with the claim about it
     abbrev OfStatement : Type 0
     OfStatement = (x : ReactiveStatement) × ((s : S) → Only (rebuilt_statement rules x s))
 
@@ -95,7 +90,7 @@ module _ (IsSuch : Fault → Type 0) where
         (joined_only xs a.0) (λ b. only_ok (b.0, a.1 ++ b.1)))
 
     abbrev terminal_parts : layer.ReactiveTerminal-F OfStatement OfTerminal OfPruned OfScope OfBlock OfCase OfLabeled
-        → OpenTerminal
+        → UnrolledTerminal
     terminal_parts = map-ReactiveTerminal OfStatement OfTerminal OfPruned OfScope OfBlock OfCase OfLabeled
         ReactiveStatement ReactiveTerminal PrunedReactiveScopeBlock ReactiveScopeBlock ReactiveBlock ReactiveSwitchCase
         ReactiveTerminalStatement
@@ -103,42 +98,42 @@ module _ (IsSuch : Fault → Type 0) where
 
     terminal_only : (y : layer.ReactiveTerminal-F OfStatement OfTerminal OfPruned OfScope OfBlock OfCase OfLabeled)
         (s : S) → Only (of_terminal rules (terminal_rebuilt rules (terminal_parts y)) s)
-    terminal_only (layer.Break target kind id) s = only_ok (s, term.Break target kind id)
-    terminal_only (layer.Continue target kind id) s = only_ok (s, term.Continue target kind id)
-    terminal_only (layer.Return place id) s = only_ok (s, term.Return place id)
-    terminal_only (layer.Throw place id) s = only_ok (s, term.Throw place id)
+    terminal_only (layer.Break target kind id) s = only_ok (s, tree.Break target kind id)
+    terminal_only (layer.Continue target kind id) s = only_ok (s, tree.Continue target kind id)
+    terminal_only (layer.Return place id) s = only_ok (s, tree.Return place id)
+    terminal_only (layer.Throw place id) s = only_ok (s, tree.Throw place id)
     terminal_only (layer.Switch test cases id) s = only_bind
-        (in_order (map (rebuilt_case rules) (map (λ e. e.0) cases)) s) (λ a. Ok (a.0, term.Switch test a.1 id))
-        (in_order_only cases s) (λ a. only_ok (a.0, term.Switch test a.1 id))
+        (in_order (map (rebuilt_case rules) (map (λ e. e.0) cases)) s) (λ a. Ok (a.0, tree.Switch test a.1 id))
+        (in_order_only cases s) (λ a. only_ok (a.0, tree.Switch test a.1 id))
     terminal_only (layer.DoWhile body test id) s = only_bind (rebuilt_block rules body.0 s)
-        (λ a. Ok (a.0, term.DoWhile a.1 test id)) (body.1 s) (λ a. only_ok (a.0, term.DoWhile a.1 test id))
+        (λ a. Ok (a.0, tree.DoWhile a.1 test id)) (body.1 s) (λ a. only_ok (a.0, tree.DoWhile a.1 test id))
     terminal_only (layer.While test body id) s = only_bind (rebuilt_block rules body.0 s)
-        (λ a. Ok (a.0, term.While test a.1 id)) (body.1 s) (λ a. only_ok (a.0, term.While test a.1 id))
+        (λ a. Ok (a.0, tree.While test a.1 id)) (body.1 s) (λ a. only_ok (a.0, tree.While test a.1 id))
     terminal_only (layer.For init test update body id) s = only_bind (rebuilt_block rules body.0 s)
-        (λ a. Ok (a.0, term.For init test update a.1 id)) (body.1 s)
-        (λ a. only_ok (a.0, term.For init test update a.1 id))
+        (λ a. Ok (a.0, tree.For init test update a.1 id)) (body.1 s)
+        (λ a. only_ok (a.0, tree.For init test update a.1 id))
     terminal_only (layer.ForOf init test body span id) s = only_bind (rebuilt_block rules body.0 s)
-        (λ a. Ok (a.0, term.ForOf init test a.1 span id)) (body.1 s)
-        (λ a. only_ok (a.0, term.ForOf init test a.1 span id))
+        (λ a. Ok (a.0, tree.ForOf init test a.1 span id)) (body.1 s)
+        (λ a. only_ok (a.0, tree.ForOf init test a.1 span id))
     terminal_only (layer.ForIn init body span id) s = only_bind (rebuilt_block rules body.0 s)
-        (λ a. Ok (a.0, term.ForIn init a.1 span id)) (body.1 s) (λ a. only_ok (a.0, term.ForIn init a.1 span id))
+        (λ a. Ok (a.0, tree.ForIn init a.1 span id)) (body.1 s) (λ a. only_ok (a.0, tree.ForIn init a.1 span id))
     terminal_only (layer.If test consequent alternate id) s = only_bind (rebuilt_block rules consequent.0 s)
         (λ a. bind (if_there (former-ReactiveTerminal-If-2.map ReactiveBlock (Rebuilds S ReactiveBlock)
         (rebuilt_block rules) (former-ReactiveTerminal-If-2.map OfBlock ReactiveBlock (λ e. e.0) alternate)) a.0)
-        (λ b. Ok (b.0, term.If test a.1 b.1 id))) (consequent.1 s)
+        (λ b. Ok (b.0, tree.If test a.1 b.1 id))) (consequent.1 s)
         (λ a. only_bind (if_there (former-ReactiveTerminal-If-2.map ReactiveBlock (Rebuilds S ReactiveBlock)
         (rebuilt_block rules) (former-ReactiveTerminal-If-2.map OfBlock ReactiveBlock (λ e. e.0) alternate)) a.0)
-        (λ b. Ok (b.0, term.If test a.1 b.1 id)) (if_there_only alternate a.0)
-        (λ b. only_ok (b.0, term.If test a.1 b.1 id)))
-    terminal_only (layer.Label body id) s = only_bind (rebuilt_block rules body.0 s) (λ a. Ok (a.0, term.Label a.1 id))
-        (body.1 s) (λ a. only_ok (a.0, term.Label a.1 id))
+        (λ b. Ok (b.0, tree.If test a.1 b.1 id)) (if_there_only alternate a.0)
+        (λ b. only_ok (b.0, tree.If test a.1 b.1 id)))
+    terminal_only (layer.Label body id) s = only_bind (rebuilt_block rules body.0 s) (λ a. Ok (a.0, tree.Label a.1 id))
+        (body.1 s) (λ a. only_ok (a.0, tree.Label a.1 id))
     terminal_only (layer.Try body binding handler id) s = only_bind (rebuilt_block rules body.0 s)
-        (λ a. bind (rebuilt_block rules handler.0 a.0) (λ b. Ok (b.0, term.Try a.1 binding b.1 id))) (body.1 s)
-        (λ a. only_bind (rebuilt_block rules handler.0 a.0) (λ b. Ok (b.0, term.Try a.1 binding b.1 id)) (handler.1 a.0)
-        (λ b. only_ok (b.0, term.Try a.1 binding b.1 id)))
+        (λ a. bind (rebuilt_block rules handler.0 a.0) (λ b. Ok (b.0, tree.Try a.1 binding b.1 id))) (body.1 s)
+        (λ a. only_bind (rebuilt_block rules handler.0 a.0) (λ b. Ok (b.0, tree.Try a.1 binding b.1 id)) (handler.1 a.0)
+        (λ b. only_ok (b.0, tree.Try a.1 binding b.1 id)))
 
     abbrev statement_parts : layer.ReactiveStatement-F OfStatement OfTerminal OfPruned OfScope OfBlock OfCase OfLabeled
-        → OpenStatement
+        → UnrolledStatement
     statement_parts = map-ReactiveStatement OfStatement OfTerminal OfPruned OfScope OfBlock OfCase OfLabeled
         ReactiveStatement ReactiveTerminal PrunedReactiveScopeBlock ReactiveScopeBlock ReactiveBlock ReactiveSwitchCase
         ReactiveTerminalStatement
@@ -206,13 +201,13 @@ module _ (IsSuch : Fault → Type 0) where
         (λ a. Ok (a.0, record { terminal = a.1; label = y.label })) (y.terminal.1 s)
         (λ a. only_ok (a.0, record { terminal = a.1; label = y.label })))))
 
-    -- the faults of a rebuilt block are such
+    -- the faults of a rebuilt block are faults of the rules
     pub rebuilt_faults : (x : ReactiveBlock) (s : S) → IfErr (rebuilt_block rules x s) IsSuch
     unfolding Only
     rebuilt_faults x s = block_only x s
 
     -- and so are those of a call that rebuilds it
-    pub leaves_faults : (x y : ReactiveBlock) (s : S) (result : Result (Unit {0}) Fault) → Leaves rules x s y result
+    pub leaves_faults : (x y : ReactiveBlock) (s : S) (result : Result (Unit {0}) Fault) → RebuildsTo rules x s y result
         → IfErr result (λ fault. (fault ≡ NoMemory) ⊎ IsSuch fault)
     leaves_faults x y s (Ok u) h = tt
     leaves_faults x y s (Err fault) (h, inl e) = inl e

@@ -1,11 +1,9 @@
--- What a fold of a tree gives of each kind of part, by what it gives of that part's own parts.
+-- The fold of a tree at each kind of part, from the values of that part's own parts.
 use Rattle.std.proofs.Common.{◌≡◌, map}
-use Rattle.rc_tree.specs.Opened.{OpenStatement, OpenTerminal, OpenCase}
+use Rattle.rc_tree.specs.Unrolled.{UnrolledStatement, UnrolledTerminal, UnrolledCase}
 use Rattle.rc_tree.specs.TreeFold.{TreeFold, over_statement, over_terminal, over_pruned_scope, over_scope, over_block}
 use Rattle.rc_tree.specs.TreeFold.{over_case, over_labeled, parts_of_statement, parts_of_terminal, parts_of_case}
-use Rattle.rc_tree.specs.declared.scope.PrunedReactiveScopeBlock.{PrunedReactiveScopeBlock}
-use Rattle.rc_tree.specs.declared.scope.ReactiveScopeBlock.{ReactiveScopeBlock}
-use Rattle.rc_tree.specs.declared.statement.ReactiveBlock.{ReactiveBlock}
+use Rattle.rc_tree.specs.Model.{PrunedReactiveScopeBlock, ReactiveScopeBlock, ReactiveBlock, ReactiveTerminalStatement}
 use Rattle.rc_tree.specs.declared.statement.ReactiveStatement.TheFolds.{fold-roll-ReactiveStatement}
 use Rattle.rc_tree.specs.declared.statement.ReactiveStatement.TheFolds.{fold-roll-ReactiveTerminal}
 use Rattle.rc_tree.specs.declared.statement.ReactiveStatement.TheFolds.{fold-roll-PrunedReactiveScopeBlock}
@@ -15,20 +13,19 @@ use Rattle.rc_tree.specs.declared.statement.ReactiveStatement.TheFolds.{fold-rol
 use Rattle.rc_tree.specs.declared.statement.ReactiveStatement.TheFolds.{fold-roll-ReactiveTerminalStatement}
 use Rattle.rc_tree.specs.declared.statement.ReactiveStatement.TheViews.{roll-ReactiveStatement, roll-ReactiveTerminal}
 use Rattle.rc_tree.specs.declared.statement.ReactiveStatement.TheViews.{roll-ReactiveSwitchCase}
-use Rattle.rc_tree.specs.declared.terminal.ReactiveTerminalStatement.{ReactiveTerminalStatement}
 
 module _ {S T P C B K L : Type 0} (f : TreeFold S T P C B K L) where
-  pub over_statement-roll : (x : OpenStatement)
+  pub over_statement-roll : (x : UnrolledStatement)
       → over_statement f (roll-ReactiveStatement x) ≡ f.statement (parts_of_statement f x)
   over_statement-roll =
       fold-roll-ReactiveStatement S T P C B K L f.statement f.terminal f.pruned_scope f.scope f.block f.case f.labeled
 
-  pub over_terminal-roll : (x : OpenTerminal)
+  pub over_terminal-roll : (x : UnrolledTerminal)
       → over_terminal f (roll-ReactiveTerminal x) ≡ f.terminal (parts_of_terminal f x)
   over_terminal-roll =
       fold-roll-ReactiveTerminal S T P C B K L f.statement f.terminal f.pruned_scope f.scope f.block f.case f.labeled
 
-  pub over_case-roll : (x : OpenCase) → over_case f (roll-ReactiveSwitchCase x) ≡ f.case (parts_of_case f x)
+  pub over_case-roll : (x : UnrolledCase) → over_case f (roll-ReactiveSwitchCase x) ≡ f.case (parts_of_case f x)
   over_case-roll =
       fold-roll-ReactiveSwitchCase S T P C B K L f.statement f.terminal f.pruned_scope f.scope f.block f.case f.labeled
 

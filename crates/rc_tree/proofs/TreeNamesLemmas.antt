@@ -1,11 +1,11 @@
--- The numbers of a tree: what keeps them part by part keeps them for the whole.
-use Rattle.rc_names.specs.declared.numbers.EvaluationOrder.{EvaluationOrder}
-use Rattle.rc_tree.specs.RewriteKeeps.{Measure, Compositional}
+-- The numbers of a tree are kept if they are kept part by part.
+use Rattle.rc_names.specs.Numbers.{EvaluationOrder}
+use Rattle.rc_tree.specs.inside.RewriteKeeps.{Measure, Compositional}
 use Rattle.rc_tree.specs.TreeNames.{Names, names_of_parts, names_of_values}
 use Rattle.rc_tree.proofs.CollectedKeeps.{collected_laws, collected_measure, value_laws}
 use Rattle.rc_tree.proofs.JoiningLemmas.{lists_monoid}
 
--- the numbers of a part are a measure that goes by its parts
+-- the numbers of a part, as a measure that is determined by its parts
 abbrev pub names_measure : Measure (EvaluationOrder → Names) Names Names (EvaluationOrder → Names) Names
 names_measure = collected_measure names_of_parts
 

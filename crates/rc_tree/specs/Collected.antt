@@ -1,50 +1,42 @@
--- What a tree holds, in the order of the text, from what each part adds.
+-- The contents of a tree, in the order of the text, from the contribution of each part.
 --
--- Values and places stand at the id of the row or terminal that has them. The order is that of the read walk: of a
--- `For` the update follows the loop block, and of a `DoWhile` the test does.
+-- Values and places are taken at the id of the row or terminal that has them. The order is that of the read walk: the
+-- update of a `For` follows the loop block, and so does the test of a `DoWhile`.
 use Rattle.std.specs.Prelude.{List, Option, None, Some, map}
-use Rattle.rc_hir.specs.declared.place.Place.{Place}
-use Rattle.rc_names.specs.declared.numbers.BlockId.{BlockId}
-use Rattle.rc_names.specs.declared.numbers.EvaluationOrder.{EvaluationOrder}
-use Rattle.rc_names.specs.declared.numbers.ScopeId.{ScopeId}
+use Rattle.rc_hir.specs.Model.{Place}
+use Rattle.rc_names.specs.Numbers.{BlockId, EvaluationOrder, ScopeId}
 use Rattle.rc_tree.specs.Joining.{Joining, all_of, if_there}
 use Rattle.rc_tree.specs.TreeFold.{TreeFold, over_block, over_case, over_labeled, over_pruned_scope, over_scope}
 use Rattle.rc_tree.specs.TreeFold.{over_statement, over_terminal}
-use Rattle.rc_tree.specs.declared.scope.PrunedReactiveScopeBlock.{PrunedReactiveScopeBlock}
-use Rattle.rc_tree.specs.declared.scope.ReactiveScopeBlock.{ReactiveScopeBlock}
-use Rattle.rc_tree.specs.declared.statement.ReactiveBlock.{ReactiveBlock}
-use Rattle.rc_tree.specs.declared.statement.ReactiveStatement.{ReactiveStatement}
+use Rattle.rc_tree.specs.Model.{PrunedReactiveScopeBlock, ReactiveScopeBlock, ReactiveBlock, ReactiveStatement}
+use Rattle.rc_tree.specs.Model.{ReactiveLabel, ReactiveSwitchCase, ReactiveTerminal, ReactiveTerminalStatement}
+use Rattle.rc_tree.specs.Model.{ReactiveInstruction, ReactiveValue}
 use Rattle.rc_tree.specs.declared.statement.ReactiveStatement.TheOpen as layer
 use Rattle.rc_tree.specs.declared.statement.ReactiveStatement.TheOpen.{ReactiveStatement-F, ReactiveTerminal-F}
 use Rattle.rc_tree.specs.declared.statement.ReactiveStatement.TheOpen.{ReactiveSwitchCase-F}
-use Rattle.rc_tree.specs.declared.terminal.ReactiveLabel.{ReactiveLabel}
-use Rattle.rc_tree.specs.declared.terminal.ReactiveSwitchCase.{ReactiveSwitchCase}
-use Rattle.rc_tree.specs.declared.terminal.ReactiveTerminal.{ReactiveTerminal}
-use Rattle.rc_tree.specs.declared.terminal.ReactiveTerminalStatement.{ReactiveTerminalStatement}
-use Rattle.rc_tree.specs.declared.value.ReactiveInstruction.{ReactiveInstruction}
-use Rattle.rc_tree.specs.declared.value.ReactiveValue.{ReactiveValue}
 
--- what each part of a tree adds
-pub record OfParts (A : Type 0) : Type 0 where
+-- the contribution of each part of a tree
+pub record Contributions (A : Type 0) : Type 0 where
   pub joining : Joining A
   pub row : ReactiveInstruction → A
-  -- a value or a place of a terminal at the terminal's id; a value, and the place of a case or a `catch`, may be absent
+  -- a value or a place of a terminal, at the terminal's id; the place of a case or of a `catch` may be absent, as a
+  -- value may
   pub value : EvaluationOrder → Option ReactiveValue → A
   pub place : EvaluationOrder → Option Place → A
   -- the place of a `Return`, and the block that a jump names
   pub returned : EvaluationOrder → Place → A
   pub jump : BlockId → A
   pub label : Option ReactiveLabel → A
-  -- a scope block and a pruned one, from what is inside
+  -- a scope block and a pruned one, from the contents of the block
   pub scope : ScopeId → A → A
   pub pruned_scope : ScopeId → A → A
 
-module _ {A : Type 0} (adds : OfParts A) where
-  -- what one part holds, and then another
+module _ {A : Type 0} (adds : Contributions A) where
+  -- the contents of one part, followed by those of another
   abbrev pub followed_by : A → A → A
   followed_by = adds.joining.both
 
-  -- a statement holds what is in it
+  -- a statement has the contents of its part
   abbrev pub of_statement : ReactiveStatement-F A A A A A (EvaluationOrder → A) A → A
   of_statement (layer.Instruction x) = adds.row x
   of_statement (layer.Terminal x) = x
@@ -72,11 +64,11 @@ module _ {A : Type 0} (adds : OfParts A) where
   of_terminal (layer.Label body id) = body
   of_terminal (layer.Try body binding handler id) = followed_by body (followed_by (adds.place id binding) handler)
 
-  -- a case's test stands at the id of its switch
+  -- the test of a case is taken at the id of its switch
   abbrev pub of_case : ReactiveSwitchCase-F A A A A A (EvaluationOrder → A) A → EvaluationOrder → A
   of_case x id = followed_by (adds.place id x.test) (if_there adds.joining x.block)
 
-  -- what each kind of part holds, from what its parts hold; a label comes before its terminal
+  -- the contents of each kind of part, from those of its own parts; a label comes before its terminal
   abbrev pub collecting : TreeFold A A A A A (EvaluationOrder → A) A
   collecting = record {
     statement = of_statement;
@@ -88,7 +80,7 @@ module _ {A : Type 0} (adds : OfParts A) where
     labeled = λ x. followed_by (adds.label x.label) x.terminal;
   }
 
-  -- what the tree holds, and what each other part of it holds
+  -- the contents of a tree, and of each other part of it
   unfoldable pub collected : ReactiveBlock → A
   collected = over_block collecting
 
@@ -110,15 +102,15 @@ module _ {A : Type 0} (adds : OfParts A) where
   unfoldable pub collected_labeled : ReactiveTerminalStatement → A
   collected_labeled = over_labeled collecting
 
-  -- what statements hold that follow each other
+  -- the contents of a list of statements
   abbrev pub collected_list : List ReactiveStatement → A
   collected_list xs = all_of adds.joining (map collected_statement xs)
 
-  -- what a block holds that may be left out
+  -- the contents of an optional block
   abbrev pub collected_if : Option ReactiveBlock → A
   collected_if None = adds.joining.nothing
   collected_if (Some x) = collected x
 
-  -- what the cases of a switch hold, at its id
+  -- the contents of the cases of a switch, at its id
   abbrev pub collected_cases : EvaluationOrder → List ReactiveSwitchCase → A
   collected_cases id cases = all_of adds.joining (map (λ case. case id) (map collected_case cases))

@@ -1,25 +1,23 @@
--- What values and rows hold, in the order of the text, from what each part adds.
+-- The contents of values and rows, in the order of the text, from the contribution of each part.
 use Rattle.std.specs.Prelude.{Option, None, Some}
-use Rattle.rc_hir.specs.declared.instruction.InstructionValue.{InstructionValue}
-use Rattle.rc_hir.specs.declared.place.Place.{Place}
-use Rattle.rc_names.specs.declared.numbers.EvaluationOrder.{EvaluationOrder}
+use Rattle.rc_hir.specs.Model.{InstructionValue, Place}
+use Rattle.rc_names.specs.Numbers.{EvaluationOrder}
 use Rattle.rc_tree.specs.Joining.{Joining, all_of}
-use Rattle.rc_tree.specs.declared.value.ReactiveInstruction.{ReactiveInstruction}
-use Rattle.rc_tree.specs.declared.value.ReactiveValue.{ReactiveValue}
+use Rattle.rc_tree.specs.Model.{ReactiveInstruction, ReactiveValue}
 use Rattle.rc_tree.specs.declared.value.ReactiveValue.TheFolds.{fold-ReactiveValue, fold-ReactiveInstruction}
 use Rattle.rc_tree.specs.declared.value.ReactiveValue.TheOpen as value
 use Rattle.rc_tree.specs.declared.value.ReactiveValue.TheOpen.{ReactiveValue-F, ReactiveInstruction-F}
 
--- what the parts of values and rows add
-pub record OfValues (A : Type 0) : Type 0 where
+-- the contribution of each part of values and rows
+pub record ValueContributions (A : Type 0) : Type 0 where
   pub joining : Joining A
   -- the value of one instruction
   pub instruction : EvaluationOrder → InstructionValue → A
-  -- the target of a row, where it has one
+  -- the target of a row, if it has one
   pub target : EvaluationOrder → Option Place → A
 
-module _ {A : Type 0} (adds : OfValues A) where
-  -- each form of value at an id; a sequence's value stands at the sequence's own id
+module _ {A : Type 0} (adds : ValueContributions A) where
+  -- each form of value at an id; the value of a sequence is taken at the sequence's own id
   abbrev pub of_value : ReactiveValue-F (EvaluationOrder → A) A → EvaluationOrder → A
   of_value (value.Instruction x) id = adds.instruction id x
   of_value (value.LogicalExpression operator left right) id = adds.joining.both (left id) (right id)
@@ -32,14 +30,14 @@ module _ {A : Type 0} (adds : OfValues A) where
   abbrev pub of_row : ReactiveInstruction-F (EvaluationOrder → A) A → A
   of_row x = adds.joining.both (adds.target x.id x.lvalue) (x.value x.id)
 
-  -- what a value holds, at the id that it stands at, and what a row holds
+  -- the contents of a value at an id, and of a row
   unfoldable pub collected_value : ReactiveValue → EvaluationOrder → A
   collected_value = fold-ReactiveValue (EvaluationOrder → A) A of_value of_row
 
   unfoldable pub collected_row : ReactiveInstruction → A
   collected_row = fold-ReactiveInstruction (EvaluationOrder → A) A of_value of_row
 
-  -- what a value holds that may be left out
+  -- the contents of an optional value
   abbrev pub collected_value_if : EvaluationOrder → Option ReactiveValue → A
   collected_value_if id None = adds.joining.nothing
   collected_value_if id (Some x) = collected_value x id

@@ -1,6 +1,6 @@
--- How the kind of a jump is written.
+-- The words for the kinds of jumps.
 use Rattle.std.specs.Prelude.{ℕ, List, codes}
-use Rattle.rc_tree.specs.declared.kind.ReactiveTerminalTargetKind.{ReactiveTerminalTargetKind}
+use Rattle.rc_tree.specs.Model.{ReactiveTerminalTargetKind}
 use Rattle.rc_tree.specs.declared.kind.ReactiveTerminalTargetKind.TheVariants.{Implicit, Labeled, Unlabeled}
 
 -- the word for a kind

@@ -1,36 +1,29 @@
--- What the walk of a graph's function gives: its parameters, then its blocks in graph order.
+-- The read walk of a graph's function: its parameters, then its blocks in graph order.
 --
--- Each row is walked as a row of the tree, and then the function that it holds; a block ends with its terminal's
--- operands. `entered` tells of each function of the table whether the walk stands inside it: one that is met there
--- again is a cycle, and one outside the table is a bad name.
+-- Each row is walked as a row of the tree, and then the function that is its value. A block ends with the operands of
+-- its terminal. `entered` says of each function of the table whether the walk is inside it. To enter such a function
+-- again is a cycle, and a function outside the table is a bad name.
 use Rattle.std.specs.Prelude.{ℕ, zero, suc, Bool, true, false, List, [], ◌∷◌, Option, None, Some, Err, map}
 use Rattle.std.specs.Prelude.{slice_get, slice_set}
-use Rattle.rc_names.specs.declared.numbers.BlockId.{BlockId}
-use Rattle.rc_names.specs.declared.numbers.FunctionId.{FunctionId}
-use Rattle.rc_names.specs.declared.numbers.InstructionId.{InstructionId}
+use Rattle.rc_names.specs.Numbers.{BlockId, FunctionId, InstructionId}
 use Rattle.rc_hir.specs.Terminal.{evaluation_order}
 use Rattle.rc_hir.specs.TerminalOperands.{terminal_operands}
 use Rattle.rc_hir.specs.declared.fault.Fault.TheVariants.{BadName, FunctionCycle}
 use Rattle.rc_hir.specs.declared.fault.TableName.TheVariants.{Functions, Instructions}
-use Rattle.rc_hir.specs.declared.function.BasicBlock.{BasicBlock}
-use Rattle.rc_hir.specs.declared.function.HirFunction.{HirFunction}
-use Rattle.rc_hir.specs.declared.function.Instruction.{Instruction}
-use Rattle.rc_hir.specs.declared.instruction.InstructionValue.{InstructionValue}
+use Rattle.rc_hir.specs.Model.{BasicBlock, HirFunction, Instruction, InstructionValue, ParamPattern, Place}
 use Rattle.rc_hir.specs.declared.instruction.InstructionValue.TheVariants.{ObjectMethod, FunctionExpression}
-use Rattle.rc_hir.specs.declared.place.ParamPattern.{ParamPattern}
 use Rattle.rc_hir.specs.declared.place.ParamPattern.TheVariants as param
-use Rattle.rc_hir.specs.declared.place.Place.{Place}
-use Rattle.rc_tree.specs.Outcome.{Walk, next_to, each, perhaps}
-use Rattle.rc_tree.specs.Steps.{ReadSteps}
-use Rattle.rc_tree.specs.Read.{read_instruction}
-use Rattle.rc_tree.specs.declared.value.ReactiveInstruction.{ReactiveInstruction}
-use Rattle.rc_tree.specs.declared.value.ReactiveValue.TheVariants as value
+use Rattle.rc_tree.specs.Step.{Walk, next_to, each, perhaps}
+use Rattle.rc_tree.specs.ReadSteps.{ReadSteps}
+use Rattle.rc_tree.specs.Read.Values.{read_instruction}
+use Rattle.rc_tree.specs.Model.{ReactiveInstruction}
+use Rattle.rc_tree.specs.declared.value.ReactiveValue.TheVariants as reactive_values
 
 -- a row of a graph as a row of the tree
 abbrev pub as_row : Instruction → ReactiveInstruction
-as_row x = record { id = x.id; lvalue = Some x.lvalue; value = value.Instruction x.value; span = x.span }
+as_row x = record { id = x.id; lvalue = Some x.lvalue; value = reactive_values.Instruction x.value; span = x.span }
 
--- the function that a value holds
+-- the nested function that a value is, if it is one
 abbrev pub held_function : InstructionValue → Option FunctionId
 held_function (ObjectMethod lowered span) = Some lowered.func
 held_function (FunctionExpression name lowered span) = Some lowered.func
@@ -41,7 +34,7 @@ abbrev pub param_place : ParamPattern → Place
 param_place (param.Place place) = place
 param_place (param.Spread spread) = spread.place
 
--- how many functions aren't entered
+-- the number of functions that aren't entered
 abbrev pub not_entered : List Bool → ℕ
 not_entered [] = 0
 not_entered (true ∷ marks) = not_entered marks
@@ -49,20 +42,20 @@ not_entered (false ∷ marks) = suc (not_entered marks)
 
 module _ {S : Type 0} (v : ReadSteps S) (functions : List HirFunction) where
   module _ (inner : FunctionId → Walk S) where
-    -- a row, and the function that it holds
+    -- a row, and then the function that is its value
     abbrev pub row_and_function : Instruction → Walk S
     row_and_function x = next_to (read_instruction v functions (as_row x)) (perhaps inner (held_function x.value))
 
-    -- the row of a number; one that the function doesn't have is a bad name
+    -- the row with a number; a number outside the function's rows is a bad name
     abbrev pub numbered_row : InstructionId → Option Instruction → Walk S
     numbered_row id None s = Err (BadName Instructions id.0)
     numbered_row id (Some x) s = row_and_function x s
 
-    -- a row of a block, among the function's rows
+    -- a row of a block, looked up among the function's rows
     abbrev pub block_row : List Instruction → InstructionId → Walk S
     block_row rows id = numbered_row id (slice_get rows id.0)
 
-    -- the rows of a block, then its terminal's operands, at the terminal's id
+    -- the rows of a block, and then its terminal's operands, at the terminal's id
     abbrev pub basic_block : List Instruction → BlockId × BasicBlock → Walk S
     basic_block rows entry =
         next_to (each (block_row rows) entry.1.instructions)
@@ -73,32 +66,32 @@ module _ {S : Type 0} (v : ReadSteps S) (functions : List HirFunction) where
     inside_function x = next_to (each (λ p. v.visit_param (param_place p)) x.params)
         (each (basic_block x.instructions) x.body.blocks)
 
-    -- the function of a number; one that the table doesn't have is a bad name
+    -- the function with a number; a number outside the table is a bad name
     abbrev pub numbered_function : FunctionId → Option HirFunction → Walk S
     numbered_function func None s = Err (BadName Functions func.0)
     numbered_function func (Some x) s = inside_function x s
 
-  -- a function, by whether the walk stands inside it
+  -- a function, depending on whether the walk is inside it
   abbrev pub by_mark : (List Bool → FunctionId → Walk S) → List Bool → FunctionId → Option Bool → Walk S
   by_mark inner entered func None s = Err (BadName Functions func.0)
   by_mark inner entered func (Some true) s = Err (FunctionCycle func)
   by_mark inner entered func (Some false) s =
       numbered_function (inner (slice_set entered func.0 true)) func (slice_get functions func.0) s
 
-  -- the walk of a function; more than the functions that aren't entered can't stand inside each other
+  -- the walk of a function; no more functions than those that aren't entered can be nested in it
   unfoldable pub function_to : ℕ → List Bool → FunctionId → Walk S
   function_to zero entered func s = Err (FunctionCycle func)
   function_to (suc n) entered func s = by_mark (function_to n) entered func (slice_get entered func.0) s
 
-  -- the walk of a function where these are entered
+  -- the walk of a function, given which functions are entered
   unfoldable pub function_at : List Bool → FunctionId → Walk S
   function_at entered = function_to (suc (not_entered entered)) entered
 
-  -- the walk of a function of the table, where none is entered
+  -- the walk of a function of the table, with no function entered
   abbrev pub read_function : FunctionId → Walk S
   read_function = function_at (map (λ x. false) functions)
 
-  -- the walk of a function's inside, of one of its blocks and of one of its rows, where these are entered
+  -- the walk of a function's inside, of one of its blocks and of one of its rows, given which functions are entered
   abbrev pub numbered_at : List Bool → FunctionId → Walk S
   numbered_at entered func = numbered_function (function_at entered) func (slice_get functions func.0)
 

@@ -1,43 +1,37 @@
--- A tree rebuilt from the inside out, with a state that goes through its statements in the order of the text.
+-- A tree that is rebuilt from the inside out, with a state that goes through its statements in the order of the text.
 --
--- The rules of a pass say what stands in the place of a statement whose inside is rebuilt, and what the state is behind
--- it. Rows keep their values, and terminals theirs.
+-- The rules of a pass give the replacement of a statement whose inside is rebuilt, and the state after the statement.
+-- The values of rows and of terminals stay.
 use Rattle.std.specs.Prelude.{List, [], ◌∷◌, ◌++◌, Option, None, Some, Result, Ok, IfErr}
-use Rattle.rc_hir.specs.declared.fault.Fault.{Fault}
-use Rattle.rc_tree.specs.Outcome.{bind}
+use Rattle.rc_hir.specs.Model.{Fault}
+use Rattle.rc_tree.specs.Step.{bind}
 use Rattle.rc_tree.specs.TreeFold.{TreeFold, over_block, over_case, over_labeled, over_pruned_scope, over_scope}
 use Rattle.rc_tree.specs.TreeFold.{over_statement, over_terminal}
-use Rattle.rc_tree.specs.declared.scope.PrunedReactiveScopeBlock.{PrunedReactiveScopeBlock}
-use Rattle.rc_tree.specs.declared.scope.ReactiveScopeBlock.{ReactiveScopeBlock}
-use Rattle.rc_tree.specs.declared.statement.ReactiveBlock.{ReactiveBlock}
-use Rattle.rc_tree.specs.declared.statement.ReactiveStatement.{ReactiveStatement}
+use Rattle.rc_tree.specs.Model.{PrunedReactiveScopeBlock, ReactiveScopeBlock, ReactiveBlock, ReactiveStatement}
+use Rattle.rc_tree.specs.Model.{ReactiveSwitchCase, ReactiveTerminal, ReactiveTerminalStatement, ReactiveInstruction}
 use Rattle.rc_tree.specs.declared.statement.ReactiveStatement.TheOpen as layer
 use Rattle.rc_tree.specs.declared.statement.ReactiveStatement.TheOpen.{ReactiveStatement-F, ReactiveTerminal-F}
 use Rattle.rc_tree.specs.declared.statement.ReactiveStatement.TheOpen.{PrunedReactiveScopeBlock-F, ReactiveScopeBlock-F}
 use Rattle.rc_tree.specs.declared.statement.ReactiveStatement.TheOpen.{ReactiveBlock-F, ReactiveSwitchCase-F}
 use Rattle.rc_tree.specs.declared.statement.ReactiveStatement.TheOpen.{ReactiveTerminalStatement-F}
-use Rattle.rc_tree.specs.declared.terminal.ReactiveSwitchCase.{ReactiveSwitchCase}
 use Rattle.rc_tree.specs.declared.terminal.ReactiveSwitchCase.{roll-ReactiveSwitchCase}
-use Rattle.rc_tree.specs.declared.terminal.ReactiveTerminal.{ReactiveTerminal}
-use Rattle.rc_tree.specs.declared.terminal.ReactiveTerminal.TheVariants as term
-use Rattle.rc_tree.specs.declared.terminal.ReactiveTerminalStatement.{ReactiveTerminalStatement}
-use Rattle.rc_tree.specs.declared.value.ReactiveInstruction.{ReactiveInstruction}
+use Rattle.rc_tree.specs.declared.terminal.ReactiveTerminal.TheVariants as tree
 
--- what is made of a state: the state behind a part with what stands in that part's place, or a fault
+-- rebuilding a part takes a state to the state after the part and the part's replacement, or to a fault
 abbrev pub Rebuilds : Type 0 → Type 0 → Type 0
 Rebuilds S X = S → Result (S × X) Fault
 
--- what a pass makes of each statement whose inside is rebuilt
+-- the replacement of each statement whose inside is rebuilt, by the rules of a pass
 pub record Rules (S : Type 0) : Type 0 where
   pub row : ReactiveInstruction → Rebuilds S (List ReactiveStatement)
   pub terminal : ReactiveTerminalStatement → Rebuilds S (List ReactiveStatement)
   pub pruned_scope : PrunedReactiveScopeBlock → Rebuilds S (List ReactiveStatement)
-  -- the state in which the inside of a scope block starts, from the one in which the block is met
+  -- the state at the start of a scope block's inside, from the state in front of the block
   pub into_scope : S → S
-  -- a scope block, from the state in which it is met; the state in which its inside ends comes last
+  -- a scope block, from the state in front of it and, last, the state at the end of its inside
   pub scope : S → ReactiveScopeBlock → Rebuilds S (List ReactiveStatement)
 
--- the faults of the rules are all such
+-- each fault of the rules is one of these
 pub record FaultsOnly {S : Type 0} (rules : Rules S) (IsSuch : Fault → Type 0) : Type 0 where
   pub row : (x : ReactiveInstruction) (s : S) → IfErr (rules.row x s) IsSuch
   pub terminal : (x : ReactiveTerminalStatement) (s : S) → IfErr (rules.terminal x s) IsSuch
@@ -50,17 +44,17 @@ module _ {S X : Type 0} where
   in_order [] s = Ok (s, [])
   in_order (x ∷ xs) s = bind (x s) (λ a. bind (in_order xs a.0) (λ b. Ok (b.0, a.1 ∷ b.1)))
 
-  -- the same, what stands in the place of each part joined into one list
+  -- the parts of a list, one after the other, with their replacements joined into one list
   abbrev pub joined : List (Rebuilds S (List X)) → Rebuilds S (List X)
   joined [] s = Ok (s, [])
   joined (x ∷ xs) s = bind (x s) (λ a. bind (joined xs a.0) (λ b. Ok (b.0, a.1 ++ b.1)))
 
-  -- a part that may be left out
+  -- an optional part
   abbrev pub if_there : Option (Rebuilds S X) → Rebuilds S (Option X)
   if_there None s = Ok (s, None)
   if_there (Some x) s = bind (x s) (λ a. Ok (a.0, Some a.1))
 
--- a part by its variant, each of its own parts rebuilt; `F` is the kind of part
+-- a part by its variant, where each of its own parts is rebuilt; `F` is the kind of part
 abbrev pub Layer : (S : Type 0) → (Type 0 → Type 0 → Type 0 → Type 0 → Type 0 → Type 0 → Type 0 → Type 0) → Type 0
 Layer S F = F (Rebuilds S (List ReactiveStatement)) (Rebuilds S ReactiveTerminal)
     (Rebuilds S PrunedReactiveScopeBlock) (Rebuilds S ReactiveScopeBlock) (Rebuilds S ReactiveBlock)
@@ -69,30 +63,30 @@ Layer S F = F (Rebuilds S (List ReactiveStatement)) (Rebuilds S ReactiveTerminal
 module _ {S : Type 0} (rules : Rules S) where
   -- a terminal, from its blocks
   abbrev pub of_terminal : Layer S ReactiveTerminal-F → Rebuilds S ReactiveTerminal
-  of_terminal (layer.Break target kind id) s = Ok (s, term.Break target kind id)
-  of_terminal (layer.Continue target kind id) s = Ok (s, term.Continue target kind id)
-  of_terminal (layer.Return value id) s = Ok (s, term.Return value id)
-  of_terminal (layer.Throw value id) s = Ok (s, term.Throw value id)
-  of_terminal (layer.Switch test cases id) s = bind (in_order cases s) (λ a. Ok (a.0, term.Switch test a.1 id))
-  of_terminal (layer.DoWhile body test id) s = bind (body s) (λ a. Ok (a.0, term.DoWhile a.1 test id))
-  of_terminal (layer.While test body id) s = bind (body s) (λ a. Ok (a.0, term.While test a.1 id))
-  of_terminal (layer.For init test update body id) s = bind (body s) (λ a. Ok (a.0, term.For init test update a.1 id))
-  of_terminal (layer.ForOf init test body span id) s = bind (body s) (λ a. Ok (a.0, term.ForOf init test a.1 span id))
-  of_terminal (layer.ForIn init body span id) s = bind (body s) (λ a. Ok (a.0, term.ForIn init a.1 span id))
+  of_terminal (layer.Break target kind id) s = Ok (s, tree.Break target kind id)
+  of_terminal (layer.Continue target kind id) s = Ok (s, tree.Continue target kind id)
+  of_terminal (layer.Return value id) s = Ok (s, tree.Return value id)
+  of_terminal (layer.Throw value id) s = Ok (s, tree.Throw value id)
+  of_terminal (layer.Switch test cases id) s = bind (in_order cases s) (λ a. Ok (a.0, tree.Switch test a.1 id))
+  of_terminal (layer.DoWhile body test id) s = bind (body s) (λ a. Ok (a.0, tree.DoWhile a.1 test id))
+  of_terminal (layer.While test body id) s = bind (body s) (λ a. Ok (a.0, tree.While test a.1 id))
+  of_terminal (layer.For init test update body id) s = bind (body s) (λ a. Ok (a.0, tree.For init test update a.1 id))
+  of_terminal (layer.ForOf init test body span id) s = bind (body s) (λ a. Ok (a.0, tree.ForOf init test a.1 span id))
+  of_terminal (layer.ForIn init body span id) s = bind (body s) (λ a. Ok (a.0, tree.ForIn init a.1 span id))
   of_terminal (layer.If test consequent alternate id) s =
-      bind (consequent s) (λ a. bind (if_there alternate a.0) (λ b. Ok (b.0, term.If test a.1 b.1 id)))
-  of_terminal (layer.Label body id) s = bind (body s) (λ a. Ok (a.0, term.Label a.1 id))
+      bind (consequent s) (λ a. bind (if_there alternate a.0) (λ b. Ok (b.0, tree.If test a.1 b.1 id)))
+  of_terminal (layer.Label body id) s = bind (body s) (λ a. Ok (a.0, tree.Label a.1 id))
   of_terminal (layer.Try body binding handler id) s =
-      bind (body s) (λ a. bind (handler a.0) (λ b. Ok (b.0, term.Try a.1 binding b.1 id)))
+      bind (body s) (λ a. bind (handler a.0) (λ b. Ok (b.0, tree.Try a.1 binding b.1 id)))
 
-  -- a statement, by the rule for it
+  -- a statement, by its rule
   abbrev pub of_statement : Layer S ReactiveStatement-F → Rebuilds S (List ReactiveStatement)
   of_statement (layer.Instruction x) s = rules.row x s
   of_statement (layer.Terminal x) s = bind (x s) (λ a. rules.terminal a.1 a.0)
   of_statement (layer.Scope x) s = bind (x (rules.into_scope s)) (λ a. rules.scope s a.1 a.0)
   of_statement (layer.PrunedScope x) s = bind (x s) (λ a. rules.pruned_scope a.1 a.0)
 
-  -- the other parts, from what is inside them
+  -- the other parts, from their insides
   abbrev pub of_labeled : Layer S ReactiveTerminalStatement-F → Rebuilds S ReactiveTerminalStatement
   of_labeled x s = bind (x.terminal s) (λ a. Ok (a.0, record { terminal = a.1; label = x.label }))
 
@@ -123,14 +117,14 @@ module _ {S : Type 0} (rules : Rules S) where
     labeled = of_labeled;
   }
 
-  -- the block rebuilt, and what stands in the place of one statement
+  -- a rebuilt block, and the replacement of one statement
   unfoldable pub rebuilt_block : ReactiveBlock → Rebuilds S ReactiveBlock
   rebuilt_block = over_block rebuilding
 
   unfoldable pub rebuilt_statement : ReactiveStatement → Rebuilds S (List ReactiveStatement)
   rebuilt_statement = over_statement rebuilding
 
-  -- the other parts with their insides rebuilt
+  -- the other parts, with rebuilt insides
   unfoldable pub rebuilt_terminal : ReactiveTerminal → Rebuilds S ReactiveTerminal
   rebuilt_terminal = over_terminal rebuilding
 

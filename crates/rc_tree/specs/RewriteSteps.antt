@@ -1,22 +1,19 @@
--- What the hooks of a rewriting walk do, as one record of steps; those that change nothing; and what is asked of an
--- enter step.
+-- The steps of the hooks of a rewriting walk, as one record; the steps that change nothing; and the condition on enter
+-- steps.
 use Rattle.std.specs.Prelude.{◌≡◌, ◌≤◌, ℕ, Ok}
-use Rattle.rc_hir.specs.declared.place.Place.{Place}
-use Rattle.rc_names.specs.declared.numbers.EvaluationOrder.{EvaluationOrder}
-use Rattle.rc_tree.specs.Outcome.{Walk}
-use Rattle.rc_tree.specs.Run.{Hook}
-use Rattle.rc_tree.specs.declared.scope.PrunedReactiveScopeBlock.{PrunedReactiveScopeBlock}
+use Rattle.rc_hir.specs.Model.{Place}
+use Rattle.rc_names.specs.Numbers.{EvaluationOrder}
+use Rattle.rc_tree.specs.Step.{Walk}
+use Rattle.rc_tree.specs.Fuel.{Hook}
+use Rattle.rc_tree.specs.Model.{PrunedReactiveScopeBlock, ReactiveStatement, ReactiveTerminalStatement, Transformed}
+use Rattle.rc_tree.specs.Model.{Enter}
 use Rattle.rc_tree.specs.declared.scope.PrunedReactiveScopeBlock.{size-PrunedReactiveScopeBlock}
 use Rattle.rc_tree.specs.declared.scope.ReactiveScopeBlock.{ReactiveScopeBlock, size-ReactiveScopeBlock}
 use Rattle.rc_tree.specs.declared.statement.ReactiveBlock.{ReactiveBlock, size-ReactiveBlock}
-use Rattle.rc_tree.specs.declared.statement.ReactiveStatement.{ReactiveStatement}
-use Rattle.rc_tree.specs.declared.terminal.ReactiveTerminalStatement.{ReactiveTerminalStatement}
 use Rattle.rc_tree.specs.declared.terminal.ReactiveTerminalStatement.{size-ReactiveTerminalStatement}
-use Rattle.rc_tree.specs.declared.transform.Transformed.{Transformed}
 use Rattle.rc_tree.specs.declared.transform.Transformed.TheVariants.{Keep}
 use Rattle.rc_tree.specs.declared.value.ReactiveInstruction.{ReactiveInstruction, size-ReactiveInstruction}
 use Rattle.rc_tree.specs.declared.value.ReactiveValue.{ReactiveValue, size-ReactiveValue}
-use Rattle.rc_tree.specs.declared.visitor.Enter.{Enter}
 use Rattle.rc_tree.specs.declared.visitor.Enter.TheVariants.{Inside, Skip}
 
 -- the step of each hook of a transform; the world is the transform with the state
@@ -42,14 +39,14 @@ pub record RewriteSteps (W : Type 0) : Type 0 where
   pub transform_pruned_scope : Hook W PrunedReactiveScopeBlock (Transformed ReactiveStatement)
 
 module _ {W : Type 0} where
-  -- an enter step that goes inside, and one that doesn't
+  -- an enter step that goes inside, and one that skips
   abbrev pub goes_inside : {X : Type 0} → Hook W X Enter
   goes_inside w x = Ok (Inside, (w, x))
 
   abbrev pub skips : {X : Type 0} → Hook W X Enter
   skips w x = Ok (Skip, (w, x))
 
-  -- a leave step that does nothing
+  -- a leave step that changes nothing
   abbrev pub does_nothing : {X : Type 0} → Hook W X (Unit {0})
   does_nothing w x = Ok (tt, (w, x))
 
@@ -57,9 +54,9 @@ module _ {W : Type 0} where
   abbrev pub keeps_it : {X : Type 0} → Hook W X (Transformed ReactiveStatement)
   keeps_it w x = Ok (Keep, (w, x))
 
-  -- the transform's steps that change nothing, enter every part and keep every statement
-  abbrev pub still : RewriteSteps W
-  still = record {
+  -- the steps of a transform that changes nothing, enters every part and keeps every statement
+  abbrev pub idle : RewriteSteps W
+  idle = record {
     visit_id = λ id w. Ok (tt, w);
     visit_place = λ id place w. Ok (tt, w);
     visit_lvalue = λ id place w. Ok (tt, w);
@@ -81,7 +78,7 @@ module _ {W : Type 0} where
     transform_pruned_scope = keeps_it;
   }
 
-  -- a step makes no part deeper
+  -- a step doesn't make its part deeper
   abbrev pub NoDeeper : {X : Type 0} → (X → ℕ) → Hook W X Enter → Type 0
   NoDeeper {X} size step = (w w1 : W) (x x1 : X) (answer : Enter) → step w x ≡ Ok (answer, (w1, x1)) → size x1 ≤ size x
 

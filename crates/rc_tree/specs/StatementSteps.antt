@@ -1,16 +1,12 @@
 -- The steps of a pass over statements, and the steps of the rewriting walk that they make.
 --
--- Such a pass skips rows and values. It notes a scope block before its inside, and says what stands in the place of a
--- terminal and of a scope block once its inside is done.
+-- Such a pass skips rows and values. It has a step before the inside of a scope block, and gives the replacements of
+-- terminals and of scope blocks after their insides.
 use Rattle.std.specs.Prelude.{Ok}
-use Rattle.rc_tree.specs.Outcome.{Walk, bind}
-use Rattle.rc_tree.specs.Run.{Hook}
-use Rattle.rc_tree.specs.RewriteSteps.{RewriteSteps, skips, still}
-use Rattle.rc_tree.specs.declared.scope.ReactiveScopeBlock.{ReactiveScopeBlock}
-use Rattle.rc_tree.specs.declared.statement.ReactiveStatement.{ReactiveStatement}
-use Rattle.rc_tree.specs.declared.terminal.ReactiveTerminalStatement.{ReactiveTerminalStatement}
-use Rattle.rc_tree.specs.declared.transform.Transformed.{Transformed}
-use Rattle.rc_tree.specs.declared.visitor.Enter.{Enter}
+use Rattle.rc_tree.specs.Step.{Walk, bind}
+use Rattle.rc_tree.specs.Fuel.{Hook}
+use Rattle.rc_tree.specs.RewriteSteps.{RewriteSteps, skips, idle}
+use Rattle.rc_tree.specs.Model.{ReactiveScopeBlock, ReactiveStatement, ReactiveTerminalStatement, Transformed, Enter}
 use Rattle.rc_tree.specs.declared.visitor.Enter.TheVariants.{Inside}
 
 -- the step of each hook of a pass over statements
@@ -20,7 +16,7 @@ pub record StatementSteps (S : Type 0) : Type 0 where
   pub transform_scope : Hook S ReactiveScopeBlock (Transformed ReactiveStatement)
 
 module _ {T S : Type 0} (steps : T → StatementSteps S) where
-  -- the steps of the walk that do something; no step changes the transform
+  -- the steps of the walk that aren't idle; no step changes the transform
   abbrev pub enters_scope : Hook (T × S) ReactiveScopeBlock Enter
   enters_scope w x = bind ((steps w.0).enter_scope x w.1) (λ r. Ok (Inside, ((w.0, r.1), x)))
 
@@ -32,7 +28,7 @@ module _ {T S : Type 0} (steps : T → StatementSteps S) where
 
   -- all steps of the walk: rows and values are skipped, and the other parts are entered
   abbrev pub over_statements : RewriteSteps (T × S)
-  over_statements = record still {
+  over_statements = record idle {
     enter_instruction = skips;
     enter_value = λ id. skips;
     enter_scope = enters_scope;

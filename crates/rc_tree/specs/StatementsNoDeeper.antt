@@ -1,12 +1,12 @@
--- The enter steps of a pass over statements make no part deeper.
+-- The enter steps of a pass over statements don't make their parts deeper.
 use Rattle.std.proofs.Common.{◌≡◌, Result, Ok, Err, ◌≤◌}
-use Rattle.rc_hir.specs.declared.fault.Fault.{Fault}
+use Rattle.rc_hir.specs.Model.{Fault}
 use Rattle.rc_tree.specs.NoDeeper.{goes_inside_no_deeper, skips_no_deeper}
-use Rattle.rc_tree.specs.Outcome.{bind}
+use Rattle.rc_tree.specs.Step.{bind}
 use Rattle.rc_tree.specs.RewriteSteps.{EntersNoDeeper, NoDeeper}
 use Rattle.rc_tree.specs.StatementSteps.{StatementSteps, enters_scope, over_statements}
 use Rattle.rc_tree.specs.declared.scope.ReactiveScopeBlock.{ReactiveScopeBlock, size-ReactiveScopeBlock}
-use Rattle.rc_tree.specs.declared.visitor.Enter.{Enter}
+use Rattle.rc_tree.specs.Model.{Enter}
 use Rattle.rc_tree.specs.declared.visitor.Enter.TheVariants.{Inside}
 
 module _ {T S : Type 0} (steps : T → StatementSteps S) where

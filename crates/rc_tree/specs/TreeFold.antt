@@ -1,9 +1,7 @@
--- Functions of a tree by one step for each kind of part: what a part gives, once its own parts have given theirs.
-use Rattle.rc_tree.specs.Opened.{OpenStatement, OpenTerminal, OpenCase}
-use Rattle.rc_tree.specs.declared.scope.PrunedReactiveScopeBlock.{PrunedReactiveScopeBlock}
-use Rattle.rc_tree.specs.declared.scope.ReactiveScopeBlock.{ReactiveScopeBlock}
-use Rattle.rc_tree.specs.declared.statement.ReactiveBlock.{ReactiveBlock}
-use Rattle.rc_tree.specs.declared.statement.ReactiveStatement.{ReactiveStatement}
+-- Functions of a tree by one step for each kind of part: the value of a part, from the values of its own parts.
+use Rattle.rc_tree.specs.Unrolled.{UnrolledStatement, UnrolledTerminal, UnrolledCase}
+use Rattle.rc_tree.specs.Model.{PrunedReactiveScopeBlock, ReactiveScopeBlock, ReactiveBlock, ReactiveStatement}
+use Rattle.rc_tree.specs.Model.{ReactiveSwitchCase, ReactiveTerminal, ReactiveTerminalStatement}
 use Rattle.rc_tree.specs.declared.statement.ReactiveStatement.TheFolds.{fold-ReactiveStatement, fold-ReactiveTerminal}
 use Rattle.rc_tree.specs.declared.statement.ReactiveStatement.TheFolds.{fold-PrunedReactiveScopeBlock}
 use Rattle.rc_tree.specs.declared.statement.ReactiveStatement.TheFolds.{fold-ReactiveScopeBlock, fold-ReactiveBlock}
@@ -15,11 +13,8 @@ use Rattle.rc_tree.specs.declared.statement.ReactiveStatement.TheOpen.{ReactiveS
 use Rattle.rc_tree.specs.declared.statement.ReactiveStatement.TheOpen.{PrunedReactiveScopeBlock-F, ReactiveScopeBlock-F}
 use Rattle.rc_tree.specs.declared.statement.ReactiveStatement.TheOpen.{ReactiveBlock-F, ReactiveSwitchCase-F}
 use Rattle.rc_tree.specs.declared.statement.ReactiveStatement.TheOpen.{ReactiveTerminalStatement-F}
-use Rattle.rc_tree.specs.declared.terminal.ReactiveSwitchCase.{ReactiveSwitchCase}
-use Rattle.rc_tree.specs.declared.terminal.ReactiveTerminal.{ReactiveTerminal}
-use Rattle.rc_tree.specs.declared.terminal.ReactiveTerminalStatement.{ReactiveTerminalStatement}
 
--- the step of each kind of part: from what its parts give to what it gives
+-- the step of each kind of part, which takes the values of its parts to its own value
 pub record TreeFold (S T P C B K L : Type 0) : Type 0 where
   pub statement : ReactiveStatement-F S T P C B K L → S
   pub terminal : ReactiveTerminal-F S T P C B K L → T
@@ -31,7 +26,7 @@ pub record TreeFold (S T P C B K L : Type 0) : Type 0 where
   pub labeled : ReactiveTerminalStatement-F S T P C B K L → L
 
 module _ {S T P C B K L : Type 0} (f : TreeFold S T P C B K L) where
-  -- what each kind of part gives
+  -- the value of each kind of part
   abbrev pub over_statement : ReactiveStatement → S
   over_statement =
       fold-ReactiveStatement S T P C B K L f.statement f.terminal f.pruned_scope f.scope f.block f.case f.labeled
@@ -61,20 +56,21 @@ module _ {S T P C B K L : Type 0} (f : TreeFold S T P C B K L) where
       fold-ReactiveTerminalStatement S T P C B K L f.statement f.terminal f.pruned_scope f.scope f.block f.case
       f.labeled
 
-  -- a statement, a terminal and a case of a switch by their variants, in each part's place what that part gives
-  abbrev pub parts_of_statement : OpenStatement → ReactiveStatement-F S T P C B K L
+  -- a statement, a terminal and a case of a switch by their variants, with the value of each part in the place of that
+  -- part
+  abbrev pub parts_of_statement : UnrolledStatement → ReactiveStatement-F S T P C B K L
   parts_of_statement =
       map-ReactiveStatement ReactiveStatement ReactiveTerminal PrunedReactiveScopeBlock ReactiveScopeBlock ReactiveBlock
       ReactiveSwitchCase ReactiveTerminalStatement S T P C B K L
       over_statement over_terminal over_pruned_scope over_scope over_block over_case over_labeled
 
-  abbrev pub parts_of_terminal : OpenTerminal → ReactiveTerminal-F S T P C B K L
+  abbrev pub parts_of_terminal : UnrolledTerminal → ReactiveTerminal-F S T P C B K L
   parts_of_terminal =
       map-ReactiveTerminal ReactiveStatement ReactiveTerminal PrunedReactiveScopeBlock ReactiveScopeBlock ReactiveBlock
       ReactiveSwitchCase ReactiveTerminalStatement S T P C B K L
       over_statement over_terminal over_pruned_scope over_scope over_block over_case over_labeled
 
-  abbrev pub parts_of_case : OpenCase → ReactiveSwitchCase-F S T P C B K L
+  abbrev pub parts_of_case : UnrolledCase → ReactiveSwitchCase-F S T P C B K L
   parts_of_case =
       map-ReactiveSwitchCase ReactiveStatement ReactiveTerminal PrunedReactiveScopeBlock ReactiveScopeBlock
       ReactiveBlock ReactiveSwitchCase ReactiveTerminalStatement S T P C B K L

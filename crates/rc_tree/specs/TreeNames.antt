@@ -1,39 +1,35 @@
--- The numbers that stand in a tree, each with the table that it stands for, and that each of them is in its table.
+-- The numbers in a tree, each with the table that it indexes, and the fact that each of them is in its table.
 use Rattle.std.specs.Prelude.{◌⊎◌, List, [], ◌++◌, All, Any}
 use Rattle.std.specs.List.{flat_map}
 use Rattle.rc_hir.specs.Names.{IsInTable, IsOutside, FunctionInTables, EnvironmentInTables, lengths}
 use Rattle.rc_hir.specs.Names.{NamesOutsideIn, NamesOutsideInEnvironment}
-use Rattle.rc_hir.specs.PartNames.{Name, parameter_names, perhaps, place_names, scope_name}
+use Rattle.rc_hir.specs.PartNames.{Name, parameter_names, names_if, place_names, scope_name}
 use Rattle.rc_hir.specs.ValueNames.{value_names}
-use Rattle.rc_hir.specs.declared.environment.Environment.{Environment}
-use Rattle.rc_hir.specs.declared.fault.Fault.{Fault}
-use Rattle.rc_tree.specs.Collected.{OfParts, collected, collected_list, collected_statement, collected_terminal}
-use Rattle.rc_tree.specs.CollectedValues.{OfValues, collected_row, collected_value_if}
+use Rattle.rc_hir.specs.Model.{Environment, Fault}
+use Rattle.rc_tree.specs.Collected.{Contributions, collected, collected_list, collected_statement, collected_terminal}
+use Rattle.rc_tree.specs.CollectedValues.{ValueContributions, collected_row, collected_value_if}
 use Rattle.rc_tree.specs.Joining.{lists}
-use Rattle.rc_tree.specs.declared.function.ReactiveFunction.{ReactiveFunction}
-use Rattle.rc_tree.specs.declared.statement.ReactiveBlock.{ReactiveBlock}
-use Rattle.rc_tree.specs.declared.statement.ReactiveStatement.{ReactiveStatement}
-use Rattle.rc_tree.specs.declared.terminal.ReactiveTerminal.{ReactiveTerminal}
+use Rattle.rc_tree.specs.Model.{ReactiveFunction, ReactiveBlock, ReactiveStatement, ReactiveTerminal}
 
--- the numbers found in a part of the tree
+-- the numbers in a part of the tree
 abbrev pub Names : Type 0
 Names = List Name
 
 -- the numbers of a value are those of its instructions, and a row has those of its target too
-abbrev pub names_of_values : OfValues Names
+abbrev pub names_of_values : ValueContributions Names
 names_of_values = record {
   joining = lists;
   instruction = λ id x. value_names x;
-  target = λ id x. perhaps place_names x;
+  target = λ id x. names_if place_names x;
 }
 
--- a block's own scope comes before the numbers inside; a label's number and a jump's stand for no table
-abbrev pub names_of_parts : OfParts Names
+-- a block's own scope comes before the numbers inside; a label's and a jump's number indexes no table
+abbrev pub names_of_parts : Contributions Names
 names_of_parts = record {
   joining = lists;
   row = collected_row names_of_values;
   value = collected_value_if names_of_values;
-  place = λ id x. perhaps place_names x;
+  place = λ id x. names_if place_names x;
   returned = λ id x. place_names x;
   jump = λ target. [];
   label = λ label. [];
@@ -41,7 +37,7 @@ names_of_parts = record {
   pruned_scope = λ scope inside. scope_name scope ++ inside;
 }
 
--- the numbers in a block, a statement, a terminal, and in statements one after the other
+-- the numbers in a block, in a statement, in a terminal, and in a list of statements
 abbrev pub names_in : ReactiveBlock → Names
 names_in = collected names_of_parts
 

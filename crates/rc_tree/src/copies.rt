@@ -1,4 +1,4 @@
-//! Copies of the tree, each equal to its source.
+//! Copies of the tree: a copy equals its source.
 
 mod statement;
 mod value;

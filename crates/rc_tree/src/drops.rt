@@ -1,8 +1,8 @@
-//! Emptying the blocks of a level of statements, before the level is let go.
+//! Emptying the blocks of a level of statements before the level is dropped.
 //!
-//! Each call moves what stands in the blocks of its part to the end of the list `inside`, as far as there is memory.
-//! The part is then no deeper than it was, and what was taken is less deep than the part: so letting go comes to an
-//! end.
+//! Each call moves the statements in the blocks of its part to the end of the list `inside`, as far as there is
+//! memory. Afterwards the part is no deeper than before, and the statements that were moved are less deep than the
+//! part. So dropping a tree comes to an end.
 
 ghost use Rattle.std.specs.Prelude.{◌≤◌, ◌<◌, ℕ};
 ghost use denote.Param.Weighed.{most};
@@ -18,7 +18,7 @@ use crate::statement::{ReactiveBlock, ReactiveStatement};
 use crate::terminal::{ReactiveSwitchCase, ReactiveTerminal};
 use rc_names::List;
 
-/// Takes what stands in the blocks of a level's statements.
+/// Moves the statements in the blocks of a level's statements.
 pub(crate) fn take_inside(level: &mut List<ReactiveStatement>, inside: &mut List<ReactiveStatement>)
     ensures rest { most size-ReactiveStatement level.new ≤ most size-ReactiveStatement level.old }
     ensures taken { (n : ℕ) → most size-ReactiveStatement level.old ≤ n → most size-ReactiveStatement inside.old < n
@@ -31,7 +31,7 @@ pub(crate) fn take_inside(level: &mut List<ReactiveStatement>, inside: &mut List
     }
 }
 
-/// Takes what stands in the blocks of a statement.
+/// Moves the statements in the blocks of a statement.
 fn take_blocks(statement: &mut ReactiveStatement, inside: &mut List<ReactiveStatement>)
     ensures rest { size-ReactiveStatement statement.new ≤ size-ReactiveStatement statement.old }
     ensures taken { (n : ℕ) → size-ReactiveStatement statement.old ≤ n → most size-ReactiveStatement inside.old < n
@@ -45,7 +45,7 @@ fn take_blocks(statement: &mut ReactiveStatement, inside: &mut List<ReactiveStat
     }
 }
 
-/// Takes what stands in a scope block.
+/// Moves the statements of a scope block.
 fn take_scope(scope: &mut ReactiveScopeBlock, inside: &mut List<ReactiveStatement>)
     ensures rest { size-ReactiveScopeBlock scope.new ≤ size-ReactiveScopeBlock scope.old }
     ensures taken { (n : ℕ) → size-ReactiveScopeBlock scope.old ≤ n → most size-ReactiveStatement inside.old < n
@@ -54,7 +54,7 @@ fn take_scope(scope: &mut ReactiveScopeBlock, inside: &mut List<ReactiveStatemen
     take_block(&mut scope.instructions, inside);
 }
 
-/// Takes what stands in a pruned scope block.
+/// Moves the statements of a pruned scope block.
 fn take_pruned_scope(scope: &mut PrunedReactiveScopeBlock, inside: &mut List<ReactiveStatement>)
     ensures rest { size-PrunedReactiveScopeBlock scope.new ≤ size-PrunedReactiveScopeBlock scope.old }
     ensures taken { (n : ℕ) → size-PrunedReactiveScopeBlock scope.old ≤ n → most size-ReactiveStatement inside.old < n
@@ -63,7 +63,7 @@ fn take_pruned_scope(scope: &mut PrunedReactiveScopeBlock, inside: &mut List<Rea
     take_block(&mut scope.instructions, inside);
 }
 
-/// Takes what stands in the blocks of a terminal.
+/// Moves the statements in the blocks of a terminal.
 fn take_parts(terminal: &mut ReactiveTerminal, inside: &mut List<ReactiveStatement>)
     ensures rest { size-ReactiveTerminal terminal.new ≤ size-ReactiveTerminal terminal.old }
     ensures taken { (n : ℕ) → size-ReactiveTerminal terminal.old ≤ n → most size-ReactiveStatement inside.old < n
@@ -98,7 +98,7 @@ fn take_parts(terminal: &mut ReactiveTerminal, inside: &mut List<ReactiveStateme
     }
 }
 
-/// Takes what stands in the blocks of the cases of a switch.
+/// Moves the statements in the blocks of the cases of a switch.
 fn take_cases(cases: &mut List<ReactiveSwitchCase>, inside: &mut List<ReactiveStatement>)
     ensures rest { most size-ReactiveSwitchCase cases.new ≤ most size-ReactiveSwitchCase cases.old }
     ensures taken { (n : ℕ) → most size-ReactiveSwitchCase cases.old ≤ n → most size-ReactiveStatement inside.old < n
@@ -111,7 +111,7 @@ fn take_cases(cases: &mut List<ReactiveSwitchCase>, inside: &mut List<ReactiveSt
     }
 }
 
-/// Takes what stands in the block of a case.
+/// Moves the statements in the block of a case.
 fn take_case(case: &mut ReactiveSwitchCase, inside: &mut List<ReactiveStatement>)
     ensures rest { size-ReactiveSwitchCase case.new ≤ size-ReactiveSwitchCase case.old }
     ensures taken { (n : ℕ) → size-ReactiveSwitchCase case.old ≤ n → most size-ReactiveStatement inside.old < n
@@ -122,7 +122,7 @@ fn take_case(case: &mut ReactiveSwitchCase, inside: &mut List<ReactiveStatement>
     }
 }
 
-/// Takes the statements of a block.
+/// Moves the statements of a block.
 fn take_block(block: &mut ReactiveBlock, inside: &mut List<ReactiveStatement>)
     ensures rest { size-ReactiveBlock block.new ≤ size-ReactiveBlock block.old }
     ensures taken { (n : ℕ) → size-ReactiveBlock block.old ≤ n → most size-ReactiveStatement inside.old < n

@@ -1,4 +1,6 @@
 //! A function as a tree.
+//!
+//! After oxc's react_compiler_hir/reactive.rs, as the other types of the tree are.
 
 use crate::statement::ReactiveBlock;
 use rc_hir::ParamPattern;

@@ -1,23 +1,23 @@
-//! Where a jump goes.
+//! The kinds of jumps.
 
 ghost use Rattle.std.specs.Prelude.{◌≡◌};
 ghost use Rattle.rc_tree.specs.Kind.{kind_word};
 
 use std::fmt;
 
-/// Which statement a break or a continue leaves or goes on with.
+/// The way in which a break or a continue finds the statement that it leaves or goes on with.
 #[derive(Clone, Copy, Debug, PartialEq, Eq)]
 pub enum ReactiveTerminalTargetKind {
-    /// Where control goes anyway.
+    /// Control goes there without a jump.
     Implicit,
-    /// The statement with the label.
+    /// The jump names the statement's label.
     Labeled,
-    /// The innermost loop.
+    /// The statement is the innermost loop.
     Unlabeled,
 }
 
 impl ReactiveTerminalTargetKind {
-    /// The word for it.
+    /// Returns the word for the kind.
     pub fn as_str(&self) -> &'static str
         ensures { result.now ≡ kind_word self.now }
     {

@@ -1,4 +1,6 @@
 //! The reactive tree: nested statements and expressions, with the blocks of reactive scopes.
+//!
+//! The types are after oxc's react_compiler_hir/reactive.rs, and the walks after oxc's visitors.rs.
 #![tactic(auto)]
 
 mod copies;
@@ -9,7 +11,7 @@ pub mod read;
 pub mod rewrite;
 mod scope;
 mod statement;
-mod statements;
+mod statement_transform;
 mod terminal;
 mod transform;
 mod value;
@@ -21,7 +23,7 @@ pub use read::function::{visit_hir_function, visit_reactive_function};
 pub use rewrite::transform_reactive_function;
 pub use scope::{PrunedReactiveScopeBlock, ReactiveScopeBlock};
 pub use statement::{ReactiveBlock, ReactiveStatement};
-pub use statements::{OverStatements, StatementTransform};
+pub use statement_transform::{OverStatements, StatementTransform};
 pub use terminal::{
     ReactiveLabel, ReactiveSwitchCase, ReactiveTerminal, ReactiveTerminalStatement,
 };

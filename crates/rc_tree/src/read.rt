@@ -1,4 +1,6 @@
 //! The read walk: each call walks the inside of its part, without a change and without a copy.
+//!
+//! After oxc's visitors.rs.
 
 pub(crate) mod function;
 mod statement;

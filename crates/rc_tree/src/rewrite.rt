@@ -1,9 +1,13 @@
 //! The rewriting walk: each call walks the inside of its part and changes it in its place, without a copy.
 //!
-//! After an error the tree has no stated content and is given up.
+//! After an error the tree has no stated content and must not be used any more.
+//!
+//! After oxc's visitors.rs.
 
 mod function;
+mod in_place;
 mod statement;
+mod terminal;
 mod value;
 mod visits;
 

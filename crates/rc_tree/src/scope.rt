@@ -11,7 +11,7 @@ pub struct ReactiveScopeBlock {
     pub instructions: ReactiveBlock,
 }
 
-/// The statements of a reactive scope that isn't kept.
+/// The statements of a reactive scope that was pruned, so that its values aren't kept.
 #[cycle(tree)]
 #[derive(Drop)]
 pub struct PrunedReactiveScopeBlock {

@@ -12,8 +12,9 @@ pub struct ReactiveBlock {
     pub statements: List<ReactiveStatement>,
 }
 
-// A derived drop would be a nested call for each level. Here the blocks of a level are emptied before it is let go, so
-// a nest takes no stack; a block that no memory was found for is let go by a nested call. `drops.rt` empties them.
+// A derived drop would be a nested call for each level. This one empties the blocks of a level before it drops the
+// level (`drops.rt`), so a deep tree takes no stack. Only a block for which there was no memory is dropped by a nested
+// call.
 impl Drop for ReactiveBlock {
     #[cycle(tree)]
     fn drop(mut self) {

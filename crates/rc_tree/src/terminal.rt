@@ -6,7 +6,7 @@ use crate::value::ReactiveValue;
 use rc_hir::Place;
 use rc_names::{BlockId, EvaluationOrder, List, Span};
 
-/// The block that a statement's jumps name.
+/// The block that the jumps to a statement name.
 #[derive(Clone, Copy, Debug, PartialEq, Eq)]
 pub struct ReactiveLabel {
     pub id: BlockId,
@@ -22,7 +22,7 @@ pub struct ReactiveTerminalStatement {
     pub label: Option<ReactiveLabel>,
 }
 
-/// A case of a switch; the default where `test` is none.
+/// A case of a switch; it is the default if `test` is `None`.
 #[cycle(tree)]
 #[derive(Drop)]
 pub struct ReactiveSwitchCase {

@@ -1,12 +1,14 @@
 //! The hooks of a rewriting walk.
 //!
-//! An implementation states what its hooks do as one record of steps, from the transform, the state and the part to the
-//! new ones, and each hook's contract is its step. The walks in `rewrite` are proved once, for whatever the steps are:
-//! what a walk gives is `specs/Rewrite.antt` at the transform's steps.
+//! An implementation states its hooks as one record of steps, which take the transform, the state and the part to the
+//! new ones. Each hook's contract is its step. The walks in `rewrite` are proved once for all steps: the result of a
+//! walk is that of `specs/Rewrite.antt` with the transform's steps.
+//!
+//! After oxc's visitors.rs.
 
 ghost use Rattle.std.specs.Prelude.{◌≡◌, ◌≤◌, List as Entries};
-ghost use Rattle.rc_hir.specs.declared.function.HirFunction.{HirFunction};
-ghost use Rattle.rc_tree.specs.Outcome.{Gives};
+ghost use Rattle.rc_hir.specs.Model.{HirFunction};
+ghost use Rattle.rc_tree.specs.Step.{IsStep};
 ghost use Rattle.rc_tree.specs.RewriteSteps.{EntersNoDeeper, RewriteSteps};
 ghost use Rattle.rc_tree.specs.declared.scope.PrunedReactiveScopeBlock.{size-PrunedReactiveScopeBlock};
 ghost use Rattle.rc_tree.specs.declared.scope.ReactiveScopeBlock.{size-ReactiveScopeBlock};
@@ -23,25 +25,25 @@ use crate::visitor::Enter;
 use rc_hir::{Environment, Fault, Place};
 use rc_names::{EvaluationOrder, List};
 
-/// What stands in place of a statement.
+/// The way in which a statement is replaced.
 #[derive(Drop)]
 pub enum Transformed<T> {
-    /// The statement.
+    /// The statement stays.
     Keep,
-    /// Nothing.
+    /// The statement is removed.
     Remove,
-    /// Another.
+    /// Another statement takes its place.
     Replace(T),
-    /// Others.
+    /// Other statements take its place, in order.
     ReplaceMany(List<T>),
 }
 
-/// The hooks of a rewriting walk. A hook that has nothing to do changes nothing and answers `()`, `Inside` or `Keep`.
+/// The hooks of a rewriting walk. A hook that has nothing to do changes nothing and returns `()`, `Inside` or `Keep`.
 ///
-/// No hook changes the functions of `env`, so that operands are the same during the whole walk. An enter hook makes its
-/// part no deeper, so that the walk ends.
+/// No hook changes the functions of `env`, so operands are the same during the whole walk. No enter hook makes its
+/// part deeper, so the walk ends.
 pub trait ReactiveFunctionTransform {
-    /// What the hooks share.
+    /// The state that the hooks share.
     type State;
 
     /// The step of each hook.
@@ -50,13 +52,13 @@ pub trait ReactiveFunctionTransform {
     /// The functions of `env`, whose contexts are operands.
     ghost functions: { Self → Entries HirFunction };
 
-    /// The tables that the tree's numbers name.
+    /// Returns the environment, whose tables the tree's numbers index.
     fn env(&self) -> &Environment
         ensures { result.now.functions ≡ functions self.now };
 
     /// Called at the id of each row and of each terminal.
     fn visit_id(&mut self, id: EvaluationOrder, state: &mut Self::State) -> Result<(), Fault>
-        ensures step { Gives (steps.visit_id id (self.old, state.old)) result (self.new, state.new) }
+        ensures step { IsStep (steps.visit_id id (self.old, state.old)) result (self.new, state.new) }
         ensures functions { functions self.new ≡ functions self.old };
 
     /// Called at each operand.
@@ -66,7 +68,7 @@ pub trait ReactiveFunctionTransform {
         place: &Place,
         state: &mut Self::State,
     ) -> Result<(), Fault>
-        ensures step { Gives (steps.visit_place id place.now (self.old, state.old)) result (self.new, state.new) }
+        ensures step { IsStep (steps.visit_place id place.now (self.old, state.old)) result (self.new, state.new) }
         ensures functions { functions self.new ≡ functions self.old };
 
     /// Called at each target.
@@ -76,7 +78,7 @@ pub trait ReactiveFunctionTransform {
         place: &Place,
         state: &mut Self::State,
     ) -> Result<(), Fault>
-        ensures step { Gives (steps.visit_lvalue id place.now (self.old, state.old)) result (self.new, state.new) }
+        ensures step { IsStep (steps.visit_lvalue id place.now (self.old, state.old)) result (self.new, state.new) }
         ensures functions { functions self.new ≡ functions self.old };
 
     /// Called before a row, which it may change, but not make deeper.
@@ -85,7 +87,7 @@ pub trait ReactiveFunctionTransform {
         instruction: &mut ReactiveInstruction,
         state: &mut Self::State,
     ) -> Result<Enter, Fault>
-        ensures step { Gives (steps.enter_instruction (self.old, state.old) instruction.old) result
+        ensures step { IsStep (steps.enter_instruction (self.old, state.old) instruction.old) result
             ((self.new, state.new), instruction.new) }
         ensures functions { functions self.new ≡ functions self.old }
         ensures no_deeper { size-ReactiveInstruction instruction.new ≤ size-ReactiveInstruction instruction.old };
@@ -96,7 +98,7 @@ pub trait ReactiveFunctionTransform {
         instruction: &mut ReactiveInstruction,
         state: &mut Self::State,
     ) -> Result<(), Fault>
-        ensures step { Gives (steps.leave_instruction (self.old, state.old) instruction.old) result
+        ensures step { IsStep (steps.leave_instruction (self.old, state.old) instruction.old) result
             ((self.new, state.new), instruction.new) }
         ensures functions { functions self.new ≡ functions self.old };
 
@@ -107,7 +109,7 @@ pub trait ReactiveFunctionTransform {
         value: &mut ReactiveValue,
         state: &mut Self::State,
     ) -> Result<Enter, Fault>
-        ensures step { Gives (steps.enter_value id (self.old, state.old) value.old) result
+        ensures step { IsStep (steps.enter_value id (self.old, state.old) value.old) result
             ((self.new, state.new), value.new) }
         ensures functions { functions self.new ≡ functions self.old }
         ensures no_deeper { size-ReactiveValue value.new ≤ size-ReactiveValue value.old };
@@ -119,7 +121,7 @@ pub trait ReactiveFunctionTransform {
         value: &mut ReactiveValue,
         state: &mut Self::State,
     ) -> Result<(), Fault>
-        ensures step { Gives (steps.leave_value id (self.old, state.old) value.old) result
+        ensures step { IsStep (steps.leave_value id (self.old, state.old) value.old) result
             ((self.new, state.new), value.new) }
         ensures functions { functions self.new ≡ functions self.old };
 
@@ -129,7 +131,7 @@ pub trait ReactiveFunctionTransform {
         stmt: &mut ReactiveTerminalStatement,
         state: &mut Self::State,
     ) -> Result<Enter, Fault>
-        ensures step { Gives (steps.enter_terminal (self.old, state.old) stmt.old) result
+        ensures step { IsStep (steps.enter_terminal (self.old, state.old) stmt.old) result
             ((self.new, state.new), stmt.new) }
         ensures functions { functions self.new ≡ functions self.old }
         ensures no_deeper { size-ReactiveTerminalStatement stmt.new ≤ size-ReactiveTerminalStatement stmt.old };
@@ -140,7 +142,7 @@ pub trait ReactiveFunctionTransform {
         stmt: &mut ReactiveTerminalStatement,
         state: &mut Self::State,
     ) -> Result<(), Fault>
-        ensures step { Gives (steps.leave_terminal (self.old, state.old) stmt.old) result
+        ensures step { IsStep (steps.leave_terminal (self.old, state.old) stmt.old) result
             ((self.new, state.new), stmt.new) }
         ensures functions { functions self.new ≡ functions self.old };
 
@@ -150,7 +152,7 @@ pub trait ReactiveFunctionTransform {
         scope: &mut ReactiveScopeBlock,
         state: &mut Self::State,
     ) -> Result<Enter, Fault>
-        ensures step { Gives (steps.enter_scope (self.old, state.old) scope.old) result
+        ensures step { IsStep (steps.enter_scope (self.old, state.old) scope.old) result
             ((self.new, state.new), scope.new) }
         ensures functions { functions self.new ≡ functions self.old }
         ensures no_deeper { size-ReactiveScopeBlock scope.new ≤ size-ReactiveScopeBlock scope.old };
@@ -161,7 +163,7 @@ pub trait ReactiveFunctionTransform {
         scope: &mut ReactiveScopeBlock,
         state: &mut Self::State,
     ) -> Result<(), Fault>
-        ensures step { Gives (steps.leave_scope (self.old, state.old) scope.old) result
+        ensures step { IsStep (steps.leave_scope (self.old, state.old) scope.old) result
             ((self.new, state.new), scope.new) }
         ensures functions { functions self.new ≡ functions self.old };
 
@@ -171,7 +173,7 @@ pub trait ReactiveFunctionTransform {
         scope: &mut PrunedReactiveScopeBlock,
         state: &mut Self::State,
     ) -> Result<Enter, Fault>
-        ensures step { Gives (steps.enter_pruned_scope (self.old, state.old) scope.old) result
+        ensures step { IsStep (steps.enter_pruned_scope (self.old, state.old) scope.old) result
             ((self.new, state.new), scope.new) }
         ensures functions { functions self.new ≡ functions self.old }
         ensures no_deeper { size-PrunedReactiveScopeBlock scope.new ≤ size-PrunedReactiveScopeBlock scope.old };
@@ -182,7 +184,7 @@ pub trait ReactiveFunctionTransform {
         scope: &mut PrunedReactiveScopeBlock,
         state: &mut Self::State,
     ) -> Result<(), Fault>
-        ensures step { Gives (steps.leave_pruned_scope (self.old, state.old) scope.old) result
+        ensures step { IsStep (steps.leave_pruned_scope (self.old, state.old) scope.old) result
             ((self.new, state.new), scope.new) }
         ensures functions { functions self.new ≡ functions self.old };
 
@@ -192,7 +194,7 @@ pub trait ReactiveFunctionTransform {
         block: &mut ReactiveBlock,
         state: &mut Self::State,
     ) -> Result<Enter, Fault>
-        ensures step { Gives (steps.enter_block (self.old, state.old) block.old) result
+        ensures step { IsStep (steps.enter_block (self.old, state.old) block.old) result
             ((self.new, state.new), block.new) }
         ensures functions { functions self.new ≡ functions self.old }
         ensures no_deeper { size-ReactiveBlock block.new ≤ size-ReactiveBlock block.old };
@@ -203,47 +205,47 @@ pub trait ReactiveFunctionTransform {
         block: &mut ReactiveBlock,
         state: &mut Self::State,
     ) -> Result<(), Fault>
-        ensures step { Gives (steps.leave_block (self.old, state.old) block.old) result
+        ensures step { IsStep (steps.leave_block (self.old, state.old) block.old) result
             ((self.new, state.new), block.new) }
         ensures functions { functions self.new ≡ functions self.old };
 
-    /// Called last at a row that is a statement, entered or not: what stands in its place.
+    /// Called last at a row that is a statement, entered or not; returns how the statement is replaced.
     fn transform_instruction(
         &mut self,
         instruction: &mut ReactiveInstruction,
         state: &mut Self::State,
     ) -> Result<Transformed<ReactiveStatement>, Fault>
-        ensures step { Gives (steps.transform_instruction (self.old, state.old) instruction.old) result
+        ensures step { IsStep (steps.transform_instruction (self.old, state.old) instruction.old) result
             ((self.new, state.new), instruction.new) }
         ensures functions { functions self.new ≡ functions self.old };
 
-    /// Called last at a terminal that is a statement, entered or not: what stands in its place.
+    /// Called last at a terminal that is a statement, entered or not; returns how the statement is replaced.
     fn transform_terminal(
         &mut self,
         stmt: &mut ReactiveTerminalStatement,
         state: &mut Self::State,
     ) -> Result<Transformed<ReactiveStatement>, Fault>
-        ensures step { Gives (steps.transform_terminal (self.old, state.old) stmt.old) result
+        ensures step { IsStep (steps.transform_terminal (self.old, state.old) stmt.old) result
             ((self.new, state.new), stmt.new) }
         ensures functions { functions self.new ≡ functions self.old };
 
-    /// Called last at a scope block that is a statement, entered or not: what stands in its place.
+    /// Called last at a scope block that is a statement, entered or not; returns how the statement is replaced.
     fn transform_scope(
         &mut self,
         scope: &mut ReactiveScopeBlock,
         state: &mut Self::State,
     ) -> Result<Transformed<ReactiveStatement>, Fault>
-        ensures step { Gives (steps.transform_scope (self.old, state.old) scope.old) result
+        ensures step { IsStep (steps.transform_scope (self.old, state.old) scope.old) result
             ((self.new, state.new), scope.new) }
         ensures functions { functions self.new ≡ functions self.old };
 
-    /// Called last at a pruned scope block that is a statement, entered or not: what stands in its place.
+    /// Called last at a pruned scope block that is a statement, entered or not; returns how the statement is replaced.
     fn transform_pruned_scope(
         &mut self,
         scope: &mut PrunedReactiveScopeBlock,
         state: &mut Self::State,
     ) -> Result<Transformed<ReactiveStatement>, Fault>
-        ensures step { Gives (steps.transform_pruned_scope (self.old, state.old) scope.old) result
+        ensures step { IsStep (steps.transform_pruned_scope (self.old, state.old) scope.old) result
             ((self.new, state.new), scope.new) }
         ensures functions { functions self.new ≡ functions self.old };
 

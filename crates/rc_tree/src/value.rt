@@ -3,7 +3,7 @@
 use rc_hir::{InstructionValue, LogicalOperator, Place};
 use rc_names::{Boxed, EvaluationOrder, List, Span};
 
-/// A row: its value goes to its target, where it has one.
+/// A row: it computes a value for its target, if it has one.
 #[cycle(value)]
 #[derive(Drop)]
 pub struct ReactiveInstruction {
@@ -13,7 +13,7 @@ pub struct ReactiveInstruction {
     pub span: Option<Span>,
 }
 
-/// What a row computes: an instruction, or an expression over other values.
+/// The computation of a row: an instruction, or an expression over other values.
 #[cycle(value)]
 #[derive(Drop)]
 pub enum ReactiveValue {
@@ -34,7 +34,7 @@ pub enum ReactiveValue {
         id: EvaluationOrder,
         value: Boxed<ReactiveValue>,
     },
-    /// A member or call behind `?.`, where `optional` tells whether the marks stand at it.
+    /// A member or a call in an optional chain; `optional` says whether it has its own `?.`.
     OptionalExpression {
         value: Boxed<ReactiveValue>,
         optional: bool,

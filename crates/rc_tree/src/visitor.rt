@@ -1,13 +1,14 @@
 //! The hooks of a read walk.
 //!
-//! An implementation states what its hooks do as one record of steps, and each hook's contract is its step. The walks
-//! in `read` are proved once, for whatever the steps are: what a walk gives is `specs/Read.antt` at the visitor's
-//! steps.
+//! An implementation states its hooks as one record of steps, and each hook's contract is its step. The walks in
+//! `read` are proved once for all steps: the result of a walk is that of `specs/Read.antt` with the visitor's steps.
+//!
+//! After oxc's visitors.rs.
 
 ghost use Rattle.std.specs.Prelude.{◌≡◌, List as Entries};
-ghost use Rattle.rc_hir.specs.declared.function.HirFunction.{HirFunction};
-ghost use Rattle.rc_tree.specs.Outcome.{Gives};
-ghost use Rattle.rc_tree.specs.Steps.{ReadSteps};
+ghost use Rattle.rc_hir.specs.Model.{HirFunction};
+ghost use Rattle.rc_tree.specs.Step.{IsStep};
+ghost use Rattle.rc_tree.specs.ReadSteps.{ReadSteps};
 
 use crate::scope::{PrunedReactiveScopeBlock, ReactiveScopeBlock};
 use crate::statement::ReactiveBlock;
@@ -16,18 +17,18 @@ use crate::value::{ReactiveInstruction, ReactiveValue};
 use rc_hir::{Environment, Fault, Place};
 use rc_names::EvaluationOrder;
 
-/// What an enter hook answers: whether the inside of its part is walked.
+/// The result of an enter hook, which says whether the inside of its part is walked.
 #[derive(Clone, Copy, Debug, PartialEq, Eq)]
 pub enum Enter {
     /// The inside is walked, and then the leave hook is called.
     Inside,
-    /// Neither.
+    /// The inside is skipped, and the leave hook isn't called.
     Skip,
 }
 
-/// The hooks of a read walk. A hook that has nothing to do changes nothing and answers `()` or `Inside`.
+/// The hooks of a read walk. A hook that has nothing to do changes nothing and returns `()` or `Inside`.
 pub trait ReactiveFunctionVisitor {
-    /// What the hooks collect.
+    /// The state that the hooks share.
     type State;
 
     /// The step of each hook.
@@ -36,13 +37,13 @@ pub trait ReactiveFunctionVisitor {
     /// The functions of `env`, whose contexts are operands.
     ghost functions: { Self → Entries HirFunction };
 
-    /// The tables that the tree's numbers name.
+    /// Returns the environment, whose tables the tree's numbers index.
     fn env(&self) -> &Environment
         ensures { result.now.functions ≡ functions self.now };
 
     /// Called at the id of each row and of each terminal.
     fn visit_id(&self, id: EvaluationOrder, state: &mut Self::State) -> Result<(), Fault>
-        ensures { Gives ((steps self.now).visit_id id state.old) result state.new };
+        ensures { IsStep ((steps self.now).visit_id id state.old) result state.new };
 
     /// Called at each operand.
     fn visit_place(
@@ -51,7 +52,7 @@ pub trait ReactiveFunctionVisitor {
         place: &Place,
         state: &mut Self::State,
     ) -> Result<(), Fault>
-        ensures { Gives ((steps self.now).visit_place id place.now state.old) result state.new };
+        ensures { IsStep ((steps self.now).visit_place id place.now state.old) result state.new };
 
     /// Called at each target.
     fn visit_lvalue(
@@ -60,11 +61,11 @@ pub trait ReactiveFunctionVisitor {
         place: &Place,
         state: &mut Self::State,
     ) -> Result<(), Fault>
-        ensures { Gives ((steps self.now).visit_lvalue id place.now state.old) result state.new };
+        ensures { IsStep ((steps self.now).visit_lvalue id place.now state.old) result state.new };
 
     /// Called at each parameter of a graph's function.
     fn visit_param(&self, place: &Place, state: &mut Self::State) -> Result<(), Fault>
-        ensures { Gives ((steps self.now).visit_param place.now state.old) result state.new };
+        ensures { IsStep ((steps self.now).visit_param place.now state.old) result state.new };
 
     /// Called before a row.
     fn enter_instruction(
@@ -72,7 +73,7 @@ pub trait ReactiveFunctionVisitor {
         instruction: &ReactiveInstruction,
         state: &mut Self::State,
     ) -> Result<Enter, Fault>
-        ensures { Gives ((steps self.now).enter_instruction instruction.now state.old) result state.new };
+        ensures { IsStep ((steps self.now).enter_instruction instruction.now state.old) result state.new };
 
     /// Called after a row that was entered.
     fn leave_instruction(
@@ -80,7 +81,7 @@ pub trait ReactiveFunctionVisitor {
         instruction: &ReactiveInstruction,
         state: &mut Self::State,
     ) -> Result<(), Fault>
-        ensures { Gives ((steps self.now).leave_instruction instruction.now state.old) result state.new };
+        ensures { IsStep ((steps self.now).leave_instruction instruction.now state.old) result state.new };
 
     /// Called before a value.
     fn enter_value(
@@ -89,7 +90,7 @@ pub trait ReactiveFunctionVisitor {
         value: &ReactiveValue,
         state: &mut Self::State,
     ) -> Result<Enter, Fault>
-        ensures { Gives ((steps self.now).enter_value id value.now state.old) result state.new };
+        ensures { IsStep ((steps self.now).enter_value id value.now state.old) result state.new };
 
     /// Called after a value that was entered.
     fn leave_value(
@@ -98,7 +99,7 @@ pub trait ReactiveFunctionVisitor {
         value: &ReactiveValue,
         state: &mut Self::State,
     ) -> Result<(), Fault>
-        ensures { Gives ((steps self.now).leave_value id value.now state.old) result state.new };
+        ensures { IsStep ((steps self.now).leave_value id value.now state.old) result state.new };
 
     /// Called before a terminal.
     fn enter_terminal(
@@ -106,7 +107,7 @@ pub trait ReactiveFunctionVisitor {
         stmt: &ReactiveTerminalStatement,
         state: &mut Self::State,
     ) -> Result<Enter, Fault>
-        ensures { Gives ((steps self.now).enter_terminal stmt.now state.old) result state.new };
+        ensures { IsStep ((steps self.now).enter_terminal stmt.now state.old) result state.new };
 
     /// Called after a terminal that was entered.
     fn leave_terminal(
@@ -114,7 +115,7 @@ pub trait ReactiveFunctionVisitor {
         stmt: &ReactiveTerminalStatement,
         state: &mut Self::State,
     ) -> Result<(), Fault>
-        ensures { Gives ((steps self.now).leave_terminal stmt.now state.old) result state.new };
+        ensures { IsStep ((steps self.now).leave_terminal stmt.now state.old) result state.new };
 
     /// Called before a scope block.
     fn enter_scope(
@@ -122,11 +123,11 @@ pub trait ReactiveFunctionVisitor {
         scope: &ReactiveScopeBlock,
         state: &mut Self::State,
     ) -> Result<Enter, Fault>
-        ensures { Gives ((steps self.now).enter_scope scope.now state.old) result state.new };
+        ensures { IsStep ((steps self.now).enter_scope scope.now state.old) result state.new };
 
     /// Called after a scope block that was entered.
     fn leave_scope(&self, scope: &ReactiveScopeBlock, state: &mut Self::State) -> Result<(), Fault>
-        ensures { Gives ((steps self.now).leave_scope scope.now state.old) result state.new };
+        ensures { IsStep ((steps self.now).leave_scope scope.now state.old) result state.new };
 
     /// Called before a pruned scope block.
     fn enter_pruned_scope(
@@ -134,7 +135,7 @@ pub trait ReactiveFunctionVisitor {
         scope: &PrunedReactiveScopeBlock,
         state: &mut Self::State,
     ) -> Result<Enter, Fault>
-        ensures { Gives ((steps self.now).enter_pruned_scope scope.now state.old) result state.new };
+        ensures { IsStep ((steps self.now).enter_pruned_scope scope.now state.old) result state.new };
 
     /// Called after a pruned scope block that was entered.
     fn leave_pruned_scope(
@@ -142,13 +143,13 @@ pub trait ReactiveFunctionVisitor {
         scope: &PrunedReactiveScopeBlock,
         state: &mut Self::State,
     ) -> Result<(), Fault>
-        ensures { Gives ((steps self.now).leave_pruned_scope scope.now state.old) result state.new };
+        ensures { IsStep ((steps self.now).leave_pruned_scope scope.now state.old) result state.new };
 
     /// Called before a block.
     fn enter_block(&self, block: &ReactiveBlock, state: &mut Self::State) -> Result<Enter, Fault>
-        ensures { Gives ((steps self.now).enter_block block.now state.old) result state.new };
+        ensures { IsStep ((steps self.now).enter_block block.now state.old) result state.new };
 
     /// Called after a block that was entered.
     fn leave_block(&self, block: &ReactiveBlock, state: &mut Self::State) -> Result<(), Fault>
-        ensures { Gives ((steps self.now).leave_block block.now state.old) result state.new };
+        ensures { IsStep ((steps self.now).leave_block block.now state.old) result state.new };
 }

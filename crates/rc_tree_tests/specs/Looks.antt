@@ -1,12 +1,12 @@
--- An enter step that leaves its part as it is, whatever it makes of the world: it makes no part deeper.
+-- An enter step that doesn't change its part, whatever it does with the world, doesn't make the part deeper.
 use Rattle.std.proofs.Common.{◌≡◌, ◌∙◌, ◌≤◌, ℕ, Ok, arith, subst, sym}
 use Rattle.rc_tree.specs.NoDeeper.{same_part}
-use Rattle.rc_tree.specs.Run.{Hook}
+use Rattle.rc_tree.specs.Fuel.{Hook}
 use Rattle.rc_tree.specs.RewriteSteps.{NoDeeper}
-use Rattle.rc_tree.specs.declared.visitor.Enter.{Enter}
+use Rattle.rc_tree.specs.Model.{Enter}
 
 module _ {W X : Type 0} where
-  -- the step answers, and hands its part on
+  -- the step succeeds, and its part stays
   abbrev pub Looks : Hook W X Enter → Type 0
   Looks step = (w : W) (x : X) → (answer : Enter) × (w1 : W) × (step w x ≡ Ok (answer, (w1, x)))
 

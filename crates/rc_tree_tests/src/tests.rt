@@ -1,4 +1,4 @@
-//! Walks and copies of trees that are written here, against visits written by hand.
+//! Walks and copies of trees that are written here, compared with visits that are written by hand.
 
 mod copies;
 mod drops;

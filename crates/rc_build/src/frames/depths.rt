@@ -1,8 +1,8 @@
 //! At which depth a block has a frame.
 
 ghost use Rattle.std.specs.Prelude.{◌≡◌, IfOk, if◌then◌else◌};
-ghost use Rattle.rc_names.specs.declared.numbers.BlockId.{BlockId};
-ghost use Rattle.rc_build.specs.Depths as spec;
+ghost use Rattle.rc_names.specs.Numbers.{BlockId};
+ghost use Rattle.rc_build.specs.inside.Depths as spec;
 
 use rc_names::{BlockId, Keyed};
 use std::alloc::{AllocError, Global};

@@ -1,19 +1,19 @@
 //! The frames around a list, in which a block is found without a look through the others.
 
 ghost use Rattle.std.specs.Prelude.{◌≡◌, [], ◌∷◌, Some, List as Items, OnOk, OnErr};
-ghost use Rattle.rc_names.specs.declared.numbers.BlockId.{BlockId};
-ghost use Rattle.rc_build.specs.Depths as depths;
+ghost use Rattle.rc_names.specs.Numbers.{BlockId};
+ghost use Rattle.rc_build.specs.inside.Depths as depths;
 ghost use Rattle.rc_runs.specs.Frames as spec;
 
 use crate::frames::depths::Depths;
 use rc_names::{BlockId, List};
-use rc_runs::{Frame, Way};
+use rc_runs::{BreakResult, Frame};
 use std::alloc::{AllocError, Global};
 use std::marker::Model;
 
-/// A frame, and what it covers of the frames outside.
+/// A frame, and the depths that it covers of the frames outside.
 #[derive(Clone, Copy)]
-struct Held {
+struct Entry {
     frame: Frame,
     /// The depth of the innermost loop.
     outer_loop: usize,
@@ -30,7 +30,7 @@ struct Held {
 /// when it is left; so no look-up goes through the frames.
 #[derive(Drop)]
 pub struct FrameStack {
-    held: List<Held>,
+    entries: List<Entry>,
     breaks: Depths,
     continues: Depths,
 }
@@ -38,13 +38,13 @@ pub struct FrameStack {
 impl Model for FrameStack {
     ghost use Rattle.std.specs.Prelude.{List as Items, map, reverse};
     ghost use Rattle.rc_runs.specs.declared.frames.Frame.{Frame};
-    ghost use Rattle.rc_build.specs.Depths.{AreDepths, frame_of};
+    ghost use Rattle.rc_build.specs.inside.Depths.{AreDepths, frame_of};
 
     ghost Value = { Items Frame };
 
-    ghost view = { λ it. map frame_of (reverse it.held) };
+    ghost view = { λ it. map frame_of (reverse it.entries) };
 
-    ghost invariant = { λ it. AreDepths (reverse it.held) it.breaks it.continues };
+    ghost invariant = { λ it. AreDepths (reverse it.entries) it.breaks it.continues };
 }
 
 impl FrameStack {
@@ -53,22 +53,22 @@ impl FrameStack {
         ensures { result ≡ [] }
     {
         FrameStack {
-            held: List::new(alloc),
+            entries: List::new(alloc),
             breaks: Depths::new(alloc),
             continues: Depths::new(alloc),
         }
     }
 
-    /// Puts a frame inside the others. The only error is want of memory, after which nothing changed.
+    /// Puts a frame inside the others. The only error is out of memory, after which nothing changed.
     pub fn push(&mut self, frame: Frame) -> Result<(), AllocError>
         ensures ok { OnOk result (self.new ≡ frame ∷ self.old) }
         ensures err { OnErr result (self.new ≡ self.old) }
     {
-        let held = self.hold(frame);
+        let entry = self.entry_of(frame);
         self.breaks.make_room(Some(frame.break_block()))?;
         self.continues.make_room(frame.continue_block())?;
-        self.held.push(held)?;
-        let depth = self.held.len();
+        self.entries.push(entry)?;
+        let depth = self.entries.len();
         self.breaks.set(Some(frame.break_block()), depth);
         self.continues.set(frame.continue_block(), depth);
         Ok(())
@@ -79,44 +79,66 @@ impl FrameStack {
         ensures frames { (frame : Frame) (outer : Items Frame) → self.old ≡ frame ∷ outer → self.new ≡ outer }
         ensures empty { self.old ≡ [] → self.new ≡ [] }
     {
-        let Some(held) = self.held.pop() else {
+        let Some(entry) = self.entries.pop() else {
             return;
         };
         self.breaks
-            .set(Some(held.frame.break_block()), held.outer_break);
+            .set(Some(entry.frame.break_block()), entry.outer_break);
         self.continues
-            .set(held.frame.continue_block(), held.outer_continue);
+            .set(entry.frame.continue_block(), entry.outer_continue);
+    }
+
+    /// Puts the frame of a part inside the others, where the statement's fallthrough is opened. The only error is out
+    /// of memory, after which nothing changed.
+    pub fn enter(&mut self, frame: Frame, opened: Option<BlockId>) -> Result<(), AllocError>
+        ensures ok { OnOk result (self.new ≡ depths.frames_inside opened frame self.old) }
+        ensures err { OnErr result (self.new ≡ self.old) }
+    {
+        match opened {
+            Some(_) => self.push(frame),
+            None => Ok(()),
+        }
+    }
+
+    /// Takes off the frame of a part that was entered.
+    pub fn leave(&mut self, opened: Option<BlockId>)
+        ensures { (frame : Frame) (outer : Items Frame) → self.old ≡ depths.frames_inside opened frame outer →
+            self.new ≡ outer }
+    {
+        if opened.is_some() {
+            self.pop();
+        }
     }
 
     /// Whether the block is the break block or the continue block of a frame.
-    pub fn is_live(&self, key: BlockId) -> bool
-        ensures { result ≡ spec.is_live self.now key }
+    pub fn is_jump_target(&self, key: BlockId) -> bool
+        ensures { result ≡ spec.is_jump_target self.now key }
     {
         self.breaks.at(key) != 0 || self.continues.at(key) != 0
     }
 
     /// What becomes of a break to the block.
-    pub fn break_way(&self, key: BlockId) -> Way
-        ensures { result ≡ spec.break_way self.now key }
+    pub fn resolve_break(&self, key: BlockId) -> BreakResult
+        ensures { result ≡ spec.resolve_break self.now key }
     {
         let depth = self.breaks.at(key);
         if depth == 0 {
-            return Way::NoFrame;
+            return BreakResult::NoFrame;
         }
-        match self.held.get(depth - 1) {
-            Some(held) => held
+        match self.entries.get(depth - 1) {
+            Some(entry) => entry
                 .frame
-                .way_out(depth == self.held.len(), depth < self.loop_depth()),
-            None => Way::NoFrame,
+                .resolve_break(depth == self.entries.len(), depth < self.loop_depth()),
+            None => BreakResult::NoFrame,
         }
     }
 
-    /// The frame with what it covers of these.
-    fn hold(&self, frame: Frame) -> Held
+    /// The entry of a frame that is put inside these.
+    fn entry_of(&self, frame: Frame) -> Entry
         ensures frame { result.frame ≡ frame }
-        ensures held { depths.IsHeld result self.now }
+        ensures outer { depths.HasOuterDepths result self.now }
     {
-        Held {
+        Entry {
             frame,
             outer_loop: self.loop_depth(),
             outer_break: self.breaks.at(frame.break_block()),
@@ -128,11 +150,11 @@ impl FrameStack {
     fn loop_depth(&self) -> usize
         ensures { result ≡ depths.loop_depth self.now }
     {
-        match self.held.as_slice().last() {
-            Some(held) => if held.frame.is_loop() {
-                self.held.len()
+        match self.entries.as_slice().last() {
+            Some(entry) => if entry.frame.is_loop() {
+                self.entries.len()
             } else {
-                held.outer_loop
+                entry.outer_loop
             },
             None => 0,
         }

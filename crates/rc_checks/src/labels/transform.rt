@@ -1,7 +1,7 @@
 //! Label pruning as a transform of the rewriting walk.
 
 ghost use Rattle.std.specs.Prelude.{◌≡◌};
-ghost use Rattle.rc_checks.specs.LabelSteps.{label_steps, taken, without};
+ghost use Rattle.rc_checks.specs.Labels.Steps.{label_steps, statements_taken, without};
 
 use crate::labels::targets::{mark, names_label, note_target};
 use rc_hir::Fault;
@@ -59,7 +59,7 @@ fn take_statements(
     stmt: &mut ReactiveTerminalStatement,
     targets: &KeySet<BlockId>,
 ) -> Option<List<ReactiveStatement>>
-    ensures taken { result ≡ taken targets.now stmt.old }
+    ensures statements_taken { result ≡ statements_taken targets.now stmt.old }
     ensures left { stmt.new ≡ without result stmt.old }
 {
     if names_label(targets, &stmt.label) {

@@ -1,7 +1,7 @@
 //! The scopes of the scope blocks around a statement, in which a scope is found without a look through them.
 
 ghost use Rattle.std.specs.Prelude.{◌≡◌, [], ◌∷◌, drop, OnErr, OnOk};
-ghost use Rattle.rc_checks.specs.Membership.{is_among};
+ghost use Rattle.rc_names.specs.Numbers.{is_among};
 
 use rc_names::{Keyed, List, ScopeId};
 use std::alloc::{AllocError, Global};
@@ -19,14 +19,14 @@ pub struct OpenScopes {
 
 impl Model for OpenScopes {
     ghost use Rattle.std.specs.Prelude.{List as Entries, reverse};
-    ghost use Rattle.rc_checks.specs.OpenScopes.{ArePlaces};
-    ghost use Rattle.rc_names.specs.declared.numbers.ScopeId.{ScopeId};
+    ghost use Rattle.rc_checks.specs.inside.OpenScopes.{HasPlaces};
+    ghost use Rattle.rc_names.specs.Numbers.{ScopeId, is_among};
 
     ghost Value = { Entries ScopeId };
 
     ghost view = { λ it. reverse it.scopes };
 
-    ghost invariant = { λ it. ArePlaces (reverse it.scopes) it.places };
+    ghost invariant = { λ it. HasPlaces (reverse it.scopes) it.places };
 }
 
 impl OpenScopes {
@@ -53,7 +53,7 @@ impl OpenScopes {
         }
     }
 
-    /// Opens a scope inside the others. The only error is want of memory, after which nothing changed.
+    /// Opens a scope inside the others. The only error is out of memory, after which nothing changed.
     pub fn push(&mut self, scope: ScopeId) -> Result<(), AllocError>
         ensures ok { OnOk result (self.new ≡ scope ∷ self.old) }
         ensures err { OnErr result (self.new ≡ self.old) }

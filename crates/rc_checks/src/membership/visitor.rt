@@ -2,7 +2,7 @@
 
 ghost use Rattle.std.specs.Prelude.{◌≡◌};
 ghost use Rattle.rc_checks.specs.Membership as spec;
-ghost use Rattle.rc_checks.specs.MembershipSteps.{membership_steps};
+ghost use Rattle.rc_checks.specs.inside.MembershipSteps.{membership_steps};
 
 use crate::membership::open_scopes::OpenScopes;
 use rc_hir::{Environment, Fault, MutableRange, Place, TableName};
@@ -44,7 +44,7 @@ impl<'a> Membership<'a> {
     ) -> Result<Option<ScopeId>, Fault>
         ensures { result
             ≡ spec.operand_outside self.now.env.now self.now.blocks.now
-            (record { id = id; place = place.now; around = around.now }) }
+            (record { id = id; place = place.now; enclosing = around.now }) }
     {
         let Some(scope) = scope_of(self.env, place.identifier)? else {
             return Ok(None);

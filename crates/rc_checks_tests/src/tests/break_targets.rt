@@ -19,7 +19,7 @@ fn check(alloc: Global, body: List<ReactiveStatement>) -> Result<(), Fault> {
 
 fn bad(target: u32) -> Result<(), Fault> {
     Err(Fault::BadTarget {
-        target: BlockId(target),
+        target: BlockId::new(target),
     })
 }
 
@@ -46,9 +46,9 @@ fn check_continue(alloc: Global) -> Result<(), Fault> {
 /// A break that has the label that it names.
 fn check_own_label(alloc: Global) -> Result<(), Fault> {
     let terminal = ReactiveTerminal::Break {
-        target: BlockId(7),
+        target: BlockId::new(7),
         target_kind: Labeled,
-        id: EvaluationOrder(1),
+        id: EvaluationOrder::new(1),
     };
     check(alloc, only(alloc, statement(alloc, terminal, Some(7))?)?)
 }

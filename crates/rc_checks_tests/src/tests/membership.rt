@@ -12,10 +12,10 @@ use std::alloc::{AllocError, Global};
 /// An identifier in that scope, where it is in one.
 fn identifier(number: u32, scope: Option<ScopeId>) -> Identifier {
     Identifier {
-        declaration_id: DeclarationId(number),
+        declaration_id: DeclarationId::new(number),
         name: None,
         scope,
-        type_: TypeId(0),
+        type_: TypeId::new(0),
         span: None,
     }
 }
@@ -24,8 +24,8 @@ fn identifier(number: u32, scope: Option<ScopeId>) -> Identifier {
 fn scope_of(alloc: Global, start: u32, end: u32) -> ReactiveScope {
     ReactiveScope {
         range: MutableRange {
-            start: EvaluationOrder(start),
-            end: EvaluationOrder(end),
+            start: EvaluationOrder::new(start),
+            end: EvaluationOrder::new(end),
         },
         dependencies: List::new(alloc),
         declarations: List::new(alloc),
@@ -39,8 +39,8 @@ fn scope_of(alloc: Global, start: u32, end: u32) -> ReactiveScope {
 fn environment(alloc: Global) -> Result<Environment, Fault> {
     let mut env = Environment::empty(alloc);
     env.identifiers.push(identifier(0, None))?;
-    env.identifiers.push(identifier(1, Some(ScopeId(0))))?;
-    env.identifiers.push(identifier(2, Some(ScopeId(7))))?;
+    env.identifiers.push(identifier(1, Some(ScopeId::new(0))))?;
+    env.identifiers.push(identifier(2, Some(ScopeId::new(7))))?;
     env.scopes.push(scope_of(alloc, 1, 6))?;
     Ok(env)
 }
@@ -53,8 +53,8 @@ fn check(alloc: Global, body: List<ReactiveStatement>) -> Result<(), Fault> {
 
 fn completed(id: u32) -> Result<(), Fault> {
     Err(Fault::ScopeCompleted {
-        id: EvaluationOrder(id),
-        scope: ScopeId(0),
+        id: EvaluationOrder::new(id),
+        scope: ScopeId::new(0),
     })
 }
 

@@ -12,7 +12,7 @@ use std::alloc::{AllocError, Global};
 /// A place that is read.
 fn place(number: u32) -> Place {
     Place {
-        identifier: IdentifierId(number),
+        identifier: IdentifierId::new(number),
         effect: Effect::Read,
         reactive: false,
         span: None,
@@ -30,7 +30,7 @@ fn loaded(number: u32) -> ReactiveValue {
 /// A row without a target.
 fn row_of(id: u32, value: ReactiveValue) -> ReactiveStatement {
     ReactiveStatement::Instruction(ReactiveInstruction {
-        id: EvaluationOrder(id),
+        id: EvaluationOrder::new(id),
         lvalue: None,
         value,
         span: None,
@@ -57,7 +57,7 @@ pub fn statement(
     let stmt = ReactiveTerminalStatement {
         terminal,
         label: label.map(|number| ReactiveLabel {
-            id: BlockId(number),
+            id: BlockId::new(number),
             implicit: false,
         }),
     };
@@ -77,9 +77,9 @@ pub fn break_to(
     target_kind: ReactiveTerminalTargetKind,
 ) -> Result<ReactiveStatement, AllocError> {
     let terminal = ReactiveTerminal::Break {
-        target: BlockId(target),
+        target: BlockId::new(target),
         target_kind,
-        id: EvaluationOrder(id),
+        id: EvaluationOrder::new(id),
     };
     statement(alloc, terminal, None)
 }
@@ -87,9 +87,9 @@ pub fn break_to(
 /// A labeled continue.
 pub fn continue_to(alloc: Global, id: u32, target: u32) -> Result<ReactiveStatement, AllocError> {
     let terminal = ReactiveTerminal::Continue {
-        target: BlockId(target),
+        target: BlockId::new(target),
         target_kind: ReactiveTerminalTargetKind::Labeled,
-        id: EvaluationOrder(id),
+        id: EvaluationOrder::new(id),
     };
     statement(alloc, terminal, None)
 }
@@ -98,7 +98,7 @@ pub fn continue_to(alloc: Global, id: u32, target: u32) -> Result<ReactiveStatem
 pub fn return_of(alloc: Global, id: u32, number: u32) -> Result<ReactiveStatement, AllocError> {
     let terminal = ReactiveTerminal::Return {
         value: place(number),
-        id: EvaluationOrder(id),
+        id: EvaluationOrder::new(id),
     };
     statement(alloc, terminal, None)
 }
@@ -117,7 +117,7 @@ pub fn label_around(
 ) -> Result<ReactiveStatement, AllocError> {
     let terminal = ReactiveTerminal::Label {
         block: block(statements),
-        id: EvaluationOrder(id),
+        id: EvaluationOrder::new(id),
     };
     statement(alloc, terminal, label)
 }
@@ -133,7 +133,7 @@ pub fn if_then(
         test: place(0),
         consequent: block(statements),
         alternate: None,
-        id: EvaluationOrder(id),
+        id: EvaluationOrder::new(id),
     };
     statement(alloc, terminal, label)
 }
@@ -148,7 +148,7 @@ pub fn while_around(
     let terminal = ReactiveTerminal::While {
         test: loaded(0),
         loop_block: block(statements),
-        id: EvaluationOrder(id),
+        id: EvaluationOrder::new(id),
     };
     statement(alloc, terminal, Some(label))
 }
@@ -168,7 +168,7 @@ pub fn switch_around(
     let terminal = ReactiveTerminal::Switch {
         test: place(0),
         cases,
-        id: EvaluationOrder(id),
+        id: EvaluationOrder::new(id),
     };
     statement(alloc, terminal, Some(label))
 }
@@ -176,7 +176,7 @@ pub fn switch_around(
 /// A scope block around statements.
 pub fn scope_around(number: u32, statements: List<ReactiveStatement>) -> ReactiveStatement {
     ReactiveStatement::Scope(ReactiveScopeBlock {
-        scope: ScopeId(number),
+        scope: ScopeId::new(number),
         instructions: block(statements),
     })
 }
@@ -184,7 +184,7 @@ pub fn scope_around(number: u32, statements: List<ReactiveStatement>) -> Reactiv
 /// A pruned scope block around statements.
 pub fn pruned_scope_around(number: u32, statements: List<ReactiveStatement>) -> ReactiveStatement {
     ReactiveStatement::PrunedScope(PrunedReactiveScopeBlock {
-        scope: ScopeId(number),
+        scope: ScopeId::new(number),
         instructions: block(statements),
     })
 }

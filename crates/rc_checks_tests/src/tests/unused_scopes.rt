@@ -18,8 +18,8 @@ use std::test::Fail;
 fn unused(alloc: Global) -> ReactiveScope {
     ReactiveScope {
         range: MutableRange {
-            start: EvaluationOrder(1),
-            end: EvaluationOrder(8),
+            start: EvaluationOrder::new(1),
+            end: EvaluationOrder::new(8),
         },
         dependencies: List::new(alloc),
         declarations: List::new(alloc),
@@ -33,10 +33,10 @@ fn unused(alloc: Global) -> ReactiveScope {
 fn declaring(alloc: Global, owner: u32) -> Result<ReactiveScope, AllocError> {
     let mut scope = unused(alloc);
     scope.declarations.push(DeclarationEntry {
-        key: IdentifierId(1),
+        key: IdentifierId::new(1),
         value: ReactiveScopeDeclaration {
-            identifier: IdentifierId(1),
-            scope: ScopeId(owner),
+            identifier: IdentifierId::new(1),
+            scope: ScopeId::new(owner),
         },
     })?;
     Ok(scope)
@@ -203,7 +203,7 @@ fn a_declaration_of_its_own_keeps_a_scope(rt: HostRuntime) -> Result<(), Fail> {
 /// A scope with one reassignment.
 fn reassigning(alloc: Global) -> Result<ReactiveScope, AllocError> {
     let mut scope = unused(alloc);
-    scope.reassignments.push(IdentifierId(1))?;
+    scope.reassignments.push(IdentifierId::new(1))?;
     Ok(scope)
 }
 

@@ -1,7 +1,7 @@
 -- Kinds that call, that make functions, and that mark a place in the source.
 use Rattle.std.specs.Prelude.{[], ◌∷◌, Option, Some, codes}
 use Rattle.serde_json.specs.Data.{Data}
-use Rattle.rc_hir.specs.declared.instruction.InstructionValue.{InstructionValue}
+use Rattle.rc_hir.specs.Model.{InstructionValue}
 use Rattle.rc_hir.specs.declared.instruction.InstructionValue.TheVariants as kinds
 use Rattle.rc_doc.specs.Parts.{lowered_function_of}
 use Rattle.rc_doc.specs.Places.{argument_of, place_of, span_of}
@@ -59,7 +59,7 @@ debugger_of d = do
   span ← option_field span_of (codes "span") d
   Some (kinds.Debugger span)
 
--- where a memoization by hand begins
+-- the start of a memoization by hand
 unfoldable pub start_memoize_of : Data → Option InstructionValue
 start_memoize_of d = do
   _ ← only (codes "deps" ∷ codes "k" ∷ codes "manual_memo_id" ∷ codes "span" ∷ []) d
@@ -68,7 +68,7 @@ start_memoize_of d = do
   span ← option_field span_of (codes "span") d
   Some (kinds.StartMemoize manual_memo_id deps span)
 
--- where a memoization by hand ends
+-- the end of a memoization by hand
 unfoldable pub finish_memoize_of : Data → Option InstructionValue
 finish_memoize_of d = do
   _ ← only (codes "decl" ∷ codes "k" ∷ codes "manual_memo_id" ∷ codes "pruned" ∷ codes "span" ∷ []) d

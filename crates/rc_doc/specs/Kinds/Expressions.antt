@@ -1,7 +1,7 @@
 -- Kinds that compute a value from texts and operands.
 use Rattle.std.specs.Prelude.{[], ◌∷◌, Option, Some, codes}
 use Rattle.serde_json.specs.Data.{Data}
-use Rattle.rc_hir.specs.declared.instruction.InstructionValue.{InstructionValue}
+use Rattle.rc_hir.specs.Model.{InstructionValue}
 use Rattle.rc_hir.specs.declared.instruction.InstructionValue.TheVariants as kinds
 use Rattle.rc_doc.specs.Parts.{primitive_value_of}
 use Rattle.rc_doc.specs.Places.{place_of, span_of}
@@ -77,7 +77,7 @@ meta_property_of d = do
   span ← option_field span_of (codes "span") d
   Some (kinds.MetaProperty meta property span)
 
--- a template that a tag is called on
+-- a template with which a tag is called
 unfoldable pub tagged_template_expression_of : Data → Option InstructionValue
 tagged_template_expression_of d = do
   _ ← only (codes "k" ∷ codes "quasi" ∷ codes "span" ∷ codes "tag" ∷ []) d

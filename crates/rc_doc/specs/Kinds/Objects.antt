@@ -1,7 +1,7 @@
 -- Kinds that make objects, arrays and JSX, and that reach into them.
 use Rattle.std.specs.Prelude.{[], ◌∷◌, Option, Some, codes}
 use Rattle.serde_json.specs.Data.{Data}
-use Rattle.rc_hir.specs.declared.instruction.InstructionValue.{InstructionValue}
+use Rattle.rc_hir.specs.Model.{InstructionValue}
 use Rattle.rc_hir.specs.declared.instruction.InstructionValue.TheVariants as kinds
 use Rattle.rc_doc.specs.Parts.{jsx_attribute_of, jsx_tag_of}
 use Rattle.rc_doc.specs.Patterns.{element_of, property_literal_of, property_of}
@@ -24,7 +24,7 @@ array_expression_of d = do
   span ← option_field span_of (codes "span") d
   Some (kinds.ArrayExpression elements span)
 
--- a JSX element; without children is another thing than with none
+-- a JSX element; no list of children isn't the same as an empty list
 unfoldable pub jsx_expression_of : Data → Option InstructionValue
 jsx_expression_of d = do
   _ ← only (codes "children" ∷ codes "k" ∷ codes "props" ∷ codes "span" ∷ codes "tag" ∷ []) d

@@ -1,7 +1,7 @@
 -- Kinds that read, declare and write variables.
 use Rattle.std.specs.Prelude.{[], ◌∷◌, Option, Some, codes}
 use Rattle.serde_json.specs.Data.{Data}
-use Rattle.rc_hir.specs.declared.instruction.InstructionValue.{InstructionValue}
+use Rattle.rc_hir.specs.Model.{InstructionValue}
 use Rattle.rc_hir.specs.declared.instruction.InstructionValue.TheVariants as kinds
 use Rattle.rc_doc.specs.Parts.{binding_of}
 use Rattle.rc_doc.specs.Patterns.{lvalue_of, lvalue_pattern_of}

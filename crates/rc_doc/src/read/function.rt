@@ -4,7 +4,7 @@ ghost use Rattle.std.specs.Prelude.{option_and_then};
 ghost use Rattle.serde_json.specs.View.{view, items_view};
 ghost use Rattle.rc_doc.specs.Graph.{block_of, blocks_of, function_of, hir_of, if_distinct, instruction_of};
 ghost use Rattle.rc_doc.specs.Graph.{keyed_block_of};
-ghost use Rattle.rc_doc.specs.Reading.{Gives, all_items};
+ghost use Rattle.rc_doc.specs.Reading.{IsRead, all_items};
 
 use crate::fields::{Read, flag, list_or_empty, optional, or_refuse, required};
 use crate::known::known_names;
@@ -52,7 +52,7 @@ impl Read for BasicBlock {
 
 #[tactic(auto, unfolding(crate::specs::Graph::keyed_block_of))]
 fn keyed_block(alloc: Global, from: &Value) -> Result<(BlockId, BasicBlock), Refusal>
-    ensures { Gives result (keyed_block_of (view from.now)) }
+    ensures { IsRead result (keyed_block_of (view from.now)) }
 {
     let block = BasicBlock::read(alloc, from)?;
     let key: Option<BlockId> = optional(alloc, from, "key")?;
@@ -60,7 +60,7 @@ fn keyed_block(alloc: Global, from: &Value) -> Result<(BlockId, BasicBlock), Ref
 }
 
 fn distinct_blocks(alloc: Global, values: &[Value]) -> Result<Keyed<BlockId, BasicBlock>, Refusal>
-    ensures { Gives result (option_and_then if_distinct (all_items keyed_block_of (items_view values.now))) }
+    ensures { IsRead result (option_and_then if_distinct (all_items keyed_block_of (items_view values.now))) }
 {
     let mut blocks = Keyed::new(alloc);
     for value in values {

@@ -1,10 +1,10 @@
-//! Readers of what instruction values are made of besides places, patterns and texts.
+//! Readers of the parts of instruction values besides places, patterns and texts.
 
 ghost use Rattle.serde_json.specs.View.{view};
 ghost use Rattle.rc_doc.specs.Parts.{binding_of, global_of, jsx_attribute_of, jsx_tag_of, lowered_function_of};
 ghost use Rattle.rc_doc.specs.Parts.{module_name_of, named_attribute_of, primitive_content_of, primitive_value_of};
 ghost use Rattle.rc_doc.specs.Parts.{spread_attribute_of};
-ghost use Rattle.rc_doc.specs.Reading.{Gives};
+ghost use Rattle.rc_doc.specs.Reading.{IsRead};
 
 use crate::fields::{Read, flag, required, tag};
 use crate::known::known_names;
@@ -15,7 +15,7 @@ use std::alloc::Global;
 
 #[tactic(auto, unfolding(crate::specs::Parts::primitive_content_of))]
 fn primitive_content(alloc: Global, value: &Value) -> Result<PrimitiveValue, Refusal>
-    ensures { Gives result (primitive_content_of (view value.now)) }
+    ensures { IsRead result (primitive_content_of (view value.now)) }
 {
     known_names(value, &["k", "v"])?;
     match tag(value) {
@@ -41,7 +41,7 @@ impl Read for PrimitiveValue {
 
 #[tactic(auto, unfolding(crate::specs::Parts::global_of))]
 fn global(alloc: Global, value: &Value) -> Result<NonLocalBinding, Refusal>
-    ensures { Gives result (global_of (view value.now)) }
+    ensures { IsRead result (global_of (view value.now)) }
 {
     known_names(value, &["k", "name"])?;
     let name = required(alloc, value, "name")?;
@@ -50,7 +50,7 @@ fn global(alloc: Global, value: &Value) -> Result<NonLocalBinding, Refusal>
 
 #[tactic(auto, unfolding(crate::specs::Parts::module_name_of))]
 fn module_name(alloc: Global, value: &Value) -> Result<NonLocalBinding, Refusal>
-    ensures { Gives result (module_name_of (view value.now)) }
+    ensures { IsRead result (module_name_of (view value.now)) }
 {
     known_names(value, &["k", "module", "name"])?;
     let name = required(alloc, value, "name")?;
@@ -87,7 +87,7 @@ impl Read for JsxTag {
 
 #[tactic(auto, unfolding(crate::specs::Parts::named_attribute_of))]
 fn named_attribute(alloc: Global, value: &Value) -> Result<JsxAttribute, Refusal>
-    ensures { Gives result (named_attribute_of (view value.now)) }
+    ensures { IsRead result (named_attribute_of (view value.now)) }
 {
     known_names(value, &["k", "name", "place"])?;
     let name = required(alloc, value, "name")?;
@@ -97,7 +97,7 @@ fn named_attribute(alloc: Global, value: &Value) -> Result<JsxAttribute, Refusal
 
 #[tactic(auto, unfolding(crate::specs::Parts::spread_attribute_of))]
 fn spread_attribute(alloc: Global, value: &Value) -> Result<JsxAttribute, Refusal>
-    ensures { Gives result (spread_attribute_of (view value.now)) }
+    ensures { IsRead result (spread_attribute_of (view value.now)) }
 {
     known_names(value, &["argument", "k"])?;
     let argument = required(alloc, value, "argument")?;

@@ -6,7 +6,7 @@ ghost use Rattle.rc_doc.specs.Patterns.{array_pattern_of, element_of, pattern_el
 ghost use Rattle.rc_doc.specs.Patterns.{filled_pattern_element_of, kind_named, kind_of, lvalue_of, lvalue_pattern_of};
 ghost use Rattle.rc_doc.specs.Patterns.{object_pattern_of, object_property_of, pattern_of, property_key_of};
 ghost use Rattle.rc_doc.specs.Patterns.{property_literal_of, property_of};
-ghost use Rattle.rc_doc.specs.Reading.{Gives};
+ghost use Rattle.rc_doc.specs.Reading.{IsRead};
 
 use crate::fields::{Read, list_or_empty, or_refuse, required, tag};
 use crate::known::known_names;
@@ -115,7 +115,7 @@ impl Read for ObjectPropertyOrSpread {
 
 #[tactic(auto, unfolding(crate::specs::Patterns::filled_pattern_element_of))]
 fn filled_pattern_element(alloc: Global, value: &Value) -> Result<ArrayPatternElement, Refusal>
-    ensures { Gives result (filled_pattern_element_of (view value.now)) }
+    ensures { IsRead result (filled_pattern_element_of (view value.now)) }
 {
     known_names(value, &["k", "v"])?;
     match tag(value) {
@@ -139,7 +139,7 @@ impl Read for ArrayPatternElement {
 
 #[tactic(auto, unfolding(crate::specs::Patterns::filled_element_of))]
 fn filled_element(alloc: Global, value: &Value) -> Result<ArrayElement, Refusal>
-    ensures { Gives result (filled_element_of (view value.now)) }
+    ensures { IsRead result (filled_element_of (view value.now)) }
 {
     known_names(value, &["k", "v"])?;
     match tag(value) {
@@ -163,7 +163,7 @@ impl Read for ArrayElement {
 
 #[tactic(auto, unfolding(crate::specs::Patterns::array_pattern_of))]
 fn array_pattern(alloc: Global, value: &Value) -> Result<Pattern, Refusal>
-    ensures { Gives result (array_pattern_of (view value.now)) }
+    ensures { IsRead result (array_pattern_of (view value.now)) }
 {
     known_names(value, &["items", "k"])?;
     let items = list_or_empty(alloc, value, "items")?;
@@ -172,7 +172,7 @@ fn array_pattern(alloc: Global, value: &Value) -> Result<Pattern, Refusal>
 
 #[tactic(auto, unfolding(crate::specs::Patterns::object_pattern_of))]
 fn object_pattern(alloc: Global, value: &Value) -> Result<Pattern, Refusal>
-    ensures { Gives result (object_pattern_of (view value.now)) }
+    ensures { IsRead result (object_pattern_of (view value.now)) }
 {
     known_names(value, &["k", "properties"])?;
     let properties = list_or_empty(alloc, value, "properties")?;

@@ -1,4 +1,4 @@
-//! Readers of spans, of places in their three forms, and of what holds a place alone.
+//! Readers of spans, of places in their three forms, and of the types that have one place.
 
 ghost use Rattle.std.specs.Prelude.{◌≡◌};
 ghost use Rattle.serde_json.specs.View.{view};
@@ -58,7 +58,7 @@ fn effect(value: &Value) -> Option<Effect>
 fn short_place(value: &Value) -> Option<Place>
     ensures { result ≡ short_place (view value.now) }
 {
-    let identifier = IdentifierId(number(value)?);
+    let identifier = IdentifierId::new(number(value)?);
     Some(Place {
         identifier,
         effect: Effect::Read,
@@ -70,7 +70,7 @@ fn short_place(value: &Value) -> Option<Place>
 fn long_place(span: Option<Span>, value: &Value) -> Option<Place>
     ensures { result ≡ long_place span (view value.now) }
 {
-    let identifier = IdentifierId(number(value.get(0)?)?);
+    let identifier = IdentifierId::new(number(value.get(0)?)?);
     let effect = effect(value.get(1)?)?;
     let reactive = value.get(2)?.as_bool()?;
     Some(Place {
@@ -88,7 +88,7 @@ fn spanned_place(value: &Value) -> Option<Place>
     long_place(Some(span), value)
 }
 
-/// The place that a value is; none where it isn't one. It takes no memory.
+/// Returns the place that a JSON value gives, and `None` if it gives none. This takes no memory.
 #[tactic(auto, unfolding(crate::specs::Places::place_of))]
 pub fn read_place(value: &Value) -> Option<Place>
     ensures { result ≡ place_of (view value.now) }

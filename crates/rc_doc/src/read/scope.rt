@@ -1,7 +1,7 @@
 //! Readers of reactive scopes.
 
-ghost use Rattle.rc_doc.specs.Environment.{declaration_entry_of, declaration_of, dependency_of, early_return_of};
-ghost use Rattle.rc_doc.specs.Environment.{path_entry_of, range_of, scope_of};
+ghost use Rattle.rc_doc.specs.Environment.Scopes.{declaration_entry_of, declaration_of, dependency_of, early_return_of};
+ghost use Rattle.rc_doc.specs.Environment.Scopes.{path_entry_of, range_of, scope_of};
 
 use crate::fields::{Read, flag, list_or_empty, optional, required};
 use crate::known::known_names;
@@ -16,7 +16,7 @@ use std::alloc::Global;
 impl Read for MutableRange {
     ghost reads = { range_of };
 
-    #[tactic(auto, unfolding(crate::specs::Environment::range_of))]
+    #[tactic(auto, unfolding(crate::specs::Environment::Scopes::range_of))]
     fn read(alloc: Global, from: &Value) -> Result<MutableRange, Refusal> {
         known_names(from, &["end", "start"])?;
         let start = required(alloc, from, "start")?;
@@ -28,7 +28,7 @@ impl Read for MutableRange {
 impl Read for DependencyPathEntry {
     ghost reads = { path_entry_of };
 
-    #[tactic(auto, unfolding(crate::specs::Environment::path_entry_of))]
+    #[tactic(auto, unfolding(crate::specs::Environment::Scopes::path_entry_of))]
     fn read(alloc: Global, from: &Value) -> Result<DependencyPathEntry, Refusal> {
         known_names(from, &["optional", "property"])?;
         let property = required(alloc, from, "property")?;
@@ -40,7 +40,7 @@ impl Read for DependencyPathEntry {
 impl Read for ReactiveScopeDependency {
     ghost reads = { dependency_of };
 
-    #[tactic(auto, unfolding(crate::specs::Environment::dependency_of))]
+    #[tactic(auto, unfolding(crate::specs::Environment::Scopes::dependency_of))]
     fn read(alloc: Global, from: &Value) -> Result<ReactiveScopeDependency, Refusal> {
         known_names(from, &["identifier", "path", "reactive", "span"])?;
         let identifier = required(alloc, from, "identifier")?;
@@ -59,7 +59,7 @@ impl Read for ReactiveScopeDependency {
 impl Read for ReactiveScopeDeclaration {
     ghost reads = { declaration_of };
 
-    #[tactic(auto, unfolding(crate::specs::Environment::declaration_of))]
+    #[tactic(auto, unfolding(crate::specs::Environment::Scopes::declaration_of))]
     fn read(alloc: Global, from: &Value) -> Result<ReactiveScopeDeclaration, Refusal> {
         known_names(from, &["identifier", "scope"])?;
         let identifier = required(alloc, from, "identifier")?;
@@ -71,7 +71,7 @@ impl Read for ReactiveScopeDeclaration {
 impl Read for DeclarationEntry {
     ghost reads = { declaration_entry_of };
 
-    #[tactic(auto, unfolding(crate::specs::Environment::declaration_entry_of))]
+    #[tactic(auto, unfolding(crate::specs::Environment::Scopes::declaration_entry_of))]
     fn read(alloc: Global, from: &Value) -> Result<DeclarationEntry, Refusal> {
         known_names(from, &["key", "value"])?;
         let key = required(alloc, from, "key")?;
@@ -83,7 +83,7 @@ impl Read for DeclarationEntry {
 impl Read for ReactiveScopeEarlyReturn {
     ghost reads = { early_return_of };
 
-    #[tactic(auto, unfolding(crate::specs::Environment::early_return_of))]
+    #[tactic(auto, unfolding(crate::specs::Environment::Scopes::early_return_of))]
     fn read(alloc: Global, from: &Value) -> Result<ReactiveScopeEarlyReturn, Refusal> {
         known_names(from, &["label", "span", "value"])?;
         let value = required(alloc, from, "value")?;
@@ -96,7 +96,7 @@ impl Read for ReactiveScopeEarlyReturn {
 impl Read for ReactiveScope {
     ghost reads = { scope_of };
 
-    #[tactic(auto, unfolding(crate::specs::Environment::scope_of))]
+    #[tactic(auto, unfolding(crate::specs::Environment::Scopes::scope_of))]
     fn read(alloc: Global, from: &Value) -> Result<ReactiveScope, Refusal> {
         known_names(
             from,

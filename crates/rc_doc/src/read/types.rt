@@ -2,9 +2,9 @@
 
 ghost use Rattle.std.specs.Prelude.{◌≡◌};
 ghost use Rattle.serde_json.specs.View.{view};
-ghost use Rattle.rc_doc.specs.Environment.{shape_named, shape_of, shape_row_number_of, shape_row_of, shaped_type_of};
-ghost use Rattle.rc_doc.specs.Environment.{type_of};
-ghost use Rattle.rc_doc.specs.Reading.{Gives};
+ghost use Rattle.rc_doc.specs.Environment.Types.{shape_named, shape_of, shape_row_number_of, shape_row_of};
+ghost use Rattle.rc_doc.specs.Environment.Types.{shaped_type_of, type_of};
+ghost use Rattle.rc_doc.specs.Reading.{IsRead};
 
 use crate::fields::{Read, flag, optional, or_refuse, required, tag};
 use crate::known::known_names;
@@ -31,9 +31,9 @@ fn shape_named(name: &str) -> Option<Shape>
     }
 }
 
-#[tactic(auto, unfolding(crate::specs::Environment::shape_row_number_of))]
+#[tactic(auto, unfolding(crate::specs::Environment::Types::shape_row_number_of))]
 fn shape_row_number(alloc: Global, value: &Value) -> Result<Shape, Refusal>
-    ensures { Gives result (shape_row_number_of (view value.now)) }
+    ensures { IsRead result (shape_row_number_of (view value.now)) }
 {
     known_names(value, &["k", "v"])?;
     match tag(value) {
@@ -53,9 +53,9 @@ impl Read for Shape {
     }
 }
 
-#[tactic(auto, unfolding(crate::specs::Environment::shaped_type_of))]
+#[tactic(auto, unfolding(crate::specs::Environment::Types::shaped_type_of))]
 fn shaped_type(alloc: Global, value: &Value) -> Result<HirType, Refusal>
-    ensures { Gives result (shaped_type_of (view value.now)) }
+    ensures { IsRead result (shaped_type_of (view value.now)) }
 {
     known_names(value, &["k", "shape"])?;
     let name = or_refuse(tag(value))?;
@@ -83,7 +83,7 @@ impl Read for HirType {
 impl Read for ShapeRow {
     ghost reads = { shape_row_of };
 
-    #[tactic(auto, unfolding(crate::specs::Environment::shape_row_of))]
+    #[tactic(auto, unfolding(crate::specs::Environment::Types::shape_row_of))]
     fn read(_alloc: Global, value: &Value) -> Result<ShapeRow, Refusal> {
         known_names(value, &["hook", "no_alias"])?;
         let hook = flag(value, "hook")?;

@@ -1,23 +1,28 @@
-//! How a value is printed in parts: `Show` for what stands alone, and `Fields` for an object, field by field.
+//! Printing a value part by part: `Show` for types, and `Fields` for an object, field by field.
 
-ghost use Rattle.std.specs.Prelude.{◌≡◌, IfOk, OnOk, Some};
+ghost use Rattle.std.specs.Prelude.{◌≡◌, IfOk, OnOk, Some, codes};
 ghost use Rattle.serde_json.specs.Data.{Data, boolean, no_members, object, put, string};
 ghost use Rattle.serde_json.specs.View.{view};
-ghost use Rattle.rc_doc.specs.Showing.{list_data, members_so_far, number_data, put_some, SomeAgain, tagged};
+ghost use Rattle.rc_doc.specs.Places.{span_of};
+ghost use Rattle.rc_doc.specs.Showing.{list_data, members_so_far, number_data, put_some, IsReadAgain, tagged};
 ghost use Rattle.rc_doc.specs.Showing.{variant_data};
+ghost use Rattle.rc_doc.specs.ShownParts.Places.{span_data};
 
 use crate::fields::Read;
-use rc_names::{List, Text};
+use rc_names::{List, Span, Text};
 use serde_json::{Map, Value};
 use std::alloc::{AllocError, Global};
 
-/// A type that is printed.
+/// A printing form, or the error that memory is out.
+pub(crate) type Shown = Result<Value, AllocError>;
+
+/// A type that has a printing form.
 pub(crate) trait Show: Read {
     /// The printing form.
     ghost shows: { Self → Data };
 
-    /// The printing form of a value, which reads as that value again. The only error is want of memory.
-    fn show(&self, alloc: Global) -> Result<Value, AllocError>
+    /// Returns the printing form of a value, which reads as that value again. Fails only when out of memory.
+    fn show(&self, alloc: Global) -> Shown
         ensures value { IfOk result (λ shown. view shown ≡ shows self.now) }
         ensures again { OnOk result (Self.reads (shows self.now) ≡ Some self.now) };
 }
@@ -26,7 +31,7 @@ impl Show for u32 {
     ghost shows = { number_data };
 
     #[tactic(auto, using(crate::proofs::ReadsBack::number_again))]
-    fn show(&self, _alloc: Global) -> Result<Value, AllocError> {
+    fn show(&self, _alloc: Global) -> Shown {
         let number = *self;
         Ok(Value::from(number))
     }
@@ -35,7 +40,7 @@ impl Show for u32 {
 impl Show for bool {
     ghost shows = { boolean };
 
-    fn show(&self, _alloc: Global) -> Result<Value, AllocError> {
+    fn show(&self, _alloc: Global) -> Shown {
         Ok(Value::Bool(*self))
     }
 }
@@ -43,7 +48,7 @@ impl Show for bool {
 impl Show for Text {
     ghost shows = { string };
 
-    fn show(&self, alloc: Global) -> Result<Value, AllocError> {
+    fn show(&self, alloc: Global) -> Shown {
         Value::try_from_str(alloc, self.as_str())
     }
 }
@@ -51,7 +56,7 @@ impl Show for Text {
 impl<T: Show + Drop> Show for List<T> {
     ghost shows = { list_data T.shows };
 
-    fn show(&self, alloc: Global) -> Result<Value, AllocError> {
+    fn show(&self, alloc: Global) -> Shown {
         let mut items = Vec::new(alloc);
         for x in self.as_slice() {
             items.push(x.show(alloc)?)?;
@@ -68,7 +73,7 @@ pub(crate) struct Fields {
 }
 
 impl Fields {
-    /// No fields, which takes no memory.
+    /// An object without fields. This takes no memory.
     pub(crate) fn new(alloc: Global) -> Fields
         ensures { members_so_far result ≡ no_members }
     {
@@ -78,7 +83,7 @@ impl Fields {
         }
     }
 
-    /// The name of a variant. The only error is want of memory.
+    /// An object with the name of a variant. Fails only when out of memory.
     pub(crate) fn tagged(alloc: Global, name: &str) -> Result<Fields, AllocError>
         ensures { IfOk result (λ fields. members_so_far fields ≡ tagged name.now) }
     {
@@ -94,7 +99,7 @@ impl Fields {
         Ok(Fields { alloc, members })
     }
 
-    /// One more field. The only error is want of memory.
+    /// Adds a field. Fails only when out of memory.
     pub(crate) fn with<T: Show>(self, name: &str, x: &T) -> Result<Fields, AllocError>
         ensures value { IfOk result
             (λ fields. members_so_far fields ≡ put name.now (T.shows x.now) (members_so_far self)) }
@@ -104,11 +109,11 @@ impl Fields {
         self.put(name, value)
     }
 
-    /// One more field, if it isn't none. The only error is want of memory.
+    /// Adds a field, if it isn't `None`. Fails only when out of memory.
     pub(crate) fn with_some<T: Show>(self, name: &str, x: &Option<T>) -> Result<Fields, AllocError>
         ensures value { IfOk result
             (λ fields. members_so_far fields ≡ put_some T.shows name.now x.now (members_so_far self)) }
-        ensures again { OnOk result (SomeAgain T.Read.reads T.shows x.now) }
+        ensures again { OnOk result (IsReadAgain T.Read.reads T.shows x.now) }
     {
         match x {
             Some(x) => self.with(name, x),
@@ -116,8 +121,24 @@ impl Fields {
         }
     }
 
-    /// The object.
-    pub(crate) fn into_value(self) -> Value
+    /// Returns the object with this as its last field. Fails only when out of memory.
+    pub(crate) fn with_last<T: Show>(self, name: &str, x: &T) -> Shown
+        ensures value { IfOk result (λ shown. view shown ≡ object (put name.now (T.shows x.now) (members_so_far self))) }
+        ensures again { OnOk result (T.Read.reads (T.shows x.now) ≡ Some x.now) }
+    {
+        Ok(self.with(name, x)?.into_value())
+    }
+
+    /// Returns the object with the span as its last field, if it isn't `None`. Fails only when out of memory.
+    pub(crate) fn with_span(self, span: &Option<Span>) -> Shown
+        ensures value { IfOk result
+            (λ shown. view shown ≡ object (put_some span_data (codes "span") span.now (members_so_far self))) }
+        ensures again { OnOk result (IsReadAgain span_of span_data span.now) }
+    {
+        Ok(self.with_some("span", span)?.into_value())
+    }
+
+    fn into_value(self) -> Value
         ensures { view result ≡ object (members_so_far self) }
     {
         let Fields { alloc: _, members } = self;
@@ -125,14 +146,10 @@ impl Fields {
     }
 }
 
-/// A variant whose one field has no name of its own. The only error is want of memory.
-pub(crate) fn variant<T: Show>(alloc: Global, name: &str, content: &T) -> Result<Value, AllocError>
+/// A variant whose one field has no name of its own. Fails only when out of memory.
+pub(crate) fn variant<T: Show>(alloc: Global, name: &str, content: &T) -> Shown
     ensures value { IfOk result (λ shown. view shown ≡ variant_data name.now (T.shows content.now)) }
     ensures again { OnOk result (T.Read.reads (T.shows content.now) ≡ Some content.now) }
 {
-    Ok(
-        Fields::tagged(alloc, name)?
-            .with("v", content)?
-            .into_value(),
-    )
+    Fields::tagged(alloc, name)?.with_last("v", content)
 }

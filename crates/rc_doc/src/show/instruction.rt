@@ -8,18 +8,18 @@ mod variables;
 ghost use Rattle.std.specs.Prelude.{◌≡◌, IfOk, OnOk, false};
 ghost use Rattle.serde_json.specs.View.{view};
 ghost use Rattle.serde_json.specs.Written.{has_float};
-ghost use Rattle.rc_doc.specs.ShownKinds.{ReadsBack, value_data};
+ghost use Rattle.rc_doc.specs.ShownKinds.{IsReadBack, value_data};
 
 use rc_hir::InstructionValue;
 use serde_json::Value;
 use std::alloc::{AllocError, Global};
 
-/// The printing form of an instruction value, which reads as that value again, and whose text is its compact text,
-/// since no float stands in it. The only error is want of memory.
+/// Returns the printing form of an instruction value, which reads as that value again. It has no float, so its text is
+/// its compact text. Fails only when out of memory.
 #[tactic(auto, using(crate::proofs::NoFloats::in_value))]
 pub fn value_json(alloc: Global, value: &InstructionValue) -> Result<Value, AllocError>
     ensures value { IfOk result (λ shown. view shown ≡ value_data value.now) }
-    ensures again { OnOk result (ReadsBack value.now) }
+    ensures again { OnOk result (IsReadBack value.now) }
     ensures no_float { has_float (value_data value.now) ≡ false }
 {
     match value {

@@ -1,18 +1,18 @@
-//! The printing form of what instruction values are made of besides places, patterns and texts.
+//! The printing form of the parts of instruction values besides places, patterns and texts.
 
 ghost use Rattle.rc_doc.specs.ShownParts.{binding_data, jsx_attribute_data, jsx_tag_data, lowered_function_data};
 ghost use Rattle.rc_doc.specs.ShownParts.{primitive_value_data};
 
-use super::fields::{Fields, Show, variant};
+use super::fields::{Fields, Show, Shown, variant};
 use rc_hir::{JsxAttribute, JsxTag, LoweredFunction, NonLocalBinding, PrimitiveValue};
 use serde_json::Value;
-use std::alloc::{AllocError, Global};
+use std::alloc::Global;
 
 impl Show for PrimitiveValue {
     ghost shows = { primitive_value_data };
 
     #[tactic(auto, using(crate::proofs::PartsReadBack::primitive_value_again), unfolding(crate::specs::ShownParts::primitive_value_data))]
-    fn show(&self, alloc: Global) -> Result<Value, AllocError> {
+    fn show(&self, alloc: Global) -> Shown {
         match self {
             PrimitiveValue::Null => Value::try_from_str(alloc, "Null"),
             PrimitiveValue::Undefined => Value::try_from_str(alloc, "Undefined"),
@@ -27,20 +27,15 @@ impl Show for NonLocalBinding {
     ghost shows = { binding_data };
 
     #[tactic(auto, using(crate::proofs::PartsReadBack::binding_again), unfolding(crate::specs::ShownParts::binding_data))]
-    fn show(&self, alloc: Global) -> Result<Value, AllocError> {
+    fn show(&self, alloc: Global) -> Shown {
         match self {
-            NonLocalBinding::Global { name } => Ok(
-                Fields::tagged(alloc, "Global")?
-                    .with("name", name)?
-                    .into_value(),
+            NonLocalBinding::Global { name } => Fields::tagged(alloc, "Global")?.with_last(
+                "name", name,
             ),
             NonLocalBinding::Module { name, module } => {
-                Ok(
-                    Fields::tagged(alloc, "Module")?
-                        .with("name", name)?
-                        .with("module", module)?
-                        .into_value(),
-                )
+                Fields::tagged(alloc, "Module")?
+                    .with("name", name)?
+                    .with_last("module", module)
             }
         }
     }
@@ -50,7 +45,7 @@ impl Show for JsxTag {
     ghost shows = { jsx_tag_data };
 
     #[tactic(auto, using(crate::proofs::PartsReadBack::jsx_tag_again), unfolding(crate::specs::ShownParts::jsx_tag_data))]
-    fn show(&self, alloc: Global) -> Result<Value, AllocError> {
+    fn show(&self, alloc: Global) -> Shown {
         match self {
             JsxTag::Place(place) => variant(alloc, "Place", place),
             JsxTag::Builtin(name) => variant(alloc, "Builtin", name),
@@ -62,22 +57,15 @@ impl Show for JsxAttribute {
     ghost shows = { jsx_attribute_data };
 
     #[tactic(auto, using(crate::proofs::PartsReadBack::jsx_attribute_again), unfolding(crate::specs::ShownParts::jsx_attribute_data))]
-    fn show(&self, alloc: Global) -> Result<Value, AllocError> {
+    fn show(&self, alloc: Global) -> Shown {
         match self {
             JsxAttribute::Attribute { name, place } => {
-                Ok(
-                    Fields::tagged(alloc, "Attribute")?
-                        .with("name", name)?
-                        .with("place", place)?
-                        .into_value(),
-                )
+                Fields::tagged(alloc, "Attribute")?
+                    .with("name", name)?
+                    .with_last("place", place)
             }
             JsxAttribute::SpreadAttribute { argument } => {
-                Ok(
-                    Fields::tagged(alloc, "SpreadAttribute")?
-                        .with("argument", argument)?
-                        .into_value(),
-                )
+                Fields::tagged(alloc, "SpreadAttribute")?.with_last("argument", argument)
             }
         }
     }
@@ -87,7 +75,7 @@ impl Show for LoweredFunction {
     ghost shows = { lowered_function_data };
 
     #[tactic(auto, using(crate::proofs::PartsReadBack::lowered_function_again), unfolding(crate::specs::ShownParts::lowered_function_data))]
-    fn show(&self, alloc: Global) -> Result<Value, AllocError> {
-        Ok(Fields::new(alloc).with("func", &self.func.0)?.into_value())
+    fn show(&self, alloc: Global) -> Shown {
+        Fields::new(alloc).with_last("func", &self.func.0)
     }
 }

@@ -1,17 +1,18 @@
 //! The printing form of patterns, and of the parts that they share with literals.
 
 ghost use Rattle.std.specs.Prelude.{◌≡◌};
-ghost use Rattle.rc_doc.specs.ShownParts.{element_data, kind_data, kind_name, lvalue_data, lvalue_pattern_data};
-ghost use Rattle.rc_doc.specs.ShownParts.{object_property_data, pattern_data, pattern_element_data, property_data};
-ghost use Rattle.rc_doc.specs.ShownParts.{property_key_data, property_literal_data};
+ghost use Rattle.rc_doc.specs.ShownParts.Patterns.{element_data, kind_data, kind_name, lvalue_data};
+ghost use Rattle.rc_doc.specs.ShownParts.Patterns.{lvalue_pattern_data, object_property_data, pattern_data};
+ghost use Rattle.rc_doc.specs.ShownParts.Patterns.{pattern_element_data, property_data, property_key_data};
+ghost use Rattle.rc_doc.specs.ShownParts.Patterns.{property_literal_data};
 
-use super::fields::{Fields, Show, variant};
+use super::fields::{Fields, Show, Shown, variant};
 use rc_hir::{
     ArrayElement, ArrayPatternElement, InstructionKind, LValue, LValuePattern, ObjectProperty,
     ObjectPropertyKey, ObjectPropertyOrSpread, Pattern, PropertyLiteral,
 };
 use serde_json::Value;
-use std::alloc::{AllocError, Global};
+use std::alloc::Global;
 
 fn kind_name(kind: InstructionKind) -> &'static str
     ensures { result.now ≡ kind_name kind }
@@ -32,7 +33,7 @@ impl Show for InstructionKind {
     ghost shows = { kind_data };
 
     #[tactic(auto, using(crate::proofs::PartsReadBack::kind_again))]
-    fn show(&self, alloc: Global) -> Result<Value, AllocError> {
+    fn show(&self, alloc: Global) -> Shown {
         Value::try_from_str(alloc, kind_name(*self))
     }
 }
@@ -40,22 +41,19 @@ impl Show for InstructionKind {
 impl Show for LValue {
     ghost shows = { lvalue_data };
 
-    #[tactic(auto, using(crate::proofs::PartsReadBack::lvalue_again), unfolding(crate::specs::ShownParts::lvalue_data))]
-    fn show(&self, alloc: Global) -> Result<Value, AllocError> {
-        Ok(
-            Fields::new(alloc)
-                .with("kind", &self.kind)?
-                .with("place", &self.place)?
-                .into_value(),
-        )
+    #[tactic(auto, using(crate::proofs::PartsReadBack::lvalue_again), unfolding(crate::specs::ShownParts::Patterns::lvalue_data))]
+    fn show(&self, alloc: Global) -> Shown {
+        Fields::new(alloc)
+            .with("kind", &self.kind)?
+            .with_last("place", &self.place)
     }
 }
 
 impl Show for PropertyLiteral {
     ghost shows = { property_literal_data };
 
-    #[tactic(auto, using(crate::proofs::PartsReadBack::property_literal_again), unfolding(crate::specs::ShownParts::property_literal_data))]
-    fn show(&self, alloc: Global) -> Result<Value, AllocError> {
+    #[tactic(auto, using(crate::proofs::PartsReadBack::property_literal_again), unfolding(crate::specs::ShownParts::Patterns::property_literal_data))]
+    fn show(&self, alloc: Global) -> Shown {
         match self {
             PropertyLiteral::String(name) => variant(alloc, "String", name),
             PropertyLiteral::Number(name) => variant(alloc, "Number", name),
@@ -66,8 +64,8 @@ impl Show for PropertyLiteral {
 impl Show for ObjectPropertyKey {
     ghost shows = { property_key_data };
 
-    #[tactic(auto, using(crate::proofs::PartsReadBack::property_key_again), unfolding(crate::specs::ShownParts::property_key_data))]
-    fn show(&self, alloc: Global) -> Result<Value, AllocError> {
+    #[tactic(auto, using(crate::proofs::PartsReadBack::property_key_again), unfolding(crate::specs::ShownParts::Patterns::property_key_data))]
+    fn show(&self, alloc: Global) -> Shown {
         match self {
             ObjectPropertyKey::Identifier(name) => variant(alloc, "Identifier", name),
             ObjectPropertyKey::String(name) => variant(alloc, "String", name),
@@ -80,22 +78,19 @@ impl Show for ObjectPropertyKey {
 impl Show for ObjectProperty {
     ghost shows = { object_property_data };
 
-    #[tactic(auto, using(crate::proofs::PartsReadBack::object_property_again), unfolding(crate::specs::ShownParts::object_property_data))]
-    fn show(&self, alloc: Global) -> Result<Value, AllocError> {
-        Ok(
-            Fields::new(alloc)
-                .with("key", &self.key)?
-                .with("place", &self.place)?
-                .into_value(),
-        )
+    #[tactic(auto, using(crate::proofs::PartsReadBack::object_property_again), unfolding(crate::specs::ShownParts::Patterns::object_property_data))]
+    fn show(&self, alloc: Global) -> Shown {
+        Fields::new(alloc)
+            .with("key", &self.key)?
+            .with_last("place", &self.place)
     }
 }
 
 impl Show for ObjectPropertyOrSpread {
     ghost shows = { property_data };
 
-    #[tactic(auto, using(crate::proofs::PartsReadBack::property_again), unfolding(crate::specs::ShownParts::property_data))]
-    fn show(&self, alloc: Global) -> Result<Value, AllocError> {
+    #[tactic(auto, using(crate::proofs::PartsReadBack::property_again), unfolding(crate::specs::ShownParts::Patterns::property_data))]
+    fn show(&self, alloc: Global) -> Shown {
         match self {
             ObjectPropertyOrSpread::Property(property) => variant(alloc, "Property", property),
             ObjectPropertyOrSpread::Spread(spread) => variant(alloc, "Spread", spread),
@@ -106,8 +101,8 @@ impl Show for ObjectPropertyOrSpread {
 impl Show for ArrayPatternElement {
     ghost shows = { pattern_element_data };
 
-    #[tactic(auto, using(crate::proofs::PartsReadBack::pattern_element_again), unfolding(crate::specs::ShownParts::pattern_element_data))]
-    fn show(&self, alloc: Global) -> Result<Value, AllocError> {
+    #[tactic(auto, using(crate::proofs::PartsReadBack::pattern_element_again), unfolding(crate::specs::ShownParts::Patterns::pattern_element_data))]
+    fn show(&self, alloc: Global) -> Shown {
         match self {
             ArrayPatternElement::Place(place) => variant(alloc, "Place", place),
             ArrayPatternElement::Spread(spread) => variant(alloc, "Spread", spread),
@@ -119,8 +114,8 @@ impl Show for ArrayPatternElement {
 impl Show for ArrayElement {
     ghost shows = { element_data };
 
-    #[tactic(auto, using(crate::proofs::PartsReadBack::element_again), unfolding(crate::specs::ShownParts::element_data))]
-    fn show(&self, alloc: Global) -> Result<Value, AllocError> {
+    #[tactic(auto, using(crate::proofs::PartsReadBack::element_again), unfolding(crate::specs::ShownParts::Patterns::element_data))]
+    fn show(&self, alloc: Global) -> Shown {
         match self {
             ArrayElement::Place(place) => variant(alloc, "Place", place),
             ArrayElement::Spread(spread) => variant(alloc, "Spread", spread),
@@ -132,20 +127,12 @@ impl Show for ArrayElement {
 impl Show for Pattern {
     ghost shows = { pattern_data };
 
-    #[tactic(auto, using(crate::proofs::PartsReadBack::pattern_again), unfolding(crate::specs::ShownParts::pattern_data))]
-    fn show(&self, alloc: Global) -> Result<Value, AllocError> {
+    #[tactic(auto, using(crate::proofs::PartsReadBack::pattern_again), unfolding(crate::specs::ShownParts::Patterns::pattern_data))]
+    fn show(&self, alloc: Global) -> Shown {
         match self {
-            Pattern::Array { items } => Ok(
-                Fields::tagged(alloc, "Array")?
-                    .with("items", items)?
-                    .into_value(),
-            ),
+            Pattern::Array { items } => Fields::tagged(alloc, "Array")?.with_last("items", items),
             Pattern::Object { properties } => {
-                Ok(
-                    Fields::tagged(alloc, "Object")?
-                        .with("properties", properties)?
-                        .into_value(),
-                )
+                Fields::tagged(alloc, "Object")?.with_last("properties", properties)
             }
         }
     }
@@ -154,13 +141,10 @@ impl Show for Pattern {
 impl Show for LValuePattern {
     ghost shows = { lvalue_pattern_data };
 
-    #[tactic(auto, using(crate::proofs::PartsReadBack::lvalue_pattern_again), unfolding(crate::specs::ShownParts::lvalue_pattern_data))]
-    fn show(&self, alloc: Global) -> Result<Value, AllocError> {
-        Ok(
-            Fields::new(alloc)
-                .with("kind", &self.kind)?
-                .with("pattern", &self.pattern)?
-                .into_value(),
-        )
+    #[tactic(auto, using(crate::proofs::PartsReadBack::lvalue_pattern_again), unfolding(crate::specs::ShownParts::Patterns::lvalue_pattern_data))]
+    fn show(&self, alloc: Global) -> Shown {
+        Fields::new(alloc)
+            .with("kind", &self.kind)?
+            .with_last("pattern", &self.pattern)
     }
 }

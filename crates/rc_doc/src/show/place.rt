@@ -1,15 +1,15 @@
-//! The printing form of spans, of places in the shortest of their forms, and of what holds a place alone.
+//! The printing form of spans, of places in the shortest of their forms, and of the types that have one place.
 
 ghost use Rattle.std.specs.Prelude.{◌≡◌, IfOk, OnOk, Some, false};
 ghost use Rattle.serde_json.specs.Data.{array, item, no_items};
 ghost use Rattle.serde_json.specs.View.{view};
 ghost use Rattle.serde_json.specs.Written.{has_float};
 ghost use Rattle.rc_doc.specs.Places.{place_of, span_of};
-ghost use Rattle.rc_doc.specs.Showing.{SomeAgain, number_data};
-ghost use Rattle.rc_doc.specs.ShownParts.{argument_data, effect_name, is_short, long_form, place_data, span_data};
-ghost use Rattle.rc_doc.specs.ShownParts.{spread_data};
+ghost use Rattle.rc_doc.specs.Showing.{IsReadAgain, number_data};
+ghost use Rattle.rc_doc.specs.ShownParts.Places.{argument_data, effect_name, is_short, long_form, place_data};
+ghost use Rattle.rc_doc.specs.ShownParts.Places.{span_data, spread_data};
 
-use super::fields::{Fields, Show, variant};
+use super::fields::{Fields, Show, Shown, variant};
 use rc_hir::{Effect, Place, PlaceOrSpread, SpreadPattern};
 use rc_names::Span;
 use serde_json::{Value, json};
@@ -19,14 +19,14 @@ impl Show for Span {
     ghost shows = { span_data };
 
     #[tactic(auto, using(crate::proofs::ReadsBack::span_again))]
-    fn show(&self, alloc: Global) -> Result<Value, AllocError> {
+    fn show(&self, alloc: Global) -> Shown {
         let start = self.start;
         let end = self.end;
         pair(alloc, start, end)
     }
 }
 
-fn pair(alloc: Global, first: u32, second: u32) -> Result<Value, AllocError>
+fn pair(alloc: Global, first: u32, second: u32) -> Shown
     ensures { IfOk result
         (λ shown. view shown ≡ array (item (number_data first) (item (number_data second) no_items))) }
 {
@@ -48,16 +48,16 @@ fn effect_name(effect: Effect) -> &'static str
     }
 }
 
-/// Whether the identifier's number says all of the place.
+/// Returns whether the place is determined by its identifier's number.
 pub fn is_short(place: &Place) -> bool
     ensures { result ≡ is_short place.now }
 {
     matches!(place.effect, Effect::Read) && !place.reactive && place.span.is_none()
 }
 
-fn long_form(alloc: Global, place: &Place) -> Result<Value, AllocError>
+fn long_form(alloc: Global, place: &Place) -> Shown
     ensures value { IfOk result (λ shown. view shown ≡ long_form place.now) }
-    ensures again { OnOk result (SomeAgain span_of span_data place.now.span) }
+    ensures again { OnOk result (IsReadAgain span_of span_data place.now.span) }
 {
     let identifier = place.identifier.0;
     let effect = effect_name(place.effect);
@@ -75,7 +75,7 @@ impl Show for Place {
     ghost shows = { place_data };
 
     #[tactic(auto, using(crate::proofs::ReadsBack::placing))]
-    fn show(&self, alloc: Global) -> Result<Value, AllocError> {
+    fn show(&self, alloc: Global) -> Shown {
         let identifier = self.identifier.0;
         if is_short(self) {
             Ok(Value::from(identifier))
@@ -88,17 +88,17 @@ impl Show for Place {
 impl Show for SpreadPattern {
     ghost shows = { spread_data };
 
-    #[tactic(auto, using(crate::proofs::PartsReadBack::spread_again), unfolding(crate::specs::ShownParts::spread_data))]
-    fn show(&self, alloc: Global) -> Result<Value, AllocError> {
-        Ok(Fields::new(alloc).with("place", &self.place)?.into_value())
+    #[tactic(auto, using(crate::proofs::PartsReadBack::spread_again), unfolding(crate::specs::ShownParts::Places::spread_data))]
+    fn show(&self, alloc: Global) -> Shown {
+        Fields::new(alloc).with_last("place", &self.place)
     }
 }
 
 impl Show for PlaceOrSpread {
     ghost shows = { argument_data };
 
-    #[tactic(auto, using(crate::proofs::PartsReadBack::argument_again), unfolding(crate::specs::ShownParts::argument_data))]
-    fn show(&self, alloc: Global) -> Result<Value, AllocError> {
+    #[tactic(auto, using(crate::proofs::PartsReadBack::argument_again), unfolding(crate::specs::ShownParts::Places::argument_data))]
+    fn show(&self, alloc: Global) -> Shown {
         match self {
             PlaceOrSpread::Place(place) => variant(alloc, "Place", place),
             PlaceOrSpread::Spread(spread) => variant(alloc, "Spread", spread),
@@ -106,8 +106,8 @@ impl Show for PlaceOrSpread {
     }
 }
 
-/// The shortest form of a place, which reads as that place again, and whose text is its compact text, since no float
-/// stands in it. The only error is want of memory.
+/// Returns the shortest form of a place, which reads as that place again. It has no float, so its text is its compact
+/// text. Fails only when out of memory.
 #[tactic(auto, using(crate::proofs::NoFloats::in_place))]
 pub fn place_json(alloc: Global, place: &Place) -> Result<Value, AllocError>
     ensures value { IfOk result (λ shown. view shown ≡ place_data place.now) }

@@ -1,4 +1,4 @@
-//! The document of a component: a hook, a loop over what it answers, and the elements that are made of it.
+//! The document of a component: a hook, a loop over its result, and the elements that are made of it.
 
 /// The document.
 pub const COMPONENT: &str =

@@ -14,7 +14,7 @@ use serde_json::Value;
 use std::alloc::{AllocError, Global};
 use std::test::Fail;
 
-/// What is read of the value.
+/// The document of a value.
 fn read(alloc: Global, value: &Value) -> Result<Doc, Fail> {
     match read_doc(alloc, value)? {
         Some(doc) => Ok(doc),
@@ -22,14 +22,14 @@ fn read(alloc: Global, value: &Value) -> Result<Doc, Fail> {
     }
 }
 
-/// Whether copies of a document's graph and environment are like their sources.
+/// Whether the copies of a document's graph and environment are like their sources.
 fn are_copies_alike(alloc: Global, doc: &Doc) -> Result<bool, AllocError> {
     let graph = doc.hir.clone_in(alloc)?;
     let environment = doc.env.clone_in(alloc)?;
     Ok(graph.is_like(&doc.hir, alloc)? && environment.is_like(&doc.env, alloc)?)
 }
 
-/// Whether that holds of the component.
+/// Whether the copies of the component are like their sources.
 fn is_component_copied(alloc: Global) -> Result<bool, Fail> {
     let doc = read(alloc, &Value::from_str(alloc, COMPONENT)?)?;
     Ok(are_copies_alike(alloc, &doc)?)
@@ -41,7 +41,7 @@ fn copies_of_a_component_are_like_their_sources(rt: HostRuntime) -> Result<(), F
     Ok(())
 }
 
-/// Whether the document with one part changed is no longer like the source, with each value that may stand there.
+/// Whether the document with one part changed is unlike the source, for each value that the part may have.
 fn are_changes_seen(
     alloc: Global,
     document: &mut Value,
@@ -66,7 +66,7 @@ fn are_changes_seen(
     Ok(are_seen)
 }
 
-/// Where a part of the component stands of which a change isn't seen; none where each is seen.
+/// The path of a part of the component of which a change isn't seen, if there is one.
 fn unseen_part(alloc: Global) -> Result<Option<String>, Fail> {
     let types = Value::from_str(alloc, TYPES)?;
     let mut document = Value::from_str(alloc, COMPONENT)?;

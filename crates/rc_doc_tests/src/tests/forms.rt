@@ -1,4 +1,4 @@
-//! A document with every form: each of its parts changed, and its values printed and read again.
+//! A document with every form: each of its parts is changed, and its values are printed and read again.
 
 pub mod changes;
 mod document;

@@ -1,10 +1,10 @@
-//! The numbers of the environment outside its functions.
+//! The check of the numbers of the environment, those of its functions left out.
 
 #![tactic(auto, using(crate::proofs::NamesLemmas::judging))]
 
 ghost use Rattle.std.specs.Prelude.{◌≡◌};
 ghost use Rattle.rc_hir.specs.EnvironmentNames as spec;
-ghost use Rattle.rc_hir.specs.Names.{Judges};
+ghost use Rattle.rc_hir.specs.Names.{IsCheckOf};
 
 use super::Lengths;
 use super::parts::{HoldsNames, check_both, check_three};
@@ -111,7 +111,7 @@ impl HoldsNames for ReactiveScope {
 
 /// Checks the numbers in the tables of identifiers, types and scopes.
 pub fn check_parts(env: &Environment, tables: Lengths) -> Result<(), Fault>
-    ensures { Judges tables (spec.environment_names env.now) result }
+    ensures { IsCheckOf tables (spec.environment_names env.now) result }
 {
     check_three(&env.identifiers, &env.types, &env.scopes, tables)
 }

@@ -1,10 +1,10 @@
-//! The numbers of the parts of a graph.
+//! The check of the numbers of the parts of a graph.
 
 #![tactic(auto, using(crate::proofs::NamesLemmas::judging))]
 
 ghost use Rattle.std.specs.Prelude.{◌≡◌};
 ghost use Rattle.rc_hir.specs.GraphNames as graph;
-ghost use Rattle.rc_hir.specs.Names.{Judges};
+ghost use Rattle.rc_hir.specs.Names.{IsCheckOf};
 ghost use Rattle.rc_hir.specs.PartNames as part;
 
 use super::Lengths;
@@ -238,9 +238,9 @@ impl HoldsNames for BasicBlock {
     }
 }
 
-/// Checks the numbers of a function, where its rows are counted already.
+/// Checks the numbers of a function, given the number of its rows.
 pub fn check_parts(function: &HirFunction, tables: Lengths) -> Result<(), Fault>
-    ensures { Judges tables (graph.function_names function.now) result }
+    ensures { IsCheckOf tables (graph.function_names function.now) result }
 {
     function.params.check(tables)?;
     check_three(

@@ -1,31 +1,31 @@
-//! What holds numbers, and the containers of such parts.
+//! Parts that have numbers, and the containers of such parts.
 
 #![tactic(auto, using(crate::proofs::NamesLemmas::judging))]
 
 ghost use Rattle.std.specs.Prelude.{◌≡◌, ◌++◌, slice_get, Some};
 ghost use Rattle.std.specs.List.{flat_map};
-ghost use Rattle.rc_hir.specs.PartNames.{perhaps, under_key};
-ghost use Rattle.rc_hir.specs.Names.{Judges};
+ghost use Rattle.rc_hir.specs.PartNames.{names_if, under_key};
+ghost use Rattle.rc_hir.specs.Names.{IsCheckOf};
 
 use super::Lengths;
 use crate::fault::Fault;
 use rc_names::{Keyed, List, Name, Table};
 
-/// A part that holds numbers.
+/// A part that has numbers.
 pub trait HoldsNames {
     ghost use Rattle.std.specs.Prelude.{List as Entries};
     ghost use Rattle.rc_hir.specs.PartNames.{Name};
 
-    /// The numbers, each with the table that it stands for.
+    /// The numbers, each with the table that it indexes.
     ghost names: { Self → Entries Name };
 
-    /// Checks that each number is in its table. `BadName` names one that isn't.
+    /// Checks that each number is in its table. Returns `BadName` with one that isn't.
     fn check(&self, tables: Lengths) -> Result<(), Fault>
-        ensures { Judges tables (Self.names self.now) result };
+        ensures { IsCheckOf tables (Self.names self.now) result };
 }
 
 impl<T: HoldsNames> HoldsNames for Option<T> {
-    ghost names = { perhaps T.names };
+    ghost names = { names_if T.names };
 
     fn check(&self, tables: Lengths) -> Result<(), Fault> {
         match self {
@@ -67,7 +67,7 @@ fn check_at<K: Name, V: HoldsNames>(
     i: usize,
     tables: Lengths,
 ) -> Result<(), Fault>
-    ensures { (pair : K × V) → slice_get keyed.now i ≡ Some pair → Judges tables (V.names pair.1) result }
+    ensures { (pair : K × V) → slice_get keyed.now i ≡ Some pair → IsCheckOf tables (V.names pair.1) result }
 {
     match keyed.at(i) {
         Some((_, value)) => value.check(tables),
@@ -76,7 +76,7 @@ fn check_at<K: Name, V: HoldsNames>(
 }
 
 fn check_each<T: HoldsNames>(parts: &[T], tables: Lengths) -> Result<(), Fault>
-    ensures { Judges tables (flat_map T.names parts.now) result }
+    ensures { IsCheckOf tables (flat_map T.names parts.now) result }
 {
     for part in parts {
         part.check(tables)?;
@@ -90,7 +90,7 @@ pub fn check_both<A: HoldsNames, B: HoldsNames>(
     second: &B,
     tables: Lengths,
 ) -> Result<(), Fault>
-    ensures { Judges tables (A.names first.now ++ B.names second.now) result }
+    ensures { IsCheckOf tables (A.names first.now ++ B.names second.now) result }
 {
     first.check(tables)?;
     second.check(tables)
@@ -103,7 +103,7 @@ pub fn check_three<A: HoldsNames, B: HoldsNames, C: HoldsNames>(
     third: &C,
     tables: Lengths,
 ) -> Result<(), Fault>
-    ensures { Judges tables (A.names first.now ++ (B.names second.now ++ C.names third.now)) result }
+    ensures { IsCheckOf tables (A.names first.now ++ (B.names second.now ++ C.names third.now)) result }
 {
     first.check(tables)?;
     check_both(second, third, tables)

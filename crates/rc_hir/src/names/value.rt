@@ -1,4 +1,4 @@
-//! The numbers of the 42 instruction kinds.
+//! The check of the numbers of the 42 instruction kinds.
 
 #![tactic(auto, using(crate::proofs::NamesLemmas::judging))]
 

@@ -1,4 +1,4 @@
-//! The counters, and what the shapes tell.
+//! The counters, and the facts that the shapes give.
 
 use super::graphs::environment;
 use rc_hir::{Environment, Fault, HirType, Shape, ShapeRow};
@@ -6,7 +6,7 @@ use rc_names::{BlockId, IdentifierId, List, Table, TypeId};
 use std::alloc::Global;
 use std::test::Fail;
 
-/// A new identifier behind three, and its type where it is in the table.
+/// A new identifier after three others, and its type if it is in the table.
 fn new_identifier(alloc: Global) -> Result<(IdentifierId, Option<TypeId>), Fault> {
     let mut env = environment(alloc, 3)?;
     let id = env.next_identifier_id(None)?;
@@ -19,12 +19,12 @@ fn new_identifier(alloc: Global) -> Result<(IdentifierId, Option<TypeId>), Fault
 #[test]
 fn a_new_identifier_has_a_type_of_its_own(rt: HostRuntime) -> Result<(), Fail> {
     let (id, type_) = new_identifier(rt.alloc())?;
-    assert_eq!(rt; id, IdentifierId(3));
-    assert_eq!(rt; type_, Some(TypeId(1)));
+    assert_eq!(rt; id, IdentifierId::new(3));
+    assert_eq!(rt; type_, Some(TypeId::new(1)));
     Ok(())
 }
 
-/// Two new blocks from the number before the last, and the number behind them.
+/// Two new blocks, where the next number is the last but one, and the counter after them.
 fn last_blocks(alloc: Global) -> (Result<BlockId, Fault>, Result<BlockId, Fault>, u32) {
     let mut env = Environment::empty(alloc);
     env.next_block = 4294967294;
@@ -36,7 +36,7 @@ fn last_blocks(alloc: Global) -> (Result<BlockId, Fault>, Result<BlockId, Fault>
 #[test]
 fn the_last_number_is_no_block(rt: HostRuntime) {
     let (first, second, next_block) = last_blocks(rt.alloc());
-    assert_eq!(rt; first, Ok(BlockId(4294967294)));
+    assert_eq!(rt; first, Ok(BlockId::new(4294967294)));
     assert_eq!(rt; second, Err(Fault::NoIds));
     assert_eq!(rt; next_block, 4294967295);
 }
@@ -52,7 +52,7 @@ fn with_row(alloc: Global) -> Result<Environment, Fault> {
     Ok(env)
 }
 
-/// The same, where the identifier's type is a function of that row.
+/// The same environment, where the identifier's type is a function with that row.
 fn with_hook(alloc: Global) -> Result<Environment, Fault> {
     let hook = HirType::Function {
         shape: Some(Shape::Row(0)),
@@ -65,7 +65,7 @@ fn with_hook(alloc: Global) -> Result<Environment, Fault> {
 
 /// Whether an identifier is a hook, and whether its result is no alias.
 fn told(env: Environment, id: u32) -> (bool, bool) {
-    let id = IdentifierId(id);
+    let id = IdentifierId::new(id);
     (env.is_hook(id), env.has_no_alias_signature(id))
 }
 

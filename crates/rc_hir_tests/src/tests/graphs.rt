@@ -14,14 +14,14 @@ use std::alloc::Global;
 /// A place that is read.
 pub fn read(number: u32) -> Place {
     Place {
-        identifier: IdentifierId(number),
+        identifier: IdentifierId::new(number),
         effect: Effect::Read,
         reactive: false,
         span: None,
     }
 }
 
-/// That many identifiers of type 0, each with a declaration of its own.
+/// That many identifiers of type 0, each with its own declaration.
 pub fn environment(alloc: Global, identifiers: u32) -> Result<Environment, Fault> {
     let mut env = Environment::empty(alloc);
     env.types.push(HirType::Other)?;
@@ -35,10 +35,10 @@ pub fn environment(alloc: Global, identifiers: u32) -> Result<Environment, Fault
 
 fn identifier(declaration: u32) -> Identifier {
     Identifier {
-        declaration_id: DeclarationId(declaration),
+        declaration_id: DeclarationId::new(declaration),
         name: None,
         scope: None,
-        type_: TypeId(0),
+        type_: TypeId::new(0),
         span: None,
     }
 }
@@ -53,7 +53,7 @@ pub fn nested(number: u32) -> InstructionValue {
     InstructionValue::FunctionExpression {
         name: None,
         lowered_func: LoweredFunction {
-            func: FunctionId(number),
+            func: FunctionId::new(number),
         },
         span: None,
     }
@@ -61,7 +61,7 @@ pub fn nested(number: u32) -> InstructionValue {
 
 /// A function of one block, which names one row and returns its target. The row is missing.
 pub fn one_block(alloc: Global, context: &[Place]) -> Result<HirFunction, Fault> {
-    let rows = List::from_slice(alloc, &[InstructionId(0)])?;
+    let rows = List::from_slice(alloc, &[InstructionId::new(0)])?;
     let mut blocks = Keyed::new(alloc);
     put(&mut blocks, 0, rows, returning(1, 2))?;
     let mut function = graph(alloc, &[0], blocks)?;
@@ -69,7 +69,7 @@ pub fn one_block(alloc: Global, context: &[Place]) -> Result<HirFunction, Fault>
     Ok(function)
 }
 
-/// That function with a row of a value.
+/// The same function with a row that has a value.
 pub fn with_row(mut function: HirFunction, value: InstructionValue) -> Result<HirFunction, Fault> {
     function.instructions.push(row(1, 1, value))?;
     Ok(function)
@@ -86,7 +86,7 @@ pub fn one_function(alloc: Global, function: HirFunction) -> Result<Environment,
 
 /// A scope whose two ends return: the first of two parameters chooses between an array and the second.
 pub fn two_returns_in_a_scope(alloc: Global) -> Result<HirFunction, Fault> {
-    let rows = List::from_slice(alloc, &[InstructionId(0)])?;
+    let rows = List::from_slice(alloc, &[InstructionId::new(0)])?;
     let mut blocks = Keyed::new(alloc);
     put(&mut blocks, 0, List::new(alloc), opening(1, 5))?;
     put(&mut blocks, 1, rows, choosing(3))?;
@@ -106,8 +106,8 @@ pub fn two_returns_in_a_scope(alloc: Global) -> Result<HirFunction, Fault> {
 /// The environment of that function: identifier 2 has scope 0, whose early return is set.
 pub fn with_an_early_return(alloc: Global) -> Result<Environment, Fault> {
     let mut env = environment(alloc, 3)?;
-    if let Some(array) = env.identifiers.get_mut(IdentifierId(2)) {
-        array.scope = Some(ScopeId(0));
+    if let Some(array) = env.identifiers.get_mut(IdentifierId::new(2)) {
+        array.scope = Some(ScopeId::new(0));
     }
     if !env.scopes.is_full() {
         env.scopes.push(scope(alloc))?;
@@ -118,16 +118,16 @@ pub fn with_an_early_return(alloc: Global) -> Result<Environment, Fault> {
 fn scope(alloc: Global) -> ReactiveScope {
     ReactiveScope {
         range: MutableRange {
-            start: EvaluationOrder(1),
-            end: EvaluationOrder(7),
+            start: EvaluationOrder::new(1),
+            end: EvaluationOrder::new(7),
         },
         dependencies: List::new(alloc),
         declarations: List::new(alloc),
         reassignments: List::new(alloc),
         early_return_value: Some(ReactiveScopeEarlyReturn {
-            value: IdentifierId(0),
+            value: IdentifierId::new(0),
             span: None,
-            label: BlockId(0),
+            label: BlockId::new(0),
         }),
         merged: List::new(alloc),
     }
@@ -152,7 +152,7 @@ fn graph(
         is_async: false,
         context: List::new(alloc),
         body: Hir {
-            entry: BlockId(0),
+            entry: BlockId::new(0),
             blocks,
         },
         instructions: List::new(alloc),
@@ -168,17 +168,17 @@ fn put(
     terminal: Terminal,
 ) -> Result<(), Fault> {
     let block = BasicBlock {
-        id: BlockId(number),
+        id: BlockId::new(number),
         instructions,
         terminal,
     };
-    blocks.insert(BlockId(number), block)?;
+    blocks.insert(BlockId::new(number), block)?;
     Ok(())
 }
 
 fn row(id: u32, target: u32, value: InstructionValue) -> Instruction {
     Instruction {
-        id: EvaluationOrder(id),
+        id: EvaluationOrder::new(id),
         lvalue: read(target),
         value,
         span: None,
@@ -187,10 +187,10 @@ fn row(id: u32, target: u32, value: InstructionValue) -> Instruction {
 
 fn opening(block: u32, fallthrough: u32) -> Terminal {
     Terminal::Scope {
-        fallthrough: BlockId(fallthrough),
-        block: BlockId(block),
-        scope: ScopeId(0),
-        id: EvaluationOrder(1),
+        fallthrough: BlockId::new(fallthrough),
+        block: BlockId::new(block),
+        scope: ScopeId::new(0),
+        id: EvaluationOrder::new(1),
         span: None,
     }
 }
@@ -198,10 +198,10 @@ fn opening(block: u32, fallthrough: u32) -> Terminal {
 fn choosing(id: u32) -> Terminal {
     Terminal::If {
         test: read(0),
-        consequent: BlockId(2),
-        alternate: BlockId(3),
-        fallthrough: BlockId(4),
-        id: EvaluationOrder(id),
+        consequent: BlockId::new(2),
+        alternate: BlockId::new(3),
+        fallthrough: BlockId::new(4),
+        id: EvaluationOrder::new(id),
         span: None,
     }
 }
@@ -209,14 +209,14 @@ fn choosing(id: u32) -> Terminal {
 fn returning(number: u32, id: u32) -> Terminal {
     Terminal::Return {
         value: read(number),
-        id: EvaluationOrder(id),
+        id: EvaluationOrder::new(id),
         span: None,
     }
 }
 
 fn unreachable(id: u32) -> Terminal {
     Terminal::Unreachable {
-        id: EvaluationOrder(id),
+        id: EvaluationOrder::new(id),
         span: None,
     }
 }

@@ -8,12 +8,12 @@ use rc_names::{CloneIn, DeclarationId, IdentifierId};
 use std::alloc::Global;
 use std::test::Fail;
 
-/// Why a graph is refused, where it is.
+/// The fault with which a graph is refused, if it is.
 fn fault_of(graph: &HirFunction, env: &Environment) -> Option<Fault> {
     check_names(graph, env).err()
 }
 
-/// Why a function that holds itself is refused, where it is.
+/// The fault with which a function that contains itself is refused, if it is.
 fn fault_of_itself(alloc: Global) -> Result<Option<Fault>, Fault> {
     let graph = with_row(one_block(alloc, &[])?, nested(0))?;
     let env = one_function(alloc, graph.clone_in(alloc)?)?;
@@ -26,12 +26,12 @@ fn a_function_may_hold_itself(rt: HostRuntime) -> Result<(), Fail> {
     Ok(())
 }
 
-/// Why a graph is refused whose first identifier has that declaration, where it is.
+/// The fault with which a graph is refused whose first identifier has that declaration, if it is.
 fn fault_of_declaration(alloc: Global, declaration: u32) -> Result<Option<Fault>, Fault> {
     let graph = two_returns_in_a_scope(alloc)?;
     let mut env = with_an_early_return(alloc)?;
-    if let Some(first) = env.identifiers.get_mut(IdentifierId(0)) {
-        first.declaration_id = DeclarationId(declaration);
+    if let Some(first) = env.identifiers.get_mut(IdentifierId::new(0)) {
+        first.declaration_id = DeclarationId::new(declaration);
     }
     Ok(fault_of(&graph, &env))
 }

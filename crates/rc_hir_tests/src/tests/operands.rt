@@ -11,7 +11,7 @@ use rc_names::{BlockId, EvaluationOrder, List};
 use std::alloc::{AllocError, Global};
 use std::test::Fail;
 
-// The places' numbers are these, in order.
+// Whether the places have these numbers, in order.
 fn are(places: &List<Place>, numbers: &[u32]) -> bool {
     places.len() == numbers.len()
         && places
@@ -60,7 +60,7 @@ fn a_store_writes_its_target(rt: HostRuntime) -> Result<(), Fail> {
     Ok(())
 }
 
-/// The places of a pattern of place 4, a hole and, for the rest, place 5.
+/// The places of a pattern that has place 4, a hole and, for the rest, place 5.
 fn pattern_places(alloc: Global) -> Result<List<Place>, Fault> {
     let items = [
         ArrayPatternElement::Place(read(4)),
@@ -84,18 +84,18 @@ fn switch(alloc: Global) -> Result<Terminal, AllocError> {
     let cases = [
         Case {
             test: Some(read(1)),
-            block: BlockId(1),
+            block: BlockId::new(1),
         },
         Case {
             test: None,
-            block: BlockId(2),
+            block: BlockId::new(2),
         },
     ];
     Ok(Terminal::Switch {
         test: read(0),
         cases: List::from_slice(alloc, &cases)?,
-        fallthrough: BlockId(3),
-        id: EvaluationOrder(9),
+        fallthrough: BlockId::new(3),
+        id: EvaluationOrder::new(9),
         span: None,
     })
 }
@@ -114,11 +114,26 @@ fn switch_order(alloc: Global) -> Result<EvaluationOrder, AllocError> {
 fn a_default_has_no_test(rt: HostRuntime) -> Result<(), Fail> {
     let alloc = rt.alloc();
     assert!(rt; are(&switch_operands(alloc)?, &[0, 1]));
-    assert_eq!(rt; switch_order(alloc)?, EvaluationOrder(9));
+    assert_eq!(rt; switch_order(alloc)?, EvaluationOrder::new(9));
     Ok(())
 }
 
-/// The operands of a function as a value, where a table of one function with that context is at hand.
+/// Whether that switch leads to these blocks, those of its cases, and to no other.
+fn switch_leads_to(alloc: Global, blocks: &[u32]) -> Result<bool, AllocError> {
+    let switch = switch(alloc)?;
+    let successors = switch.successors();
+    let numbers = successors.cases.iter().map(|case| case.block.0);
+    let no_others = successors.first.is_none() && successors.second.is_none();
+    Ok(no_others && numbers.eq(blocks.iter().copied()))
+}
+
+#[test]
+fn a_switch_with_a_default_leads_to_its_cases_alone(rt: HostRuntime) -> Result<(), Fail> {
+    assert!(rt; switch_leads_to(rt.alloc(), &[1, 2])?);
+    Ok(())
+}
+
+/// The operands of a function as a value, with a table of one function that has that context.
 fn function_operands(alloc: Global, context: &[Place], number: u32) -> Result<List<Place>, Fault> {
     let function = with_row(one_block(alloc, context)?, debugger())?;
     let env = one_function(alloc, function)?;

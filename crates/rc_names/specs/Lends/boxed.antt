@@ -1,4 +1,4 @@
--- A boxed value ends as the value last written.
+-- A box has the value last written through the reference.
 use Rattle.std.specs.Borrow.{Fml, RattleType, MutBor, Lends}
 use Rattle.rc_names.specs.contracts.boxed.Boxed.{the_row}
 

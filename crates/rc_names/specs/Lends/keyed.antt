@@ -1,4 +1,4 @@
--- Pairs end with the value last written under their key.
+-- A map has the value last written through the reference under its key.
 use Rattle.std.specs.Prelude.{◌≡◌, List, Option}
 use Rattle.std.specs.Borrow.{Fml, RattleType, MutBor, LendsSo}
 use Rattle.std.specs.Map.{set_value}

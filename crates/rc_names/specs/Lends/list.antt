@@ -1,4 +1,4 @@
--- A list ends with the value last written at its place.
+-- A list has the value last written through the reference at its index.
 use Rattle.std.specs.Prelude.{ℕ, List, Option, slice_set}
 use Rattle.std.specs.Borrow.{Fml, RattleType, MutBor, LendsIf}
 use Rattle.rc_names.specs.contracts.list.List.{the_row}

@@ -1,9 +1,9 @@
--- A table ends with the value last written under its number.
+-- A table has the value last written through the reference at its number.
 use Rattle.std.specs.Prelude.{ℕ, Bool, List, Option, slice_set}
 use Rattle.std.specs.Borrow.{Fml, RattleType, MutBor, LendsIf}
 use Rattle.rc_names.specs.contracts.table.Table.{the_row}
 
--- what a clause has as I.Name
+-- the members of `Name`, which a clause writes as I.Name
 abbrev pub NameMembers : Type 0 → Type 0
 NameMembers I = record { hash_input : I → List (List ℕ); eq : I → I → Bool; number : I → ℕ }
 

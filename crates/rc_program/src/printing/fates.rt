@@ -1,4 +1,4 @@
-//! What became of each scope, a line each.
+//! The fate of each scope, a line each.
 
 ghost use Rattle.std.specs.Prelude.{◌≡◌, ◌++◌, OnOk, decimal};
 ghost use Rattle.rc_program.specs.FunctionLines.{fate_text, scope_fate_text, fate_lines};

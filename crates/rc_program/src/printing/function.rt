@@ -1,4 +1,4 @@
-//! A whole function: its header, its body, and what became of its scopes.
+//! A whole function: its header, its body, and the fates of its scopes.
 
 ghost use Rattle.std.specs.Prelude.{◌≡◌, ◌++◌, IfOk, OnOk};
 ghost use Rattle.rc_program.specs.FunctionLines.{marks_text, name_text, param_text, param_lines, directive_lines};

@@ -3,7 +3,7 @@
 ghost use Rattle.std.specs.Prelude.{◌≡◌, ◌++◌, OnOk, codes, true};
 ghost use Rattle.serde_json.specs.Data.{string};
 ghost use Rattle.serde_json.specs.Written.{compact_text, items_text};
-ghost use Rattle.rc_doc.specs.ShownParts.{long_form, effect_name, span_items};
+ghost use Rattle.rc_doc.specs.ShownParts.Places.{long_form, effect_name, span_items};
 ghost use Rattle.rc_program.specs.LineText.{place_text};
 
 use crate::printing::page::Page;

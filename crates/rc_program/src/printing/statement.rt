@@ -1,4 +1,4 @@
-//! Statements, each with what stands below it.
+//! Statements, each with the lines below it.
 //!
 //! A step down is a number of spaces more, and lists are loops, so the call stack grows with nesting alone.
 
@@ -38,7 +38,7 @@ fn write_statements(
     Ok(())
 }
 
-/// A statement, and what stands below it.
+/// A statement, and the lines below it.
 #[cycle(statement)]
 fn write_statement(
     page: &mut Page,

@@ -1,4 +1,4 @@
-//! Documents and words with what the program answers.
+//! Documents and words, with the program's answers.
 
 use super::{DOCUMENT, TEXT, is_answered, is_answered_from, list, words};
 use rc_names::List;
@@ -13,7 +13,7 @@ fn a_function_that_answers_its_parameter_has_five_lines(rt: HostRuntime) -> Resu
     Ok(())
 }
 
-/// Whether `rc tree` ends so on the document behind which spaces stand up to that size, and writes that text.
+/// Whether `rc tree` ends with that status on the document, filled up with spaces to that size, and writes that text.
 fn is_answered_at(alloc: Global, size: usize, due: Status, text: &str) -> Result<bool, AllocError> {
     let mut bytes = list(alloc, DOCUMENT.as_bytes())?;
     for _ in DOCUMENT.len()..size {
@@ -65,7 +65,7 @@ fn other_words_than_tree_are_a_usage_error(rt: HostRuntime) -> Result<(), Fail> 
     Ok(())
 }
 
-/// The line that says what was wrong; empty where nothing was.
+/// The line on standard error for a status; empty if it has none.
 fn line_of(alloc: Global, status: Status) -> Result<String, AllocError> {
     match status.reason() {
         Some(stop) => format!(in alloc; "{stop}"),

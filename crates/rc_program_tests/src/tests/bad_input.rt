@@ -5,7 +5,7 @@ use rc_program::Status;
 use std::alloc::{AllocError, Global};
 use std::test::Fail;
 
-/// A document with each field that straight code has, and one row of each kind.
+/// A document that has each field of straight code, and one row of each kind.
 const FULL: &str = r#"{"hir":{"span":[0,99],"id":"f","name_hint":"g",
 "params":[{"k":"Place","v":0},{"k":"Spread","v":{"place":1}}],
 "generator":true,"is_async":true,"context":[2],
@@ -26,7 +26,7 @@ const FULL: &str = r#"{"hir":{"span":[0,99],"id":"f","name_hint":"g",
 "types":["Other"],"scopes":[],"functions":[],"shapes":[],
 "config":{"enable_forest":true,"enable_preserve_existing_memoization_guarantees":false},"next_block":1}}"#;
 
-/// What is printed for it.
+/// The printed text of it.
 const FULL_TEXT: &str = r#"function "f" hint "g" generator true async true @0..99
 param 0
 param ...1
@@ -40,7 +40,7 @@ body
 fates
 "#;
 
-/// What is no whole number below 2^32.
+/// Values that are no whole numbers below 2^32.
 const NO_NUMBERS: [&str; 8] = [
     "1.0",
     "1e0",
@@ -61,7 +61,7 @@ const NUMBERS: [(&str, &str); 5] = [
     ("next_block", "1"),
 ];
 
-/// Parts of the full document, each with what isn't of its type.
+/// Parts of the full document, each with a text that isn't of its type.
 const WRONG_PARTS: [(&str, &str); 47] = [
     (r#""span":[0,99]"#, r#""span":[0]"#),
     (r#""id":"f""#, r#""id":1"#),
@@ -143,7 +143,7 @@ fn is_no_document(alloc: Global, bytes: &[u8]) -> Result<bool, AllocError> {
     is_answered(alloc, bytes, Status::NotDoc, "")
 }
 
-/// Whether a text with the first such part replaced is no document.
+/// Whether a text in which the first such part is replaced is no document.
 fn is_no_document_with(
     alloc: Global,
     text: &str,
@@ -154,7 +154,7 @@ fn is_no_document_with(
     is_no_document(alloc, text.as_bytes())
 }
 
-/// Lists in lists, so many deep.
+/// Lists in lists, to that depth.
 fn nested(alloc: Global, depth: usize) -> Result<Vec<u8>, AllocError> {
     let mut bytes = Vec::new(alloc);
     for _ in 0..depth {
@@ -229,7 +229,7 @@ fn json_of_other_values_is_no_document(rt: HostRuntime) -> Result<(), Fail> {
     Ok(())
 }
 
-/// Whether the text of the small document is printed where the first such part is replaced.
+/// Whether the text of the small document is still printed if the first such part is replaced.
 fn is_printed_with(alloc: Global, part: &str, by: &str) -> Result<bool, AllocError> {
     let text = replaced(alloc, DOCUMENT, part, by)?;
     is_answered(alloc, text.as_bytes(), Status::Done, TEXT)
@@ -245,7 +245,7 @@ fn of_a_repeated_key_the_last_counts(rt: HostRuntime) -> Result<(), Fail> {
     Ok(())
 }
 
-/// Whether the small document with another number in a field is no document.
+/// Whether the small document is no document if a field has another number.
 fn is_no_document_of_number(
     alloc: Global,
     key: &str,
@@ -281,7 +281,7 @@ fn each_field_has_its_type(rt: HostRuntime) -> Result<(), Fail> {
     Ok(())
 }
 
-/// Whether the full document is none with another key behind so many bytes.
+/// Whether the full document is no document if another key is put after `front`.
 fn is_no_document_with_key(alloc: Global, front: &[u8], back: &[u8]) -> Result<bool, AllocError> {
     let mut text = Vec::from_slice(alloc, front)?;
     text.extend_from_slice(b"\"other\":0,")?;

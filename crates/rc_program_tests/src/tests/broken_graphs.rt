@@ -1,14 +1,14 @@
 //! Graphs of which one number is changed: the program refuses each, or prints the tree that it spells.
 //!
-//! In the texts a mark stands ahead of each number that is changed: `@` of a block that something names, `#` of a place
-//! in the order of evaluation, `*` of a block's key, `~` of its own number, and `%` of a scope.
+//! In the texts a mark comes before each number that is changed: `@` before a block that something names, `#` before a
+//! place in the order of evaluation, `*` before a block's key, `~` before its own number, and `%` before a scope.
 
 use super::{HEAD, is_answered, replaced, tree};
 use rc_program::Status;
 use std::alloc::{AllocError, Global};
 use std::test::Fail;
 
-/// A document of two parameters, of one row and of three scopes, whose blocks stand where `BLOCKS` does.
+/// A document of two parameters, one row and three scopes; `BLOCKS` is the place for its blocks.
 const DOCUMENT: &str = r#"{"hir":{"params":[{"k":"Place","v":0},{"k":"Place","v":1}],
 "body":{"entry":@0,"blocks":[BLOCKS]},
 "instructions":[{"id":#2,"lvalue":2,"value":{"k":"Debugger"}}]},
@@ -23,7 +23,7 @@ const IF: &str = r#"
 {"key":*2,"id":~2,"terminal":{"k":"Goto","variant":"Break","block":@3,"id":#4}},
 {"key":*3,"id":~3,"terminal":{"k":"Return","value":1,"id":#5}}"#;
 
-/// A `Label` around an `If` whose one arm breaks out of both.
+/// A `Label` around an `If`, of which one arm breaks out of both.
 const LABEL: &str = r#"
 {"key":*0,"id":~0,"terminal":{"k":"Label","block":@1,"fallthrough":@2,"id":#1}},
 {"key":*1,"id":~1,"instructions":[0],
@@ -32,7 +32,7 @@ const LABEL: &str = r#"
 {"key":*4,"id":~4,"terminal":{"k":"Goto","variant":"Break","block":@2,"id":#5}},
 {"key":*2,"id":~2,"terminal":{"k":"Return","value":0,"id":#6}}"#;
 
-/// A `Scope` in a `Scope`, and a `PrunedScope` behind them.
+/// A `Scope` in a `Scope`, and a `PrunedScope` after them.
 const SCOPES: &str = r#"
 {"key":*0,"id":~0,"terminal":{"k":"Scope","block":@1,"fallthrough":@2,"scope":%0,"id":#1}},
 {"key":*1,"id":~1,"instructions":[0],
@@ -47,7 +47,7 @@ fn is_mark(byte: u8) -> bool {
     b"@#*~%".contains(&byte)
 }
 
-/// The text without its marks, and with another digit behind the `nth` mark of this kind, counted from 0.
+/// The text without its marks, and with another digit after the `nth` mark of this kind, counted from 0.
 fn changed(
     alloc: Global,
     text: &str,
@@ -70,8 +70,8 @@ fn changed(
     Ok(bytes)
 }
 
-/// Those of the digits with which, behind the `nth` mark of this kind, a tree is printed. With each other the graph is
-/// refused, by a line; a question mark stands for one with which the program does neither.
+/// The digits with which, after the `nth` mark of this kind, a tree is printed. With each other digit the graph is
+/// refused with a line; a question mark means that the program does neither.
 fn spelling(
     alloc: Global,
     blocks: &str,
@@ -93,7 +93,7 @@ fn spelling(
     Ok(spelling)
 }
 
-/// Whether these are the digits of `digits` with which, behind the `nth` mark of this kind, a tree is printed.
+/// Whether these are the digits of `digits` with which, after the `nth` mark of this kind, a tree is printed.
 fn are_spelling(
     alloc: Global,
     blocks: &str,
@@ -109,8 +109,8 @@ fn are_spelling(
 #[test]
 fn a_graph_with_a_number_changed_is_refused_or_spells_a_tree(rt: HostRuntime) -> Result<(), Fail> {
     let alloc = rt.alloc();
-    // A graph, a mark, what each number behind it is changed to, and for each of these numbers, in the order of the
-    // text, with which of them the graph spells a tree.
+    // A graph, a mark, the digits to which each number after it is changed, and, for each of these numbers in the
+    // order of the text, the digits with which the graph spells a tree.
     let table: [(&str, u8, &str, &[&str]); 13] = [
         (IF, b'@', "01238", &["03", "1", "23", "3", "3", "3"]),
         (
@@ -147,10 +147,10 @@ fn a_graph_with_a_number_changed_is_refused_or_spells_a_tree(rt: HostRuntime) ->
     Ok(())
 }
 
-/// The entry is the fallthrough of the `If`: nothing leads to the other blocks.
+/// The entry is the fallthrough of the `If`, and nothing leads to the other blocks.
 const RETURN_ALONE: &str = "  return 1 id 5\nfates\n";
 
-/// The alternate of the `If` is its fallthrough, so there is none.
+/// The alternate of the `If` is its fallthrough, so it is left out.
 const NO_ALTERNATE: &str = r#"  if 0 id 1 as bb3 implicit
     then
       2 2 = {"k":"Debugger"}
@@ -159,8 +159,8 @@ const NO_ALTERNATE: &str = r#"  if 0 id 1 as bb3 implicit
 fates
 "#;
 
-/// The fallthrough of the `If` is that of the `Label`, which a jump can name already: it isn't opened. No labeled jump
-/// names the `Label`, whose statements stand in its place.
+/// The fallthrough of the `If` is that of the `Label`, which a jump can name already, so it isn't opened. No labeled
+/// jump names the `Label`, so it is replaced by its statements.
 const SHARED_FALLTHROUGH: &str = r#"  2 2 = {"k":"Debugger"}
   if 0 id 3
     then

@@ -15,7 +15,7 @@ use std::test::Fail;
 /// A place that is read.
 fn read(number: u32) -> Place {
     Place {
-        identifier: IdentifierId(number),
+        identifier: IdentifierId::new(number),
         effect: Effect::Read,
         reactive: false,
         span: None,
@@ -25,57 +25,57 @@ fn read(number: u32) -> Place {
 /// The jump out of the frame of that block.
 fn leave(block: u32, id: u32) -> Terminal {
     Terminal::Goto {
-        block: BlockId(block),
+        block: BlockId::new(block),
         variant: GotoVariant::Break,
-        id: EvaluationOrder(id),
+        id: EvaluationOrder::new(id),
         span: None,
     }
 }
 
-/// Block 0 is a label until block 6, block 1 a scope until block 3, and block 3 an if that leaves the label
+/// Block 0 is a label with fallthrough 6, block 1 a scope with fallthrough 3, and block 3 an if that leaves the label
 /// either way.
 fn terminal(number: u32) -> Terminal {
     match number {
         0 => Terminal::Label {
-            block: BlockId(1),
-            fallthrough: BlockId(6),
-            id: EvaluationOrder(1),
+            block: BlockId::new(1),
+            fallthrough: BlockId::new(6),
+            id: EvaluationOrder::new(1),
             span: None,
         },
         1 => Terminal::Scope {
-            fallthrough: BlockId(3),
-            block: BlockId(2),
-            scope: ScopeId(0),
-            id: EvaluationOrder(2),
+            fallthrough: BlockId::new(3),
+            block: BlockId::new(2),
+            scope: ScopeId::new(0),
+            id: EvaluationOrder::new(2),
             span: None,
         },
         2 => leave(3, 3),
         3 => Terminal::If {
             test: read(0),
-            consequent: BlockId(4),
-            alternate: BlockId(5),
-            fallthrough: BlockId(5),
-            id: EvaluationOrder(4),
+            consequent: BlockId::new(4),
+            alternate: BlockId::new(5),
+            fallthrough: BlockId::new(5),
+            id: EvaluationOrder::new(4),
             span: None,
         },
         4 => leave(6, 5),
         5 => leave(6, 6),
         _ => Terminal::Return {
             value: read(0),
-            id: EvaluationOrder(7),
+            id: EvaluationOrder::new(7),
             span: None,
         },
     }
 }
 
-/// Its seven blocks, which have no rows.
+/// The graph of these seven blocks, which have no rows.
 fn graph(alloc: Global) -> Result<HirFunction, Fault> {
     let mut blocks = Keyed::new(alloc);
     for number in 0..7 {
         blocks.insert(
-            BlockId(number),
+            BlockId::new(number),
             BasicBlock {
-                id: BlockId(number),
+                id: BlockId::new(number),
                 instructions: List::new(alloc),
                 terminal: terminal(number),
             },
@@ -90,7 +90,7 @@ fn graph(alloc: Global) -> Result<HirFunction, Fault> {
         is_async: false,
         context: List::new(alloc),
         body: Hir {
-            entry: BlockId(0),
+            entry: BlockId::new(0),
             blocks,
         },
         instructions: List::new(alloc),
@@ -102,8 +102,8 @@ fn graph(alloc: Global) -> Result<HirFunction, Fault> {
 fn scope(alloc: Global) -> ReactiveScope {
     ReactiveScope {
         range: MutableRange {
-            start: EvaluationOrder(2),
-            end: EvaluationOrder(4),
+            start: EvaluationOrder::new(2),
+            end: EvaluationOrder::new(4),
         },
         dependencies: List::new(alloc),
         declarations: List::new(alloc),
@@ -118,10 +118,10 @@ fn environment(alloc: Global) -> Result<Environment, Fault> {
     let mut env = Environment::empty(alloc);
     env.types.push(HirType::Other)?;
     env.identifiers.push(Identifier {
-        declaration_id: DeclarationId(0),
+        declaration_id: DeclarationId::new(0),
         name: None,
         scope: None,
-        type_: TypeId(0),
+        type_: TypeId::new(0),
         span: None,
     })?;
     env.scopes.push(scope(alloc))?;
@@ -129,7 +129,7 @@ fn environment(alloc: Global) -> Result<Environment, Fault> {
     Ok(env)
 }
 
-/// What is printed of it. The scope gives nothing.
+/// The printed text of it. The scope has no output.
 const TEXT: &str = "function null hint null generator false async false
 body
   label id 1 as bb6

@@ -12,7 +12,7 @@ use std::io;
 use std::io::{Cursor, Read, Write};
 use std::test::Fail;
 
-/// The document, from a source of which one call fails.
+/// A source of the document, of which one call fails.
 fn source_failing_at(alloc: Global, call: u64) -> Result<MemorySource, AllocError> {
     let bytes = list(alloc, DOCUMENT.as_bytes())?;
     Ok(MemorySource::new(bytes, list(alloc, &[call])?))
@@ -21,7 +21,7 @@ fn source_failing_at(alloc: Global, call: u64) -> Result<MemorySource, AllocErro
 #[test]
 fn a_read_that_fails_stops_the_program_and_nothing_is_written(rt: HostRuntime) -> Result<(), Fail> {
     let alloc = rt.alloc();
-    // The first call gives all bytes, the second the end, and no other is made.
+    // The first call gives all bytes, the second gives the end, and no other is made.
     let cases = [
         (0, Status::ReadFault, ""),
         (1, Status::ReadFault, ""),
@@ -38,13 +38,13 @@ fn a_read_that_fails_stops_the_program_and_nothing_is_written(rt: HostRuntime) -
     Ok(())
 }
 
-/// The document, from a source of which no call fails.
+/// A source of the document, of which no call fails.
 fn source(alloc: Global) -> Result<MemorySource, AllocError> {
     let bytes = list(alloc, DOCUMENT.as_bytes())?;
     Ok(MemorySource::new(bytes, List::new(alloc)))
 }
 
-/// Whether a sink of such room, of which these calls fail, fails the program and then holds that.
+/// Whether a sink with that room, of which these calls fail, makes the program fail and then has these bytes.
 fn holds(alloc: Global, room: usize, failing: &[u64], written: &[u8]) -> Result<bool, AllocError> {
     let words = words(alloc, &["tree"])?;
     let mut sink = MemorySink::new(alloc, room, 10, list(alloc, failing)?)?;
@@ -88,7 +88,7 @@ impl Source for Endless {
     }
 }
 
-/// Whether the program ends so on a source, and writes that text.
+/// Whether the program ends with that status on a source, and writes that text.
 fn is_answered_over<S: Source>(
     alloc: Global,
     source: &mut S,
@@ -127,7 +127,7 @@ impl Write for Broken {
     }
 }
 
-/// A writer that takes nothing.
+/// A writer that takes no bytes.
 #[derive(Drop)]
 struct Stuck;
 
@@ -151,13 +151,13 @@ fn a_reader_of_std_is_a_source(rt: HostRuntime) -> Result<(), Fail> {
     Ok(())
 }
 
-/// How the program ends over a sink.
+/// The status with which the program ends over a sink.
 fn status_over<K: Sink>(alloc: Global, sink: &mut K) -> Result<Status, AllocError> {
     let words = words(alloc, &["tree"])?;
     Ok(program(alloc, &words, &mut source(alloc)?, sink))
 }
 
-/// Whether the text is written whole to a list of bytes.
+/// Whether a whole text is written to a list of bytes.
 fn is_written_whole(alloc: Global) -> Result<bool, AllocError> {
     let mut written: Vec<u8> = Vec::new(alloc);
     let status = status_over(alloc, &mut StdSink::new(&mut written))?;

@@ -1,12 +1,12 @@
-//! Graphs of several blocks, with the trees that are printed for them.
+//! Graphs of several blocks, with their printed trees.
 
 use super::{HEAD, is_answered, replaced};
 use rc_program::Status;
 use std::alloc::{AllocError, Global};
 use std::test::Fail;
 
-/// A document of two parameters, whose one row has the number `ROW` in the order of evaluation, and whose blocks stand
-/// where `BLOCKS` does.
+/// A document of two parameters. `ROW` is the place of its one row in the order of evaluation, and `BLOCKS` the place
+/// for its blocks.
 const DOCUMENT: &str = r#"{"hir":{"params":[{"k":"Place","v":0},{"k":"Place","v":1}],
 "body":{"entry":0,"blocks":[BLOCKS]},
 "instructions":[{"id":ROW,"lvalue":2,"value":{"k":"Debugger"}}]},
@@ -19,7 +19,7 @@ const IF: &str = r#"
 {"id":1,"instructions":[0],"terminal":{"k":"Goto","variant":"Break","block":2,"id":3}},
 {"id":2,"terminal":{"k":"Return","value":1,"id":4}}"#;
 
-/// What is printed for it.
+/// The printed text of it.
 const IF_TEXT: &str = r#"  if 0 id 1 as bb2 implicit
     then
       2 2 = {"k":"Debugger"}
@@ -36,7 +36,7 @@ const LABEL: &str = r#"
 {"id":4,"instructions":[0],"terminal":{"k":"Goto","variant":"Break","block":2,"id":5}},
 {"id":2,"terminal":{"k":"Return","value":0,"id":6}}"#;
 
-/// What is printed for it.
+/// The printed text of it.
 const LABEL_TEXT: &str = r#"  label id 1 as bb2
     body
       if 0 id 2 as bb4 implicit
@@ -54,7 +54,7 @@ const UNUSED_LABEL: &str = r#"
 {"id":1,"instructions":[0],"terminal":{"k":"Goto","variant":"Break","block":2,"id":3}},
 {"id":2,"terminal":{"k":"Return","value":0,"id":4}}"#;
 
-/// What is printed for it: its statements stand in its place.
+/// The printed text of it: the `Label` is replaced by its statements.
 const UNUSED_LABEL_TEXT: &str = r#"  2 2 = {"k":"Debugger"}
   break bb2 implicit id 3
   return 0 id 4
@@ -67,7 +67,7 @@ const SCOPE: &str = r#"
 {"id":1,"instructions":[0],"terminal":{"k":"Goto","variant":"Break","block":2,"id":3}},
 {"id":2,"terminal":{"k":"Return","value":0,"id":4}}"#;
 
-/// What is printed for it where the scope declares nothing of its own.
+/// The printed text of it if the scope declares nothing of its own.
 const UNUSED_SCOPE_TEXT: &str = r#"  pruned 0
     2 2 = {"k":"Debugger"}
   return 0 id 4
@@ -75,7 +75,7 @@ fates
   scope 0 unused
 "#;
 
-/// What is printed for it where the scope declares the target of the row.
+/// The printed text of it if the scope declares the target of the row.
 const KEPT_SCOPE_TEXT: &str = r#"  scope 0
     2 2 = {"k":"Debugger"}
   return 0 id 4
@@ -86,11 +86,11 @@ fates
 /// The scopes of the document.
 const SCOPES: &str = r#""scopes":[{"range":{"start":1,"end":4}}]"#;
 
-/// Two scopes, of which the first has the target of the row as a declaration of the scope `OWNER`.
+/// Two scopes, of which the first declares the target of the row; `OWNER` is the place for the declaration's scope.
 const DECLARED: &str = r#""scopes":[{"range":{"start":1,"end":4},
 "declarations":[{"key":2,"value":{"identifier":2,"scope":OWNER}}]},{"range":{"start":1,"end":4}}]"#;
 
-/// The document of these blocks, whose row has that number in the order of evaluation.
+/// The document of these blocks, whose row has that place in the order of evaluation.
 fn document(alloc: Global, row: &str, blocks: &str) -> Result<String, AllocError> {
     let numbered = replaced(alloc, DOCUMENT, "ROW", row)?;
     replaced(alloc, numbered.as_str(), "BLOCKS", blocks)
@@ -121,7 +121,7 @@ fn graphs_of_several_blocks_have_their_statements(rt: HostRuntime) -> Result<(),
     Ok(())
 }
 
-/// The document of the scope, of which the target of the row is a declaration where it is the owner.
+/// The document of the scope, in which the declaration of the row's target has that scope.
 fn declared_by(alloc: Global, owner: &str) -> Result<String, AllocError> {
     let scopes = replaced(alloc, DECLARED, "OWNER", owner)?;
     let document = document(alloc, "2", SCOPE)?;

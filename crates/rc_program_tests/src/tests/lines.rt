@@ -1,4 +1,5 @@
-//! The printed lines of trees that hold every form, beside texts written from the table of printed lines.
+//! The printed lines of trees that have every form, beside texts that are written by hand from the table of printed
+//! lines.
 
 mod parts;
 mod statements;
@@ -202,7 +203,7 @@ fn each_statement_and_each_terminal_has_its_lines(rt: HostRuntime) -> Result<(),
     Ok(())
 }
 
-/// A body with rows of each form of a value.
+/// A body with rows of each form of value.
 fn body_of_values(alloc: Global) -> Result<ReactiveBlock, AllocError> {
     let mut body = empty(alloc);
     put_instructions(alloc, &mut body)?;
@@ -248,19 +249,19 @@ fn headed(alloc: Global) -> Result<ReactiveFunction, AllocError> {
     Ok(func)
 }
 
-/// Each fate, of one scope each.
+/// Each fate, for one scope each.
 fn fates(alloc: Global) -> Result<List<ScopeFate>, AllocError> {
     let fates = [
         (8, Fate::Kept),
         (9, Fate::NotEscaping),
         (10, Fate::Unused),
-        (11, Fate::MergedInto(ScopeId(12))),
-        (13, Fate::DissolvedInto(ScopeId(14))),
+        (11, Fate::MergedInto(ScopeId::new(12))),
+        (13, Fate::DissolvedInto(ScopeId::new(14))),
         (15, Fate::AlwaysInvalidating),
     ];
     let mut list = List::new(alloc);
     for (scope, fate) in fates {
-        let scope = ScopeId(scope);
+        let scope = ScopeId::new(scope);
         list.push(ScopeFate { scope, fate })?;
     }
     Ok(list)

@@ -1,11 +1,11 @@
-//! Numbers and their tables: the order in which a graph is refused, and a function that holds itself.
+//! Numbers and their tables: the order in which a graph is refused, and a function that contains itself.
 
 use super::{is_answered, replaced};
 use rc_program::Status;
 use std::alloc::{AllocError, Global};
 use std::test::Fail;
 
-/// A graph with a scope that answers for a return already, and one number out of each range.
+/// A graph with a scope that has an early return already, and with one number outside each table.
 const REFUSED: &str = r#"{"hir":{"params":[{"k":"Place","v":0},{"k":"Place","v":1}],
 "body":{"entry":0,"blocks":[
 {"id":0,"terminal":{"k":"Scope","fallthrough":5,"block":1,"scope":0,"id":1}},
@@ -21,7 +21,7 @@ const REFUSED: &str = r#"{"hir":{"params":[{"k":"Place","v":0},{"k":"Place","v":
 "scopes":[{"range":{"start":1,"end":7},"early_return_value":{"value":0,"label":0}}],"config":{},
 "next_block":0}}"#;
 
-/// A graph with a row of a function that holds a row of itself.
+/// A graph with a row whose value is a function, which has a row whose value is the same function.
 const NESTED: &str = r#"{"hir":{"params":[{"k":"Place","v":0}],"body":{"entry":0,"blocks":[
 {"id":0,"instructions":[0],"terminal":{"k":"Return","value":0,"id":2}}]},
 "instructions":[{"id":1,"lvalue":1,"value":{"k":"FunctionExpression","lowered_func":{"func":0}}}]},
@@ -31,7 +31,7 @@ const NESTED: &str = r#"{"hir":{"params":[{"k":"Place","v":0}],"body":{"entry":0
 "instructions":[{"id":1,"lvalue":1,"value":{"k":"FunctionExpression","lowered_func":{"func":0}}}]}],
 "config":{},"next_block":1}}"#;
 
-/// What is printed for it.
+/// The printed text of it.
 const NESTED_TEXT: &str = r#"function null hint null generator false async false
 param 0
 body
@@ -40,14 +40,14 @@ body
 fates
 "#;
 
-/// Parts of that document, each with what is put in its place.
+/// Parts of that document, each with its replacement.
 const CHANGES: [(&str, &str); 3] = [
     (r#""declaration_id":9"#, r#""declaration_id":0"#),
     (r#","early_return_value":{"value":0,"label":0}"#, ""),
     (r#""next_block":0"#, r#""next_block":4294967295"#),
 ];
 
-/// What is printed for it with none of the changes, with the first, with the first two, and with all.
+/// The printed line of it with no change, with the first one, with the first two, and with all.
 const LINES: [&str; 4] = [
     "fault 7 BadName Declarations 9\n",
     "fault 3 EarlyReturnSet scope 0\n",
@@ -55,7 +55,7 @@ const LINES: [&str; 4] = [
     "fault 8 NoIds\n",
 ];
 
-/// Whether that document with so many of the changes is refused by that line.
+/// Whether that document with the first `changes` changes is refused with that line.
 fn is_refused(alloc: Global, changes: usize, line: &str) -> Result<bool, AllocError> {
     let mut text = String::from_str(alloc, REFUSED)?;
     for (part, by) in CHANGES.iter().take(changes) {

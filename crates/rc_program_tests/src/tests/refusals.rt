@@ -1,11 +1,11 @@
-//! Documents whose graph is refused, each with the line that says why.
+//! Documents whose graph is refused, each with the line of the fault.
 
 use super::{DOCUMENT, is_answered, replaced};
 use rc_program::Status;
 use std::alloc::{AllocError, Global};
 use std::test::Fail;
 
-/// Whether a text with the first such part replaced is refused by that line.
+/// Whether a text in which the first such part is replaced is refused with that line.
 fn is_refused_with(
     alloc: Global,
     text: &str,
@@ -46,7 +46,7 @@ fn a_refused_graph_has_one_line_that_says_why(rt: HostRuntime) -> Result<(), Fai
     Ok(())
 }
 
-/// A graph whose row behind a scope reads the name that the scope holds for itself.
+/// A graph in which a row after a scope reads an identifier that has that scope.
 const READ_BEHIND: &str = r#"{"hir":{"params":[{"k":"Place","v":0}],"body":{"entry":0,"blocks":[
 {"id":0,"terminal":{"k":"Scope","fallthrough":2,"block":1,"scope":0,"id":1}},
 {"id":1,"instructions":[0],"terminal":{"k":"Goto","variant":"Break","block":2,"id":3}},
@@ -61,7 +61,7 @@ const READ_BEHIND: &str = r#"{"hir":{"params":[{"k":"Place","v":0}],"body":{"ent
 #[test]
 fn the_last_operand_behind_its_scope_is_refused(rt: HostRuntime) -> Result<(), Fail> {
     let alloc = rt.alloc();
-    // A range ends before its end: the `Return` of id 5 reads the name too.
+    // The `Return` of id 5 reads that identifier too, but a range doesn't contain its end.
     let cases = [
         ("6", "fault 4 ScopeCompleted id 5 scope 0\n"),
         ("5", "fault 4 ScopeCompleted id 4 scope 0\n"),

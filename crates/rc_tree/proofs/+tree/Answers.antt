@@ -4,7 +4,7 @@ use Rattle.rc_tree.proofs.DropLemmas.{most_some}
 use Rattle.rc_tree.proofs.+tree.Goals as goal
 use Rattle.rc_tree.proofs.statement.ReactiveStatement.TheLaws as statement
 
--- what stands inside a level is less deep than the level
+-- the statements inside a level are less deep than the level
 pub statement::ReactiveBlock::drop-loop-self-smaller : goal.statement::ReactiveBlock::drop-loop-self-smaller
 statement::ReactiveBlock::drop-loop-self-smaller t c =
     let level = c.loop-self.self.statements in

@@ -1,6 +1,7 @@
 //! Copies of blocks, statements, terminals and scopes, and of a whole function.
 //!
-//! In the copy of a terminal each arm is one call: a function of its own copies the values and puts the copy together.
+//! In the copy of a terminal each arm has at most one `?`, since a `match` with some twenty of them outgrows the
+//! checker's memory. So seven helpers copy the values and build the copy.
 
 ghost use Rattle.std.specs.Prelude.{◌≡◌, IfOk};
 
@@ -174,7 +175,7 @@ impl CloneIn for ReactiveSwitchCase {
     }
 }
 
-/// A block that may be left out, copied.
+/// A copy of an optional block.
 #[cycle(copy_tree)]
 fn copied_block(
     alloc: Global,
@@ -188,7 +189,7 @@ fn copied_block(
     }
 }
 
-/// The cases of a switch, each copied.
+/// A copy of each case of a switch.
 #[cycle(copy_tree)]
 fn copied_cases(
     alloc: Global,
@@ -203,7 +204,7 @@ fn copied_cases(
     Ok(copies)
 }
 
-/// An `If` over the copy of its consequent.
+/// An `If` that has the copy of its consequent.
 #[cycle(copy_tree)]
 fn if_copy(
     alloc: Global,
@@ -223,7 +224,7 @@ fn if_copy(
     })
 }
 
-/// A `Try` over the copy of its block.
+/// A `Try` that has the copy of its block.
 #[cycle(copy_tree)]
 fn try_copy(
     alloc: Global,
@@ -243,7 +244,7 @@ fn try_copy(
     })
 }
 
-/// A `DoWhile` over the copy of its block.
+/// A `DoWhile` that has the copy of its block.
 fn do_while_copy(
     alloc: Global,
     loop_block: ReactiveBlock,
@@ -260,7 +261,7 @@ fn do_while_copy(
     })
 }
 
-/// A `While` over the copy of its block.
+/// A `While` that has the copy of its block.
 fn while_copy(
     alloc: Global,
     test: &ReactiveValue,
@@ -277,7 +278,7 @@ fn while_copy(
     })
 }
 
-/// A `For` over the copy of its block.
+/// A `For` that has the copy of its block.
 fn for_copy(
     alloc: Global,
     init: &ReactiveValue,
@@ -299,7 +300,7 @@ fn for_copy(
     })
 }
 
-/// A `ForOf` over the copy of its block.
+/// A `ForOf` that has the copy of its block.
 fn for_of_copy(
     alloc: Global,
     init: &ReactiveValue,
@@ -320,7 +321,7 @@ fn for_of_copy(
     })
 }
 
-/// A `ForIn` over the copy of its block.
+/// A `ForIn` that has the copy of its block.
 fn for_in_copy(
     alloc: Global,
     init: &ReactiveValue,
@@ -339,7 +340,7 @@ fn for_in_copy(
     })
 }
 
-/// Two values, copied.
+/// Copies of two values.
 fn copied_pair(
     alloc: Global,
     first: &ReactiveValue,

@@ -62,7 +62,7 @@ impl CloneIn for ReactiveValue {
     }
 }
 
-/// A value's copy, in a box of its own.
+/// A copy of a value, in its own box.
 #[cycle(copy_value)]
 fn boxed_copy(alloc: Global, value: &ReactiveValue) -> Result<Boxed<ReactiveValue>, AllocError>
     ensures { IfOk result (λ copy. copy ≡ value.now) }
@@ -70,7 +70,7 @@ fn boxed_copy(alloc: Global, value: &ReactiveValue) -> Result<Boxed<ReactiveValu
     Ok(Boxed::new(alloc, value.clone_in(alloc)?)?)
 }
 
-/// The rows of a sequence, each copied.
+/// A copy of each row of a sequence.
 #[cycle(copy_value)]
 fn copied_rows(
     alloc: Global,

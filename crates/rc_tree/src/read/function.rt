@@ -1,16 +1,18 @@
-//! The read walk of a whole function: of a tree's, and of a graph's with the functions in it.
+//! The read walk of a whole function: of a tree's function, and of a graph's function with its nested functions.
 //!
-//! The second keeps a mark for each function of the table while the walk stands inside it, so that it ends on cyclic
-//! tables. Each row is copied once, into the row of the tree that the hooks are handed.
+//! The second keeps a mark for each function of the table while the walk is inside it, so that the walk ends on cyclic
+//! tables. Each row is copied once, as a row of the tree for the hooks.
+//!
+//! After oxc's visitors.rs.
 #![tactic(auto, using(crate::proofs::ReadFunctionLemmas::reading_functions))]
 
 ghost use Rattle.std.specs.Prelude.{◌≡◌, ◌⊎◌, false, map, slice_get, slice_set, IfOk, OnOk};
-ghost use Rattle.rc_tree.specs.Outcome.{Gives, each, perhaps};
+ghost use Rattle.rc_tree.specs.Step.{IsStep, each, perhaps};
 ghost use Rattle.rc_tree.specs.Read.{read_block};
 ghost use Rattle.rc_hir.specs.Terminal.{evaluation_order};
 ghost use Rattle.rc_hir.specs.TerminalOperands.{terminal_operands};
-ghost use Rattle.rc_names.specs.declared.numbers.FunctionId.{FunctionId as Number};
-ghost use Rattle.rc_tree.specs.Nested.{CycleAt, HookGives, NoCycle};
+ghost use Rattle.rc_names.specs.Numbers.{FunctionId as Number};
+ghost use Rattle.rc_tree.specs.Nested.{IsCycleAt, HasHookFault, HasNoCycle};
 ghost use Rattle.rc_tree.specs.ReadFunction.{as_row, basic_block_at, function_at, held_function, numbered_at};
 ghost use Rattle.rc_tree.specs.ReadFunction.{param_place, read_function, row_at};
 
@@ -26,41 +28,43 @@ use rc_hir::{
 use rc_names::{BlockId, CloneIn, FunctionId, InstructionId, Keyed, List, Name};
 use std::alloc::{AllocError, Global};
 
-/// Walks the body of a function. The faults are those of the hooks, `BadName` where a nested function is outside its
-/// table, and `NoMemory`.
+/// Walks the body of a function. Returns the fault of a hook, `BadName` if a nested function is outside its table, and
+/// `NoMemory` when out of memory.
 pub fn visit_reactive_function<V: ReactiveFunctionVisitor>(
     alloc: Global,
     func: &ReactiveFunction,
     visitor: &V,
     state: &mut V::State,
 ) -> Result<(), Fault>
-    ensures { Gives (read_block (V.steps visitor.now) (V.functions visitor.now) func.now.body state.old) result
+    ensures { IsStep (read_block (V.steps visitor.now) (V.functions visitor.now) func.now.body state.old) result
         state.new }
 {
     walk_block(alloc, visitor, &func.body, state)
 }
 
-/// Walks a function of the table: its parameters; then block by block its rows, each followed by the function that it
-/// holds, and the operands of the terminal. The faults are those of the hooks, `BadName` where a function or a row is
-/// outside its table, `FunctionCycle` where a function is met inside itself, and `NoMemory`.
+/// Walks a function of the table: its parameters, and then block by block its rows and the operands of the terminal.
+/// The nested function that is a row's value is walked after that row.
+///
+/// Returns the fault of a hook, `BadName` if a function or a row is outside its table, `FunctionCycle` if a function
+/// is met inside itself, and `NoMemory` when out of memory.
 pub fn visit_hir_function<V: ReactiveFunctionVisitor>(
     alloc: Global,
     visitor: &V,
     func: FunctionId,
     state: &mut V::State,
 ) -> Result<(), Fault>
-    ensures walk { Gives (read_function (V.steps visitor.now) (V.functions visitor.now) func state.old) result
+    ensures walk { IsStep (read_function (V.steps visitor.now) (V.functions visitor.now) func state.old) result
         state.new }
-    ensures no_cycle { OnOk result (NoCycle (V.functions visitor.now) func) }
+    ensures no_cycle { OnOk result (HasNoCycle (V.functions visitor.now) func) }
     ensures cycle { (g : Number) → result ≡ Err (Fault.FunctionCycle g)
-        → HookGives (V.steps visitor.now) (Fault.FunctionCycle g)
-        ⊎ CycleAt (V.functions visitor.now) func g }
+        → HasHookFault (V.steps visitor.now) (Fault.FunctionCycle g)
+        ⊎ IsCycleAt (V.functions visitor.now) func g }
 {
     let mut entered = none_entered(alloc, visitor.env().functions.as_slice())?;
     walk_function(alloc, visitor, &mut entered, func, state)
 }
 
-/// Walks a function, unless the walk stands inside it.
+/// Walks a function, unless the walk is inside it already.
 #[cycle(read_function)]
 fn walk_function<V: ReactiveFunctionVisitor>(
     alloc: Global,
@@ -69,7 +73,8 @@ fn walk_function<V: ReactiveFunctionVisitor>(
     func: FunctionId,
     state: &mut V::State,
 ) -> Result<(), Fault>
-    ensures walk { Gives (function_at (V.steps visitor.now) (V.functions visitor.now) entered.old func state.old) result
+    ensures walk { IsStep (function_at (V.steps visitor.now)
+        (V.functions visitor.now) entered.old func state.old) result
         state.new }
     ensures kept { OnOk result (entered.new ≡ entered.old) }
 {
@@ -94,7 +99,8 @@ fn walk_numbered<V: ReactiveFunctionVisitor>(
     func: FunctionId,
     state: &mut V::State,
 ) -> Result<(), Fault>
-    ensures walk { Gives (numbered_at (V.steps visitor.now) (V.functions visitor.now) entered.old func state.old) result
+    ensures walk { IsStep (numbered_at (V.steps visitor.now)
+        (V.functions visitor.now) entered.old func state.old) result
         state.new }
     ensures kept { OnOk result (entered.new ≡ entered.old) }
 {
@@ -124,7 +130,7 @@ fn walk_blocks<V: ReactiveFunctionVisitor>(
     blocks: &Keyed<BlockId, BasicBlock>,
     state: &mut V::State,
 ) -> Result<(), Fault>
-    ensures walk { Gives (each (basic_block_at (V.steps visitor.now) (V.functions visitor.now) entered.old rows.now)
+    ensures walk { IsStep (each (basic_block_at (V.steps visitor.now) (V.functions visitor.now) entered.old rows.now)
         blocks.now state.old) result state.new }
     ensures kept { OnOk result (entered.new ≡ entered.old) }
 {
@@ -134,7 +140,7 @@ fn walk_blocks<V: ReactiveFunctionVisitor>(
     Ok(())
 }
 
-/// Walks the rows of the block at a place, and visits its terminal's operands.
+/// Walks the rows of the block at an index, and visits its terminal's operands.
 #[cycle(read_function)]
 fn walk_basic_block<V: ReactiveFunctionVisitor>(
     alloc: Global,
@@ -145,7 +151,7 @@ fn walk_basic_block<V: ReactiveFunctionVisitor>(
     place: usize,
     state: &mut V::State,
 ) -> Result<(), Fault>
-    ensures walk { Gives (perhaps (basic_block_at (V.steps visitor.now) (V.functions visitor.now) entered.old rows.now)
+    ensures walk { IsStep (perhaps (basic_block_at (V.steps visitor.now) (V.functions visitor.now) entered.old rows.now)
         (slice_get blocks.now place) state.old) result state.new }
     ensures kept { OnOk result (entered.new ≡ entered.old) }
 {
@@ -158,7 +164,7 @@ fn walk_basic_block<V: ReactiveFunctionVisitor>(
     }
 }
 
-/// Walks the rows of these numbers.
+/// Walks the rows with these numbers.
 #[cycle(read_function)]
 fn walk_rows<V: ReactiveFunctionVisitor>(
     alloc: Global,
@@ -168,7 +174,7 @@ fn walk_rows<V: ReactiveFunctionVisitor>(
     ids: &List<InstructionId>,
     state: &mut V::State,
 ) -> Result<(), Fault>
-    ensures walk { Gives (each (row_at (V.steps visitor.now) (V.functions visitor.now) entered.old rows.now) ids.now
+    ensures walk { IsStep (each (row_at (V.steps visitor.now) (V.functions visitor.now) entered.old rows.now) ids.now
         state.old) result state.new }
     ensures kept { OnOk result (entered.new ≡ entered.old) }
 {
@@ -178,7 +184,7 @@ fn walk_rows<V: ReactiveFunctionVisitor>(
     Ok(())
 }
 
-/// Walks the row of a number as a row of the tree, and then the function that it holds.
+/// Walks the row with a number as a row of the tree, and then the function that is its value.
 #[cycle(read_function)]
 fn walk_row<V: ReactiveFunctionVisitor>(
     alloc: Global,
@@ -188,7 +194,7 @@ fn walk_row<V: ReactiveFunctionVisitor>(
     id: InstructionId,
     state: &mut V::State,
 ) -> Result<(), Fault>
-    ensures walk { Gives (row_at (V.steps visitor.now) (V.functions visitor.now) entered.old rows.now id state.old)
+    ensures walk { IsStep (row_at (V.steps visitor.now) (V.functions visitor.now) entered.old rows.now id state.old)
         result state.new }
     ensures kept { OnOk result (entered.new ≡ entered.old) }
 {
@@ -202,7 +208,7 @@ fn walk_row<V: ReactiveFunctionVisitor>(
     }
 }
 
-/// Walks the function that a row holds, where it holds one.
+/// Walks the function that is a row's value, if it is one.
 #[cycle(read_function)]
 fn walk_held<V: ReactiveFunctionVisitor>(
     alloc: Global,
@@ -211,7 +217,7 @@ fn walk_held<V: ReactiveFunctionVisitor>(
     held: Option<FunctionId>,
     state: &mut V::State,
 ) -> Result<(), Fault>
-    ensures walk { Gives (perhaps (function_at (V.steps visitor.now) (V.functions visitor.now) entered.old) held
+    ensures walk { IsStep (perhaps (function_at (V.steps visitor.now) (V.functions visitor.now) entered.old) held
         state.old) result state.new }
     ensures kept { OnOk result (entered.new ≡ entered.old) }
 {
@@ -227,7 +233,7 @@ fn visit_params<V: ReactiveFunctionVisitor>(
     params: &List<ParamPattern>,
     state: &mut V::State,
 ) -> Result<(), Fault>
-    ensures { Gives (each (λ p. (V.steps visitor.now).visit_param (param_place p)) params.now state.old) result
+    ensures { IsStep (each (λ p. (V.steps visitor.now).visit_param (param_place p)) params.now state.old) result
         state.new }
 {
     for param in params.as_slice() {
@@ -243,7 +249,7 @@ fn visit_terminal_operands<V: ReactiveFunctionVisitor>(
     terminal: &Terminal,
     state: &mut V::State,
 ) -> Result<(), Fault>
-    ensures { Gives
+    ensures { IsStep
         (each ((V.steps visitor.now).visit_place (evaluation_order terminal.now)) (terminal_operands terminal.now)
         state.old) result state.new }
 {
@@ -263,7 +269,7 @@ fn row_of_tree(alloc: Global, row: &Instruction) -> Result<ReactiveInstruction, 
     })
 }
 
-/// The function that a value holds.
+/// The nested function that a value is, if it is one.
 fn function_held(value: &InstructionValue) -> Option<FunctionId>
     ensures { result ≡ held_function value.now }
 {

@@ -1,10 +1,11 @@
 //! The read walk of blocks, statements and terminals.
 #![tactic(auto, using(crate::proofs::ReadStatementLemmas::reading_statements))]
 
-ghost use Rattle.rc_tree.specs.Outcome.{Gives, each, perhaps};
+ghost use Rattle.rc_tree.specs.Step.{IsStep, each, perhaps};
 ghost use Rattle.rc_tree.specs.Read.{inside_block, inside_pruned_scope, inside_scope, inside_terminal, read_block};
 ghost use Rattle.rc_tree.specs.Read.{read_case, read_parts, read_pruned_scope, read_scope, read_statement};
-ghost use Rattle.rc_tree.specs.Read.{read_terminal, read_value};
+ghost use Rattle.rc_tree.specs.Read.{read_terminal};
+ghost use Rattle.rc_tree.specs.Read.Values.{read_value};
 
 use crate::read::value::{walk_instruction, walk_value};
 use crate::scope::{PrunedReactiveScopeBlock, ReactiveScopeBlock};
@@ -16,50 +17,50 @@ use rc_hir::{Fault, Place};
 use rc_names::{EvaluationOrder, List};
 use std::alloc::Global;
 
-/// Walks the inside of a terminal. The faults are those of the hooks, `BadName` where a nested function is outside its
-/// table, and `NoMemory`.
+/// Walks the inside of a terminal. Returns the fault of a hook, `BadName` if a nested function is outside its table,
+/// and `NoMemory` when out of memory.
 pub fn traverse_terminal<V: ReactiveFunctionVisitor>(
     alloc: Global,
     visitor: &V,
     stmt: &ReactiveTerminalStatement,
     state: &mut V::State,
 ) -> Result<(), Fault>
-    ensures { Gives (inside_terminal (V.steps visitor.now) (V.functions visitor.now) stmt.now state.old) result
+    ensures { IsStep (inside_terminal (V.steps visitor.now) (V.functions visitor.now) stmt.now state.old) result
         state.new }
 {
     walk_parts(alloc, visitor, &stmt.terminal, state)
 }
 
-/// Walks the inside of a scope block. The faults are those of the hooks, `BadName` where a nested function is outside
-/// its table, and `NoMemory`.
+/// Walks the inside of a scope block. Returns the fault of a hook, `BadName` if a nested function is outside its
+/// table, and `NoMemory` when out of memory.
 pub fn traverse_scope<V: ReactiveFunctionVisitor>(
     alloc: Global,
     visitor: &V,
     scope: &ReactiveScopeBlock,
     state: &mut V::State,
 ) -> Result<(), Fault>
-    ensures { Gives (inside_scope (V.steps visitor.now) (V.functions visitor.now) scope.now state.old) result
+    ensures { IsStep (inside_scope (V.steps visitor.now) (V.functions visitor.now) scope.now state.old) result
         state.new }
 {
     walk_block(alloc, visitor, &scope.instructions, state)
 }
 
-/// Walks the inside of a pruned scope block. The faults are those of the hooks, `BadName` where a nested function is
-/// outside its table, and `NoMemory`.
+/// Walks the inside of a pruned scope block. Returns the fault of a hook, `BadName` if a nested function is outside
+/// its table, and `NoMemory` when out of memory.
 pub fn traverse_pruned_scope<V: ReactiveFunctionVisitor>(
     alloc: Global,
     visitor: &V,
     scope: &PrunedReactiveScopeBlock,
     state: &mut V::State,
 ) -> Result<(), Fault>
-    ensures { Gives (inside_pruned_scope (V.steps visitor.now) (V.functions visitor.now) scope.now state.old) result
+    ensures { IsStep (inside_pruned_scope (V.steps visitor.now) (V.functions visitor.now) scope.now state.old) result
         state.new }
 {
     walk_block(alloc, visitor, &scope.instructions, state)
 }
 
-/// Walks the statements of a block. The faults are those of the hooks, `BadName` where a nested function is outside
-/// its table, and `NoMemory`.
+/// Walks the statements of a block. Returns the fault of a hook, `BadName` if a nested function is outside its table,
+/// and `NoMemory` when out of memory.
 #[cycle(read_tree)]
 pub fn traverse_block<V: ReactiveFunctionVisitor>(
     alloc: Global,
@@ -67,7 +68,7 @@ pub fn traverse_block<V: ReactiveFunctionVisitor>(
     block: &ReactiveBlock,
     state: &mut V::State,
 ) -> Result<(), Fault>
-    ensures { Gives (inside_block (V.steps visitor.now) (V.functions visitor.now) block.now state.old) result
+    ensures { IsStep (inside_block (V.steps visitor.now) (V.functions visitor.now) block.now state.old) result
         state.new }
 {
     for statement in block.statements.as_slice() {
@@ -84,7 +85,7 @@ pub(crate) fn walk_block<V: ReactiveFunctionVisitor>(
     block: &ReactiveBlock,
     state: &mut V::State,
 ) -> Result<(), Fault>
-    ensures { Gives (read_block (V.steps visitor.now) (V.functions visitor.now) block.now state.old) result state.new }
+    ensures { IsStep (read_block (V.steps visitor.now) (V.functions visitor.now) block.now state.old) result state.new }
 {
     match visitor.enter_block(block, state)? {
         Enter::Inside => {
@@ -103,7 +104,7 @@ fn walk_statement<V: ReactiveFunctionVisitor>(
     statement: &ReactiveStatement,
     state: &mut V::State,
 ) -> Result<(), Fault>
-    ensures { Gives (read_statement (V.steps visitor.now) (V.functions visitor.now) statement.now state.old) result
+    ensures { IsStep (read_statement (V.steps visitor.now) (V.functions visitor.now) statement.now state.old) result
         state.new }
 {
     match statement {
@@ -122,7 +123,7 @@ fn walk_scope<V: ReactiveFunctionVisitor>(
     scope: &ReactiveScopeBlock,
     state: &mut V::State,
 ) -> Result<(), Fault>
-    ensures { Gives (read_scope (V.steps visitor.now) (V.functions visitor.now) scope.now state.old) result state.new }
+    ensures { IsStep (read_scope (V.steps visitor.now) (V.functions visitor.now) scope.now state.old) result state.new }
 {
     match visitor.enter_scope(scope, state)? {
         Enter::Inside => {
@@ -141,7 +142,7 @@ fn walk_pruned_scope<V: ReactiveFunctionVisitor>(
     scope: &PrunedReactiveScopeBlock,
     state: &mut V::State,
 ) -> Result<(), Fault>
-    ensures { Gives (read_pruned_scope (V.steps visitor.now) (V.functions visitor.now) scope.now state.old) result
+    ensures { IsStep (read_pruned_scope (V.steps visitor.now) (V.functions visitor.now) scope.now state.old) result
         state.new }
 {
     match visitor.enter_pruned_scope(scope, state)? {
@@ -161,7 +162,7 @@ fn walk_terminal<V: ReactiveFunctionVisitor>(
     stmt: &ReactiveTerminalStatement,
     state: &mut V::State,
 ) -> Result<(), Fault>
-    ensures { Gives (read_terminal (V.steps visitor.now) (V.functions visitor.now) stmt.now state.old) result
+    ensures { IsStep (read_terminal (V.steps visitor.now) (V.functions visitor.now) stmt.now state.old) result
         state.new }
 {
     match visitor.enter_terminal(stmt, state)? {
@@ -181,7 +182,7 @@ fn walk_parts<V: ReactiveFunctionVisitor>(
     terminal: &ReactiveTerminal,
     state: &mut V::State,
 ) -> Result<(), Fault>
-    ensures { Gives (read_parts (V.steps visitor.now) (V.functions visitor.now) terminal.now state.old) result
+    ensures { IsStep (read_parts (V.steps visitor.now) (V.functions visitor.now) terminal.now state.old) result
         state.new }
 {
     match terminal {
@@ -288,7 +289,7 @@ fn walk_cases<V: ReactiveFunctionVisitor>(
     cases: &List<ReactiveSwitchCase>,
     state: &mut V::State,
 ) -> Result<(), Fault>
-    ensures { Gives (each (λ c. read_case (V.steps visitor.now) (V.functions visitor.now) c id) cases.now state.old)
+    ensures { IsStep (each (λ c. read_case (V.steps visitor.now) (V.functions visitor.now) c id) cases.now state.old)
         result state.new }
 {
     for case in cases.as_slice() {
@@ -306,13 +307,13 @@ fn walk_case<V: ReactiveFunctionVisitor>(
     case: &ReactiveSwitchCase,
     state: &mut V::State,
 ) -> Result<(), Fault>
-    ensures { Gives (read_case (V.steps visitor.now) (V.functions visitor.now) case.now id state.old) result state.new }
+    ensures { IsStep (read_case (V.steps visitor.now) (V.functions visitor.now) case.now id state.old) result state.new }
 {
     visit_place_if(visitor, id, &case.test, state)?;
     walk_block_if(alloc, visitor, &case.block, state)
 }
 
-/// Walks a block that may be left out.
+/// Walks an optional block.
 #[cycle(read_tree)]
 fn walk_block_if<V: ReactiveFunctionVisitor>(
     alloc: Global,
@@ -320,7 +321,7 @@ fn walk_block_if<V: ReactiveFunctionVisitor>(
     block: &Option<ReactiveBlock>,
     state: &mut V::State,
 ) -> Result<(), Fault>
-    ensures { Gives (perhaps (read_block (V.steps visitor.now) (V.functions visitor.now)) block.now state.old) result
+    ensures { IsStep (perhaps (read_block (V.steps visitor.now) (V.functions visitor.now)) block.now state.old) result
         state.new }
 {
     match block {
@@ -329,7 +330,7 @@ fn walk_block_if<V: ReactiveFunctionVisitor>(
     }
 }
 
-/// Walks a value that may be left out.
+/// Walks an optional value.
 fn walk_value_if<V: ReactiveFunctionVisitor>(
     alloc: Global,
     visitor: &V,
@@ -337,7 +338,8 @@ fn walk_value_if<V: ReactiveFunctionVisitor>(
     value: &Option<ReactiveValue>,
     state: &mut V::State,
 ) -> Result<(), Fault>
-    ensures { Gives (perhaps (λ x. read_value (V.steps visitor.now) (V.functions visitor.now) x id) value.now state.old)
+    ensures { IsStep (perhaps (λ x. read_value (V.steps visitor.now)
+        (V.functions visitor.now) x id) value.now state.old)
         result state.new }
 {
     match value {
@@ -346,14 +348,14 @@ fn walk_value_if<V: ReactiveFunctionVisitor>(
     }
 }
 
-/// Visits a place that may be left out.
+/// Visits an optional place.
 fn visit_place_if<V: ReactiveFunctionVisitor>(
     visitor: &V,
     id: EvaluationOrder,
     place: &Option<Place>,
     state: &mut V::State,
 ) -> Result<(), Fault>
-    ensures { Gives (perhaps ((V.steps visitor.now).visit_place id) place.now state.old) result state.new }
+    ensures { IsStep (perhaps ((V.steps visitor.now).visit_place id) place.now state.old) result state.new }
 {
     match place {
         Some(place) => visitor.visit_place(id, place, state),

@@ -1,9 +1,10 @@
 //! The read walk of rows and values.
 #![tactic(auto, using(crate::proofs::ReadLemmas::reading))]
 
-ghost use Rattle.rc_tree.specs.Outcome.{Gives, each, perhaps};
-ghost use Rattle.rc_tree.specs.Read.{inside_base, inside_instruction, inside_value, read_instruction, read_value};
-ghost use Rattle.rc_tree.specs.Steps.{targets_of};
+ghost use Rattle.rc_tree.specs.Step.{IsStep, each, perhaps};
+ghost use Rattle.rc_tree.specs.Read.Values.{inside_base, inside_instruction, inside_value, read_instruction};
+ghost use Rattle.rc_tree.specs.Read.Values.{read_value};
+ghost use Rattle.rc_tree.specs.ReadSteps.{targets_of};
 
 use crate::value::{ReactiveInstruction, ReactiveValue};
 use crate::visitor::{Enter, ReactiveFunctionVisitor};
@@ -13,8 +14,8 @@ use rc_hir::{
 use rc_names::{EvaluationOrder, List};
 use std::alloc::Global;
 
-/// Walks the inside of a value. The faults are those of the hooks, `BadName` where a nested function is outside its
-/// table, and `NoMemory`.
+/// Walks the inside of a value. Returns the fault of a hook, `BadName` if a nested function is outside its table, and
+/// `NoMemory` when out of memory.
 #[cycle(read_value)]
 pub fn traverse_value<V: ReactiveFunctionVisitor>(
     alloc: Global,
@@ -23,7 +24,7 @@ pub fn traverse_value<V: ReactiveFunctionVisitor>(
     value: &ReactiveValue,
     state: &mut V::State,
 ) -> Result<(), Fault>
-    ensures { Gives (inside_value (V.steps visitor.now) (V.functions visitor.now) value.now id state.old) result
+    ensures { IsStep (inside_value (V.steps visitor.now) (V.functions visitor.now) value.now id state.old) result
         state.new }
 {
     match value {
@@ -59,8 +60,8 @@ pub fn traverse_value<V: ReactiveFunctionVisitor>(
     }
 }
 
-/// Walks the inside of a row. The faults are those of the hooks, `BadName` where a nested function is outside its
-/// table, and `NoMemory`.
+/// Walks the inside of a row. Returns the fault of a hook, `BadName` if a nested function is outside its table, and
+/// `NoMemory` when out of memory.
 #[cycle(read_value)]
 pub fn traverse_instruction<V: ReactiveFunctionVisitor>(
     alloc: Global,
@@ -68,7 +69,7 @@ pub fn traverse_instruction<V: ReactiveFunctionVisitor>(
     instruction: &ReactiveInstruction,
     state: &mut V::State,
 ) -> Result<(), Fault>
-    ensures { Gives (inside_instruction (V.steps visitor.now) (V.functions visitor.now) instruction.now state.old)
+    ensures { IsStep (inside_instruction (V.steps visitor.now) (V.functions visitor.now) instruction.now state.old)
         result state.new }
 {
     visitor.visit_id(instruction.id, state)?;
@@ -86,7 +87,7 @@ pub(crate) fn walk_value<V: ReactiveFunctionVisitor>(
     value: &ReactiveValue,
     state: &mut V::State,
 ) -> Result<(), Fault>
-    ensures { Gives (read_value (V.steps visitor.now) (V.functions visitor.now) value.now id state.old) result
+    ensures { IsStep (read_value (V.steps visitor.now) (V.functions visitor.now) value.now id state.old) result
         state.new }
 {
     match visitor.enter_value(id, value, state)? {
@@ -106,7 +107,7 @@ pub(crate) fn walk_instruction<V: ReactiveFunctionVisitor>(
     instruction: &ReactiveInstruction,
     state: &mut V::State,
 ) -> Result<(), Fault>
-    ensures { Gives (read_instruction (V.steps visitor.now) (V.functions visitor.now) instruction.now state.old) result
+    ensures { IsStep (read_instruction (V.steps visitor.now) (V.functions visitor.now) instruction.now state.old) result
         state.new }
 {
     match visitor.enter_instruction(instruction, state)? {
@@ -126,7 +127,7 @@ fn walk_rows<V: ReactiveFunctionVisitor>(
     rows: &List<ReactiveInstruction>,
     state: &mut V::State,
 ) -> Result<(), Fault>
-    ensures { Gives (each (read_instruction (V.steps visitor.now) (V.functions visitor.now)) rows.now state.old) result
+    ensures { IsStep (each (read_instruction (V.steps visitor.now) (V.functions visitor.now)) rows.now state.old) result
         state.new }
 {
     for row in rows.as_slice() {
@@ -143,21 +144,21 @@ fn visit_operands<V: ReactiveFunctionVisitor>(
     value: &InstructionValue,
     state: &mut V::State,
 ) -> Result<(), Fault>
-    ensures { Gives (inside_base (V.steps visitor.now) (V.functions visitor.now) value.now id state.old) result
+    ensures { IsStep (inside_base (V.steps visitor.now) (V.functions visitor.now) value.now id state.old) result
         state.new }
 {
     let places = each_instruction_value_operand(alloc, value, visitor.env())?;
     visit_places(visitor, id, &places, state)
 }
 
-/// Visits a row's target, where it has one.
+/// Visits a row's target, if it has one.
 fn visit_target<V: ReactiveFunctionVisitor>(
     visitor: &V,
     id: EvaluationOrder,
     target: &Option<Place>,
     state: &mut V::State,
 ) -> Result<(), Fault>
-    ensures { Gives (perhaps ((V.steps visitor.now).visit_lvalue id) target.now state.old) result state.new }
+    ensures { IsStep (perhaps ((V.steps visitor.now).visit_lvalue id) target.now state.old) result state.new }
 {
     match target {
         Some(target) => visitor.visit_lvalue(id, target, state),
@@ -173,7 +174,7 @@ fn visit_value_targets<V: ReactiveFunctionVisitor>(
     value: &ReactiveValue,
     state: &mut V::State,
 ) -> Result<(), Fault>
-    ensures { Gives (each ((V.steps visitor.now).visit_lvalue id) (targets_of value.now) state.old) result state.new }
+    ensures { IsStep (each ((V.steps visitor.now).visit_lvalue id) (targets_of value.now) state.old) result state.new }
 {
     match value {
         ReactiveValue::Instruction(value) => {
@@ -194,7 +195,7 @@ pub(crate) fn visit_places<V: ReactiveFunctionVisitor>(
     places: &List<Place>,
     state: &mut V::State,
 ) -> Result<(), Fault>
-    ensures { Gives (each ((V.steps visitor.now).visit_place id) places.now state.old) result state.new }
+    ensures { IsStep (each ((V.steps visitor.now).visit_place id) places.now state.old) result state.new }
 {
     for place in places.as_slice() {
         visitor.visit_place(id, place, state)?;
@@ -209,7 +210,7 @@ fn visit_lvalues<V: ReactiveFunctionVisitor>(
     places: &List<Place>,
     state: &mut V::State,
 ) -> Result<(), Fault>
-    ensures { Gives (each ((V.steps visitor.now).visit_lvalue id) places.now state.old) result state.new }
+    ensures { IsStep (each ((V.steps visitor.now).visit_lvalue id) places.now state.old) result state.new }
 {
     for place in places.as_slice() {
         visitor.visit_lvalue(id, place, state)?;

@@ -2,7 +2,7 @@
 #![tactic(auto)]
 
 ghost use Rattle.std.specs.Prelude.{◌≡◌};
-ghost use Rattle.rc_tree.specs.Outcome.{Gives};
+ghost use Rattle.rc_tree.specs.Step.{IsStep};
 ghost use Rattle.rc_tree.specs.Rewrite.{rewrite_block};
 
 use crate::function::ReactiveFunction;
@@ -11,15 +11,15 @@ use crate::transform::ReactiveFunctionTransform;
 use rc_hir::Fault;
 use std::alloc::Global;
 
-/// Walks the body of a function; its header stays. The faults are those of the hooks, `BadName` where a nested
-/// function is outside its table, and `NoMemory`.
+/// Walks the body of a function; its header stays. Returns the fault of a hook, `BadName` if a nested function is
+/// outside its table, and `NoMemory` when out of memory.
 pub fn transform_reactive_function<T: ReactiveFunctionTransform>(
     alloc: Global,
     func: &mut ReactiveFunction,
     transform: &mut T,
     state: &mut T::State,
 ) -> Result<(), Fault>
-    ensures walk { Gives (rewrite_block T.steps T.functions (transform.old, state.old) func.old.body) result
+    ensures walk { IsStep (rewrite_block T.steps T.functions (transform.old, state.old) func.old.body) result
         ((transform.new, state.new), func.new.body) }
     ensures header { func.new ≡ record func.old { body = func.new.body } }
 {

@@ -1,11 +1,11 @@
 //! The rewriting walk of rows and values.
-#![tactic(auto, using(crate::proofs::RewriteRunLemmas::rewriting, crate::proofs::RewriteValueLemmas::rewriting_values))]
+#![tactic(auto, using(crate::proofs::FuelLemmas::rewriting, crate::proofs::RewriteValueLemmas::rewriting_values))]
 
 ghost use Rattle.std.specs.Prelude.{ℕ};
-ghost use Rattle.rc_tree.specs.Outcome.{Gives};
-ghost use Rattle.rc_tree.specs.Run.{Meets, kept_into};
-ghost use Rattle.rc_tree.specs.Rewrite.{inside_instruction, inside_value, instruction_at, instruction_inside};
-ghost use Rattle.rc_tree.specs.Rewrite.{rewrite_instruction, rewrite_value, rows_at, value_inside, value_to};
+ghost use Rattle.rc_tree.specs.Step.{IsStep};
+ghost use Rattle.rc_tree.specs.Fuel.{IsFueled, kept_into};
+ghost use Rattle.rc_tree.specs.Rewrite.Values.{inside_instruction, inside_value, instruction_at, instruction_inside};
+ghost use Rattle.rc_tree.specs.Rewrite.Values.{rewrite_instruction, rewrite_value, rows_at, value_inside, value_to};
 
 use crate::rewrite::visits::{visit_operands, visit_target, visit_value_targets};
 use crate::transform::ReactiveFunctionTransform;
@@ -15,8 +15,8 @@ use rc_hir::Fault;
 use rc_names::{EvaluationOrder, List};
 use std::alloc::Global;
 
-/// Walks the inside of a value. The faults are those of the hooks, `BadName` where a nested function is outside its
-/// table, and `NoMemory`.
+/// Walks the inside of a value. Returns the fault of a hook, `BadName` if a nested function is outside its table, and
+/// `NoMemory` when out of memory.
 pub fn traverse_value<T: ReactiveFunctionTransform>(
     alloc: Global,
     transform: &mut T,
@@ -24,21 +24,21 @@ pub fn traverse_value<T: ReactiveFunctionTransform>(
     value: &mut ReactiveValue,
     state: &mut T::State,
 ) -> Result<(), Fault>
-    ensures { Gives (inside_value T.steps T.functions id (transform.old, state.old) value.old) result
+    ensures { IsStep (inside_value T.steps T.functions id (transform.old, state.old) value.old) result
         ((transform.new, state.new), value.new) }
 {
     walk_inside_value(alloc, transform, id, value, state)
 }
 
-/// Walks the inside of a row. The faults are those of the hooks, `BadName` where a nested function is outside its
-/// table, and `NoMemory`.
+/// Walks the inside of a row. Returns the fault of a hook, `BadName` if a nested function is outside its table, and
+/// `NoMemory` when out of memory.
 pub fn traverse_instruction<T: ReactiveFunctionTransform>(
     alloc: Global,
     transform: &mut T,
     instruction: &mut ReactiveInstruction,
     state: &mut T::State,
 ) -> Result<(), Fault>
-    ensures { Gives (inside_instruction T.steps T.functions (transform.old, state.old) instruction.old) result
+    ensures { IsStep (inside_instruction T.steps T.functions (transform.old, state.old) instruction.old) result
         ((transform.new, state.new), instruction.new) }
 {
     walk_inside_row(alloc, transform, instruction, state)
@@ -52,7 +52,7 @@ pub(crate) fn walk_value<T: ReactiveFunctionTransform>(
     value: &mut ReactiveValue,
     state: &mut T::State,
 ) -> Result<(), Fault>
-    ensures { Gives (rewrite_value T.steps T.functions id (transform.old, state.old) value.old) result
+    ensures { IsStep (rewrite_value T.steps T.functions id (transform.old, state.old) value.old) result
         ((transform.new, state.new), value.new) }
 {
     walk_value_to(alloc, transform, id, value, state)
@@ -65,13 +65,13 @@ pub(crate) fn walk_instruction<T: ReactiveFunctionTransform>(
     instruction: &mut ReactiveInstruction,
     state: &mut T::State,
 ) -> Result<(), Fault>
-    ensures { Gives (rewrite_instruction T.steps T.functions (transform.old, state.old) instruction.old) result
+    ensures { IsStep (rewrite_instruction T.steps T.functions (transform.old, state.old) instruction.old) result
         ((transform.new, state.new), instruction.new) }
 {
     walk_row(alloc, transform, instruction, state)
 }
 
-/// Walks a value, whatever the depth.
+/// Walks a value; the clause holds for any fuel.
 #[cycle(rewrite_value)]
 fn walk_value_to<T: ReactiveFunctionTransform>(
     alloc: Global,
@@ -81,7 +81,7 @@ fn walk_value_to<T: ReactiveFunctionTransform>(
     state: &mut T::State,
 ) -> Result<(), Fault>
     ensures { (n : ℕ)
-        → Meets (value_to T.steps T.functions n id (transform.old, state.old) value.old) result
+        → IsFueled (value_to T.steps T.functions n id (transform.old, state.old) value.old) result
         ((transform.new, state.new), value.new) }
 {
     match transform.enter_value(id, value, state)? {
@@ -93,7 +93,7 @@ fn walk_value_to<T: ReactiveFunctionTransform>(
     }
 }
 
-/// Walks the inside of a value, whatever the depth.
+/// Walks the inside of a value; the clause holds for any fuel.
 #[cycle(rewrite_value)]
 fn walk_inside_value<T: ReactiveFunctionTransform>(
     alloc: Global,
@@ -103,7 +103,7 @@ fn walk_inside_value<T: ReactiveFunctionTransform>(
     state: &mut T::State,
 ) -> Result<(), Fault>
     ensures { (n : ℕ)
-        → Meets (value_inside T.steps T.functions (value_to T.steps T.functions n) id (transform.old, state.old)
+        → IsFueled (value_inside T.steps T.functions (value_to T.steps T.functions n) id (transform.old, state.old)
         value.old) result ((transform.new, state.new), value.new) }
 {
     match value {
@@ -139,9 +139,9 @@ fn walk_inside_value<T: ReactiveFunctionTransform>(
     }
 }
 
-/// Walks the rows of a sequence, each of them moved and none copied.
+/// Walks the rows of a sequence. Each is moved and none is copied.
 #[cycle(rewrite_value)]
-#[tactic(auto, using(crate::proofs::RewriteRunLemmas::rewriting_lists))]
+#[tactic(auto, using(crate::proofs::FuelLemmas::rewriting_lists))]
 fn walk_rows<T: ReactiveFunctionTransform>(
     alloc: Global,
     transform: &mut T,
@@ -149,7 +149,7 @@ fn walk_rows<T: ReactiveFunctionTransform>(
     state: &mut T::State,
 ) -> Result<(), Fault>
     ensures { (n : ℕ)
-        → Meets (rows_at T.steps T.functions (value_to T.steps T.functions n) (transform.old, state.old) rows.old)
+        → IsFueled (rows_at T.steps T.functions (value_to T.steps T.functions n) (transform.old, state.old) rows.old)
         result ((transform.new, state.new), rows.new) }
 {
     let mut left = rows.take();
@@ -160,7 +160,7 @@ fn walk_rows<T: ReactiveFunctionTransform>(
     Ok(())
 }
 
-/// Walks a row and puts it at the end of those that are done.
+/// Walks a row and appends it to those that are done.
 #[cycle(rewrite_value)]
 fn walk_row_into<T: ReactiveFunctionTransform>(
     alloc: Global,
@@ -170,7 +170,7 @@ fn walk_row_into<T: ReactiveFunctionTransform>(
     state: &mut T::State,
 ) -> Result<(), Fault>
     ensures { (n : ℕ)
-        → Meets (kept_into (instruction_at T.steps T.functions (value_to T.steps T.functions n))
+        → IsFueled (kept_into (instruction_at T.steps T.functions (value_to T.steps T.functions n))
         (transform.old, state.old) done.old row) result ((transform.new, state.new), done.new) }
 {
     walk_row(alloc, transform, &mut row, state)?;
@@ -178,7 +178,7 @@ fn walk_row_into<T: ReactiveFunctionTransform>(
     Ok(())
 }
 
-/// Walks a row, whatever the depth.
+/// Walks a row; the clause holds for any fuel.
 #[cycle(rewrite_value)]
 fn walk_row<T: ReactiveFunctionTransform>(
     alloc: Global,
@@ -187,7 +187,8 @@ fn walk_row<T: ReactiveFunctionTransform>(
     state: &mut T::State,
 ) -> Result<(), Fault>
     ensures { (n : ℕ)
-        → Meets (instruction_at T.steps T.functions (value_to T.steps T.functions n) (transform.old, state.old) row.old)
+        → IsFueled (instruction_at T.steps T.functions (value_to T.steps T.functions n)
+        (transform.old, state.old) row.old)
         result ((transform.new, state.new), row.new) }
 {
     match transform.enter_instruction(row, state)? {
@@ -199,7 +200,7 @@ fn walk_row<T: ReactiveFunctionTransform>(
     }
 }
 
-/// Walks the inside of a row, whatever the depth.
+/// Walks the inside of a row; the clause holds for any fuel.
 #[cycle(rewrite_value)]
 fn walk_inside_row<T: ReactiveFunctionTransform>(
     alloc: Global,
@@ -208,7 +209,7 @@ fn walk_inside_row<T: ReactiveFunctionTransform>(
     state: &mut T::State,
 ) -> Result<(), Fault>
     ensures { (n : ℕ)
-        → Meets (instruction_inside T.steps T.functions (value_to T.steps T.functions n) (transform.old, state.old)
+        → IsFueled (instruction_inside T.steps T.functions (value_to T.steps T.functions n) (transform.old, state.old)
         row.old) result ((transform.new, state.new), row.new) }
 {
     transform.visit_id(row.id, state)?;

@@ -1,9 +1,9 @@
 //! The visits of a rewriting walk: operands and targets, in order.
-#![tactic(auto, using(crate::proofs::RewriteRunLemmas::visiting))]
+#![tactic(auto, using(crate::proofs::FuelLemmas::visiting))]
 
-ghost use Rattle.rc_tree.specs.Outcome.{Gives, each, perhaps};
-ghost use Rattle.rc_tree.specs.Rewrite.{inside_base};
-ghost use Rattle.rc_tree.specs.Steps.{targets_of};
+ghost use Rattle.rc_tree.specs.Step.{IsStep, each, perhaps};
+ghost use Rattle.rc_tree.specs.Rewrite.Values.{inside_base};
+ghost use Rattle.rc_tree.specs.ReadSteps.{targets_of};
 
 use crate::transform::ReactiveFunctionTransform;
 use crate::value::ReactiveValue;
@@ -21,21 +21,21 @@ pub(crate) fn visit_operands<T: ReactiveFunctionTransform>(
     value: &InstructionValue,
     state: &mut T::State,
 ) -> Result<(), Fault>
-    ensures { Gives (inside_base T.steps T.functions id value.now (transform.old, state.old)) result
+    ensures { IsStep (inside_base T.steps T.functions id value.now (transform.old, state.old)) result
         (transform.new, state.new) }
 {
     let places = each_instruction_value_operand(alloc, value, transform.env())?;
     visit_places(transform, id, &places, state)
 }
 
-/// Visits a row's target, where it has one.
+/// Visits a row's target, if it has one.
 pub(crate) fn visit_target<T: ReactiveFunctionTransform>(
     transform: &mut T,
     id: EvaluationOrder,
     target: &Option<Place>,
     state: &mut T::State,
 ) -> Result<(), Fault>
-    ensures { Gives (perhaps (T.steps.visit_lvalue id) target.now (transform.old, state.old)) result
+    ensures { IsStep (perhaps (T.steps.visit_lvalue id) target.now (transform.old, state.old)) result
         (transform.new, state.new) }
 {
     match target {
@@ -52,7 +52,7 @@ pub(crate) fn visit_value_targets<T: ReactiveFunctionTransform>(
     value: &ReactiveValue,
     state: &mut T::State,
 ) -> Result<(), Fault>
-    ensures { Gives (each (T.steps.visit_lvalue id) (targets_of value.now) (transform.old, state.old)) result
+    ensures { IsStep (each (T.steps.visit_lvalue id) (targets_of value.now) (transform.old, state.old)) result
         (transform.new, state.new) }
 {
     match value {
@@ -67,14 +67,14 @@ pub(crate) fn visit_value_targets<T: ReactiveFunctionTransform>(
     }
 }
 
-/// Visits a place that may be left out.
+/// Visits an optional place.
 pub(crate) fn visit_place_if<T: ReactiveFunctionTransform>(
     transform: &mut T,
     id: EvaluationOrder,
     place: &Option<Place>,
     state: &mut T::State,
 ) -> Result<(), Fault>
-    ensures { Gives (perhaps (T.steps.visit_place id) place.now (transform.old, state.old)) result
+    ensures { IsStep (perhaps (T.steps.visit_place id) place.now (transform.old, state.old)) result
         (transform.new, state.new) }
 {
     match place {
@@ -90,7 +90,7 @@ fn visit_places<T: ReactiveFunctionTransform>(
     places: &List<Place>,
     state: &mut T::State,
 ) -> Result<(), Fault>
-    ensures { Gives (each (T.steps.visit_place id) places.now (transform.old, state.old)) result
+    ensures { IsStep (each (T.steps.visit_place id) places.now (transform.old, state.old)) result
         (transform.new, state.new) }
 {
     for place in places.as_slice() {
@@ -106,7 +106,7 @@ fn visit_lvalues<T: ReactiveFunctionTransform>(
     places: &List<Place>,
     state: &mut T::State,
 ) -> Result<(), Fault>
-    ensures { Gives (each (T.steps.visit_lvalue id) places.now (transform.old, state.old)) result
+    ensures { IsStep (each (T.steps.visit_lvalue id) places.now (transform.old, state.old)) result
         (transform.new, state.new) }
 {
     for place in places.as_slice() {

@@ -1,4 +1,4 @@
-//! A copy of each type finds memory, and walks like its source.
+//! Each type can be copied, and the walk of a copy is that of its source.
 
 use crate::tests::order::{rows, statements, walked};
 use crate::tests::parts::{ForOrder, Written, for_loop};
@@ -48,12 +48,12 @@ fn a_copy_of_every_value_walks_like_its_source(rt: HostRuntime) -> Result<(), Fa
     Ok(())
 }
 
-/// Whether there is a copy of a part.
+/// Whether a part can be copied.
 fn has_copy<T: CloneIn>(alloc: Global, part: T) -> bool {
     part.clone_in(alloc).is_ok()
 }
 
-/// The statement of a copied `for`.
+/// The statement of a `for` that was copied.
 fn copied_for(alloc: Global) -> Result<ReactiveTerminalStatement, AllocError> {
     Ok(ReactiveTerminalStatement {
         terminal: for_loop(alloc)?.clone_in(alloc)?,
@@ -72,7 +72,7 @@ fn case(alloc: Global) -> Result<ReactiveSwitchCase, AllocError> {
 /// An empty scope block.
 fn scope(alloc: Global) -> ReactiveScopeBlock {
     ReactiveScopeBlock {
-        scope: ScopeId(1),
+        scope: ScopeId::new(1),
         instructions: empty(alloc),
     }
 }
@@ -80,7 +80,7 @@ fn scope(alloc: Global) -> ReactiveScopeBlock {
 /// An empty pruned scope block.
 fn pruned_scope(alloc: Global) -> PrunedReactiveScopeBlock {
     PrunedReactiveScopeBlock {
-        scope: ScopeId(1),
+        scope: ScopeId::new(1),
         instructions: empty(alloc),
     }
 }

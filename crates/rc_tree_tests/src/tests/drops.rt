@@ -1,4 +1,4 @@
-//! Trees that are let go.
+//! Deep trees that are dropped.
 
 use crate::tests::trees::{empty, place, statement};
 use rc_names::EvaluationOrder;
@@ -6,7 +6,7 @@ use rc_tree::{ReactiveBlock, ReactiveTerminal};
 use std::alloc::{AllocError, Global};
 use std::test::Fail;
 
-/// `If`s one in the other.
+/// `If`s, each of which is the only statement of the one around it.
 fn nested(alloc: Global, levels: u32) -> Result<ReactiveBlock, AllocError> {
     let mut block = empty(alloc);
     for level in 0..levels {
@@ -14,7 +14,7 @@ fn nested(alloc: Global, levels: u32) -> Result<ReactiveBlock, AllocError> {
             test: place(0),
             consequent: block,
             alternate: None,
-            id: EvaluationOrder(level),
+            id: EvaluationOrder::new(level),
         };
         block = empty(alloc);
         block.statements.push(statement(alloc, terminal)?)?;
@@ -22,7 +22,7 @@ fn nested(alloc: Global, levels: u32) -> Result<ReactiveBlock, AllocError> {
     Ok(block)
 }
 
-/// How many statements stand outermost in a hundred thousand levels, which are let go.
+/// The number of outermost statements of a hundred thousand levels, which are dropped.
 fn outermost(alloc: Global) -> Result<usize, AllocError> {
     let block = nested(alloc, 100_000)?;
     Ok(block.statements.len())

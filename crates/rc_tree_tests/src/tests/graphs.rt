@@ -1,4 +1,4 @@
-//! The walk of a graph's function, with the functions in it.
+//! The walk of a graph's function, with its nested functions.
 
 use crate::tests::recorder::{Part, Recorder, Visit};
 use crate::tests::trees::place;
@@ -11,15 +11,15 @@ use rc_tree::visit_hir_function;
 use std::alloc::{AllocError, Global};
 use std::test::Fail;
 
-/// A row of id 1 that holds a function, and writes place 8.
+/// A row of id 1 whose value is a function, and which writes place 8.
 fn holding(function: u32) -> Instruction {
     Instruction {
-        id: EvaluationOrder(1),
+        id: EvaluationOrder::new(1),
         lvalue: place(8),
         value: InstructionValue::FunctionExpression {
             name: None,
             lowered_func: LoweredFunction {
-                func: FunctionId(function),
+                func: FunctionId::new(function),
             },
             span: None,
         },
@@ -30,7 +30,7 @@ fn holding(function: u32) -> Instruction {
 /// A row of id 3 that reads nothing, and writes place 9.
 fn quiet() -> Instruction {
     Instruction {
-        id: EvaluationOrder(3),
+        id: EvaluationOrder::new(3),
         lvalue: place(9),
         value: InstructionValue::Debugger { span: None },
         span: None,
@@ -52,13 +52,13 @@ fn function(
     instructions.push(row)?;
     let mut blocks = Keyed::new(alloc);
     blocks.insert(
-        BlockId(0),
+        BlockId::new(0),
         BasicBlock {
-            id: BlockId(0),
+            id: BlockId::new(0),
             instructions: List::from_slice(alloc, named)?,
             terminal: Terminal::Return {
                 value: place(5),
-                id: EvaluationOrder(7),
+                id: EvaluationOrder::new(7),
                 span: None,
             },
         },
@@ -72,7 +72,7 @@ fn function(
         is_async: false,
         context: List::from_slice(alloc, &[place(context)])?,
         body: Hir {
-            entry: BlockId(0),
+            entry: BlockId::new(0),
             blocks,
         },
         instructions,
@@ -80,7 +80,7 @@ fn function(
     })
 }
 
-/// Puts such a function behind those of the table.
+/// Appends such a function to the table.
 fn add(
     alloc: Global,
     env: &mut Environment,
@@ -95,8 +95,8 @@ fn add(
     Ok(())
 }
 
-/// A visitor over a table of two functions: the first has that row and names it as often as told, the second is quiet
-/// or has that other row.
+/// A visitor over a table of two functions. The first has that row and names it in its block as often as `named` says;
+/// the second has the row that reads nothing, or the other row.
 fn over(
     alloc: Global,
     first: Instruction,
@@ -107,25 +107,31 @@ fn over(
         env: Environment::empty(alloc),
     };
     add(alloc, &mut recorder.env, 10, first, named)?;
-    add(alloc, &mut recorder.env, 11, second, &[InstructionId(0)])?;
+    add(
+        alloc,
+        &mut recorder.env,
+        11,
+        second,
+        &[InstructionId::new(0)],
+    )?;
     Ok(recorder)
 }
 
-/// The visits of the walk of the first function, which holds the second as often as told.
+/// The visits of the walk of the first function, which contains the second as often as `named` says.
 fn walk_of_both(alloc: Global, named: &[InstructionId]) -> Result<List<Visit>, Fault> {
     let recorder = over(alloc, holding(1), named, quiet())?;
     let mut visits = List::new(alloc);
-    visit_hir_function(alloc, &recorder, FunctionId(0), &mut visits)?;
+    visit_hir_function(alloc, &recorder, FunctionId::new(0), &mut visits)?;
     Ok(visits)
 }
 
-/// Why the walk of a function of such a table stops, if it does.
+/// The fault with which the walk of a function of such a table stops, if it does.
 fn fault_of(alloc: Global, recorder: &Recorder, function: u32) -> Option<Fault> {
     let mut visits = List::new(alloc);
-    visit_hir_function(alloc, recorder, FunctionId(function), &mut visits).err()
+    visit_hir_function(alloc, recorder, FunctionId::new(function), &mut visits).err()
 }
 
-/// The visits of the row that holds the second function, and of that function's inside.
+/// The visits of the row whose value is the second function, and of that function's inside.
 const HELD: [Visit; 16] = [
     Visit::Enter(Part::Row(1)),
     Visit::Id(1),
@@ -145,9 +151,9 @@ const HELD: [Visit; 16] = [
     Visit::Operand(7, 5),
 ];
 
-/// Whether the walk of the first function has its own visits, and those of the second behind the row that holds it.
+/// Whether the walk of the first function has its own visits, and those of the second after the row whose value it is.
 fn is_walked_behind_its_row(alloc: Global) -> Result<bool, Fault> {
-    let visits = walk_of_both(alloc, &[InstructionId(0)])?;
+    let visits = walk_of_both(alloc, &[InstructionId::new(0)])?;
     let mut expected = List::from_slice(alloc, &[Visit::Param(10), Visit::Param(4)])?;
     expected.append(List::from_slice(alloc, HELD.as_slice())?)?;
     expected.push(Visit::Operand(7, 5))?;
@@ -160,9 +166,9 @@ fn a_function_is_walked_behind_the_row_that_holds_it(rt: HostRuntime) -> Result<
     Ok(())
 }
 
-/// How many visits the walk of a function has that holds the second twice.
+/// The number of visits of the walk of a function that contains the second one twice.
 fn visits_of_two(alloc: Global) -> Result<usize, Fault> {
-    Ok(walk_of_both(alloc, &[InstructionId(0), InstructionId(0)])?.len())
+    Ok(walk_of_both(alloc, &[InstructionId::new(0), InstructionId::new(0)])?.len())
 }
 
 #[test]
@@ -171,15 +177,15 @@ fn a_function_may_be_met_again_behind_itself(rt: HostRuntime) -> Result<(), Fail
     Ok(())
 }
 
-/// Why the walk of a function that holds itself stops.
+/// The fault with which the walk of a function stops that contains itself.
 fn fault_of_itself(alloc: Global) -> Result<Option<Fault>, AllocError> {
-    let recorder = over(alloc, holding(0), &[InstructionId(0)], quiet())?;
+    let recorder = over(alloc, holding(0), &[InstructionId::new(0)], quiet())?;
     Ok(fault_of(alloc, &recorder, 0))
 }
 
-/// Why the walk of a function stops that holds one that holds it.
+/// The fault with which the walk of a function stops that contains another, which contains the first.
 fn fault_of_each_other(alloc: Global) -> Result<Option<Fault>, AllocError> {
-    let recorder = over(alloc, holding(1), &[InstructionId(0)], holding(0))?;
+    let recorder = over(alloc, holding(1), &[InstructionId::new(0)], holding(0))?;
     Ok(fault_of(alloc, &recorder, 0))
 }
 
@@ -187,16 +193,16 @@ fn fault_of_each_other(alloc: Global) -> Result<Option<Fault>, AllocError> {
 fn a_function_inside_itself_is_a_cycle(rt: HostRuntime) -> Result<(), Fail> {
     let alloc = rt.alloc();
     let cycle = Fault::FunctionCycle {
-        function: FunctionId(0),
+        function: FunctionId::new(0),
     };
     assert_eq!(rt; fault_of_itself(alloc)?, Some(cycle));
     assert_eq!(rt; fault_of_each_other(alloc)?, Some(cycle));
     Ok(())
 }
 
-/// Why the walk of a function of two quiet ones stops, whose first names row 4.
+/// The fault with which the walk of the first function stops, which names row 4, where no function contains another.
 fn fault_outside_table(alloc: Global, function: u32) -> Result<Option<Fault>, AllocError> {
-    let recorder = over(alloc, quiet(), &[InstructionId(4)], quiet())?;
+    let recorder = over(alloc, quiet(), &[InstructionId::new(4)], quiet())?;
     Ok(fault_of(alloc, &recorder, function))
 }
 

@@ -1,9 +1,11 @@
-//! The read walk's order, over every part of a tree.
+//! The order of the read walk, over every part of a tree.
 
+use crate::tests::parts::rows::{
+    put_call, put_contexts, put_destructure, put_expressions, put_sequence, put_store, put_update,
+};
 use crate::tests::parts::{
-    ForOrder, Written, for_loop, put_call, put_contexts, put_destructure, put_do_while, put_ends,
-    put_expressions, put_for, put_for_in, put_for_of, put_if, put_jumps, put_label, put_scopes,
-    put_sequence, put_store, put_switch, put_try, put_update, put_while,
+    ForOrder, Written, for_loop, put_do_while, put_ends, put_for, put_for_in, put_for_of, put_if,
+    put_jumps, put_label, put_scopes, put_switch, put_try, put_while,
 };
 use crate::tests::recorder::{Part, Recorder, Visit, visits};
 use crate::tests::trees::{empty, function, load, note, row, statement};
@@ -85,7 +87,7 @@ const FOR_OPERANDS: [Visit; 4] = [
     Visit::Operand(5, 2),
 ];
 
-/// Whether a body is walked by the visits beside it.
+/// Whether the walk of a body has the visits that are written beside it.
 fn is_walked_as_written(alloc: Global, written: Written) -> Result<bool, Fault> {
     let Written { body, visits } = written;
     let expected = as_body(alloc, &visits)?;
@@ -142,7 +144,7 @@ fn the_inside_of_a_for_reads_the_same(rt: HostRuntime) -> Result<(), Fail> {
     Ok(())
 }
 
-/// A block of as many rows, each of which loads a place.
+/// A block of that many rows, each of which loads a place.
 pub fn long(alloc: Global, length: u32) -> Result<ReactiveBlock, AllocError> {
     let mut block = empty(alloc);
     for number in 0..length {
@@ -153,7 +155,7 @@ pub fn long(alloc: Global, length: u32) -> Result<ReactiveBlock, AllocError> {
     Ok(block)
 }
 
-/// How many visits the walk of a body has.
+/// The number of visits of the walk of a body.
 fn visit_count(alloc: Global, body: ReactiveBlock) -> Result<usize, Fault> {
     Ok(walked(alloc, body)?.len())
 }

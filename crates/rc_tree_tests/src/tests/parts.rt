@@ -1,27 +1,24 @@
-//! Every part of a tree, each beside the visits of its inside in the order of the table.
+//! Every part of a tree, beside the visits of its inside in the order of the table of parts.
+
+pub mod rows;
 
 use crate::tests::recorder::{Part, Visit};
 use crate::tests::trees::{
     empty, load, load_visits, note, place, returning, returning_visits, row, statement,
 };
-use rc_hir::{
-    ArrayPatternElement, InstructionKind, InstructionValue, LValue, LValuePattern, LogicalOperator,
-    Pattern, PlaceOrSpread, SpreadPattern,
-};
-use rc_names::{BlockId, Boxed, EvaluationOrder, List, ScopeId, Text};
+use rc_names::{BlockId, EvaluationOrder, List, ScopeId};
 use rc_tree::{
     PrunedReactiveScopeBlock, ReactiveBlock, ReactiveInstruction, ReactiveScopeBlock,
     ReactiveStatement, ReactiveSwitchCase, ReactiveTerminal, ReactiveTerminalTargetKind,
-    ReactiveValue,
 };
 use std::alloc::{AllocError, Global};
 
-/// The order of a `for` behind its test, which the two walks differ in.
+/// The order of the parts of a `for` after its test, in which the two walks differ.
 #[derive(Clone, Copy, PartialEq, Eq)]
 pub enum ForOrder {
-    /// The read walk's.
+    /// The order of the read walk.
     BodyFirst,
-    /// The rewriting walk's.
+    /// The order of the rewriting walk.
     UpdateFirst,
 }
 
@@ -33,7 +30,7 @@ pub struct Written {
 }
 
 impl Written {
-    /// No statement, and no visit.
+    /// Without a statement and without a visit.
     pub fn new(alloc: Global) -> Written {
         Written {
             body: empty(alloc),
@@ -41,7 +38,7 @@ impl Written {
         }
     }
 
-    /// A terminal, and visits around which it is entered and left.
+    /// Adds a terminal, and its visits with an entry before and a leave after them.
     fn put(
         &mut self,
         alloc: Global,
@@ -57,7 +54,7 @@ impl Written {
         Ok(())
     }
 
-    /// A row, and visits around which it is entered and left.
+    /// Adds a row, and its visits with an entry before and a leave after them.
     fn put_row(&mut self, row: ReactiveInstruction, inside: &[&[Visit]]) -> Result<(), AllocError> {
         let part = Part::Row(row.id.0);
         self.body
@@ -72,45 +69,45 @@ impl Written {
     }
 }
 
-/// A jump of either kind: its id alone.
+/// A jump of either kind has only its id.
 pub fn put_jumps(alloc: Global, written: &mut Written) -> Result<(), AllocError> {
-    let target = BlockId(1);
+    let target = BlockId::new(1);
     let target_kind = ReactiveTerminalTargetKind::Labeled;
     let jump = ReactiveTerminal::Break {
         target,
         target_kind,
-        id: EvaluationOrder(10),
+        id: EvaluationOrder::new(10),
     };
     written.put(alloc, jump, &[&[Visit::Id(10)]])?;
     let jump = ReactiveTerminal::Continue {
         target,
         target_kind,
-        id: EvaluationOrder(11),
+        id: EvaluationOrder::new(11),
     };
     written.put(alloc, jump, &[&[Visit::Id(11)]])
 }
 
-/// A return and a throw: the id, the place.
+/// A return and a throw: the id, then the place.
 pub fn put_ends(alloc: Global, written: &mut Written) -> Result<(), AllocError> {
     let end = ReactiveTerminal::Return {
         value: place(2),
-        id: EvaluationOrder(12),
+        id: EvaluationOrder::new(12),
     };
     written.put(alloc, end, &[&[Visit::Id(12), Visit::Operand(12, 2)]])?;
     let end = ReactiveTerminal::Throw {
         value: place(3),
-        id: EvaluationOrder(13),
+        id: EvaluationOrder::new(13),
     };
     written.put(alloc, end, &[&[Visit::Id(13), Visit::Operand(13, 3)]])
 }
 
-/// An `if` with both arms: the test, the consequent, the alternate.
+/// An `if` with both arms: the test, the consequent, then the alternate.
 pub fn put_if(alloc: Global, written: &mut Written) -> Result<(), AllocError> {
     let terminal = ReactiveTerminal::If {
         test: place(1),
         consequent: returning(alloc, 15, 2)?,
         alternate: Some(returning(alloc, 16, 3)?),
-        id: EvaluationOrder(14),
+        id: EvaluationOrder::new(14),
     };
     let inside = [Visit::Id(14), Visit::Operand(14, 1)];
     written.put(
@@ -120,7 +117,7 @@ pub fn put_if(alloc: Global, written: &mut Written) -> Result<(), AllocError> {
     )
 }
 
-/// A switch: the test, then each case's test and block; the last case is a default, the second has no block.
+/// A switch: the test, then the test and the block of each case; the last case is a default, the second has no block.
 pub fn put_switch(alloc: Global, written: &mut Written) -> Result<(), AllocError> {
     let mut cases = List::new(alloc);
     cases.push(ReactiveSwitchCase {
@@ -138,7 +135,7 @@ pub fn put_switch(alloc: Global, written: &mut Written) -> Result<(), AllocError
     let terminal = ReactiveTerminal::Switch {
         test: place(1),
         cases,
-        id: EvaluationOrder(17),
+        id: EvaluationOrder::new(17),
     };
     let first = [Visit::Id(17), Visit::Operand(17, 1), Visit::Operand(17, 2)];
     written.put(
@@ -153,12 +150,12 @@ pub fn put_switch(alloc: Global, written: &mut Written) -> Result<(), AllocError
     )
 }
 
-/// A do-while: the block, the test.
+/// A do-while: the block, then the test.
 pub fn put_do_while(alloc: Global, written: &mut Written) -> Result<(), AllocError> {
     let terminal = ReactiveTerminal::DoWhile {
         loop_block: returning(alloc, 21, 2)?,
         test: load(1),
-        id: EvaluationOrder(20),
+        id: EvaluationOrder::new(20),
     };
     written.put(
         alloc,
@@ -171,12 +168,12 @@ pub fn put_do_while(alloc: Global, written: &mut Written) -> Result<(), AllocErr
     )
 }
 
-/// A while: the test, the block.
+/// A while: the test, then the block.
 pub fn put_while(alloc: Global, written: &mut Written) -> Result<(), AllocError> {
     let terminal = ReactiveTerminal::While {
         test: load(1),
         loop_block: returning(alloc, 23, 2)?,
-        id: EvaluationOrder(22),
+        id: EvaluationOrder::new(22),
     };
     written.put(
         alloc,
@@ -196,11 +193,11 @@ pub fn for_loop(alloc: Global) -> Result<ReactiveTerminal, AllocError> {
         test: load(1),
         update: Some(load(2)),
         loop_block: returning(alloc, 9, 3)?,
-        id: EvaluationOrder(5),
+        id: EvaluationOrder::new(5),
     })
 }
 
-/// A for: init, test, and then block and update in that order.
+/// A for: the init, the test, and then the block and the update in the given order.
 pub fn put_for(alloc: Global, written: &mut Written, order: ForOrder) -> Result<(), AllocError> {
     let (init, test) = (load_visits(5, 0), load_visits(5, 1));
     let (body, update) = (returning_visits(9, 3), load_visits(5, 2));
@@ -219,14 +216,14 @@ pub fn put_for(alloc: Global, written: &mut Written, order: ForOrder) -> Result<
     }
 }
 
-/// A for-of: init, test, block.
+/// A for-of: the init, the test, then the block.
 pub fn put_for_of(alloc: Global, written: &mut Written) -> Result<(), AllocError> {
     let terminal = ReactiveTerminal::ForOf {
         init: load(1),
         test: load(2),
         loop_block: returning(alloc, 25, 3)?,
         span: None,
-        id: EvaluationOrder(24),
+        id: EvaluationOrder::new(24),
     };
     written.put(
         alloc,
@@ -240,13 +237,13 @@ pub fn put_for_of(alloc: Global, written: &mut Written) -> Result<(), AllocError
     )
 }
 
-/// A for-in: init, block.
+/// A for-in: the init, then the block.
 pub fn put_for_in(alloc: Global, written: &mut Written) -> Result<(), AllocError> {
     let terminal = ReactiveTerminal::ForIn {
         init: load(1),
         loop_block: returning(alloc, 27, 2)?,
         span: None,
-        id: EvaluationOrder(26),
+        id: EvaluationOrder::new(26),
     };
     written.put(
         alloc,
@@ -263,7 +260,7 @@ pub fn put_for_in(alloc: Global, written: &mut Written) -> Result<(), AllocError
 pub fn put_label(alloc: Global, written: &mut Written) -> Result<(), AllocError> {
     let terminal = ReactiveTerminal::Label {
         block: returning(alloc, 29, 1)?,
-        id: EvaluationOrder(28),
+        id: EvaluationOrder::new(28),
     };
     written.put(
         alloc,
@@ -272,13 +269,13 @@ pub fn put_label(alloc: Global, written: &mut Written) -> Result<(), AllocError>
     )
 }
 
-/// A try: the block, the binding, the handler.
+/// A try: the block, the binding, then the handler.
 pub fn put_try(alloc: Global, written: &mut Written) -> Result<(), AllocError> {
     let terminal = ReactiveTerminal::Try {
         block: returning(alloc, 31, 1)?,
         handler_binding: Some(place(2)),
         handler: returning(alloc, 32, 3)?,
-        id: EvaluationOrder(30),
+        id: EvaluationOrder::new(30),
     };
     written.put(
         alloc,
@@ -295,7 +292,7 @@ pub fn put_try(alloc: Global, written: &mut Written) -> Result<(), AllocError> {
 /// A scope and a pruned scope: the block of each.
 pub fn put_scopes(alloc: Global, written: &mut Written) -> Result<(), AllocError> {
     let scope = ReactiveScopeBlock {
-        scope: ScopeId(6),
+        scope: ScopeId::new(6),
         instructions: returning(alloc, 33, 1)?,
     };
     written
@@ -307,7 +304,7 @@ pub fn put_scopes(alloc: Global, written: &mut Written) -> Result<(), AllocError
     written.visits.push(Visit::Leave(Part::Scope(6)))?;
 
     let scope = PrunedReactiveScopeBlock {
-        scope: ScopeId(7),
+        scope: ScopeId::new(7),
         instructions: returning(alloc, 34, 2)?,
     };
     written
@@ -318,166 +315,4 @@ pub fn put_scopes(alloc: Global, written: &mut Written) -> Result<(), AllocError
     note(&mut written.visits, &returning_visits(34, 2))?;
     written.visits.push(Visit::Leave(Part::PrunedScope(7)))?;
     Ok(())
-}
-
-/// A store: the id, the row's target, the store's, then the value.
-pub fn put_store(written: &mut Written) -> Result<(), AllocError> {
-    let store = InstructionValue::StoreLocal {
-        lvalue: LValue {
-            kind: InstructionKind::Const,
-            place: place(3),
-        },
-        value: place(1),
-        span: None,
-    };
-    let mut store = row(40, ReactiveValue::Instruction(store));
-    store.lvalue = Some(place(2));
-    let targets = [Visit::Id(40), Visit::Target(40, 2), Visit::Target(40, 3)];
-    written.put_row(store, &[&targets, &load_visits(40, 1)])
-}
-
-/// A pattern writes each of its places, and no hole.
-pub fn put_destructure(alloc: Global, written: &mut Written) -> Result<(), AllocError> {
-    let items = [
-        ArrayPatternElement::Place(place(4)),
-        ArrayPatternElement::Hole,
-        ArrayPatternElement::Spread(SpreadPattern { place: place(5) }),
-    ];
-    let destructure = InstructionValue::Destructure {
-        lvalue: LValuePattern {
-            kind: InstructionKind::Let,
-            pattern: Pattern::Array {
-                items: List::from_slice(alloc, &items)?,
-            },
-        },
-        value: place(1),
-        span: None,
-    };
-    let targets = [Visit::Id(41), Visit::Target(41, 4), Visit::Target(41, 5)];
-    written.put_row(
-        row(41, ReactiveValue::Instruction(destructure)),
-        &[&targets, &load_visits(41, 1)],
-    )
-}
-
-/// A declaration has a target and no operand; a store into a context has its target among its operands.
-pub fn put_contexts(written: &mut Written) -> Result<(), AllocError> {
-    let lvalue = LValue {
-        kind: InstructionKind::Let,
-        place: place(6),
-    };
-    let declare = InstructionValue::DeclareLocal { lvalue, span: None };
-    let value = [Visit::Enter(Part::Value(42)), Visit::Leave(Part::Value(42))];
-    written.put_row(
-        row(42, ReactiveValue::Instruction(declare)),
-        &[&[Visit::Id(42), Visit::Target(42, 6)], &value],
-    )?;
-
-    let store = InstructionValue::StoreContext {
-        lvalue,
-        value: place(1),
-        span: None,
-    };
-    let value = [
-        Visit::Enter(Part::Value(43)),
-        Visit::Operand(43, 6),
-        Visit::Operand(43, 1),
-        Visit::Leave(Part::Value(43)),
-    ];
-    written.put_row(
-        row(43, ReactiveValue::Instruction(store)),
-        &[&[Visit::Id(43), Visit::Target(43, 6)], &value],
-    )
-}
-
-/// An update writes one place and reads another.
-pub fn put_update(alloc: Global, written: &mut Written) -> Result<(), AllocError> {
-    let update = InstructionValue::PrefixUpdate {
-        lvalue: place(3),
-        operation: Text::from_str(alloc, "++")?,
-        value: place(4),
-        span: None,
-    };
-    written.put_row(
-        row(44, ReactiveValue::Instruction(update)),
-        &[&[Visit::Id(44), Visit::Target(44, 3)], &load_visits(44, 4)],
-    )
-}
-
-/// A call reads its callee and then its arguments, a spread as its place.
-pub fn put_call(alloc: Global, written: &mut Written) -> Result<(), AllocError> {
-    let args = [
-        PlaceOrSpread::Place(place(2)),
-        PlaceOrSpread::Spread(SpreadPattern { place: place(3) }),
-    ];
-    let call = InstructionValue::CallExpression {
-        callee: place(1),
-        args: List::from_slice(alloc, &args)?,
-        span: None,
-    };
-    let value = [
-        Visit::Enter(Part::Value(45)),
-        Visit::Operand(45, 1),
-        Visit::Operand(45, 2),
-        Visit::Operand(45, 3),
-        Visit::Leave(Part::Value(45)),
-    ];
-    written.put_row(
-        row(45, ReactiveValue::Instruction(call)),
-        &[&[Visit::Id(45)], &value],
-    )
-}
-
-/// A logical, a conditional and an optional walk their parts at the id handed in.
-pub fn put_expressions(alloc: Global, written: &mut Written) -> Result<(), AllocError> {
-    let logical = ReactiveValue::LogicalExpression {
-        operator: LogicalOperator::And,
-        left: Boxed::new(alloc, load(1))?,
-        right: Boxed::new(alloc, load(2))?,
-    };
-    let conditional = ReactiveValue::ConditionalExpression {
-        test: Boxed::new(alloc, logical)?,
-        consequent: Boxed::new(alloc, load(3))?,
-        alternate: Boxed::new(alloc, load(4))?,
-    };
-    let optional = ReactiveValue::OptionalExpression {
-        value: Boxed::new(alloc, conditional)?,
-        optional: true,
-    };
-    let enter = Visit::Enter(Part::Value(46));
-    let leave = Visit::Leave(Part::Value(46));
-    written.put_row(
-        row(46, optional),
-        &[
-            &[Visit::Id(46), enter, enter, enter],
-            &load_visits(46, 1),
-            &load_visits(46, 2),
-            &[leave],
-            &load_visits(46, 3),
-            &load_visits(46, 4),
-            &[leave, leave],
-        ],
-    )
-}
-
-/// A sequence walks its rows, and then its value at its own id.
-pub fn put_sequence(alloc: Global, written: &mut Written) -> Result<(), AllocError> {
-    let mut instructions = List::new(alloc);
-    instructions.push(row(48, load(1)))?;
-    let sequence = ReactiveValue::SequenceExpression {
-        instructions,
-        id: EvaluationOrder(49),
-        value: Boxed::new(alloc, load(2))?,
-    };
-    written.put_row(
-        row(47, sequence),
-        &[
-            &[Visit::Id(47), Visit::Enter(Part::Value(47))],
-            &[Visit::Enter(Part::Row(48)), Visit::Id(48)],
-            &load_visits(48, 1),
-            &[Visit::Leave(Part::Row(48))],
-            &load_visits(49, 2),
-            &[Visit::Leave(Part::Value(47))],
-        ],
-    )
 }

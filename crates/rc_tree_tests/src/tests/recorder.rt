@@ -26,7 +26,7 @@ pub enum Part {
     Block,
 }
 
-/// A visit: an operand and a target with the id that it is visited at, and its identifier.
+/// A visit: an operand or a target, with the id at which it is visited and its identifier.
 #[derive(Clone, Copy, Debug, PartialEq, Eq)]
 pub enum Visit {
     Id(u32),

@@ -1,13 +1,13 @@
-//! A transform that writes its visits down and gives each kind of answer, and the result of a walk by it.
+//! A transform that writes its visits down and returns each kind of replacement, and the result of its walk.
 
 ghost use Rattle.std.specs.Prelude.{◌≡◌, ◌==◌, [], ◌∷◌, ◌++◌, Ok, Err, IfOk, if◌then◌else◌, is_none, refl};
 ghost use Rattle.rc_hir.specs.declared.fault.Fault.TheVariants as faults;
-ghost use Rattle.rc_hir.specs.declared.fault.TableName.TheVariants as tables;
+ghost use Rattle.rc_hir.specs.declared.fault.TableName.TheVariants as table_names;
 ghost use Rattle.rc_tree_tests.specs.Looks.{looks_no_deeper};
 ghost use Rattle.rc_tree.specs.Rewrite.{rewrite_block};
 ghost use Rattle.rc_tree.specs.RewriteSteps.{keeps_it};
 ghost use Rattle.rc_tree_tests.specs.Unnamed.{GivesWay, without_name};
-ghost use Rattle.rc_tree.specs.declared.statement.ReactiveStatement.TheVariants as stmt;
+ghost use Rattle.rc_tree.specs.declared.statement.ReactiveStatement.TheVariants as reactive;
 ghost use Rattle.rc_tree_tests.specs.declared.tests.recorder.Part.TheVariants as part;
 ghost use Rattle.rc_tree_tests.specs.declared.tests.recorder.Visit.TheVariants as visit;
 ghost use Rattle.rc_tree.specs.declared.transform.Transformed.TheVariants as answer;
@@ -24,8 +24,8 @@ use rc_tree::{
 };
 use std::alloc::Global;
 
-/// Writes each visit down, in order. A `Label` without a name gives way to its statements, a scope block to a pruned
-/// one, a row without a target to nothing.
+/// Writes each visit down, in order. It replaces a `Label` without a name by its statements and a scope block by a
+/// pruned one, and removes a row without a target.
 #[derive(Drop)]
 pub struct Rewriter {
     pub env: Environment,
@@ -41,7 +41,7 @@ impl ReactiveFunctionTransform for Rewriter {
     ghost steps = { record {
       visit_id = λ id w. Ok (tt, (w.0, w.1 ++ visit.Id id.0 ∷ []));
       visit_place = λ id place w. if place.identifier.0 == w.0.refused
-          then Err (faults.BadName tables.Identifiers place.identifier.0)
+          then Err (faults.BadName table_names.Identifiers place.identifier.0)
           else Ok (tt, (w.0, w.1 ++ visit.Operand id.0 place.identifier.0 ∷ []));
       visit_lvalue = λ id place w. Ok (tt, (w.0, w.1 ++ visit.Target id.0 place.identifier.0 ∷ []));
       enter_instruction = λ w x. Ok (enter.Inside, ((w.0, w.1 ++ visit.Enter (part.Row x.id.0) ∷ []), x));
@@ -62,7 +62,7 @@ impl ReactiveFunctionTransform for Rewriter {
       transform_instruction = λ w x. Ok (if is_none x.lvalue then answer.Remove else answer.Keep, (w, x));
       transform_terminal = λ w x. Ok ((without_name x).0, (w, (without_name x).1));
       transform_scope = λ w x. Ok (
-        answer.Replace (stmt.PrunedScope (record { scope = x.scope; instructions = x.instructions })),
+        answer.Replace (reactive.PrunedScope (record { scope = x.scope; instructions = x.instructions })),
         (w, record { scope = x.scope; instructions = record { statements = [] } }),
       );
       transform_pruned_scope = keeps_it;
@@ -285,7 +285,7 @@ fn take_out(stmt: &mut ReactiveTerminalStatement) -> Transformed<ReactiveStateme
     }
 }
 
-/// Rewrites a function's body, and answers the visits.
+/// Rewrites a function's body, and returns the visits.
 pub fn rewritten(
     alloc: Global,
     rewriter: &mut Rewriter,
@@ -301,7 +301,7 @@ pub fn rewritten(
     Ok(visits)
 }
 
-/// Walks a statement, and answers what stands in its place.
+/// Walks a statement, and returns how it is replaced.
 pub fn answer(
     alloc: Global,
     rewriter: &mut Rewriter,

@@ -1,4 +1,4 @@
-//! The rewriting walk: its order over every part of a tree, and what stands in place of statements.
+//! The rewriting walk: its order over every part of a tree, and the replacements of statements.
 
 use crate::tests::order::{as_body, has_operands, long, rows, statements, walked};
 use crate::tests::parts::{ForOrder, Written, for_loop};
@@ -39,7 +39,7 @@ fn rewriting(alloc: Global, body: ReactiveBlock) -> Result<List<Visit>, Fault> {
     rewritten(alloc, &mut rewriter(alloc), &mut function(alloc, body))
 }
 
-/// The visits of a read walk of what is left of a body.
+/// The visits of a read walk of a body after it was rewritten.
 fn left(
     alloc: Global,
     transform: &mut Rewriter,
@@ -50,7 +50,7 @@ fn left(
     walked(alloc, func.body)
 }
 
-/// Whether a body has these visits inside, once it is rewritten by a transform that doesn't enter that scope.
+/// Whether a body has these visits inside after it was rewritten by a transform that doesn't enter that scope.
 fn leaves(
     alloc: Global,
     skipped: u32,
@@ -111,7 +111,7 @@ fn storing_visits(alloc: Global, id: u32) -> Result<List<Visit>, AllocError> {
 /// A scope of that number.
 fn scope(number: u32, instructions: ReactiveBlock) -> ReactiveStatement {
     ReactiveStatement::Scope(ReactiveScopeBlock {
-        scope: ScopeId(number),
+        scope: ScopeId::new(number),
         instructions,
     })
 }
@@ -120,7 +120,7 @@ fn scope(number: u32, instructions: ReactiveBlock) -> ReactiveStatement {
 fn label(block: ReactiveBlock) -> ReactiveTerminal {
     ReactiveTerminal::Label {
         block,
-        id: EvaluationOrder(60),
+        id: EvaluationOrder::new(60),
     }
 }
 
@@ -139,7 +139,7 @@ const FOR_OPERANDS: [Visit; 4] = [
     Visit::Operand(9, 3),
 ];
 
-/// Whether a body is rewritten by the visits beside it.
+/// Whether the rewriting walk of a body has the visits that are written beside it.
 fn is_rewritten_as_written(alloc: Global, written: Written) -> Result<bool, Fault> {
     let Written { body, visits } = written;
     is_rewritten_by(alloc, body, &visits)
@@ -189,7 +189,7 @@ fn the_inside_of_a_for_is_rewritten_the_same(rt: HostRuntime) -> Result<(), Fail
     Ok(())
 }
 
-/// How many statements stand in the place of one, where there are many.
+/// The number of statements by which one is replaced, if it is replaced by several.
 fn statements_in_place(answer: Transformed<ReactiveStatement>) -> Option<usize> {
     match &answer {
         Transformed::ReplaceMany(statements) => Some(statements.len()),
@@ -197,7 +197,7 @@ fn statements_in_place(answer: Transformed<ReactiveStatement>) -> Option<usize> 
     }
 }
 
-/// What the walk puts in the place of this statement.
+/// The replacement that the walk gives of this statement.
 fn in_place_of(
     alloc: Global,
     mut stmt: ReactiveStatement,
@@ -210,7 +210,7 @@ fn in_place_of(
     )
 }
 
-/// How many statements stand in the place of a `Label` around two rows.
+/// The number of statements by which a `Label` is replaced that has two rows.
 fn statements_in_place_of_label(alloc: Global) -> Result<Option<usize>, Fault> {
     let stmt = statement(alloc, label(two_rows(alloc)?))?;
     Ok(statements_in_place(in_place_of(alloc, stmt)?))
@@ -218,17 +218,17 @@ fn statements_in_place_of_label(alloc: Global) -> Result<Option<usize>, Fault> {
 
 #[test]
 fn a_label_without_a_name_gives_way_to_its_statements(rt: HostRuntime) -> Result<(), Fail> {
-    // One of the two rows is gone by then.
+    // One of the two rows was removed before.
     assert_eq!(rt; statements_in_place_of_label(rt.alloc())?, Some(1));
     Ok(())
 }
 
-/// A body of a `Label` of a name, with a return in it.
+/// A body that is a `Label` with a name, which has a return.
 fn named_label(alloc: Global) -> Result<ReactiveBlock, AllocError> {
     let stmt = ReactiveTerminalStatement {
         terminal: label(returning(alloc, 61, 7)?),
         label: Some(ReactiveLabel {
-            id: BlockId(4),
+            id: BlockId::new(4),
             implicit: false,
         }),
     };
@@ -257,7 +257,7 @@ fn a_label_with_a_name_is_kept(rt: HostRuntime) -> Result<(), Fail> {
     Ok(())
 }
 
-/// A body of a `Label` around scope 6, which has two rows.
+/// A body that is a `Label` around scope 6, which has two rows.
 fn scope_in_label(alloc: Global) -> Result<ReactiveBlock, AllocError> {
     let inside = body_of(alloc, scope(6, two_rows(alloc)?))?;
     body_of(alloc, statement(alloc, label(inside))?)
@@ -272,7 +272,7 @@ fn pruned_scope_visits(alloc: Global, inside: &List<Visit>) -> Result<List<Visit
     Ok(visits)
 }
 
-/// Whether that `Label` leaves the pruned scope with one row.
+/// Whether the pruned scope with one row is left of that `Label`.
 fn leaves_pruned_scope(alloc: Global) -> Result<bool, Fault> {
     let expected = pruned_scope_visits(alloc, &storing_visits(alloc, 50)?)?;
     leaves(alloc, NOWHERE, scope_in_label(alloc)?, &expected)
@@ -300,12 +300,12 @@ fn what_stands_in_place_of_a_scope_is_not_walked(rt: HostRuntime) -> Result<(), 
     Ok(())
 }
 
-/// A body of scope 6, which has two rows.
+/// A body that is scope 6, which has two rows.
 fn scope_of_rows(alloc: Global) -> Result<ReactiveBlock, AllocError> {
     body_of(alloc, scope(6, two_rows(alloc)?))
 }
 
-/// Whether the walk of that body by a transform that doesn't enter the scope has no visit behind its entry.
+/// Whether the walk of that body by a transform that doesn't enter the scope has no visit after the scope's entry.
 fn skips_scope(alloc: Global) -> Result<bool, Fault> {
     let mut func = function(alloc, scope_of_rows(alloc)?);
     let visits = rewritten(alloc, &mut rewriter_but(alloc, 6, NOWHERE), &mut func)?;
@@ -331,7 +331,7 @@ fn rows_visits(alloc: Global) -> Result<List<Visit>, AllocError> {
     Ok(visits)
 }
 
-/// Whether a scope that isn't entered leaves the pruned one with both its rows.
+/// Whether the pruned scope with both rows is left of a scope that isn't entered.
 fn leaves_both_rows(alloc: Global) -> Result<bool, Fault> {
     let expected = pruned_scope_visits(alloc, &rows_visits(alloc)?)?;
     leaves(alloc, 6, scope_of_rows(alloc)?, &expected)
@@ -343,7 +343,7 @@ fn a_scope_that_is_not_entered_is_replaced_with_both_its_rows(rt: HostRuntime) -
     Ok(())
 }
 
-/// Why a transform that refuses operand 3 doesn't rewrite a body, if it doesn't.
+/// The fault with which a transform that refuses operand 3 stops on a body, if it does.
 fn fault_of_rewriting(alloc: Global, written: Written) -> Option<Fault> {
     let Written { body, visits: _ } = written;
     let mut transform = rewriter_but(alloc, NOWHERE, 3);
@@ -362,7 +362,7 @@ fn a_fault_of_a_hook_is_the_result(rt: HostRuntime) -> Result<(), Fail> {
     Ok(())
 }
 
-/// How many visits the walk of a body has.
+/// The number of visits of the walk of a body.
 fn visit_count(alloc: Global, body: ReactiveBlock) -> Result<usize, Fault> {
     Ok(rewriting(alloc, body)?.len())
 }

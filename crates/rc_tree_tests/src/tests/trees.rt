@@ -12,7 +12,7 @@ use std::alloc::{AllocError, Global};
 /// A place that is read.
 pub fn place(number: u32) -> Place {
     Place {
-        identifier: IdentifierId(number),
+        identifier: IdentifierId::new(number),
         effect: Effect::Read,
         reactive: false,
         span: None,
@@ -39,7 +39,7 @@ pub fn load_visits(id: u32, number: u32) -> [Visit; 3] {
 /// A row without a target.
 pub fn row(id: u32, value: ReactiveValue) -> ReactiveInstruction {
     ReactiveInstruction {
-        id: EvaluationOrder(id),
+        id: EvaluationOrder::new(id),
         lvalue: None,
         value,
         span: None,
@@ -70,7 +70,7 @@ pub fn returning(alloc: Global, id: u32, number: u32) -> Result<ReactiveBlock, A
     let mut block = empty(alloc);
     let terminal = ReactiveTerminal::Return {
         value: place(number),
-        id: EvaluationOrder(id),
+        id: EvaluationOrder::new(id),
     };
     block.statements.push(statement(alloc, terminal)?)?;
     Ok(block)
@@ -102,7 +102,7 @@ pub fn function(alloc: Global, body: ReactiveBlock) -> ReactiveFunction {
     }
 }
 
-/// Puts visits behind those that are there.
+/// Appends visits to those that are there.
 pub fn note(visits: &mut List<Visit>, more: &[Visit]) -> Result<(), AllocError> {
     for visit in more {
         visits.push(*visit)?;

@@ -1,16 +1,26 @@
-use Rattle.std.proofs.Common.{None, ap}
-use Rattle.rc_runs.specs.ListContext.{ListContext}
-use Rattle.rc_build.specs.Built.{context_of}
-use Rattle.rc_build.proofs.BuildLemmas.{at_entry, none_spelled}
-use Rattle.rc_build.proofs.FaultLemmas.{passed_on}
+use Rattle.std.proofs.Common.{sym, ap, subst}
+use Rattle.rc_build.specs.inside.CanBuild.{CanBuildList}
+use Rattle.rc_build.specs.inside.Task.{Progress}
+use Rattle.rc_build.proofs.BuildLemmas.{at_entry, at_outermost, function_built, none_spelled}
+use Rattle.rc_build.proofs.BuildsLemmas.{passed_on}
 use Rattle.rc_build.proofs.reactive_function.build.Goals as goal
 
 pub build_list-requires : goal.build_list-requires
-build_list-requires c = at_entry c.args.hir.now c.new-state.result.marks c.new-state.result.frames
-    c.new-state.ensures.used c.new-state.ensures.scopes (ap (λ (z : ListContext). z.frames) c.new-state.ensures.context)
+build_list-requires c =
+    let builder = c.new-builder.result in
+    let hir = c.args.hir.now in
+    subst (λ z. CanBuildList z builder.marks builder.frames hir.body.entry) (sym c.new-builder.ensures.hir)
+    (at_entry hir builder.marks builder.frames (ap (λ (z : Progress). z.marks) c.new-builder.ensures.progress)
+    c.new-builder.ensures.frames)
 
-pub returns-in_err-statements-clause-refused : goal.returns-in_err-statements-clause-refused
-returns-in_err-statements-clause-refused c = λ named rule e.
-    none_spelled c.args.hir.now c.args.env.now (context_of None c.new-state.result) c.new-state.result.marks
-    c.new-state.ensures.used c.new-state.ensures.context
-    (c.in_err-statements.ensures.refused named rule (passed_on c.from_residual.ensures.1 e))
+pub returns-in_err-build_list-clause-refused : goal.returns-in_err-build_list-clause-refused
+returns-in_err-build_list-clause-refused c = λ named rule e.
+    let start = c.new-builder.ensures in
+    none_spelled (at_outermost c.new-builder.result c.args.hir.now.body.entry start.hir start.env start.frames) (ap (λ (z : Progress). z.marks) start.progress)
+    (c.in_err-build_list.ensures.refused named rule (passed_on c.from_residual.ensures.1 e))
+
+pub returns-clause-ok : goal.returns-clause-ok
+returns-clause-ok c =
+    let start = c.new-builder.ensures in
+    function_built (at_outermost c.new-builder.result c.args.hir.now.body.entry start.hir start.env start.frames) start.progress c.take-statements.ensures.list
+    c.in_ok-build_list.ensures.ok c.in_ok-with_header.ensures

@@ -1,10 +1,10 @@
 use Rattle.std.proofs.Common.{◌≡◌, drop}
-use Rattle.rc_tree.specs.Outcome.{each}
+use Rattle.rc_tree.specs.Step.{each}
 use Rattle.rc_checks.specs.BreakTargets.{met_at, met_in}
-use Rattle.rc_checks.specs.TargetSteps.{terminal_step}
+use Rattle.rc_checks.specs.inside.TargetSteps.{terminal_step}
 use Rattle.rc_checks.proofs.break_targets.+check_targets.Given as goal
 
--- the statements that are left give what the block gives
+-- the steps of the statements that are left are those of the block
 abbrev pub invariant-check_block-loop-statement : goal.invariant-check_block-loop-statement
 invariant-check_block-loop-statement l =
     each terminal_step (met_in l.block) l.initial.labels

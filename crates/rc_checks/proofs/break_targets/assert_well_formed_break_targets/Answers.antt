@@ -1,5 +1,5 @@
-use Rattle.rc_checks.proofs.BreakTargetsLemmas.{answers_ok, answers_bad_target, answers_only}
-use Rattle.rc_checks.proofs.NoJumpIsMet.{only_memory}
+use Rattle.rc_checks.proofs.BreakTargets.CheckLemmas.{answers_ok, answers_bad_target, answers_only}
+use Rattle.rc_checks.proofs.BreakTargets.NoJumpIsMet.{only_memory}
 use Rattle.rc_checks.specs.BreakTargets.{met_in}
 use Rattle.rc_checks.proofs.break_targets.assert_well_formed_break_targets.Goals as goal
 

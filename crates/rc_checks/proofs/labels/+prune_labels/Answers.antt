@@ -1,18 +1,20 @@
 use Rattle.std.proofs.Common.{◌∙◌, refl, sym, arith}
 use Rattle.std.proofs.lemmas.List.{reverse-reverse}
 use Rattle.std.proofs.lemmas.Result.{on_ok_weaker}
-use Rattle.rc_checks.proofs.JudgedLabels.{given_way, stayed}
-use Rattle.rc_checks.proofs.LabelLemmas.{all_cases, behind_nothing, block_pruned, next_case, next_put, no_last}
-use Rattle.rc_checks.proofs.LabelLemmas.{pruned_scope_stays, puts_last, row_stays, scope_stays}
-use Rattle.rc_checks.proofs.OpenedLabels.{opened-Break, opened-Continue, opened-Return, opened-Throw, opened-Switch}
-use Rattle.rc_checks.proofs.OpenedLabels.{opened-DoWhile, opened-While, opened-For, opened-ForOf, opened-ForIn}
-use Rattle.rc_checks.proofs.OpenedLabels.{opened-If, opened-Label, opened-Try}
+use Rattle.rc_checks.proofs.LabelPruning.Judged.{given_way, stayed}
+use Rattle.rc_checks.proofs.LabelPruning.PruningLemmas.{all_cases, behind_nothing, block_pruned, next_case, next_put}
+use Rattle.rc_checks.proofs.LabelPruning.PruningLemmas.{no_last}
+use Rattle.rc_checks.proofs.LabelPruning.PruningLemmas.{pruned_scope_stays, puts_last, row_stays, scope_stays}
+use Rattle.rc_checks.proofs.LabelPruning.Opened.{opened-Break, opened-Continue, opened-Return, opened-Throw}
+use Rattle.rc_checks.proofs.LabelPruning.Opened.{opened-Switch}
+use Rattle.rc_checks.proofs.LabelPruning.Opened.{opened-DoWhile, opened-While, opened-For, opened-ForOf, opened-ForIn}
+use Rattle.rc_checks.proofs.LabelPruning.Opened.{opened-If, opened-Label, opened-Try}
 use Rattle.rc_tree.proofs.PlaceLemmas.{most_pop}
-use Rattle.rc_tree.proofs.RewriteRunLemmas.{most-reverse}
+use Rattle.rc_tree.proofs.FuelLemmas.{most-reverse}
 use Rattle.rc_tree.proofs.statement.ReactiveStatement.TheLaws as statement
 use Rattle.rc_tree.proofs.terminal.ReactiveSwitchCase.TheLaws as switch_case
-use Rattle.rc_tree.specs.declared.statement.ReactiveStatement.TheVariants as stmt
-use Rattle.rc_tree.specs.declared.terminal.ReactiveTerminal.TheVariants as term
+use Rattle.rc_tree.specs.declared.statement.ReactiveStatement.TheVariants as reactive
+use Rattle.rc_tree.specs.declared.terminal.ReactiveTerminal.TheVariants as tree
 use Rattle.rc_checks.proofs.labels.+prune_labels.Goals as goal
 use Rattle.rc_checks.proofs.labels.+prune_labels.Goals.{prune_last-in-Some+in_ok-stays, prune_last-in_default}
 
@@ -86,14 +88,14 @@ prune_statement-returns-in-Instruction t c =
 
 pub prune_statement-returns-in_ok-prune_block-in-Scope : goal.prune_statement-returns-in_ok-prune_block-in-Scope
 prune_statement-returns-in_ok-prune_block-in-Scope t c =
-    rw (c.in-Scope.is, stmt.outs-Scope c.in-Scope.scope)
+    rw (c.in-Scope.is, reactive.outs-Scope c.in-Scope.scope)
     (scope_stays c.args.done.now c.args.targets.now c.prune_block.new.targets c.in-Scope.scope c.prune_block.new.block
     (rw c.in-Scope.scope-is at c.in_ok-prune_block-in-Scope.ensures))
 
 pub prune_statement-returns-in_ok-prune_block-in-PrunedScope :
     goal.prune_statement-returns-in_ok-prune_block-in-PrunedScope
 prune_statement-returns-in_ok-prune_block-in-PrunedScope t c =
-    rw (c.in-PrunedScope.is, stmt.outs-PrunedScope c.in-PrunedScope.scope)
+    rw (c.in-PrunedScope.is, reactive.outs-PrunedScope c.in-PrunedScope.scope)
     (pruned_scope_stays c.args.done.now c.args.targets.now c.prune_block-in-PrunedScope.new.targets
     c.in-PrunedScope.scope c.prune_block-in-PrunedScope.new.block
     (rw c.in-PrunedScope.scope-is at c.in_ok-prune_block-in-PrunedScope.ensures))
@@ -135,27 +137,27 @@ prune_terminal-returns-in-Throw t c =
 
 pub prune_terminal-returns-in-Switch : goal.prune_terminal-returns-in-Switch
 prune_terminal-returns-in-Switch t c =
-    rw (c.in-Switch.is, term.outs-Switch c.in-Switch.test c.in-Switch.cases c.in-Switch.id)
+    rw (c.in-Switch.is, tree.outs-Switch c.in-Switch.test c.in-Switch.cases c.in-Switch.id)
     (opened-Switch c.args.done.now c.args.targets.now c.prune_cases.result c.prune_cases.new.targets c.in-Switch.test
     c.in-Switch.cases c.prune_cases.new.cases c.in-Switch.id (rw c.in-Switch.cases-is at c.prune_cases.ensures))
 
 pub prune_terminal-returns-in-DoWhile : goal.prune_terminal-returns-in-DoWhile
 prune_terminal-returns-in-DoWhile t c =
-    rw (c.in-DoWhile.is, term.outs-DoWhile c.in-DoWhile.loop_block c.in-DoWhile.test c.in-DoWhile.id)
+    rw (c.in-DoWhile.is, tree.outs-DoWhile c.in-DoWhile.loop_block c.in-DoWhile.test c.in-DoWhile.id)
     (opened-DoWhile c.args.done.now c.args.targets.now c.prune_block.result c.prune_block.new.targets
     c.in-DoWhile.loop_block c.prune_block.new.block c.in-DoWhile.id c.in-DoWhile.test
     (rw c.in-DoWhile.loop_block-is at c.prune_block.ensures))
 
 pub prune_terminal-returns-in-While : goal.prune_terminal-returns-in-While
 prune_terminal-returns-in-While t c =
-    rw (c.in-While.is, term.outs-While c.in-While.test c.in-While.loop_block c.in-While.id)
+    rw (c.in-While.is, tree.outs-While c.in-While.test c.in-While.loop_block c.in-While.id)
     (opened-While c.args.done.now c.args.targets.now c.prune_block-in-While.result c.prune_block-in-While.new.targets
     c.in-While.loop_block c.prune_block-in-While.new.block c.in-While.id c.in-While.test
     (rw c.in-While.loop_block-is at c.prune_block-in-While.ensures))
 
 pub prune_terminal-returns-in-For : goal.prune_terminal-returns-in-For
 prune_terminal-returns-in-For t c =
-    rw (c.in-For.is, term.outs-For c.in-For.init c.in-For.test c.in-For.update c.in-For.loop_block c.in-For.id)
+    rw (c.in-For.is, tree.outs-For c.in-For.init c.in-For.test c.in-For.update c.in-For.loop_block c.in-For.id)
     (opened-For c.args.done.now c.args.targets.now c.prune_block-in-For.result c.prune_block-in-For.new.targets
     c.in-For.loop_block c.prune_block-in-For.new.block c.in-For.id c.in-For.init c.in-For.test c.in-For.update
     (rw c.in-For.loop_block-is at c.prune_block-in-For.ensures))
@@ -164,7 +166,7 @@ pub prune_terminal-returns-in-ForOf : goal.prune_terminal-returns-in-ForOf
 prune_terminal-returns-in-ForOf t c =
     rw (
       c.in-ForOf.is,
-      term.outs-ForOf c.in-ForOf.init c.in-ForOf.test c.in-ForOf.loop_block c.in-ForOf.span c.in-ForOf.id,
+      tree.outs-ForOf c.in-ForOf.init c.in-ForOf.test c.in-ForOf.loop_block c.in-ForOf.span c.in-ForOf.id,
     )
     (opened-ForOf c.args.done.now c.args.targets.now c.prune_block-in-ForOf.result c.prune_block-in-ForOf.new.targets
     c.in-ForOf.loop_block c.prune_block-in-ForOf.new.block c.in-ForOf.id c.in-ForOf.init c.in-ForOf.test c.in-ForOf.span
@@ -172,14 +174,14 @@ prune_terminal-returns-in-ForOf t c =
 
 pub prune_terminal-returns-in-ForIn : goal.prune_terminal-returns-in-ForIn
 prune_terminal-returns-in-ForIn t c =
-    rw (c.in-ForIn.is, term.outs-ForIn c.in-ForIn.init c.in-ForIn.loop_block c.in-ForIn.span c.in-ForIn.id)
+    rw (c.in-ForIn.is, tree.outs-ForIn c.in-ForIn.init c.in-ForIn.loop_block c.in-ForIn.span c.in-ForIn.id)
     (opened-ForIn c.args.done.now c.args.targets.now c.prune_block-in-ForIn.result c.prune_block-in-ForIn.new.targets
     c.in-ForIn.loop_block c.prune_block-in-ForIn.new.block c.in-ForIn.id c.in-ForIn.init c.in-ForIn.span
     (rw c.in-ForIn.loop_block-is at c.prune_block-in-ForIn.ensures))
 
 pub prune_terminal-returns-in_ok-prune_block-in-If : goal.prune_terminal-returns-in_ok-prune_block-in-If
 prune_terminal-returns-in_ok-prune_block-in-If t c =
-    rw (c.in-If.is, term.outs-If c.in-If.test c.in-If.consequent c.in-If.alternate c.in-If.id)
+    rw (c.in-If.is, tree.outs-If c.in-If.test c.in-If.consequent c.in-If.alternate c.in-If.id)
     (opened-If c.args.done.now c.args.targets.now c.prune_block_if.result c.prune_block-in-If.new.targets
     c.in-If.consequent c.prune_block-in-If.new.block c.in-If.id c.in-If.test c.in-If.alternate
     c.prune_block_if.new.block c.prune_block_if.new.targets
@@ -188,14 +190,14 @@ prune_terminal-returns-in_ok-prune_block-in-If t c =
 
 pub prune_terminal-returns-in-Label : goal.prune_terminal-returns-in-Label
 prune_terminal-returns-in-Label t c =
-    rw (c.in-Label.is, term.outs-Label c.in-Label.block c.in-Label.id)
+    rw (c.in-Label.is, tree.outs-Label c.in-Label.block c.in-Label.id)
     (opened-Label c.args.done.now c.args.targets.now c.prune_into.result c.prune_into.new.targets c.in-Label.block
     c.in-Label.id c.prune_into.new.left c.prune_into.new.done (rw c.in-Label.block-is at c.prune_into.ensures.put)
     c.prune_into.ensures.none_left)
 
 pub prune_terminal-returns-in_ok-prune_block-in-Try : goal.prune_terminal-returns-in_ok-prune_block-in-Try
 prune_terminal-returns-in_ok-prune_block-in-Try t c =
-    rw (c.in-Try.is, term.outs-Try c.in-Try.block c.in-Try.handler_binding c.in-Try.handler c.in-Try.id)
+    rw (c.in-Try.is, tree.outs-Try c.in-Try.block c.in-Try.handler_binding c.in-Try.handler c.in-Try.id)
     (opened-Try c.args.done.now c.args.targets.now c.prune_block-in-Try-2.result c.prune_block-in-Try.new.targets
     c.in-Try.block c.prune_block-in-Try.new.block c.in-Try.id c.in-Try.handler_binding c.in-Try.handler
     c.prune_block-in-Try-2.new.block c.prune_block-in-Try-2.new.targets

@@ -1,7 +1,7 @@
--- What is left is no deeper than all, and what is put so far with what is left is all that is put.
+-- The parts that are left are no deeper than all, and those put so far with those left make all that are put.
 use Rattle.std.proofs.Common.{◌≡◌, ◌≤◌, length, map, reverse}
 use denote.Param.Weighed.{most}
-use Rattle.rc_checks.specs.LabelPruning.{behind}
+use Rattle.rc_checks.specs.inside.LabelPruning.{put_behind}
 use Rattle.rc_checks.specs.Labels.{label_rules}
 use Rattle.rc_tree.specs.Rebuilt.{in_order, joined, rebuilt_case, rebuilt_statement}
 use Rattle.rc_tree.proofs.statement.ReactiveStatement.TheLaws as statement
@@ -11,8 +11,8 @@ use Rattle.rc_checks.proofs.labels.+prune_labels.Given as goal
 abbrev pub invariant-prune_into-loop-left : goal.invariant-prune_into-loop-left
 invariant-prune_into-loop-left l = record {
   no_deeper : most statement.the_size l.left ≤ most statement.the_size l.fn.left;
-  put : behind l.done (joined (map (rebuilt_statement label_rules) (reverse l.left)) l.targets)
-      ≡ behind l.fn.done (joined (map (rebuilt_statement label_rules) l.fn.left) l.fn.targets);
+  put : put_behind l.done (joined (map (rebuilt_statement label_rules) (reverse l.left)) l.targets)
+      ≡ put_behind l.fn.done (joined (map (rebuilt_statement label_rules) l.fn.left) l.fn.targets);
 }
 
 abbrev pub decreases-prune_into-loop-left : goal.decreases-prune_into-loop-left
@@ -21,7 +21,7 @@ decreases-prune_into-loop-left l = length l.left
 abbrev pub invariant-prune_cases-loop-case : goal.invariant-prune_cases-loop-case
 invariant-prune_cases-loop-case l = record {
   no_deeper : most switch_case.the_size l.left ≤ most switch_case.the_size l.fn.cases;
-  put : behind l.cases (in_order (map (rebuilt_case label_rules) (reverse l.left)) l.targets)
+  put : put_behind l.cases (in_order (map (rebuilt_case label_rules) (reverse l.left)) l.targets)
       ≡ in_order (map (rebuilt_case label_rules) l.fn.cases) l.fn.targets;
 }
 

@@ -1,13 +1,13 @@
--- what the pruned block is, from the empty set of targets
+-- the pruned block, from the empty set of targets
 use Rattle.std.proofs.Common.{refl, sym, subst}
 use Rattle.std.specs.List.{IsDistinct}
-use Rattle.rc_runs.specs.Spelled.{same_scope}
-use Rattle.rc_checks.proofs.LabelLemmas.{without_labels}
-use Rattle.rc_checks.proofs.LabelsKeep.{labels_keep_names, labels_keep_scope_blocks, labels_keep_scopes}
-use Rattle.rc_checks.proofs.LabelsKeep.{labels_keep_visits}
-use Rattle.rc_checks.proofs.LabelWalkLemmas.{without_labels_is_walked}
-use Rattle.rc_checks.proofs.LabelsKeepRuns.{labels_keep_runs}
-use Rattle.rc_checks.proofs.NamesStay.{still_known}
+use Rattle.rc_names.specs.Numbers.{same_id}
+use Rattle.rc_checks.proofs.LabelPruning.PruningLemmas.{without_labels}
+use Rattle.rc_checks.proofs.LabelPruning.Keep.{labels_keep_names, labels_keep_scope_blocks, labels_keep_scopes}
+use Rattle.rc_checks.proofs.LabelPruning.Keep.{labels_keep_visits}
+use Rattle.rc_checks.proofs.LabelPruning.WalkLemmas.{without_labels_is_walked}
+use Rattle.rc_checks.proofs.LabelPruning.KeepRuns.{labels_keep_runs}
+use Rattle.rc_checks.proofs.NumbersStay.{still_known}
 use Rattle.rc_checks.proofs.labels.prune_unused_labels.Goals as goal
 
 pub returns-clause-ok : goal.returns-clause-ok
@@ -16,7 +16,8 @@ returns-clause-ok c = without_labels c.args.func.now.body c.prune_block.new.bloc
 
 -- the walk makes the same tree
 pub returns-clause-walked : goal.returns-clause-walked
-returns-clause-walked c = (without_labels_is_walked c.args.func.now.body c.prune_block.new.block).0 (returns-clause-ok c)
+returns-clause-walked c = (without_labels_is_walked c.args.func.now.body c.prune_block.new.block).0
+    (returns-clause-ok c)
 
 pub returns-clause-kept_names : goal.returns-clause-kept_names
 returns-clause-kept_names c = labels_keep_names c.args.func.now.body c.prune_block.new.block (returns-clause-ok c)
@@ -44,4 +45,4 @@ returns-clause-known c =
     (returns-clause-kept_names c)
 
 pub returns-clause-scopes_once : goal.returns-clause-scopes_once
-returns-clause-scopes_once c = subst (IsDistinct same_scope) (sym (returns-clause-kept_scopes c))
+returns-clause-scopes_once c = subst (IsDistinct same_id) (sym (returns-clause-kept_scopes c))

@@ -1,7 +1,7 @@
 use Rattle.std.proofs.Common.{◌≡◌, ◌++◌, drop, length, reverse, take}
 use Rattle.rc_checks.proofs.labels.take_back.Given as goal
 
--- what is left to take back is what is done from the start on
+-- the statements that are left to take back are those done from the start on
 abbrev pub invariant-loop-done : goal.invariant-loop-done
 invariant-loop-done l = record {
   before : take l.start l.done ≡ take l.start l.fn.done;

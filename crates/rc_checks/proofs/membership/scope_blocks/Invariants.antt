@@ -1,6 +1,5 @@
 use Rattle.std.proofs.Common.{◌≡◌, take}
-use Rattle.rc_names.specs.declared.numbers.ScopeId.{ScopeId}
-use Rattle.rc_checks.specs.Membership.{is_among}
+use Rattle.rc_names.specs.Numbers.{ScopeId, is_among}
 use Rattle.rc_checks.proofs.membership.scope_blocks.Given as goal
 
 -- the scopes so far are in the set, and no others

@@ -2,9 +2,8 @@ use Rattle.std.proofs.Common.{◌∙◌, [], ◌∷◌, sym, ap}
 use Rattle.std.proofs.lemmas.Result.{on_ok_weaker}
 use Rattle.rc_tree.proofs.CollectedLemmas.{collected-If, collected-Scope, collected-Switch, collected-Try}
 use Rattle.rc_tree.specs.Collected.{collected_cases, collected_if, collected_statement, collected_terminal}
-use Rattle.rc_checks.specs.ScopeBlocks.{held, held_of_parts as parts}
-use Rattle.rc_checks.specs.ScopesIn.{scopes_in, scopes_of}
-use Rattle.rc_checks.proofs.ScopeBlocksLemmas.{added, added-case, added-cases, scopes_of-both}
+use Rattle.rc_checks.specs.ScopeBlocks.{contents, contents_of_parts as parts, scopes_in, scopes_of}
+use Rattle.rc_checks.proofs.ScopeBlocks.ContentsLemmas.{added, added-case, added-cases, scopes_of-both}
 use Rattle.rc_checks.proofs.scope_blocks.+scopes.Goals as goal
 
 pub add_cases-loop-case-preserved : goal.add_cases-loop-case-preserved
@@ -41,7 +40,7 @@ add_terminal-returns-in_ok-add_block-in-If t c =
     c.in_ok-add_block-in-If.ensures
     (ap (λ x. scopes_of (collected_terminal parts x)) c.in-If.is
     ∙ ap scopes_of (collected-If parts c.in-If.test first second c.in-If.id)
-    ∙ scopes_of-both (held first) (collected_if parts second)))
+    ∙ scopes_of-both (contents first) (collected_if parts second)))
     c.add_if_there.ensures
 
 pub add_terminal-returns-in_ok-add_block-in-Try : goal.add_terminal-returns-in_ok-add_block-in-Try
@@ -54,5 +53,5 @@ add_terminal-returns-in_ok-add_block-in-Try t c =
     c.in_ok-add_block-in-Try.ensures
     (ap (λ x. scopes_of (collected_terminal parts x)) c.in-Try.is
     ∙ ap scopes_of (collected-Try parts first c.in-Try.handler_binding second c.in-Try.id)
-    ∙ scopes_of-both (held first) (held second)))
+    ∙ scopes_of-both (contents first) (contents second)))
     c.add_block-in-Try-2.ensures

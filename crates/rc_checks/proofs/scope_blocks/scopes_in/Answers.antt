@@ -1,7 +1,7 @@
 -- the scopes of a spelled tree stand once in it
 use Rattle.std.proofs.Common.{sym, subst}
-use Rattle.rc_checks.specs.ScopesIn.{HasScopesOnce}
-use Rattle.rc_checks.proofs.SpelledOnce.{spelled_once}
+use Rattle.rc_checks.specs.ScopeBlocks.{HasScopesOnce}
+use Rattle.rc_checks.proofs.ScopeBlocks.SpelledOnce.{spelled_once}
 use Rattle.rc_checks.proofs.scope_blocks.scopes_in.Goals as goal
 
 pub returns-clause-once : goal.returns-clause-once

@@ -1,5 +1,5 @@
 use Rattle.std.proofs.Common.{◌∙◌}
-use Rattle.rc_checks.proofs.UnusedScopesLemmas.{popped_flag}
+use Rattle.rc_checks.proofs.UnusedScopes.StepsLemmas.{popped_flag}
 use Rattle.rc_checks.proofs.unused_scopes.pop_flag.Goals as goal
 
 pub returns-clause-flag : goal.returns-clause-flag

@@ -1,11 +1,13 @@
 use Rattle.std.proofs.Common.{map, refl, ap}
 use Rattle.std.proofs.lemmas.Result.{IfErr-weaker, on_ok_weaker}
 use Rattle.rc_checks.specs.ScopeBlocks.{ScopeBlock}
-use Rattle.rc_checks.proofs.NamesStay.{still_known, unused_scopes_keep_names}
-use Rattle.rc_checks.proofs.ScopesOnce.{left_once}
-use Rattle.rc_checks.proofs.UnusedScopesFaults.{named_outside, only_memory}
-use Rattle.rc_checks.proofs.UnusedScopesLemmas.{left_without_unused, left_staying, left_erased, left_first_outside}
-use Rattle.rc_checks.proofs.UnusedScopesLemmas.{left_outside}
+use Rattle.rc_checks.proofs.NumbersStay.{still_known}
+use Rattle.rc_checks.proofs.UnusedScopes.NamesStay.{unused_scopes_keep_names}
+use Rattle.rc_checks.proofs.UnusedScopes.ScopesOnce.{left_once}
+use Rattle.rc_checks.proofs.UnusedScopes.Faults.{named_outside, only_memory}
+use Rattle.rc_checks.proofs.UnusedScopes.StepsLemmas.{left_without_unused, left_staying, left_erased}
+use Rattle.rc_checks.proofs.UnusedScopes.StepsLemmas.{left_first_outside}
+use Rattle.rc_checks.proofs.UnusedScopes.StepsLemmas.{left_outside}
 use Rattle.rc_checks.proofs.unused_scopes.prune_unused_scopes.Goals as goal
 
 -- the environment that the pass looks into is the caller's

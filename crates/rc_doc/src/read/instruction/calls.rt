@@ -3,7 +3,7 @@
 ghost use Rattle.serde_json.specs.View.{view};
 ghost use Rattle.rc_doc.specs.Kinds.Calls.{call_expression_of, debugger_of, finish_memoize_of, function_expression_of};
 ghost use Rattle.rc_doc.specs.Kinds.Calls.{method_call_of, new_expression_of, object_method_of, start_memoize_of};
-ghost use Rattle.rc_doc.specs.Reading.{Gives};
+ghost use Rattle.rc_doc.specs.Reading.{IsRead};
 
 use crate::fields::{flag, list_or_empty, optional, required};
 use crate::known::known_names;
@@ -14,7 +14,7 @@ use std::alloc::Global;
 
 #[tactic(auto, unfolding(crate::specs::Kinds::Calls::new_expression_of))]
 pub(super) fn new_expression(alloc: Global, from: &Value) -> Result<InstructionValue, Refusal>
-    ensures { Gives result (new_expression_of (view from.now)) }
+    ensures { IsRead result (new_expression_of (view from.now)) }
 {
     known_names(from, &["args", "callee", "k", "span"])?;
     let callee = required(alloc, from, "callee")?;
@@ -25,7 +25,7 @@ pub(super) fn new_expression(alloc: Global, from: &Value) -> Result<InstructionV
 
 #[tactic(auto, unfolding(crate::specs::Kinds::Calls::call_expression_of))]
 pub(super) fn call_expression(alloc: Global, from: &Value) -> Result<InstructionValue, Refusal>
-    ensures { Gives result (call_expression_of (view from.now)) }
+    ensures { IsRead result (call_expression_of (view from.now)) }
 {
     known_names(from, &["args", "callee", "k", "span"])?;
     let callee = required(alloc, from, "callee")?;
@@ -36,7 +36,7 @@ pub(super) fn call_expression(alloc: Global, from: &Value) -> Result<Instruction
 
 #[tactic(auto, unfolding(crate::specs::Kinds::Calls::method_call_of))]
 pub(super) fn method_call(alloc: Global, from: &Value) -> Result<InstructionValue, Refusal>
-    ensures { Gives result (method_call_of (view from.now)) }
+    ensures { IsRead result (method_call_of (view from.now)) }
 {
     known_names(from, &["args", "k", "property", "receiver", "span"])?;
     let receiver = required(alloc, from, "receiver")?;
@@ -53,7 +53,7 @@ pub(super) fn method_call(alloc: Global, from: &Value) -> Result<InstructionValu
 
 #[tactic(auto, unfolding(crate::specs::Kinds::Calls::object_method_of))]
 pub(super) fn object_method(alloc: Global, from: &Value) -> Result<InstructionValue, Refusal>
-    ensures { Gives result (object_method_of (view from.now)) }
+    ensures { IsRead result (object_method_of (view from.now)) }
 {
     known_names(from, &["k", "lowered_func", "span"])?;
     let lowered_func = required(alloc, from, "lowered_func")?;
@@ -63,7 +63,7 @@ pub(super) fn object_method(alloc: Global, from: &Value) -> Result<InstructionVa
 
 #[tactic(auto, unfolding(crate::specs::Kinds::Calls::function_expression_of))]
 pub(super) fn function_expression(alloc: Global, from: &Value) -> Result<InstructionValue, Refusal>
-    ensures { Gives result (function_expression_of (view from.now)) }
+    ensures { IsRead result (function_expression_of (view from.now)) }
 {
     known_names(from, &["k", "lowered_func", "name", "span"])?;
     let name = optional(alloc, from, "name")?;
@@ -78,7 +78,7 @@ pub(super) fn function_expression(alloc: Global, from: &Value) -> Result<Instruc
 
 #[tactic(auto, unfolding(crate::specs::Kinds::Calls::debugger_of))]
 pub(super) fn debugger(alloc: Global, from: &Value) -> Result<InstructionValue, Refusal>
-    ensures { Gives result (debugger_of (view from.now)) }
+    ensures { IsRead result (debugger_of (view from.now)) }
 {
     known_names(from, &["k", "span"])?;
     let span = optional(alloc, from, "span")?;
@@ -87,7 +87,7 @@ pub(super) fn debugger(alloc: Global, from: &Value) -> Result<InstructionValue, 
 
 #[tactic(auto, unfolding(crate::specs::Kinds::Calls::start_memoize_of))]
 pub(super) fn start_memoize(alloc: Global, from: &Value) -> Result<InstructionValue, Refusal>
-    ensures { Gives result (start_memoize_of (view from.now)) }
+    ensures { IsRead result (start_memoize_of (view from.now)) }
 {
     known_names(from, &["deps", "k", "manual_memo_id", "span"])?;
     let manual_memo_id = required(alloc, from, "manual_memo_id")?;
@@ -102,7 +102,7 @@ pub(super) fn start_memoize(alloc: Global, from: &Value) -> Result<InstructionVa
 
 #[tactic(auto, unfolding(crate::specs::Kinds::Calls::finish_memoize_of))]
 pub(super) fn finish_memoize(alloc: Global, from: &Value) -> Result<InstructionValue, Refusal>
-    ensures { Gives result (finish_memoize_of (view from.now)) }
+    ensures { IsRead result (finish_memoize_of (view from.now)) }
 {
     known_names(from, &["decl", "k", "manual_memo_id", "pruned", "span"])?;
     let manual_memo_id = required(alloc, from, "manual_memo_id")?;

@@ -5,7 +5,7 @@ ghost use Rattle.rc_doc.specs.Kinds.Expressions.{await_of, binary_expression_of,
 ghost use Rattle.rc_doc.specs.Kinds.Expressions.{jsx_text_of, meta_property_of, next_property_of_of, primitive_of};
 ghost use Rattle.rc_doc.specs.Kinds.Expressions.{regexp_literal_of, tagged_template_expression_of, template_literal_of};
 ghost use Rattle.rc_doc.specs.Kinds.Expressions.{type_cast_expression_of, unary_expression_of};
-ghost use Rattle.rc_doc.specs.Reading.{Gives};
+ghost use Rattle.rc_doc.specs.Reading.{IsRead};
 
 use crate::fields::{list_or_empty, optional, required};
 use crate::known::known_names;
@@ -16,7 +16,7 @@ use std::alloc::Global;
 
 #[tactic(auto, unfolding(crate::specs::Kinds::Expressions::primitive_of))]
 pub(super) fn primitive(alloc: Global, from: &Value) -> Result<InstructionValue, Refusal>
-    ensures { Gives result (primitive_of (view from.now)) }
+    ensures { IsRead result (primitive_of (view from.now)) }
 {
     known_names(from, &["k", "span", "value"])?;
     let value = required(alloc, from, "value")?;
@@ -26,7 +26,7 @@ pub(super) fn primitive(alloc: Global, from: &Value) -> Result<InstructionValue,
 
 #[tactic(auto, unfolding(crate::specs::Kinds::Expressions::jsx_text_of))]
 pub(super) fn jsx_text(alloc: Global, from: &Value) -> Result<InstructionValue, Refusal>
-    ensures { Gives result (jsx_text_of (view from.now)) }
+    ensures { IsRead result (jsx_text_of (view from.now)) }
 {
     known_names(from, &["k", "span", "value"])?;
     let value = required(alloc, from, "value")?;
@@ -36,7 +36,7 @@ pub(super) fn jsx_text(alloc: Global, from: &Value) -> Result<InstructionValue, 
 
 #[tactic(auto, unfolding(crate::specs::Kinds::Expressions::binary_expression_of))]
 pub(super) fn binary_expression(alloc: Global, from: &Value) -> Result<InstructionValue, Refusal>
-    ensures { Gives result (binary_expression_of (view from.now)) }
+    ensures { IsRead result (binary_expression_of (view from.now)) }
 {
     known_names(from, &["k", "left", "operator", "right", "span"])?;
     let operator = required(alloc, from, "operator")?;
@@ -53,7 +53,7 @@ pub(super) fn binary_expression(alloc: Global, from: &Value) -> Result<Instructi
 
 #[tactic(auto, unfolding(crate::specs::Kinds::Expressions::unary_expression_of))]
 pub(super) fn unary_expression(alloc: Global, from: &Value) -> Result<InstructionValue, Refusal>
-    ensures { Gives result (unary_expression_of (view from.now)) }
+    ensures { IsRead result (unary_expression_of (view from.now)) }
 {
     known_names(from, &["k", "operator", "span", "value"])?;
     let operator = required(alloc, from, "operator")?;
@@ -68,7 +68,7 @@ pub(super) fn unary_expression(alloc: Global, from: &Value) -> Result<Instructio
 
 #[tactic(auto, unfolding(crate::specs::Kinds::Expressions::type_cast_expression_of))]
 pub(super) fn type_cast_expression(alloc: Global, from: &Value) -> Result<InstructionValue, Refusal>
-    ensures { Gives result (type_cast_expression_of (view from.now)) }
+    ensures { IsRead result (type_cast_expression_of (view from.now)) }
 {
     known_names(from, &["annotation", "k", "span", "value"])?;
     let value = required(alloc, from, "value")?;
@@ -83,7 +83,7 @@ pub(super) fn type_cast_expression(alloc: Global, from: &Value) -> Result<Instru
 
 #[tactic(auto, unfolding(crate::specs::Kinds::Expressions::await_of))]
 pub(super) fn await_value(alloc: Global, from: &Value) -> Result<InstructionValue, Refusal>
-    ensures { Gives result (await_of (view from.now)) }
+    ensures { IsRead result (await_of (view from.now)) }
 {
     known_names(from, &["k", "span", "value"])?;
     let value = required(alloc, from, "value")?;
@@ -93,7 +93,7 @@ pub(super) fn await_value(alloc: Global, from: &Value) -> Result<InstructionValu
 
 #[tactic(auto, unfolding(crate::specs::Kinds::Expressions::regexp_literal_of))]
 pub(super) fn regexp_literal(alloc: Global, from: &Value) -> Result<InstructionValue, Refusal>
-    ensures { Gives result (regexp_literal_of (view from.now)) }
+    ensures { IsRead result (regexp_literal_of (view from.now)) }
 {
     known_names(from, &["flags", "k", "pattern", "span"])?;
     let pattern = required(alloc, from, "pattern")?;
@@ -108,7 +108,7 @@ pub(super) fn regexp_literal(alloc: Global, from: &Value) -> Result<InstructionV
 
 #[tactic(auto, unfolding(crate::specs::Kinds::Expressions::meta_property_of))]
 pub(super) fn meta_property(alloc: Global, from: &Value) -> Result<InstructionValue, Refusal>
-    ensures { Gives result (meta_property_of (view from.now)) }
+    ensures { IsRead result (meta_property_of (view from.now)) }
 {
     known_names(from, &["k", "meta", "property", "span"])?;
     let meta = required(alloc, from, "meta")?;
@@ -126,7 +126,7 @@ pub(super) fn tagged_template_expression(
     alloc: Global,
     from: &Value,
 ) -> Result<InstructionValue, Refusal>
-    ensures { Gives result (tagged_template_expression_of (view from.now)) }
+    ensures { IsRead result (tagged_template_expression_of (view from.now)) }
 {
     known_names(from, &["k", "quasi", "span", "tag"])?;
     let tag = required(alloc, from, "tag")?;
@@ -137,7 +137,7 @@ pub(super) fn tagged_template_expression(
 
 #[tactic(auto, unfolding(crate::specs::Kinds::Expressions::template_literal_of))]
 pub(super) fn template_literal(alloc: Global, from: &Value) -> Result<InstructionValue, Refusal>
-    ensures { Gives result (template_literal_of (view from.now)) }
+    ensures { IsRead result (template_literal_of (view from.now)) }
 {
     known_names(from, &["k", "quasis", "span", "subexprs"])?;
     let subexprs = list_or_empty(alloc, from, "subexprs")?;
@@ -152,7 +152,7 @@ pub(super) fn template_literal(alloc: Global, from: &Value) -> Result<Instructio
 
 #[tactic(auto, unfolding(crate::specs::Kinds::Expressions::get_iterator_of))]
 pub(super) fn get_iterator(alloc: Global, from: &Value) -> Result<InstructionValue, Refusal>
-    ensures { Gives result (get_iterator_of (view from.now)) }
+    ensures { IsRead result (get_iterator_of (view from.now)) }
 {
     known_names(from, &["collection", "k", "span"])?;
     let collection = required(alloc, from, "collection")?;
@@ -162,7 +162,7 @@ pub(super) fn get_iterator(alloc: Global, from: &Value) -> Result<InstructionVal
 
 #[tactic(auto, unfolding(crate::specs::Kinds::Expressions::iterator_next_of))]
 pub(super) fn iterator_next(alloc: Global, from: &Value) -> Result<InstructionValue, Refusal>
-    ensures { Gives result (iterator_next_of (view from.now)) }
+    ensures { IsRead result (iterator_next_of (view from.now)) }
 {
     known_names(from, &["collection", "iterator", "k", "span"])?;
     let iterator = required(alloc, from, "iterator")?;
@@ -177,7 +177,7 @@ pub(super) fn iterator_next(alloc: Global, from: &Value) -> Result<InstructionVa
 
 #[tactic(auto, unfolding(crate::specs::Kinds::Expressions::next_property_of_of))]
 pub(super) fn next_property_of(alloc: Global, from: &Value) -> Result<InstructionValue, Refusal>
-    ensures { Gives result (next_property_of_of (view from.now)) }
+    ensures { IsRead result (next_property_of_of (view from.now)) }
 {
     known_names(from, &["k", "span", "value"])?;
     let value = required(alloc, from, "value")?;

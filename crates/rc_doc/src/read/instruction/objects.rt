@@ -5,7 +5,7 @@ ghost use Rattle.rc_doc.specs.Kinds.Objects.{array_expression_of, computed_delet
 ghost use Rattle.rc_doc.specs.Kinds.Objects.{computed_store_of, jsx_expression_of, jsx_fragment_of};
 ghost use Rattle.rc_doc.specs.Kinds.Objects.{object_expression_of, property_delete_of, property_load_of};
 ghost use Rattle.rc_doc.specs.Kinds.Objects.{property_store_of};
-ghost use Rattle.rc_doc.specs.Reading.{Gives};
+ghost use Rattle.rc_doc.specs.Reading.{IsRead};
 
 use crate::fields::{list_or_empty, optional, required};
 use crate::known::known_names;
@@ -16,7 +16,7 @@ use std::alloc::Global;
 
 #[tactic(auto, unfolding(crate::specs::Kinds::Objects::object_expression_of))]
 pub(super) fn object_expression(alloc: Global, from: &Value) -> Result<InstructionValue, Refusal>
-    ensures { Gives result (object_expression_of (view from.now)) }
+    ensures { IsRead result (object_expression_of (view from.now)) }
 {
     known_names(from, &["k", "properties", "span"])?;
     let properties = list_or_empty(alloc, from, "properties")?;
@@ -26,7 +26,7 @@ pub(super) fn object_expression(alloc: Global, from: &Value) -> Result<Instructi
 
 #[tactic(auto, unfolding(crate::specs::Kinds::Objects::array_expression_of))]
 pub(super) fn array_expression(alloc: Global, from: &Value) -> Result<InstructionValue, Refusal>
-    ensures { Gives result (array_expression_of (view from.now)) }
+    ensures { IsRead result (array_expression_of (view from.now)) }
 {
     known_names(from, &["elements", "k", "span"])?;
     let elements = list_or_empty(alloc, from, "elements")?;
@@ -36,7 +36,7 @@ pub(super) fn array_expression(alloc: Global, from: &Value) -> Result<Instructio
 
 #[tactic(auto, unfolding(crate::specs::Kinds::Objects::jsx_expression_of))]
 pub(super) fn jsx_expression(alloc: Global, from: &Value) -> Result<InstructionValue, Refusal>
-    ensures { Gives result (jsx_expression_of (view from.now)) }
+    ensures { IsRead result (jsx_expression_of (view from.now)) }
 {
     known_names(from, &["children", "k", "props", "span", "tag"])?;
     let tag = required(alloc, from, "tag")?;
@@ -53,7 +53,7 @@ pub(super) fn jsx_expression(alloc: Global, from: &Value) -> Result<InstructionV
 
 #[tactic(auto, unfolding(crate::specs::Kinds::Objects::jsx_fragment_of))]
 pub(super) fn jsx_fragment(alloc: Global, from: &Value) -> Result<InstructionValue, Refusal>
-    ensures { Gives result (jsx_fragment_of (view from.now)) }
+    ensures { IsRead result (jsx_fragment_of (view from.now)) }
 {
     known_names(from, &["children", "k", "span"])?;
     let children = list_or_empty(alloc, from, "children")?;
@@ -63,7 +63,7 @@ pub(super) fn jsx_fragment(alloc: Global, from: &Value) -> Result<InstructionVal
 
 #[tactic(auto, unfolding(crate::specs::Kinds::Objects::property_load_of))]
 pub(super) fn property_load(alloc: Global, from: &Value) -> Result<InstructionValue, Refusal>
-    ensures { Gives result (property_load_of (view from.now)) }
+    ensures { IsRead result (property_load_of (view from.now)) }
 {
     known_names(from, &["k", "object", "property", "span"])?;
     let object = required(alloc, from, "object")?;
@@ -78,7 +78,7 @@ pub(super) fn property_load(alloc: Global, from: &Value) -> Result<InstructionVa
 
 #[tactic(auto, unfolding(crate::specs::Kinds::Objects::property_delete_of))]
 pub(super) fn property_delete(alloc: Global, from: &Value) -> Result<InstructionValue, Refusal>
-    ensures { Gives result (property_delete_of (view from.now)) }
+    ensures { IsRead result (property_delete_of (view from.now)) }
 {
     known_names(from, &["k", "object", "property", "span"])?;
     let object = required(alloc, from, "object")?;
@@ -93,7 +93,7 @@ pub(super) fn property_delete(alloc: Global, from: &Value) -> Result<Instruction
 
 #[tactic(auto, unfolding(crate::specs::Kinds::Objects::property_store_of))]
 pub(super) fn property_store(alloc: Global, from: &Value) -> Result<InstructionValue, Refusal>
-    ensures { Gives result (property_store_of (view from.now)) }
+    ensures { IsRead result (property_store_of (view from.now)) }
 {
     known_names(from, &["k", "object", "property", "span", "value"])?;
     let object = required(alloc, from, "object")?;
@@ -110,7 +110,7 @@ pub(super) fn property_store(alloc: Global, from: &Value) -> Result<InstructionV
 
 #[tactic(auto, unfolding(crate::specs::Kinds::Objects::computed_load_of))]
 pub(super) fn computed_load(alloc: Global, from: &Value) -> Result<InstructionValue, Refusal>
-    ensures { Gives result (computed_load_of (view from.now)) }
+    ensures { IsRead result (computed_load_of (view from.now)) }
 {
     known_names(from, &["k", "object", "property", "span"])?;
     let object = required(alloc, from, "object")?;
@@ -125,7 +125,7 @@ pub(super) fn computed_load(alloc: Global, from: &Value) -> Result<InstructionVa
 
 #[tactic(auto, unfolding(crate::specs::Kinds::Objects::computed_delete_of))]
 pub(super) fn computed_delete(alloc: Global, from: &Value) -> Result<InstructionValue, Refusal>
-    ensures { Gives result (computed_delete_of (view from.now)) }
+    ensures { IsRead result (computed_delete_of (view from.now)) }
 {
     known_names(from, &["k", "object", "property", "span"])?;
     let object = required(alloc, from, "object")?;
@@ -140,7 +140,7 @@ pub(super) fn computed_delete(alloc: Global, from: &Value) -> Result<Instruction
 
 #[tactic(auto, unfolding(crate::specs::Kinds::Objects::computed_store_of))]
 pub(super) fn computed_store(alloc: Global, from: &Value) -> Result<InstructionValue, Refusal>
-    ensures { Gives result (computed_store_of (view from.now)) }
+    ensures { IsRead result (computed_store_of (view from.now)) }
 {
     known_names(from, &["k", "object", "property", "span", "value"])?;
     let object = required(alloc, from, "object")?;

@@ -4,7 +4,7 @@ ghost use Rattle.serde_json.specs.View.{view};
 ghost use Rattle.rc_doc.specs.Kinds.Variables.{declare_context_of, declare_local_of, destructure_of, load_context_of};
 ghost use Rattle.rc_doc.specs.Kinds.Variables.{load_global_of, load_local_of, postfix_update_of, prefix_update_of};
 ghost use Rattle.rc_doc.specs.Kinds.Variables.{store_context_of, store_global_of, store_local_of};
-ghost use Rattle.rc_doc.specs.Reading.{Gives};
+ghost use Rattle.rc_doc.specs.Reading.{IsRead};
 
 use crate::fields::{optional, required};
 use crate::known::known_names;
@@ -15,7 +15,7 @@ use std::alloc::Global;
 
 #[tactic(auto, unfolding(crate::specs::Kinds::Variables::load_local_of))]
 pub(super) fn load_local(alloc: Global, from: &Value) -> Result<InstructionValue, Refusal>
-    ensures { Gives result (load_local_of (view from.now)) }
+    ensures { IsRead result (load_local_of (view from.now)) }
 {
     known_names(from, &["k", "place", "span"])?;
     let place = required(alloc, from, "place")?;
@@ -25,7 +25,7 @@ pub(super) fn load_local(alloc: Global, from: &Value) -> Result<InstructionValue
 
 #[tactic(auto, unfolding(crate::specs::Kinds::Variables::load_context_of))]
 pub(super) fn load_context(alloc: Global, from: &Value) -> Result<InstructionValue, Refusal>
-    ensures { Gives result (load_context_of (view from.now)) }
+    ensures { IsRead result (load_context_of (view from.now)) }
 {
     known_names(from, &["k", "place", "span"])?;
     let place = required(alloc, from, "place")?;
@@ -35,7 +35,7 @@ pub(super) fn load_context(alloc: Global, from: &Value) -> Result<InstructionVal
 
 #[tactic(auto, unfolding(crate::specs::Kinds::Variables::declare_local_of))]
 pub(super) fn declare_local(alloc: Global, from: &Value) -> Result<InstructionValue, Refusal>
-    ensures { Gives result (declare_local_of (view from.now)) }
+    ensures { IsRead result (declare_local_of (view from.now)) }
 {
     known_names(from, &["k", "lvalue", "span"])?;
     let lvalue = required(alloc, from, "lvalue")?;
@@ -45,7 +45,7 @@ pub(super) fn declare_local(alloc: Global, from: &Value) -> Result<InstructionVa
 
 #[tactic(auto, unfolding(crate::specs::Kinds::Variables::declare_context_of))]
 pub(super) fn declare_context(alloc: Global, from: &Value) -> Result<InstructionValue, Refusal>
-    ensures { Gives result (declare_context_of (view from.now)) }
+    ensures { IsRead result (declare_context_of (view from.now)) }
 {
     known_names(from, &["k", "lvalue", "span"])?;
     let lvalue = required(alloc, from, "lvalue")?;
@@ -55,7 +55,7 @@ pub(super) fn declare_context(alloc: Global, from: &Value) -> Result<Instruction
 
 #[tactic(auto, unfolding(crate::specs::Kinds::Variables::store_local_of))]
 pub(super) fn store_local(alloc: Global, from: &Value) -> Result<InstructionValue, Refusal>
-    ensures { Gives result (store_local_of (view from.now)) }
+    ensures { IsRead result (store_local_of (view from.now)) }
 {
     known_names(from, &["k", "lvalue", "span", "value"])?;
     let lvalue = required(alloc, from, "lvalue")?;
@@ -70,7 +70,7 @@ pub(super) fn store_local(alloc: Global, from: &Value) -> Result<InstructionValu
 
 #[tactic(auto, unfolding(crate::specs::Kinds::Variables::store_context_of))]
 pub(super) fn store_context(alloc: Global, from: &Value) -> Result<InstructionValue, Refusal>
-    ensures { Gives result (store_context_of (view from.now)) }
+    ensures { IsRead result (store_context_of (view from.now)) }
 {
     known_names(from, &["k", "lvalue", "span", "value"])?;
     let lvalue = required(alloc, from, "lvalue")?;
@@ -85,7 +85,7 @@ pub(super) fn store_context(alloc: Global, from: &Value) -> Result<InstructionVa
 
 #[tactic(auto, unfolding(crate::specs::Kinds::Variables::destructure_of))]
 pub(super) fn destructure(alloc: Global, from: &Value) -> Result<InstructionValue, Refusal>
-    ensures { Gives result (destructure_of (view from.now)) }
+    ensures { IsRead result (destructure_of (view from.now)) }
 {
     known_names(from, &["k", "lvalue", "span", "value"])?;
     let lvalue = required(alloc, from, "lvalue")?;
@@ -100,7 +100,7 @@ pub(super) fn destructure(alloc: Global, from: &Value) -> Result<InstructionValu
 
 #[tactic(auto, unfolding(crate::specs::Kinds::Variables::load_global_of))]
 pub(super) fn load_global(alloc: Global, from: &Value) -> Result<InstructionValue, Refusal>
-    ensures { Gives result (load_global_of (view from.now)) }
+    ensures { IsRead result (load_global_of (view from.now)) }
 {
     known_names(from, &["binding", "k", "span"])?;
     let binding = required(alloc, from, "binding")?;
@@ -110,7 +110,7 @@ pub(super) fn load_global(alloc: Global, from: &Value) -> Result<InstructionValu
 
 #[tactic(auto, unfolding(crate::specs::Kinds::Variables::store_global_of))]
 pub(super) fn store_global(alloc: Global, from: &Value) -> Result<InstructionValue, Refusal>
-    ensures { Gives result (store_global_of (view from.now)) }
+    ensures { IsRead result (store_global_of (view from.now)) }
 {
     known_names(from, &["k", "name", "span", "value"])?;
     let name = required(alloc, from, "name")?;
@@ -121,7 +121,7 @@ pub(super) fn store_global(alloc: Global, from: &Value) -> Result<InstructionVal
 
 #[tactic(auto, unfolding(crate::specs::Kinds::Variables::prefix_update_of))]
 pub(super) fn prefix_update(alloc: Global, from: &Value) -> Result<InstructionValue, Refusal>
-    ensures { Gives result (prefix_update_of (view from.now)) }
+    ensures { IsRead result (prefix_update_of (view from.now)) }
 {
     known_names(from, &["k", "lvalue", "operation", "span", "value"])?;
     let lvalue = required(alloc, from, "lvalue")?;
@@ -138,7 +138,7 @@ pub(super) fn prefix_update(alloc: Global, from: &Value) -> Result<InstructionVa
 
 #[tactic(auto, unfolding(crate::specs::Kinds::Variables::postfix_update_of))]
 pub(super) fn postfix_update(alloc: Global, from: &Value) -> Result<InstructionValue, Refusal>
-    ensures { Gives result (postfix_update_of (view from.now)) }
+    ensures { IsRead result (postfix_update_of (view from.now)) }
 {
     known_names(from, &["k", "lvalue", "operation", "span", "value"])?;
     let lvalue = required(alloc, from, "lvalue")?;

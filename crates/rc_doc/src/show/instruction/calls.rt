@@ -3,13 +3,12 @@
 ghost use Rattle.std.specs.Prelude.{◌≡◌, IfOk, OnOk};
 ghost use Rattle.serde_json.specs.View.{view};
 ghost use Rattle.rc_hir.specs.declared.instruction.InstructionValue.TheVariants as kinds;
-ghost use Rattle.rc_doc.specs.ShownKinds.{ReadsBack, value_data};
+ghost use Rattle.rc_doc.specs.ShownKinds.{IsReadBack, value_data};
 
-use crate::show::fields::Fields;
+use crate::show::fields::{Fields, Shown};
 use rc_hir::{LoweredFunction, Place, PlaceOrSpread};
 use rc_names::{List, Span, Text};
-use serde_json::Value;
-use std::alloc::{AllocError, Global};
+use std::alloc::Global;
 
 #[tactic(auto, using(crate::proofs::KindsReadBack::Calls::new_expression_again))]
 pub(super) fn new_expression(
@@ -17,17 +16,14 @@ pub(super) fn new_expression(
     callee: &Place,
     args: &List<PlaceOrSpread>,
     span: &Option<Span>,
-) -> Result<Value, AllocError>
+) -> Shown
     ensures value { IfOk result (λ shown. view shown ≡ value_data (kinds.NewExpression callee.now args.now span.now)) }
-    ensures again { OnOk result (ReadsBack (kinds.NewExpression callee.now args.now span.now)) }
+    ensures again { OnOk result (IsReadBack (kinds.NewExpression callee.now args.now span.now)) }
 {
-    Ok(
-        Fields::tagged(alloc, "NewExpression")?
-            .with("callee", callee)?
-            .with("args", args)?
-            .with_some("span", span)?
-            .into_value(),
-    )
+    Fields::tagged(alloc, "NewExpression")?
+        .with("callee", callee)?
+        .with("args", args)?
+        .with_span(span)
 }
 
 #[tactic(auto, using(crate::proofs::KindsReadBack::Calls::call_expression_again))]
@@ -36,17 +32,14 @@ pub(super) fn call_expression(
     callee: &Place,
     args: &List<PlaceOrSpread>,
     span: &Option<Span>,
-) -> Result<Value, AllocError>
+) -> Shown
     ensures value { IfOk result (λ shown. view shown ≡ value_data (kinds.CallExpression callee.now args.now span.now)) }
-    ensures again { OnOk result (ReadsBack (kinds.CallExpression callee.now args.now span.now)) }
+    ensures again { OnOk result (IsReadBack (kinds.CallExpression callee.now args.now span.now)) }
 {
-    Ok(
-        Fields::tagged(alloc, "CallExpression")?
-            .with("callee", callee)?
-            .with("args", args)?
-            .with_some("span", span)?
-            .into_value(),
-    )
+    Fields::tagged(alloc, "CallExpression")?
+        .with("callee", callee)?
+        .with("args", args)?
+        .with_span(span)
 }
 
 #[tactic(auto, using(crate::proofs::KindsReadBack::Calls::method_call_again))]
@@ -56,19 +49,16 @@ pub(super) fn method_call(
     property: &Place,
     args: &List<PlaceOrSpread>,
     span: &Option<Span>,
-) -> Result<Value, AllocError>
+) -> Shown
     ensures value { IfOk result
         (λ shown. view shown ≡ value_data (kinds.MethodCall receiver.now property.now args.now span.now)) }
-    ensures again { OnOk result (ReadsBack (kinds.MethodCall receiver.now property.now args.now span.now)) }
+    ensures again { OnOk result (IsReadBack (kinds.MethodCall receiver.now property.now args.now span.now)) }
 {
-    Ok(
-        Fields::tagged(alloc, "MethodCall")?
-            .with("receiver", receiver)?
-            .with("property", property)?
-            .with("args", args)?
-            .with_some("span", span)?
-            .into_value(),
-    )
+    Fields::tagged(alloc, "MethodCall")?
+        .with("receiver", receiver)?
+        .with("property", property)?
+        .with("args", args)?
+        .with_span(span)
 }
 
 #[tactic(auto, using(crate::proofs::KindsReadBack::Calls::object_method_again))]
@@ -76,16 +66,13 @@ pub(super) fn object_method(
     alloc: Global,
     lowered_func: &LoweredFunction,
     span: &Option<Span>,
-) -> Result<Value, AllocError>
+) -> Shown
     ensures value { IfOk result (λ shown. view shown ≡ value_data (kinds.ObjectMethod lowered_func.now span.now)) }
-    ensures again { OnOk result (ReadsBack (kinds.ObjectMethod lowered_func.now span.now)) }
+    ensures again { OnOk result (IsReadBack (kinds.ObjectMethod lowered_func.now span.now)) }
 {
-    Ok(
-        Fields::tagged(alloc, "ObjectMethod")?
-            .with("lowered_func", lowered_func)?
-            .with_some("span", span)?
-            .into_value(),
-    )
+    Fields::tagged(alloc, "ObjectMethod")?
+        .with("lowered_func", lowered_func)?
+        .with_span(span)
 }
 
 #[tactic(auto, using(crate::proofs::KindsReadBack::Calls::function_expression_again))]
@@ -94,30 +81,23 @@ pub(super) fn function_expression(
     name: &Option<Text>,
     lowered_func: &LoweredFunction,
     span: &Option<Span>,
-) -> Result<Value, AllocError>
+) -> Shown
     ensures value { IfOk result
         (λ shown. view shown ≡ value_data (kinds.FunctionExpression name.now lowered_func.now span.now)) }
-    ensures again { OnOk result (ReadsBack (kinds.FunctionExpression name.now lowered_func.now span.now)) }
+    ensures again { OnOk result (IsReadBack (kinds.FunctionExpression name.now lowered_func.now span.now)) }
 {
-    Ok(
-        Fields::tagged(alloc, "FunctionExpression")?
-            .with_some("name", name)?
-            .with("lowered_func", lowered_func)?
-            .with_some("span", span)?
-            .into_value(),
-    )
+    Fields::tagged(alloc, "FunctionExpression")?
+        .with_some("name", name)?
+        .with("lowered_func", lowered_func)?
+        .with_span(span)
 }
 
 #[tactic(auto, using(crate::proofs::KindsReadBack::Calls::debugger_again))]
-pub(super) fn debugger(alloc: Global, span: &Option<Span>) -> Result<Value, AllocError>
+pub(super) fn debugger(alloc: Global, span: &Option<Span>) -> Shown
     ensures value { IfOk result (λ shown. view shown ≡ value_data (kinds.Debugger span.now)) }
-    ensures again { OnOk result (ReadsBack (kinds.Debugger span.now)) }
+    ensures again { OnOk result (IsReadBack (kinds.Debugger span.now)) }
 {
-    Ok(
-        Fields::tagged(alloc, "Debugger")?
-            .with_some("span", span)?
-            .into_value(),
-    )
+    Fields::tagged(alloc, "Debugger")?.with_span(span)
 }
 
 #[tactic(auto, using(crate::proofs::KindsReadBack::Calls::start_memoize_again))]
@@ -126,18 +106,15 @@ pub(super) fn start_memoize(
     manual_memo_id: u32,
     deps: &List<Place>,
     span: &Option<Span>,
-) -> Result<Value, AllocError>
+) -> Shown
     ensures value { IfOk result
         (λ shown. view shown ≡ value_data (kinds.StartMemoize manual_memo_id deps.now span.now)) }
-    ensures again { OnOk result (ReadsBack (kinds.StartMemoize manual_memo_id deps.now span.now)) }
+    ensures again { OnOk result (IsReadBack (kinds.StartMemoize manual_memo_id deps.now span.now)) }
 {
-    Ok(
-        Fields::tagged(alloc, "StartMemoize")?
-            .with("manual_memo_id", &manual_memo_id)?
-            .with("deps", deps)?
-            .with_some("span", span)?
-            .into_value(),
-    )
+    Fields::tagged(alloc, "StartMemoize")?
+        .with("manual_memo_id", &manual_memo_id)?
+        .with("deps", deps)?
+        .with_span(span)
 }
 
 #[tactic(auto, using(crate::proofs::KindsReadBack::Calls::finish_memoize_again))]
@@ -147,17 +124,14 @@ pub(super) fn finish_memoize(
     decl: &Place,
     pruned: bool,
     span: &Option<Span>,
-) -> Result<Value, AllocError>
+) -> Shown
     ensures value { IfOk result
         (λ shown. view shown ≡ value_data (kinds.FinishMemoize manual_memo_id decl.now pruned span.now)) }
-    ensures again { OnOk result (ReadsBack (kinds.FinishMemoize manual_memo_id decl.now pruned span.now)) }
+    ensures again { OnOk result (IsReadBack (kinds.FinishMemoize manual_memo_id decl.now pruned span.now)) }
 {
-    Ok(
-        Fields::tagged(alloc, "FinishMemoize")?
-            .with("manual_memo_id", &manual_memo_id)?
-            .with("decl", decl)?
-            .with("pruned", &pruned)?
-            .with_some("span", span)?
-            .into_value(),
-    )
+    Fields::tagged(alloc, "FinishMemoize")?
+        .with("manual_memo_id", &manual_memo_id)?
+        .with("decl", decl)?
+        .with("pruned", &pruned)?
+        .with_span(span)
 }

@@ -3,46 +3,31 @@
 ghost use Rattle.std.specs.Prelude.{◌≡◌, IfOk, OnOk};
 ghost use Rattle.serde_json.specs.View.{view};
 ghost use Rattle.rc_hir.specs.declared.instruction.InstructionValue.TheVariants as kinds;
-ghost use Rattle.rc_doc.specs.ShownKinds.{ReadsBack, value_data};
+ghost use Rattle.rc_doc.specs.ShownKinds.{IsReadBack, value_data};
 
-use crate::show::fields::Fields;
+use crate::show::fields::{Fields, Shown};
 use rc_hir::{Place, PrimitiveValue};
 use rc_names::{List, Span, Text};
-use serde_json::Value;
-use std::alloc::{AllocError, Global};
+use std::alloc::Global;
 
 #[tactic(auto, using(crate::proofs::KindsReadBack::Expressions::primitive_again))]
-pub(super) fn primitive(
-    alloc: Global,
-    value: &PrimitiveValue,
-    span: &Option<Span>,
-) -> Result<Value, AllocError>
+pub(super) fn primitive(alloc: Global, value: &PrimitiveValue, span: &Option<Span>) -> Shown
     ensures value { IfOk result (λ shown. view shown ≡ value_data (kinds.Primitive value.now span.now)) }
-    ensures again { OnOk result (ReadsBack (kinds.Primitive value.now span.now)) }
+    ensures again { OnOk result (IsReadBack (kinds.Primitive value.now span.now)) }
 {
-    Ok(
-        Fields::tagged(alloc, "Primitive")?
-            .with("value", value)?
-            .with_some("span", span)?
-            .into_value(),
-    )
+    Fields::tagged(alloc, "Primitive")?
+        .with("value", value)?
+        .with_span(span)
 }
 
 #[tactic(auto, using(crate::proofs::KindsReadBack::Expressions::jsx_text_again))]
-pub(super) fn jsx_text(
-    alloc: Global,
-    value: &Text,
-    span: &Option<Span>,
-) -> Result<Value, AllocError>
+pub(super) fn jsx_text(alloc: Global, value: &Text, span: &Option<Span>) -> Shown
     ensures value { IfOk result (λ shown. view shown ≡ value_data (kinds.JSXText value.now span.now)) }
-    ensures again { OnOk result (ReadsBack (kinds.JSXText value.now span.now)) }
+    ensures again { OnOk result (IsReadBack (kinds.JSXText value.now span.now)) }
 {
-    Ok(
-        Fields::tagged(alloc, "JSXText")?
-            .with("value", value)?
-            .with_some("span", span)?
-            .into_value(),
-    )
+    Fields::tagged(alloc, "JSXText")?
+        .with("value", value)?
+        .with_span(span)
 }
 
 #[tactic(auto, using(crate::proofs::KindsReadBack::Expressions::binary_expression_again))]
@@ -52,19 +37,16 @@ pub(super) fn binary_expression(
     left: &Place,
     right: &Place,
     span: &Option<Span>,
-) -> Result<Value, AllocError>
+) -> Shown
     ensures value { IfOk result
         (λ shown. view shown ≡ value_data (kinds.BinaryExpression operator.now left.now right.now span.now)) }
-    ensures again { OnOk result (ReadsBack (kinds.BinaryExpression operator.now left.now right.now span.now)) }
+    ensures again { OnOk result (IsReadBack (kinds.BinaryExpression operator.now left.now right.now span.now)) }
 {
-    Ok(
-        Fields::tagged(alloc, "BinaryExpression")?
-            .with("operator", operator)?
-            .with("left", left)?
-            .with("right", right)?
-            .with_some("span", span)?
-            .into_value(),
-    )
+    Fields::tagged(alloc, "BinaryExpression")?
+        .with("operator", operator)?
+        .with("left", left)?
+        .with("right", right)?
+        .with_span(span)
 }
 
 #[tactic(auto, using(crate::proofs::KindsReadBack::Expressions::unary_expression_again))]
@@ -73,18 +55,15 @@ pub(super) fn unary_expression(
     operator: &Text,
     value: &Place,
     span: &Option<Span>,
-) -> Result<Value, AllocError>
+) -> Shown
     ensures value { IfOk result
         (λ shown. view shown ≡ value_data (kinds.UnaryExpression operator.now value.now span.now)) }
-    ensures again { OnOk result (ReadsBack (kinds.UnaryExpression operator.now value.now span.now)) }
+    ensures again { OnOk result (IsReadBack (kinds.UnaryExpression operator.now value.now span.now)) }
 {
-    Ok(
-        Fields::tagged(alloc, "UnaryExpression")?
-            .with("operator", operator)?
-            .with("value", value)?
-            .with_some("span", span)?
-            .into_value(),
-    )
+    Fields::tagged(alloc, "UnaryExpression")?
+        .with("operator", operator)?
+        .with("value", value)?
+        .with_span(span)
 }
 
 #[tactic(auto, using(crate::proofs::KindsReadBack::Expressions::type_cast_expression_again))]
@@ -93,35 +72,25 @@ pub(super) fn type_cast_expression(
     value: &Place,
     annotation: &Text,
     span: &Option<Span>,
-) -> Result<Value, AllocError>
+) -> Shown
     ensures value { IfOk result
         (λ shown. view shown ≡ value_data (kinds.TypeCastExpression value.now annotation.now span.now)) }
-    ensures again { OnOk result (ReadsBack (kinds.TypeCastExpression value.now annotation.now span.now)) }
+    ensures again { OnOk result (IsReadBack (kinds.TypeCastExpression value.now annotation.now span.now)) }
 {
-    Ok(
-        Fields::tagged(alloc, "TypeCastExpression")?
-            .with("value", value)?
-            .with("annotation", annotation)?
-            .with_some("span", span)?
-            .into_value(),
-    )
+    Fields::tagged(alloc, "TypeCastExpression")?
+        .with("value", value)?
+        .with("annotation", annotation)?
+        .with_span(span)
 }
 
 #[tactic(auto, using(crate::proofs::KindsReadBack::Expressions::await_again))]
-pub(super) fn await_value(
-    alloc: Global,
-    value: &Place,
-    span: &Option<Span>,
-) -> Result<Value, AllocError>
+pub(super) fn await_value(alloc: Global, value: &Place, span: &Option<Span>) -> Shown
     ensures value { IfOk result (λ shown. view shown ≡ value_data (kinds.Await value.now span.now)) }
-    ensures again { OnOk result (ReadsBack (kinds.Await value.now span.now)) }
+    ensures again { OnOk result (IsReadBack (kinds.Await value.now span.now)) }
 {
-    Ok(
-        Fields::tagged(alloc, "Await")?
-            .with("value", value)?
-            .with_some("span", span)?
-            .into_value(),
-    )
+    Fields::tagged(alloc, "Await")?
+        .with("value", value)?
+        .with_span(span)
 }
 
 #[tactic(auto, using(crate::proofs::KindsReadBack::Expressions::regexp_literal_again))]
@@ -130,18 +99,15 @@ pub(super) fn regexp_literal(
     pattern: &Text,
     flags: &Text,
     span: &Option<Span>,
-) -> Result<Value, AllocError>
+) -> Shown
     ensures value { IfOk result
         (λ shown. view shown ≡ value_data (kinds.RegExpLiteral pattern.now flags.now span.now)) }
-    ensures again { OnOk result (ReadsBack (kinds.RegExpLiteral pattern.now flags.now span.now)) }
+    ensures again { OnOk result (IsReadBack (kinds.RegExpLiteral pattern.now flags.now span.now)) }
 {
-    Ok(
-        Fields::tagged(alloc, "RegExpLiteral")?
-            .with("pattern", pattern)?
-            .with("flags", flags)?
-            .with_some("span", span)?
-            .into_value(),
-    )
+    Fields::tagged(alloc, "RegExpLiteral")?
+        .with("pattern", pattern)?
+        .with("flags", flags)?
+        .with_span(span)
 }
 
 #[tactic(auto, using(crate::proofs::KindsReadBack::Expressions::meta_property_again))]
@@ -150,17 +116,14 @@ pub(super) fn meta_property(
     meta: &Text,
     property: &Text,
     span: &Option<Span>,
-) -> Result<Value, AllocError>
+) -> Shown
     ensures value { IfOk result (λ shown. view shown ≡ value_data (kinds.MetaProperty meta.now property.now span.now)) }
-    ensures again { OnOk result (ReadsBack (kinds.MetaProperty meta.now property.now span.now)) }
+    ensures again { OnOk result (IsReadBack (kinds.MetaProperty meta.now property.now span.now)) }
 {
-    Ok(
-        Fields::tagged(alloc, "MetaProperty")?
-            .with("meta", meta)?
-            .with("property", property)?
-            .with_some("span", span)?
-            .into_value(),
-    )
+    Fields::tagged(alloc, "MetaProperty")?
+        .with("meta", meta)?
+        .with("property", property)?
+        .with_span(span)
 }
 
 #[tactic(auto, using(crate::proofs::KindsReadBack::Expressions::tagged_template_expression_again))]
@@ -169,18 +132,15 @@ pub(super) fn tagged_template_expression(
     tag: &Place,
     quasi: &Text,
     span: &Option<Span>,
-) -> Result<Value, AllocError>
+) -> Shown
     ensures value { IfOk result
         (λ shown. view shown ≡ value_data (kinds.TaggedTemplateExpression tag.now quasi.now span.now)) }
-    ensures again { OnOk result (ReadsBack (kinds.TaggedTemplateExpression tag.now quasi.now span.now)) }
+    ensures again { OnOk result (IsReadBack (kinds.TaggedTemplateExpression tag.now quasi.now span.now)) }
 {
-    Ok(
-        Fields::tagged(alloc, "TaggedTemplateExpression")?
-            .with("tag", tag)?
-            .with("quasi", quasi)?
-            .with_some("span", span)?
-            .into_value(),
-    )
+    Fields::tagged(alloc, "TaggedTemplateExpression")?
+        .with("tag", tag)?
+        .with("quasi", quasi)?
+        .with_span(span)
 }
 
 #[tactic(auto, using(crate::proofs::KindsReadBack::Expressions::template_literal_again))]
@@ -189,35 +149,25 @@ pub(super) fn template_literal(
     subexprs: &List<Place>,
     quasis: &List<Text>,
     span: &Option<Span>,
-) -> Result<Value, AllocError>
+) -> Shown
     ensures value { IfOk result
         (λ shown. view shown ≡ value_data (kinds.TemplateLiteral subexprs.now quasis.now span.now)) }
-    ensures again { OnOk result (ReadsBack (kinds.TemplateLiteral subexprs.now quasis.now span.now)) }
+    ensures again { OnOk result (IsReadBack (kinds.TemplateLiteral subexprs.now quasis.now span.now)) }
 {
-    Ok(
-        Fields::tagged(alloc, "TemplateLiteral")?
-            .with("subexprs", subexprs)?
-            .with("quasis", quasis)?
-            .with_some("span", span)?
-            .into_value(),
-    )
+    Fields::tagged(alloc, "TemplateLiteral")?
+        .with("subexprs", subexprs)?
+        .with("quasis", quasis)?
+        .with_span(span)
 }
 
 #[tactic(auto, using(crate::proofs::KindsReadBack::Expressions::get_iterator_again))]
-pub(super) fn get_iterator(
-    alloc: Global,
-    collection: &Place,
-    span: &Option<Span>,
-) -> Result<Value, AllocError>
+pub(super) fn get_iterator(alloc: Global, collection: &Place, span: &Option<Span>) -> Shown
     ensures value { IfOk result (λ shown. view shown ≡ value_data (kinds.GetIterator collection.now span.now)) }
-    ensures again { OnOk result (ReadsBack (kinds.GetIterator collection.now span.now)) }
+    ensures again { OnOk result (IsReadBack (kinds.GetIterator collection.now span.now)) }
 {
-    Ok(
-        Fields::tagged(alloc, "GetIterator")?
-            .with("collection", collection)?
-            .with_some("span", span)?
-            .into_value(),
-    )
+    Fields::tagged(alloc, "GetIterator")?
+        .with("collection", collection)?
+        .with_span(span)
 }
 
 #[tactic(auto, using(crate::proofs::KindsReadBack::Expressions::iterator_next_again))]
@@ -226,33 +176,23 @@ pub(super) fn iterator_next(
     iterator: &Place,
     collection: &Place,
     span: &Option<Span>,
-) -> Result<Value, AllocError>
+) -> Shown
     ensures value { IfOk result
         (λ shown. view shown ≡ value_data (kinds.IteratorNext iterator.now collection.now span.now)) }
-    ensures again { OnOk result (ReadsBack (kinds.IteratorNext iterator.now collection.now span.now)) }
+    ensures again { OnOk result (IsReadBack (kinds.IteratorNext iterator.now collection.now span.now)) }
 {
-    Ok(
-        Fields::tagged(alloc, "IteratorNext")?
-            .with("iterator", iterator)?
-            .with("collection", collection)?
-            .with_some("span", span)?
-            .into_value(),
-    )
+    Fields::tagged(alloc, "IteratorNext")?
+        .with("iterator", iterator)?
+        .with("collection", collection)?
+        .with_span(span)
 }
 
 #[tactic(auto, using(crate::proofs::KindsReadBack::Expressions::next_property_of_again))]
-pub(super) fn next_property_of(
-    alloc: Global,
-    value: &Place,
-    span: &Option<Span>,
-) -> Result<Value, AllocError>
+pub(super) fn next_property_of(alloc: Global, value: &Place, span: &Option<Span>) -> Shown
     ensures value { IfOk result (λ shown. view shown ≡ value_data (kinds.NextPropertyOf value.now span.now)) }
-    ensures again { OnOk result (ReadsBack (kinds.NextPropertyOf value.now span.now)) }
+    ensures again { OnOk result (IsReadBack (kinds.NextPropertyOf value.now span.now)) }
 {
-    Ok(
-        Fields::tagged(alloc, "NextPropertyOf")?
-            .with("value", value)?
-            .with_some("span", span)?
-            .into_value(),
-    )
+    Fields::tagged(alloc, "NextPropertyOf")?
+        .with("value", value)?
+        .with_span(span)
 }

@@ -3,29 +3,25 @@
 ghost use Rattle.std.specs.Prelude.{◌≡◌, IfOk, OnOk};
 ghost use Rattle.serde_json.specs.View.{view};
 ghost use Rattle.rc_hir.specs.declared.instruction.InstructionValue.TheVariants as kinds;
-ghost use Rattle.rc_doc.specs.ShownKinds.{ReadsBack, value_data};
+ghost use Rattle.rc_doc.specs.ShownKinds.{IsReadBack, value_data};
 
-use crate::show::fields::Fields;
+use crate::show::fields::{Fields, Shown};
 use rc_hir::{ArrayElement, JsxAttribute, JsxTag, ObjectPropertyOrSpread, Place, PropertyLiteral};
 use rc_names::{List, Span};
-use serde_json::Value;
-use std::alloc::{AllocError, Global};
+use std::alloc::Global;
 
 #[tactic(auto, using(crate::proofs::KindsReadBack::Objects::object_expression_again))]
 pub(super) fn object_expression(
     alloc: Global,
     properties: &List<ObjectPropertyOrSpread>,
     span: &Option<Span>,
-) -> Result<Value, AllocError>
+) -> Shown
     ensures value { IfOk result (λ shown. view shown ≡ value_data (kinds.ObjectExpression properties.now span.now)) }
-    ensures again { OnOk result (ReadsBack (kinds.ObjectExpression properties.now span.now)) }
+    ensures again { OnOk result (IsReadBack (kinds.ObjectExpression properties.now span.now)) }
 {
-    Ok(
-        Fields::tagged(alloc, "ObjectExpression")?
-            .with("properties", properties)?
-            .with_some("span", span)?
-            .into_value(),
-    )
+    Fields::tagged(alloc, "ObjectExpression")?
+        .with("properties", properties)?
+        .with_span(span)
 }
 
 #[tactic(auto, using(crate::proofs::KindsReadBack::Objects::array_expression_again))]
@@ -33,16 +29,13 @@ pub(super) fn array_expression(
     alloc: Global,
     elements: &List<ArrayElement>,
     span: &Option<Span>,
-) -> Result<Value, AllocError>
+) -> Shown
     ensures value { IfOk result (λ shown. view shown ≡ value_data (kinds.ArrayExpression elements.now span.now)) }
-    ensures again { OnOk result (ReadsBack (kinds.ArrayExpression elements.now span.now)) }
+    ensures again { OnOk result (IsReadBack (kinds.ArrayExpression elements.now span.now)) }
 {
-    Ok(
-        Fields::tagged(alloc, "ArrayExpression")?
-            .with("elements", elements)?
-            .with_some("span", span)?
-            .into_value(),
-    )
+    Fields::tagged(alloc, "ArrayExpression")?
+        .with("elements", elements)?
+        .with_span(span)
 }
 
 #[tactic(auto, using(crate::proofs::KindsReadBack::Objects::jsx_expression_again))]
@@ -52,36 +45,26 @@ pub(super) fn jsx_expression(
     props: &List<JsxAttribute>,
     children: &Option<List<Place>>,
     span: &Option<Span>,
-) -> Result<Value, AllocError>
+) -> Shown
     ensures value { IfOk result
         (λ shown. view shown ≡ value_data (kinds.JsxExpression tag.now props.now children.now span.now)) }
-    ensures again { OnOk result (ReadsBack (kinds.JsxExpression tag.now props.now children.now span.now)) }
+    ensures again { OnOk result (IsReadBack (kinds.JsxExpression tag.now props.now children.now span.now)) }
 {
-    Ok(
-        Fields::tagged(alloc, "JsxExpression")?
-            .with("tag", tag)?
-            .with("props", props)?
-            .with_some("children", children)?
-            .with_some("span", span)?
-            .into_value(),
-    )
+    Fields::tagged(alloc, "JsxExpression")?
+        .with("tag", tag)?
+        .with("props", props)?
+        .with_some("children", children)?
+        .with_span(span)
 }
 
 #[tactic(auto, using(crate::proofs::KindsReadBack::Objects::jsx_fragment_again))]
-pub(super) fn jsx_fragment(
-    alloc: Global,
-    children: &List<Place>,
-    span: &Option<Span>,
-) -> Result<Value, AllocError>
+pub(super) fn jsx_fragment(alloc: Global, children: &List<Place>, span: &Option<Span>) -> Shown
     ensures value { IfOk result (λ shown. view shown ≡ value_data (kinds.JsxFragment children.now span.now)) }
-    ensures again { OnOk result (ReadsBack (kinds.JsxFragment children.now span.now)) }
+    ensures again { OnOk result (IsReadBack (kinds.JsxFragment children.now span.now)) }
 {
-    Ok(
-        Fields::tagged(alloc, "JsxFragment")?
-            .with("children", children)?
-            .with_some("span", span)?
-            .into_value(),
-    )
+    Fields::tagged(alloc, "JsxFragment")?
+        .with("children", children)?
+        .with_span(span)
 }
 
 #[tactic(auto, using(crate::proofs::KindsReadBack::Objects::property_load_again))]
@@ -90,18 +73,15 @@ pub(super) fn property_load(
     object: &Place,
     property: &PropertyLiteral,
     span: &Option<Span>,
-) -> Result<Value, AllocError>
+) -> Shown
     ensures value { IfOk result
         (λ shown. view shown ≡ value_data (kinds.PropertyLoad object.now property.now span.now)) }
-    ensures again { OnOk result (ReadsBack (kinds.PropertyLoad object.now property.now span.now)) }
+    ensures again { OnOk result (IsReadBack (kinds.PropertyLoad object.now property.now span.now)) }
 {
-    Ok(
-        Fields::tagged(alloc, "PropertyLoad")?
-            .with("object", object)?
-            .with("property", property)?
-            .with_some("span", span)?
-            .into_value(),
-    )
+    Fields::tagged(alloc, "PropertyLoad")?
+        .with("object", object)?
+        .with("property", property)?
+        .with_span(span)
 }
 
 #[tactic(auto, using(crate::proofs::KindsReadBack::Objects::property_delete_again))]
@@ -110,18 +90,15 @@ pub(super) fn property_delete(
     object: &Place,
     property: &PropertyLiteral,
     span: &Option<Span>,
-) -> Result<Value, AllocError>
+) -> Shown
     ensures value { IfOk result
         (λ shown. view shown ≡ value_data (kinds.PropertyDelete object.now property.now span.now)) }
-    ensures again { OnOk result (ReadsBack (kinds.PropertyDelete object.now property.now span.now)) }
+    ensures again { OnOk result (IsReadBack (kinds.PropertyDelete object.now property.now span.now)) }
 {
-    Ok(
-        Fields::tagged(alloc, "PropertyDelete")?
-            .with("object", object)?
-            .with("property", property)?
-            .with_some("span", span)?
-            .into_value(),
-    )
+    Fields::tagged(alloc, "PropertyDelete")?
+        .with("object", object)?
+        .with("property", property)?
+        .with_span(span)
 }
 
 #[tactic(auto, using(crate::proofs::KindsReadBack::Objects::property_store_again))]
@@ -131,19 +108,16 @@ pub(super) fn property_store(
     property: &PropertyLiteral,
     value: &Place,
     span: &Option<Span>,
-) -> Result<Value, AllocError>
+) -> Shown
     ensures value { IfOk result
         (λ shown. view shown ≡ value_data (kinds.PropertyStore object.now property.now value.now span.now)) }
-    ensures again { OnOk result (ReadsBack (kinds.PropertyStore object.now property.now value.now span.now)) }
+    ensures again { OnOk result (IsReadBack (kinds.PropertyStore object.now property.now value.now span.now)) }
 {
-    Ok(
-        Fields::tagged(alloc, "PropertyStore")?
-            .with("object", object)?
-            .with("property", property)?
-            .with("value", value)?
-            .with_some("span", span)?
-            .into_value(),
-    )
+    Fields::tagged(alloc, "PropertyStore")?
+        .with("object", object)?
+        .with("property", property)?
+        .with("value", value)?
+        .with_span(span)
 }
 
 #[tactic(auto, using(crate::proofs::KindsReadBack::Objects::computed_load_again))]
@@ -152,18 +126,15 @@ pub(super) fn computed_load(
     object: &Place,
     property: &Place,
     span: &Option<Span>,
-) -> Result<Value, AllocError>
+) -> Shown
     ensures value { IfOk result
         (λ shown. view shown ≡ value_data (kinds.ComputedLoad object.now property.now span.now)) }
-    ensures again { OnOk result (ReadsBack (kinds.ComputedLoad object.now property.now span.now)) }
+    ensures again { OnOk result (IsReadBack (kinds.ComputedLoad object.now property.now span.now)) }
 {
-    Ok(
-        Fields::tagged(alloc, "ComputedLoad")?
-            .with("object", object)?
-            .with("property", property)?
-            .with_some("span", span)?
-            .into_value(),
-    )
+    Fields::tagged(alloc, "ComputedLoad")?
+        .with("object", object)?
+        .with("property", property)?
+        .with_span(span)
 }
 
 #[tactic(auto, using(crate::proofs::KindsReadBack::Objects::computed_delete_again))]
@@ -172,18 +143,15 @@ pub(super) fn computed_delete(
     object: &Place,
     property: &Place,
     span: &Option<Span>,
-) -> Result<Value, AllocError>
+) -> Shown
     ensures value { IfOk result
         (λ shown. view shown ≡ value_data (kinds.ComputedDelete object.now property.now span.now)) }
-    ensures again { OnOk result (ReadsBack (kinds.ComputedDelete object.now property.now span.now)) }
+    ensures again { OnOk result (IsReadBack (kinds.ComputedDelete object.now property.now span.now)) }
 {
-    Ok(
-        Fields::tagged(alloc, "ComputedDelete")?
-            .with("object", object)?
-            .with("property", property)?
-            .with_some("span", span)?
-            .into_value(),
-    )
+    Fields::tagged(alloc, "ComputedDelete")?
+        .with("object", object)?
+        .with("property", property)?
+        .with_span(span)
 }
 
 #[tactic(auto, using(crate::proofs::KindsReadBack::Objects::computed_store_again))]
@@ -193,17 +161,14 @@ pub(super) fn computed_store(
     property: &Place,
     value: &Place,
     span: &Option<Span>,
-) -> Result<Value, AllocError>
+) -> Shown
     ensures value { IfOk result
         (λ shown. view shown ≡ value_data (kinds.ComputedStore object.now property.now value.now span.now)) }
-    ensures again { OnOk result (ReadsBack (kinds.ComputedStore object.now property.now value.now span.now)) }
+    ensures again { OnOk result (IsReadBack (kinds.ComputedStore object.now property.now value.now span.now)) }
 {
-    Ok(
-        Fields::tagged(alloc, "ComputedStore")?
-            .with("object", object)?
-            .with("property", property)?
-            .with("value", value)?
-            .with_some("span", span)?
-            .into_value(),
-    )
+    Fields::tagged(alloc, "ComputedStore")?
+        .with("object", object)?
+        .with("property", property)?
+        .with("value", value)?
+        .with_span(span)
 }

@@ -3,80 +3,51 @@
 ghost use Rattle.std.specs.Prelude.{◌≡◌, IfOk, OnOk};
 ghost use Rattle.serde_json.specs.View.{view};
 ghost use Rattle.rc_hir.specs.declared.instruction.InstructionValue.TheVariants as kinds;
-ghost use Rattle.rc_doc.specs.ShownKinds.{ReadsBack, value_data};
+ghost use Rattle.rc_doc.specs.ShownKinds.{IsReadBack, value_data};
 
-use crate::show::fields::Fields;
+use crate::show::fields::{Fields, Shown};
 use rc_hir::{LValue, LValuePattern, NonLocalBinding, Place};
 use rc_names::{Span, Text};
-use serde_json::Value;
-use std::alloc::{AllocError, Global};
+use std::alloc::Global;
 
 #[tactic(auto, using(crate::proofs::KindsReadBack::Variables::load_local_again))]
-pub(super) fn load_local(
-    alloc: Global,
-    place: &Place,
-    span: &Option<Span>,
-) -> Result<Value, AllocError>
+pub(super) fn load_local(alloc: Global, place: &Place, span: &Option<Span>) -> Shown
     ensures value { IfOk result (λ shown. view shown ≡ value_data (kinds.LoadLocal place.now span.now)) }
-    ensures again { OnOk result (ReadsBack (kinds.LoadLocal place.now span.now)) }
+    ensures again { OnOk result (IsReadBack (kinds.LoadLocal place.now span.now)) }
 {
-    Ok(
-        Fields::tagged(alloc, "LoadLocal")?
-            .with("place", place)?
-            .with_some("span", span)?
-            .into_value(),
-    )
+    Fields::tagged(alloc, "LoadLocal")?
+        .with("place", place)?
+        .with_span(span)
 }
 
 #[tactic(auto, using(crate::proofs::KindsReadBack::Variables::load_context_again))]
-pub(super) fn load_context(
-    alloc: Global,
-    place: &Place,
-    span: &Option<Span>,
-) -> Result<Value, AllocError>
+pub(super) fn load_context(alloc: Global, place: &Place, span: &Option<Span>) -> Shown
     ensures value { IfOk result (λ shown. view shown ≡ value_data (kinds.LoadContext place.now span.now)) }
-    ensures again { OnOk result (ReadsBack (kinds.LoadContext place.now span.now)) }
+    ensures again { OnOk result (IsReadBack (kinds.LoadContext place.now span.now)) }
 {
-    Ok(
-        Fields::tagged(alloc, "LoadContext")?
-            .with("place", place)?
-            .with_some("span", span)?
-            .into_value(),
-    )
+    Fields::tagged(alloc, "LoadContext")?
+        .with("place", place)?
+        .with_span(span)
 }
 
 #[tactic(auto, using(crate::proofs::KindsReadBack::Variables::declare_local_again))]
-pub(super) fn declare_local(
-    alloc: Global,
-    lvalue: &LValue,
-    span: &Option<Span>,
-) -> Result<Value, AllocError>
+pub(super) fn declare_local(alloc: Global, lvalue: &LValue, span: &Option<Span>) -> Shown
     ensures value { IfOk result (λ shown. view shown ≡ value_data (kinds.DeclareLocal lvalue.now span.now)) }
-    ensures again { OnOk result (ReadsBack (kinds.DeclareLocal lvalue.now span.now)) }
+    ensures again { OnOk result (IsReadBack (kinds.DeclareLocal lvalue.now span.now)) }
 {
-    Ok(
-        Fields::tagged(alloc, "DeclareLocal")?
-            .with("lvalue", lvalue)?
-            .with_some("span", span)?
-            .into_value(),
-    )
+    Fields::tagged(alloc, "DeclareLocal")?
+        .with("lvalue", lvalue)?
+        .with_span(span)
 }
 
 #[tactic(auto, using(crate::proofs::KindsReadBack::Variables::declare_context_again))]
-pub(super) fn declare_context(
-    alloc: Global,
-    lvalue: &LValue,
-    span: &Option<Span>,
-) -> Result<Value, AllocError>
+pub(super) fn declare_context(alloc: Global, lvalue: &LValue, span: &Option<Span>) -> Shown
     ensures value { IfOk result (λ shown. view shown ≡ value_data (kinds.DeclareContext lvalue.now span.now)) }
-    ensures again { OnOk result (ReadsBack (kinds.DeclareContext lvalue.now span.now)) }
+    ensures again { OnOk result (IsReadBack (kinds.DeclareContext lvalue.now span.now)) }
 {
-    Ok(
-        Fields::tagged(alloc, "DeclareContext")?
-            .with("lvalue", lvalue)?
-            .with_some("span", span)?
-            .into_value(),
-    )
+    Fields::tagged(alloc, "DeclareContext")?
+        .with("lvalue", lvalue)?
+        .with_span(span)
 }
 
 #[tactic(auto, using(crate::proofs::KindsReadBack::Variables::store_local_again))]
@@ -85,17 +56,14 @@ pub(super) fn store_local(
     lvalue: &LValue,
     value: &Place,
     span: &Option<Span>,
-) -> Result<Value, AllocError>
+) -> Shown
     ensures value { IfOk result (λ shown. view shown ≡ value_data (kinds.StoreLocal lvalue.now value.now span.now)) }
-    ensures again { OnOk result (ReadsBack (kinds.StoreLocal lvalue.now value.now span.now)) }
+    ensures again { OnOk result (IsReadBack (kinds.StoreLocal lvalue.now value.now span.now)) }
 {
-    Ok(
-        Fields::tagged(alloc, "StoreLocal")?
-            .with("lvalue", lvalue)?
-            .with("value", value)?
-            .with_some("span", span)?
-            .into_value(),
-    )
+    Fields::tagged(alloc, "StoreLocal")?
+        .with("lvalue", lvalue)?
+        .with("value", value)?
+        .with_span(span)
 }
 
 #[tactic(auto, using(crate::proofs::KindsReadBack::Variables::store_context_again))]
@@ -104,17 +72,14 @@ pub(super) fn store_context(
     lvalue: &LValue,
     value: &Place,
     span: &Option<Span>,
-) -> Result<Value, AllocError>
+) -> Shown
     ensures value { IfOk result (λ shown. view shown ≡ value_data (kinds.StoreContext lvalue.now value.now span.now)) }
-    ensures again { OnOk result (ReadsBack (kinds.StoreContext lvalue.now value.now span.now)) }
+    ensures again { OnOk result (IsReadBack (kinds.StoreContext lvalue.now value.now span.now)) }
 {
-    Ok(
-        Fields::tagged(alloc, "StoreContext")?
-            .with("lvalue", lvalue)?
-            .with("value", value)?
-            .with_some("span", span)?
-            .into_value(),
-    )
+    Fields::tagged(alloc, "StoreContext")?
+        .with("lvalue", lvalue)?
+        .with("value", value)?
+        .with_span(span)
 }
 
 #[tactic(auto, using(crate::proofs::KindsReadBack::Variables::destructure_again))]
@@ -123,53 +88,35 @@ pub(super) fn destructure(
     lvalue: &LValuePattern,
     value: &Place,
     span: &Option<Span>,
-) -> Result<Value, AllocError>
+) -> Shown
     ensures value { IfOk result (λ shown. view shown ≡ value_data (kinds.Destructure lvalue.now value.now span.now)) }
-    ensures again { OnOk result (ReadsBack (kinds.Destructure lvalue.now value.now span.now)) }
+    ensures again { OnOk result (IsReadBack (kinds.Destructure lvalue.now value.now span.now)) }
 {
-    Ok(
-        Fields::tagged(alloc, "Destructure")?
-            .with("lvalue", lvalue)?
-            .with("value", value)?
-            .with_some("span", span)?
-            .into_value(),
-    )
+    Fields::tagged(alloc, "Destructure")?
+        .with("lvalue", lvalue)?
+        .with("value", value)?
+        .with_span(span)
 }
 
 #[tactic(auto, using(crate::proofs::KindsReadBack::Variables::load_global_again))]
-pub(super) fn load_global(
-    alloc: Global,
-    binding: &NonLocalBinding,
-    span: &Option<Span>,
-) -> Result<Value, AllocError>
+pub(super) fn load_global(alloc: Global, binding: &NonLocalBinding, span: &Option<Span>) -> Shown
     ensures value { IfOk result (λ shown. view shown ≡ value_data (kinds.LoadGlobal binding.now span.now)) }
-    ensures again { OnOk result (ReadsBack (kinds.LoadGlobal binding.now span.now)) }
+    ensures again { OnOk result (IsReadBack (kinds.LoadGlobal binding.now span.now)) }
 {
-    Ok(
-        Fields::tagged(alloc, "LoadGlobal")?
-            .with("binding", binding)?
-            .with_some("span", span)?
-            .into_value(),
-    )
+    Fields::tagged(alloc, "LoadGlobal")?
+        .with("binding", binding)?
+        .with_span(span)
 }
 
 #[tactic(auto, using(crate::proofs::KindsReadBack::Variables::store_global_again))]
-pub(super) fn store_global(
-    alloc: Global,
-    name: &Text,
-    value: &Place,
-    span: &Option<Span>,
-) -> Result<Value, AllocError>
+pub(super) fn store_global(alloc: Global, name: &Text, value: &Place, span: &Option<Span>) -> Shown
     ensures value { IfOk result (λ shown. view shown ≡ value_data (kinds.StoreGlobal name.now value.now span.now)) }
-    ensures again { OnOk result (ReadsBack (kinds.StoreGlobal name.now value.now span.now)) }
+    ensures again { OnOk result (IsReadBack (kinds.StoreGlobal name.now value.now span.now)) }
 {
-    Ok(
-        Fields::tagged(alloc, "StoreGlobal")?
-            .with("name", name)?
-            .with("value", value)?
-            .with_some("span", span)?
-            .into_value(),
-    )
+    Fields::tagged(alloc, "StoreGlobal")?
+        .with("name", name)?
+        .with("value", value)?
+        .with_span(span)
 }
 
 #[tactic(auto, using(crate::proofs::KindsReadBack::Variables::prefix_update_again))]
@@ -179,19 +126,16 @@ pub(super) fn prefix_update(
     operation: &Text,
     value: &Place,
     span: &Option<Span>,
-) -> Result<Value, AllocError>
+) -> Shown
     ensures value { IfOk result
         (λ shown. view shown ≡ value_data (kinds.PrefixUpdate lvalue.now operation.now value.now span.now)) }
-    ensures again { OnOk result (ReadsBack (kinds.PrefixUpdate lvalue.now operation.now value.now span.now)) }
+    ensures again { OnOk result (IsReadBack (kinds.PrefixUpdate lvalue.now operation.now value.now span.now)) }
 {
-    Ok(
-        Fields::tagged(alloc, "PrefixUpdate")?
-            .with("lvalue", lvalue)?
-            .with("operation", operation)?
-            .with("value", value)?
-            .with_some("span", span)?
-            .into_value(),
-    )
+    Fields::tagged(alloc, "PrefixUpdate")?
+        .with("lvalue", lvalue)?
+        .with("operation", operation)?
+        .with("value", value)?
+        .with_span(span)
 }
 
 #[tactic(auto, using(crate::proofs::KindsReadBack::Variables::postfix_update_again))]
@@ -201,17 +145,14 @@ pub(super) fn postfix_update(
     operation: &Text,
     value: &Place,
     span: &Option<Span>,
-) -> Result<Value, AllocError>
+) -> Shown
     ensures value { IfOk result
         (λ shown. view shown ≡ value_data (kinds.PostfixUpdate lvalue.now operation.now value.now span.now)) }
-    ensures again { OnOk result (ReadsBack (kinds.PostfixUpdate lvalue.now operation.now value.now span.now)) }
+    ensures again { OnOk result (IsReadBack (kinds.PostfixUpdate lvalue.now operation.now value.now span.now)) }
 {
-    Ok(
-        Fields::tagged(alloc, "PostfixUpdate")?
-            .with("lvalue", lvalue)?
-            .with("operation", operation)?
-            .with("value", value)?
-            .with_some("span", span)?
-            .into_value(),
-    )
+    Fields::tagged(alloc, "PostfixUpdate")?
+        .with("lvalue", lvalue)?
+        .with("operation", operation)?
+        .with("value", value)?
+        .with_span(span)
 }

@@ -9,7 +9,7 @@ use rc_hir::{
 use rc_names::Text;
 use std::alloc::{AllocError, Global};
 
-/// What is compared part by part.
+/// A type whose values are compared part by part.
 pub trait Alike {
     /// Whether the other one has the same parts.
     fn is_like(&self, other: &Self, alloc: Global) -> Result<bool, AllocError>;

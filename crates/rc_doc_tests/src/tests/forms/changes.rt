@@ -1,4 +1,4 @@
-//! Each change of the document at one of its parts, judged by the type of that part, and undone.
+//! Each change of the document at one of its parts, which is judged by the type of that part and then undone.
 
 use super::document::DOCUMENT;
 use super::judged::{OTHERS, may_be_left_out, takes};
@@ -22,7 +22,7 @@ fn fields_at<'v>(whole: &'v mut Value, path: &str) -> Option<&'v mut Map<String,
     whole.pointer_mut(path)?.as_object_mut()
 }
 
-/// Takes the field at a path out of its object; none where no field of an object stands there.
+/// Removes the field at a path from its object; `None` if there is no such field of an object.
 pub fn take_field(whole: &mut Value, path: &str) -> Option<(String, Value)> {
     let (owner, key) = path.rsplit_once('/')?;
     fields_at(whole, owner)?.remove_entry(key)
@@ -51,7 +51,7 @@ pub fn is_document_with(
     Ok(is_document)
 }
 
-/// Whether the document without the field at a path is one; none where no field of an object stands there.
+/// Whether the document without the field at a path is one; `None` if there is no such field of an object.
 fn is_document_without(
     alloc: Global,
     document: &mut Value,
@@ -65,7 +65,7 @@ fn is_document_without(
     Ok(Some(is_document))
 }
 
-/// Whether the document with one more key in the object at a path is one; none where no object stands there.
+/// Whether the document with one more key in the object at a path is one; `None` if there is no such object.
 fn is_document_with_key(
     alloc: Global,
     document: &mut Value,
@@ -83,7 +83,7 @@ fn is_document_with_key(
     Ok(Some(is_document))
 }
 
-/// Whether each of the other values in the place of a part is judged as its type says.
+/// Whether each of the other values is judged, in the place of a part, as the part's type says.
 fn are_judged(
     alloc: Global,
     types: &Value,
@@ -107,7 +107,7 @@ fn are_keys_judged(alloc: Global, document: &mut Value, part: &Part) -> Result<b
     Ok(without.unwrap_or(due) == due && !with_key.unwrap_or(false))
 }
 
-/// Where a part stands of which a change is misjudged; none where each is judged as its type says.
+/// The path of a part of which a change is misjudged, if there is one.
 fn misjudged_part(alloc: Global, document: &mut Value) -> Result<Option<String>, Fail> {
     let types = Value::from_str(alloc, TYPES)?;
     for part in parts(alloc, &types, "Doc", document)?.as_slice() {

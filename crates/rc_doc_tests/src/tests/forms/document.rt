@@ -1,4 +1,4 @@
-//! A document with every type, variant and field. Each instruction value stands in its printing form.
+//! A document with every type, variant and field. Each instruction value is in its printing form.
 
 /// The document.
 pub const DOCUMENT: &str = r#"{

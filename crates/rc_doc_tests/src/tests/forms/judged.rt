@@ -1,4 +1,4 @@
-//! What the definition of a document says of a part that is left out, or that another value stands for.
+//! Which parts of a document may be left out or replaced by another value, by the definition of a document.
 
 use super::parts::{entry_type, fields_of_struct, within};
 use serde_json::Value;
@@ -36,7 +36,7 @@ fn may_be_empty(types: &Value, type_: &str) -> bool {
     true
 }
 
-/// Whether a value of this type, which isn't one of an `Option`, may be one of the others.
+/// Whether a value of this type, which isn't an `Option`, may be one of the others.
 fn takes_plain(types: &Value, type_: &str, other: &str) -> bool {
     match other {
         "false" => type_ == "bool",

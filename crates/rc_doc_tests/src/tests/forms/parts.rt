@@ -6,14 +6,14 @@ use std::alloc::{AllocError, Global};
 /// More parts than any value here has.
 const MOST_PARTS: usize = 10_000;
 
-/// A part of a value: where it stands, as a JSON pointer, and its type.
+/// A part of a value: its path, as a JSON pointer, and its type.
 #[derive(Drop)]
 pub struct Part {
     pub path: String,
     pub type_: String,
 }
 
-/// What stands between the angle brackets behind a name of a type.
+/// The text between the angle brackets after a name of a type.
 pub fn within<'t>(type_: &'t str, name: &str) -> Option<&'t str> {
     type_
         .strip_prefix(name)?
@@ -21,7 +21,7 @@ pub fn within<'t>(type_: &'t str, name: &str) -> Option<&'t str> {
         .strip_suffix('>')
 }
 
-/// The type of what isn't none.
+/// The type of the value that an option has.
 pub fn without_option(type_: &str) -> &str {
     within(type_, "Option").unwrap_or(type_)
 }
@@ -34,7 +34,7 @@ pub fn entry_type(type_: &str) -> Option<&str> {
     }
 }
 
-/// The type of the item at a place of an array.
+/// The type of the item at an index of an array.
 fn item_type(type_: &str, place: usize) -> &str {
     match (type_, place) {
         ("Span", _) | ("Place", 0) => "number",

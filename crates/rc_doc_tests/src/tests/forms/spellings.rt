@@ -1,4 +1,4 @@
-//! Spellings of single parts of the document, those among them that are easily mistaken for one.
+//! Spellings of single parts of the document, among them those that are easily mistaken for a right one.
 
 use super::changes::{is_document, is_document_with};
 use super::document::DOCUMENT;
@@ -6,7 +6,7 @@ use serde_json::Value;
 use std::alloc::Global;
 use std::test::Fail;
 
-/// Whether the document with each of these at a path is one where that is due, and none elsewhere.
+/// Whether the document with each of these spellings at a path is one exactly if that is expected.
 fn are_judged(alloc: Global, path: &str, spellings: &[(&str, bool)]) -> Result<bool, Fail> {
     let mut document = Value::from_str(alloc, DOCUMENT)?;
     let mut are_judged = true;

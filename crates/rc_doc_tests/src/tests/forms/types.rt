@@ -1,7 +1,7 @@
-//! The types that a document is made of, each with its fields and the types of these.
+//! The types of a document, each with its fields and the types of these.
 
-/// A struct has its fields. An enum has its variants: one without fields is null, and a field without a
-/// name of its own stands under `v`. A number of any type is `number`.
+/// A struct has its fields. An enum has its variants: one without fields is null, and a field without a name of its
+/// own has the key `v`. A number of any type is `number`.
 pub const TYPES: &str = r#"{
 "structs": {
   "Doc": {"hir": "HirFunction", "env": "Environment"},

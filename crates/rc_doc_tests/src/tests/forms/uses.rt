@@ -1,4 +1,4 @@
-//! That the document has each type, each variant and each field.
+//! The document has each type, each variant and each field.
 
 use super::document::DOCUMENT;
 use super::parts::{Part, parts, without_option};
@@ -7,7 +7,7 @@ use serde_json::{Map, Value};
 use std::alloc::{AllocError, Global};
 use std::test::Fail;
 
-/// The form that a value of a type has: of an enum its variant, of an array how many items it has.
+/// The form of a value of a type: the variant of an enum, or the number of items of an array.
 fn form(alloc: Global, type_: &str, value: &Value) -> Result<String, AllocError> {
     let name = value.as_str().or(value.get("k").and_then(Value::as_str));
     match (name, value.as_array()) {
@@ -17,7 +17,7 @@ fn form(alloc: Global, type_: &str, value: &Value) -> Result<String, AllocError>
     }
 }
 
-/// The form of a part, and each of its fields behind that form.
+/// The form of a part, and that form with each of the part's fields.
 fn forms_of(
     alloc: Global,
     part: &Part,
@@ -34,7 +34,7 @@ fn forms_of(
     Ok(())
 }
 
-/// The forms that stand in the document.
+/// The forms that the document has.
 fn forms_used(alloc: Global, types: &Value, document: &Value) -> Result<Vec<String>, AllocError> {
     let mut forms = Vec::new(alloc);
     for part in parts(alloc, types, "Doc", document)?.as_slice() {
@@ -91,13 +91,13 @@ fn types_of<'t>(types: &'t Value, name: &str) -> Option<&'t Map<String, Value>> 
     types.get(name)?.as_object()
 }
 
-/// The forms that stand in the document with every form.
+/// The forms that the document with every form has.
 fn forms_of_document(alloc: Global, types: &Value) -> Result<Vec<String>, Fail> {
     let document = Value::from_str(alloc, DOCUMENT)?;
     Ok(forms_used(alloc, types, &document)?)
 }
 
-/// A struct of which not each field is used; none where each is.
+/// A struct of which some field isn't used, if there is one.
 fn unused_struct(alloc: Global) -> Result<Option<String>, Fail> {
     let types = Value::from_str(alloc, TYPES)?;
     let forms = forms_of_document(alloc, &types)?;
@@ -110,7 +110,7 @@ fn unused_struct(alloc: Global) -> Result<Option<String>, Fail> {
     Ok(None)
 }
 
-/// An enum of which not each variant is used with each field; none where each is.
+/// An enum of which some variant isn't used with each of its fields, if there is one.
 fn unused_enum(alloc: Global) -> Result<Option<String>, Fail> {
     let types = Value::from_str(alloc, TYPES)?;
     let forms = forms_of_document(alloc, &types)?;
@@ -123,7 +123,7 @@ fn unused_enum(alloc: Global) -> Result<Option<String>, Fail> {
     Ok(None)
 }
 
-/// Whether that form stands in the document.
+/// Whether the document has that form.
 fn is_form_used(alloc: Global, form: &str) -> Result<bool, Fail> {
     let types = Value::from_str(alloc, TYPES)?;
     let forms = forms_of_document(alloc, &types)?;

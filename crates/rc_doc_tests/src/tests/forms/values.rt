@@ -1,4 +1,4 @@
-//! Each instruction value of the document, printed and read again, in each of its spellings.
+//! Each instruction value of the document is printed and read again, in each of its spellings.
 
 use super::changes::{exchange, put_field, take_field};
 use super::document::DOCUMENT;
@@ -10,7 +10,7 @@ use serde_json::Value;
 use std::alloc::{AllocError, Global};
 use std::test::Fail;
 
-/// What is printed of the instruction value that was read; nothing where it isn't one.
+/// The printing form of the instruction value that was read; empty if there is none.
 fn printed(alloc: Global, value: &Value) -> Result<String, Fail> {
     let Some(read) = read_instruction_value(alloc, value)? else {
         return Ok(String::new(alloc));
@@ -18,7 +18,7 @@ fn printed(alloc: Global, value: &Value) -> Result<String, Fail> {
     Ok(value_json(alloc, &read)?.to_string(alloc)?)
 }
 
-/// What is printed of the value with another part at a path.
+/// The printing form of the value with another part at a path.
 fn printed_with(alloc: Global, value: &mut Value, path: &str, other: &str) -> Result<String, Fail> {
     let mut held = Value::from_str(alloc, other)?;
     exchange(value, path, &mut held);
@@ -36,7 +36,7 @@ fn text_with(alloc: Global, value: &mut Value, path: &str, other: &str) -> Resul
     Ok(text)
 }
 
-/// The text of the value without the field at a path, and what is printed of it; none without that field.
+/// The text of the value without the field at a path, and that of its printing form; `None` if it has no such field.
 fn texts_without(
     alloc: Global,
     value: &mut Value,
@@ -51,7 +51,7 @@ fn texts_without(
     Ok(Some((text, printed)))
 }
 
-/// Whether the value without an optional field is printed without it, and alike where the field is null.
+/// Whether the value without an optional field is printed without it, and the same if the field is null.
 fn is_printed_without(alloc: Global, value: &mut Value, path: &str) -> Result<bool, Fail> {
     let Some((text, printed)) = texts_without(alloc, value, path)? else {
         return Ok(true);
@@ -68,7 +68,7 @@ fn is_printed_as(alloc: Global, value: &mut Value, path: &str, empty: &str) -> R
     Ok(printed == text && printed_with(alloc, value, path, empty)? == text)
 }
 
-/// Whether the value with its short place at a path spelled out is printed with the short one.
+/// Whether the value with its short place at a path spelled out is printed with the short place.
 fn is_printed_short(alloc: Global, value: &mut Value, path: &str) -> Result<bool, Fail> {
     let Some(number) = value.pointer(path).and_then(Value::as_u64) else {
         return Ok(true);
@@ -90,7 +90,7 @@ fn is_printed_alike(alloc: Global, value: &mut Value, part: &Part) -> Result<boo
     }
 }
 
-/// Whether the value is printed as it stands, and reads as the same value again.
+/// Whether the value is printed as it is written, and reads as the same value again.
 fn is_printed_as_it_stands(alloc: Global, value: &Value) -> Result<bool, Fail> {
     let text = value.to_string(alloc)?;
     let first = printed(alloc, value)?;
@@ -98,12 +98,12 @@ fn is_printed_as_it_stands(alloc: Global, value: &Value) -> Result<bool, Fail> {
     Ok(first == text && second == text)
 }
 
-/// The instruction value that is read of a text.
+/// The instruction value of a text.
 fn read(alloc: Global, text: &str) -> Result<Option<InstructionValue>, Fail> {
     Ok(read_instruction_value(alloc, &Value::from_str(alloc, text)?)?)
 }
 
-/// Whether that is a debugger without a span.
+/// Whether the value is a debugger without a span.
 fn is_debugger(value: Option<InstructionValue>) -> bool {
     match &value {
         Some(InstructionValue::Debugger { span }) => span.is_none(),
@@ -111,7 +111,7 @@ fn is_debugger(value: Option<InstructionValue>) -> bool {
     }
 }
 
-/// Whether it is none.
+/// Whether there is no value.
 fn is_none(value: Option<InstructionValue>) -> bool {
     value.is_none()
 }
@@ -126,7 +126,7 @@ fn a_debugger_is_an_instruction_value_and_an_empty_object_is_none(
     Ok(())
 }
 
-/// Takes the instruction value of that row out of the document.
+/// Takes the instruction value of that row from the document.
 fn take_value(alloc: Global, document: &mut Value, row: usize) -> Result<Value, AllocError> {
     let path = format!(in alloc; "/hir/instructions/{row}/value")?;
     let mut value = Value::Null;
@@ -134,8 +134,7 @@ fn take_value(alloc: Global, document: &mut Value, row: usize) -> Result<Value, 
     Ok(value)
 }
 
-/// Where a part of an instruction value stands of which a spelling is printed in another form; none where each is
-/// printed in one.
+/// The path of a part of an instruction value of which a spelling is printed in another form, if there is one.
 fn misprinted_part(
     alloc: Global,
     types: &Value,

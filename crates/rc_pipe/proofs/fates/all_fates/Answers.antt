@@ -1,12 +1,18 @@
+use Rattle.std.proofs.Common.{◌≡◌, ◌++◌, ap, subst, ◌∙◌}
+use Rattle.rc_names.specs.Numbers.{to_id}
 use Rattle.rc_pipe.proofs.FatesLemmas.{fates_more}
+use Rattle.rc_pipe.specs.Fates.{listed_scopes}
+use Rattle.rc_pipe.specs.inside.ListedFates.{scopes_of}
 use Rattle.rc_pipe.proofs.fates.all_fates.Goals as goal
 
--- one more scope with its fate
-pub loop-scope-preserved : goal.loop-scope-preserved
-loop-scope-preserved c =
-    let steps = c.in-Some.ensures.steps in
-    let whole = c.loop-scope.invariant.0 in
+-- one more scope, with its fate
+pub loop-number-preserved : goal.loop-number-preserved
+loop-number-preserved c =
+    let numbers = c.args.numbers.now.keys in
+    let fates = c.loop-number.fates in
+    let whole = subst (λ left. listed_scopes fates ++ scopes_of left ≡ scopes_of numbers) c.in-Some.ensures.steps
+    c.loop-number.invariant.0 in
     rw c.in_ok-push.ensures.ok
-    (fates_more c.args.left.now.keys c.loop-scope.fates c.fate_of.result c.in-Some.scope.now c.next.new.self
-    c.args.scopes.now.keys c.fate_of.ensures.scope c.fate_of.ensures.told
-    (cc, c.loop-scope.invariant.1))
+    (fates_more (scopes_of c.args.left.now.keys) fates c.fate_of.result (to_id c.in-Some.number.now)
+    (scopes_of c.next.new.self) (scopes_of numbers) (c.fate_of.ensures.scope ∙ ap to_id c.new.ensures)
+    c.fate_of.ensures.told (whole, c.loop-number.invariant.1))

@@ -1,8 +1,9 @@
 use Rattle.std.proofs.Common.{◌≡◌, ◌++◌, All}
 use Rattle.rc_pipe.specs.Fates.{listed_scopes}
-use Rattle.rc_pipe.specs.ListedFates.{HasListedFate}
+use Rattle.rc_pipe.specs.inside.ListedFates.{HasListedFate, scopes_of}
 use Rattle.rc_pipe.proofs.fates.all_fates.Given as goal
 
--- the scopes listed so far and those still to come are all, and each entry has its scope's fate
-abbrev pub invariant-loop-scope : goal.invariant-loop-scope
-invariant-loop-scope l = (listed_scopes l.fates ++ l.scope-iterator ≡ l.scopes.keys) × All (HasListedFate l.left.keys) l.fates
+-- the scopes that are listed and those that are left are all scopes, and each entry has its scope's fate
+abbrev pub invariant-loop-number : goal.invariant-loop-number
+invariant-loop-number l = (listed_scopes l.fates ++ scopes_of l.number-iterator ≡ scopes_of l.numbers.keys)
+    × All (HasListedFate (scopes_of l.left.keys)) l.fates

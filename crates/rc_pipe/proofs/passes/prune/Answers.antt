@@ -26,7 +26,7 @@ returns-clause-known c =
     known_through c.args.env.now c.args.func.now c.prune_unused_labels.new.func c.prune_unused_scopes.new.func
     c.prune_unused_scopes.result c.in_ok-prune_unused_labels.ensures.known c.prune_unused_scopes.ensures.known
 
--- label pruning keeps the runs, and scope pruning what is left without scopes
+-- label pruning keeps the runs, and scope pruning keeps the tree without its scopes
 pub returns-clause-kept_runs : goal.returns-clause-kept_runs
 returns-clause-kept_runs c = λ none.
     runs_through c.args.env.now c.args.func.now c.prune_unused_labels.new.func c.prune_unused_scopes.new.func
@@ -43,7 +43,7 @@ returns-in_err-assert_well_formed_break_targets-clause-refused c = λ hir spelle
     c.in_err-assert_well_formed_break_targets.field-0.0
     (c.in_err-assert_well_formed_break_targets.ensures.spelled hir spelled))
 
--- the check of operands looks at the function without its unused labels
+-- the check of operands comes after unused labels are pruned
 pub returns-in_err-assert_scope_instructions_within_scopes-clause-refused :
     goal.returns-in_err-assert_scope_instructions_within_scopes-clause-refused
 returns-in_err-assert_scope_instructions_within_scopes-clause-refused c = λ hir spelled known.

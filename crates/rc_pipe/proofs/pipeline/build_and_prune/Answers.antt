@@ -1,8 +1,8 @@
--- Each end of the call has its cause, or the headline.
+-- Each fault of the call has its cause, and each success meets the headline.
 use Rattle.std.proofs.Common.{◌≡◌, rules, refl, subst, inr, ap, Err}
 use Rattle.std.proofs.lemmas.Result.{err_from_is_err_and}
-use Rattle.rc_checks.specs.ScopesIn.{scopes_in}
-use Rattle.rc_pipe.specs.ListedFates.{AreListedFates}
+use Rattle.rc_checks.specs.ScopeBlocks.{scopes_in}
+use Rattle.rc_pipe.specs.inside.ListedFates.{AreListedFates}
 use Rattle.rc_pipe.proofs.CausesLemmas.{build_cause, only_memory}
 use Rattle.rc_pipe.proofs.FatesHold.{fates_hold, kept_exactly}
 use Rattle.rc_pipe.proofs.PassesLemmas.{pass_cause}
@@ -57,7 +57,7 @@ returns-in_err-func-clause-complete c =
     rw (p.1, p.2) (λ func accepted answer. inr (ap Err (only_memory c.args.hir.now c.args.env.now accepted func answer
     c.in_err-func.field-0.0 cause)))
 
--- what a pass refuses of the one tree has a cause
+-- a pass's refusal of the one tree has a cause
 pub returns-in_err-prune-clause-refused : goal.returns-in_err-prune-clause-refused
 returns-in_err-prune-clause-refused c =
     let p = err_from_is_err_and c.from_residual-in_err-prune.result c.from_residual-in_err-prune.ensures.1 in

@@ -1,4 +1,4 @@
--- What is refused for another cause than want of memory has no answer, and its fault has a line.
+-- A graph that is refused, but not for memory, has no answer, and its fault has a line.
 use Rattle.std.proofs.Common.{◌≡◌, refl, Err, true, false}
 use Rattle.rc_hir.specs.declared.fault.Fault.TheVariants as faults
 use Rattle.rc_program.proofs.RefusalLemmas.{line_of_cause, no_answer_of}

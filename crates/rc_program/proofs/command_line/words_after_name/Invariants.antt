@@ -1,4 +1,4 @@
--- The words so far and those still to come are all the words behind the first.
+-- The words so far and those that are left are all words after the first.
 use Rattle.std.proofs.Common.{◌≡◌, ◌++◌, drop, map, string_bytes}
 use Rattle.std.specs.Vec.Iter.{into_iter_items, into_iter_len}
 use Rattle.rc_program.proofs.command_line.words_after_name.Given as goal

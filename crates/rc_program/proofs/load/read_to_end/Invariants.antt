@@ -1,4 +1,4 @@
--- What was taken is kept, by no more than one buffer past the most.
+-- The bytes that were taken are kept, and are at most one buffer more than a document may have.
 use Rattle.std.proofs.Common.{◌≤◌, ◌+◌, ◌-◌, ◌≡◌, length, vec_len}
 use Rattle.std.specs.Io.KnownBytes.{Consumes}
 use Rattle.rc_program.specs.Device.{most_bytes}

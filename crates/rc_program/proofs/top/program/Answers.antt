@@ -1,5 +1,5 @@
 use Rattle.std.proofs.Common.{rules}
-use Rattle.rc_program.proofs.OutcomeLemmas.{answers_due}
+use Rattle.rc_program.proofs.StatusLemmas.{answers_due}
 use Rattle.rc_program.proofs.top.program.Goals as goal
 
 pub returns-clause-exact : goal.returns-clause-exact

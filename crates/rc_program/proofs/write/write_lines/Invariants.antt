@@ -1,4 +1,4 @@
--- The text is written up to `at`, and the count never fell.
+-- The text is written up to `at`, and the count hasn't fallen.
 use Rattle.std.proofs.Common.{length, ◌-◌, ◌≤◌, take}
 use Rattle.std.specs.Io.KnownBytes.{Appends}
 use Rattle.rc_program.proofs.write.write_lines.Given as goal

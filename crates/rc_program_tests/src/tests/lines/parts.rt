@@ -13,10 +13,10 @@ pub fn span(start: u32, end: u32) -> Option<Span> {
     Some(Span { start, end })
 }
 
-/// A place that its number says.
+/// A place that is determined by its number.
 pub fn place(number: u32) -> Place {
     Place {
-        identifier: IdentifierId(number),
+        identifier: IdentifierId::new(number),
         effect: Effect::Read,
         reactive: false,
         span: None,
@@ -26,7 +26,7 @@ pub fn place(number: u32) -> Place {
 /// A reactive place with an effect.
 pub fn reactive(number: u32, effect: Effect, span: Option<Span>) -> Place {
     Place {
-        identifier: IdentifierId(number),
+        identifier: IdentifierId::new(number),
         effect,
         reactive: true,
         span,
@@ -36,7 +36,7 @@ pub fn reactive(number: u32, effect: Effect, span: Option<Span>) -> Place {
 /// A label that a labeled jump names.
 pub fn explicit(block: u32) -> Option<ReactiveLabel> {
     Some(ReactiveLabel {
-        id: BlockId(block),
+        id: BlockId::new(block),
         implicit: false,
     })
 }
@@ -44,7 +44,7 @@ pub fn explicit(block: u32) -> Option<ReactiveLabel> {
 /// A label that no labeled jump names.
 pub fn implicit(block: u32) -> Option<ReactiveLabel> {
     Some(ReactiveLabel {
-        id: BlockId(block),
+        id: BlockId::new(block),
         implicit: true,
     })
 }
@@ -60,19 +60,19 @@ pub fn load(number: u32) -> ReactiveValue {
 /// A row without a target and without a span.
 pub fn row(id: u32, value: ReactiveValue) -> ReactiveInstruction {
     ReactiveInstruction {
-        id: EvaluationOrder(id),
+        id: EvaluationOrder::new(id),
         lvalue: None,
         value,
         span: None,
     }
 }
 
-/// Puts a row at the end of a block.
+/// Appends a row to a block.
 pub fn put_row(block: &mut ReactiveBlock, row: ReactiveInstruction) -> Result<(), AllocError> {
     block.statements.push(ReactiveStatement::Instruction(row))
 }
 
-/// Puts a terminal with a label at the end of a block.
+/// Appends a terminal with a label to a block.
 pub fn put(
     alloc: Global,
     block: &mut ReactiveBlock,
@@ -97,7 +97,7 @@ pub fn returning(alloc: Global, number: u32, id: u32) -> Result<ReactiveBlock, A
     let mut block = empty(alloc);
     let terminal = ReactiveTerminal::Return {
         value: place(number),
-        id: EvaluationOrder(id),
+        id: EvaluationOrder::new(id),
     };
     put(alloc, &mut block, terminal, None)?;
     Ok(block)

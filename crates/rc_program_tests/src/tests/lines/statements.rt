@@ -1,4 +1,4 @@
-//! Each statement, and each terminal with and without the parts that it may lack.
+//! Each statement, and each terminal with and without its optional parts.
 
 use super::parts::{
     empty, explicit, implicit, load, place, put, put_row, reactive, returning, row, span,
@@ -31,15 +31,15 @@ pub fn put_jumps(
     label: Option<ReactiveLabel>,
 ) -> Result<(), AllocError> {
     let jump = ReactiveTerminal::Break {
-        target: BlockId(11),
+        target: BlockId::new(11),
         target_kind,
-        id: EvaluationOrder(12),
+        id: EvaluationOrder::new(12),
     };
     put(alloc, block, jump, label)?;
     let jump = ReactiveTerminal::Continue {
-        target: BlockId(13),
+        target: BlockId::new(13),
         target_kind,
-        id: EvaluationOrder(14),
+        id: EvaluationOrder::new(14),
     };
     put(alloc, block, jump, label)
 }
@@ -48,30 +48,30 @@ pub fn put_jumps(
 pub fn put_ends(alloc: Global, block: &mut ReactiveBlock) -> Result<(), AllocError> {
     let end = ReactiveTerminal::Return {
         value: place(18),
-        id: EvaluationOrder(19),
+        id: EvaluationOrder::new(19),
     };
     put(alloc, block, end, explicit(20))?;
     let end = ReactiveTerminal::Throw {
         value: reactive(21, Effect::Capture, span(22, 23)),
-        id: EvaluationOrder(24),
+        id: EvaluationOrder::new(24),
     };
     put(alloc, block, end, implicit(25))
 }
 
-/// An `if` with a consequent alone, and one with an alternate.
+/// An `if` with only a consequent, and one with an alternate.
 pub fn put_ifs(alloc: Global, block: &mut ReactiveBlock) -> Result<(), AllocError> {
     let terminal = ReactiveTerminal::If {
         test: place(26),
         consequent: returning(alloc, 28, 29)?,
         alternate: None,
-        id: EvaluationOrder(27),
+        id: EvaluationOrder::new(27),
     };
     put(alloc, block, terminal, None)?;
     let terminal = ReactiveTerminal::If {
         test: place(30),
         consequent: returning(alloc, 33, 34)?,
         alternate: Some(returning(alloc, 35, 36)?),
-        id: EvaluationOrder(31),
+        id: EvaluationOrder::new(31),
     };
     put(alloc, block, terminal, explicit(32))
 }
@@ -103,7 +103,7 @@ pub fn put_switches(alloc: Global, block: &mut ReactiveBlock) -> Result<(), Allo
     let terminal = ReactiveTerminal::Switch {
         test: place(37),
         cases: cases(alloc)?,
-        id: EvaluationOrder(38),
+        id: EvaluationOrder::new(38),
     };
     put(alloc, block, terminal, implicit(39))?;
     let mut cases = List::new(alloc);
@@ -114,7 +114,7 @@ pub fn put_switches(alloc: Global, block: &mut ReactiveBlock) -> Result<(), Allo
     let terminal = ReactiveTerminal::Switch {
         test: place(47),
         cases,
-        id: EvaluationOrder(48),
+        id: EvaluationOrder::new(48),
     };
     put(alloc, block, terminal, None)
 }
@@ -124,7 +124,7 @@ pub fn put_do_while(alloc: Global, block: &mut ReactiveBlock) -> Result<(), Allo
     let terminal = ReactiveTerminal::DoWhile {
         loop_block: returning(alloc, 51, 52)?,
         test: load(53),
-        id: EvaluationOrder(49),
+        id: EvaluationOrder::new(49),
     };
     put(alloc, block, terminal, explicit(50))
 }
@@ -134,7 +134,7 @@ pub fn put_while(alloc: Global, block: &mut ReactiveBlock) -> Result<(), AllocEr
     let terminal = ReactiveTerminal::While {
         test: load(56),
         loop_block: returning(alloc, 57, 58)?,
-        id: EvaluationOrder(54),
+        id: EvaluationOrder::new(54),
     };
     put(alloc, block, terminal, implicit(55))
 }
@@ -146,7 +146,7 @@ pub fn put_for_without_update(alloc: Global, block: &mut ReactiveBlock) -> Resul
         test: load(61),
         update: None,
         loop_block: returning(alloc, 62, 63)?,
-        id: EvaluationOrder(59),
+        id: EvaluationOrder::new(59),
     };
     put(alloc, block, terminal, None)
 }
@@ -158,7 +158,7 @@ pub fn put_for_with_update(alloc: Global, block: &mut ReactiveBlock) -> Result<(
         test: load(67),
         update: Some(load(68)),
         loop_block: returning(alloc, 69, 70)?,
-        id: EvaluationOrder(64),
+        id: EvaluationOrder::new(64),
     };
     put(alloc, block, terminal, explicit(65))
 }
@@ -175,7 +175,7 @@ pub fn put_for_of(
         test: load(73),
         loop_block: returning(alloc, 74, 75)?,
         span,
-        id: EvaluationOrder(71),
+        id: EvaluationOrder::new(71),
     };
     put(alloc, block, terminal, label)
 }
@@ -191,7 +191,7 @@ pub fn put_for_in(
         init: load(80),
         loop_block: returning(alloc, 81, 82)?,
         span,
-        id: EvaluationOrder(79),
+        id: EvaluationOrder::new(79),
     };
     put(alloc, block, terminal, label)
 }
@@ -202,14 +202,14 @@ pub fn put_tries(alloc: Global, block: &mut ReactiveBlock) -> Result<(), AllocEr
         block: returning(alloc, 87, 88)?,
         handler_binding: None,
         handler: returning(alloc, 89, 90)?,
-        id: EvaluationOrder(86),
+        id: EvaluationOrder::new(86),
     };
     put(alloc, block, terminal, None)?;
     let terminal = ReactiveTerminal::Try {
         block: returning(alloc, 93, 94)?,
         handler_binding: Some(reactive(95, Effect::Mutate, span(96, 97))),
         handler: returning(alloc, 98, 99)?,
-        id: EvaluationOrder(91),
+        id: EvaluationOrder::new(91),
     };
     put(alloc, block, terminal, explicit(92))
 }
@@ -217,7 +217,7 @@ pub fn put_tries(alloc: Global, block: &mut ReactiveBlock) -> Result<(), AllocEr
 /// A scope block around a pruned one.
 pub fn put_scopes(alloc: Global, block: &mut ReactiveBlock) -> Result<(), AllocError> {
     let pruned = PrunedReactiveScopeBlock {
-        scope: ScopeId(101),
+        scope: ScopeId::new(101),
         instructions: returning(alloc, 102, 103)?,
     };
     let mut instructions = empty(alloc);
@@ -225,7 +225,7 @@ pub fn put_scopes(alloc: Global, block: &mut ReactiveBlock) -> Result<(), AllocE
         .statements
         .push(ReactiveStatement::PrunedScope(pruned))?;
     let scope = ReactiveScopeBlock {
-        scope: ScopeId(100),
+        scope: ScopeId::new(100),
         instructions,
     };
     block.statements.push(ReactiveStatement::Scope(scope))
@@ -237,7 +237,7 @@ pub fn put_label(alloc: Global, block: &mut ReactiveBlock) -> Result<(), AllocEr
     put_scopes(alloc, &mut inside)?;
     let terminal = ReactiveTerminal::Label {
         block: inside,
-        id: EvaluationOrder(104),
+        id: EvaluationOrder::new(104),
     };
     put(alloc, block, terminal, explicit(105))
 }

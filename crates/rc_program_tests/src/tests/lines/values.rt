@@ -1,4 +1,4 @@
-//! Rows of each form of a value.
+//! Rows of each form of value.
 
 use super::parts::{load, place, put_row, reactive, row, span};
 use rc_hir::{
@@ -71,7 +71,7 @@ fn sequence(alloc: Global) -> Result<ReactiveValue, AllocError> {
     instructions.push(row(23, load(24)))?;
     Ok(ReactiveValue::SequenceExpression {
         instructions,
-        id: EvaluationOrder(22),
+        id: EvaluationOrder::new(22),
         value: Boxed::new(alloc, load(25))?,
     })
 }
@@ -86,7 +86,7 @@ pub fn put_sequence(alloc: Global, block: &mut ReactiveBlock) -> Result<(), Allo
     instructions.push(row(31, load(32)))?;
     let sequence = ReactiveValue::SequenceExpression {
         instructions,
-        id: EvaluationOrder(26),
+        id: EvaluationOrder::new(26),
         value: Boxed::new(alloc, load(33))?,
     };
     put_row(block, row(21, sequence))
@@ -96,7 +96,7 @@ pub fn put_sequence(alloc: Global, block: &mut ReactiveBlock) -> Result<(), Allo
 pub fn put_empty_sequence(alloc: Global, block: &mut ReactiveBlock) -> Result<(), AllocError> {
     let sequence = ReactiveValue::SequenceExpression {
         instructions: List::new(alloc),
-        id: EvaluationOrder(36),
+        id: EvaluationOrder::new(36),
         value: Boxed::new(alloc, load(37))?,
     };
     let mut row = row(34, sequence);
@@ -105,7 +105,7 @@ pub fn put_empty_sequence(alloc: Global, block: &mut ReactiveBlock) -> Result<()
     put_row(block, row)
 }
 
-/// An optional whose mark stands at it, around one whose mark doesn't.
+/// An optional with its own mark, around one without it.
 pub fn put_optionals(alloc: Global, block: &mut ReactiveBlock) -> Result<(), AllocError> {
     let inner = ReactiveValue::OptionalExpression {
         value: Boxed::new(alloc, load(41))?,

@@ -1,4 +1,4 @@
--- So far what is left is no deeper than all, and what was taken is less deep.
+-- So far the level is no deeper than at first, and the statements that were moved are less deep.
 use Rattle.std.proofs.Common.{◌≤◌, ◌<◌, ℕ}
 use denote.Param.Weighed.{most}
 use Rattle.rc_tree.proofs.drops.take_inside.Given as goal

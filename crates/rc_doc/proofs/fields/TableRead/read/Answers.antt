@@ -1,4 +1,4 @@
--- The list has as many entries as the array has items, which fit.
+-- The list has as many entries as the array has items, so it fits.
 use Rattle.std.proofs.Common.{◌≡◌, length, arith}
 use Rattle.serde_json.specs.View.{view}
 use Rattle.rc_doc.specs.Reading.{array_len}

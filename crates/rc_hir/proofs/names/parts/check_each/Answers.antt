@@ -2,7 +2,7 @@ use Rattle.std.proofs.lemmas.Result.{err_from_is_err_and}
 use Rattle.rc_hir.proofs.NamesLemmas.{judges_next_part, judges_no_part, judges_stop_part}
 use Rattle.rc_hir.proofs.names.parts.check_each.Goals as goal
 
--- the fault of a part is one for the parts that are left
+-- the fault of a part is a fault of the parts that are left
 pub returns-in_err-check : goal.returns-in_err-check
 returns-in_err-check g c =
     let p = err_from_is_err_and c.from_residual.result c.from_residual.ensures.1 in

@@ -2,7 +2,7 @@ use Rattle.std.proofs.Common.{rules}
 use Rattle.rc_names.proofs.KeyedLemmas.{next_pair}
 use Rattle.rc_names.proofs.keyed.KeyedCloneIn.clone_in.Goals as goal
 
--- the pair that was taken goes to the end of the copy
+-- the pair that was taken is now the last of the copy
 pub loop-key-preserved-in_ok-insert : goal.loop-key-preserved-in_ok-insert
 loop-key-preserved-in_ok-insert g c =
     next_pair g.K.PartialEq.eq g.met.K.Name.eq_same c.in-Some.key.now c.in-Some.value.now c.loop-key.copy

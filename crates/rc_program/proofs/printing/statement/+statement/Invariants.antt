@@ -2,7 +2,7 @@ use Rattle.std.proofs.Common.{◌≡◌, ◌++◌, map, drop}
 use Rattle.rc_program.specs.Lines.{all_lines, statement_lines, case_lines}
 use Rattle.rc_program.proofs.printing.statement.+statement.Given as goal
 
--- the lines so far and those that are left make the whole
+-- the lines so far and those that are left are the whole
 abbrev pub invariant-write_statements-loop-statement : goal.invariant-write_statements-loop-statement
 invariant-write_statements-loop-statement l =
     l.page ++ all_lines (map statement_lines (drop l.statement-index l.statements)) l.indent ≡ l.fn.page

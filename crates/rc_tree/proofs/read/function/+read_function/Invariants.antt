@@ -1,7 +1,7 @@
--- Each call of the cycle is a step down: a function to its inside with one more mark, the inside to its blocks, and so
--- on.
+-- Each call of the cycle is a step down: from a function to its inside with one more mark, from the inside to its
+-- blocks, and so on.
 use Rattle.std.proofs.Common.{◌≡◌, ◌+◌, ◌*◌, drop}
-use Rattle.rc_tree.specs.Outcome.{each}
+use Rattle.rc_tree.specs.Step.{each}
 use Rattle.rc_tree.specs.ReadFunction.{basic_block_at, not_entered, row_at}
 use Rattle.rc_tree.proofs.read.function.+read_function.Given as goal
 

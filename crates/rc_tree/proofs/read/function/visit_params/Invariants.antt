@@ -1,5 +1,5 @@
 use Rattle.std.proofs.Common.{◌≡◌, drop}
-use Rattle.rc_tree.specs.Outcome.{each}
+use Rattle.rc_tree.specs.Step.{each}
 use Rattle.rc_tree.specs.ReadFunction.{param_place}
 use Rattle.rc_tree.proofs.read.function.visit_params.Given as goal
 

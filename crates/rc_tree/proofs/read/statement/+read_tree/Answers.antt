@@ -1,7 +1,7 @@
 use Rattle.rc_tree.proofs.ReadStatementLemmas.{parts-If}
 use Rattle.rc_tree.proofs.read.statement.+read_tree.Goals as goal
 
--- the last part of an `If` stands behind three calls
+-- three calls come before the last part of an `If`
 pub walk_parts-returns-in_ok-walk_block-in-If : goal.walk_parts-returns-in_ok-walk_block-in-If
 walk_parts-returns-in_ok-walk_block-in-If g t c =
     rw (

@@ -1,5 +1,5 @@
 use Rattle.std.proofs.Common.{◌≡◌, drop}
-use Rattle.rc_tree.specs.Outcome.{each}
+use Rattle.rc_tree.specs.Step.{each}
 use Rattle.rc_tree.specs.Read.{inside_block, read_case, read_statement}
 use Rattle.rc_tree.proofs.read.statement.+read_tree.Given as goal
 

@@ -1,6 +1,6 @@
 use Rattle.std.proofs.Common.{◌≡◌, drop}
-use Rattle.rc_tree.specs.Outcome.{each}
-use Rattle.rc_tree.specs.Read.{read_instruction}
+use Rattle.rc_tree.specs.Step.{each}
+use Rattle.rc_tree.specs.Read.Values.{read_instruction}
 use Rattle.rc_tree.proofs.read.value.+read_value.Given as goal
 
 abbrev pub invariant-walk_rows-loop-row : goal.invariant-walk_rows-loop-row

@@ -1,5 +1,5 @@
 use Rattle.std.proofs.Common.{◌≡◌, drop}
-use Rattle.rc_tree.specs.Outcome.{each}
+use Rattle.rc_tree.specs.Step.{each}
 use Rattle.rc_tree.proofs.read.value.visit_places.Given as goal
 
 abbrev pub invariant-loop-place : goal.invariant-loop-place

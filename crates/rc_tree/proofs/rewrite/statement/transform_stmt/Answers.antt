@@ -5,7 +5,7 @@ use Rattle.rc_tree.proofs.RewriteStatementLemmas.{gives_rewrite_statement}
 use Rattle.rc_tree.specs.Rewrite.{block_to}
 use Rattle.rc_tree.proofs.rewrite.statement.transform_stmt.Goals as goal
 
--- the walk of what the statement holds fails
+-- the walk of the statement's part fails
 pub returns-in_err-walk_held : goal.returns-in_err-walk_held
 returns-in_err-walk_held g c =
     let steps = g.T.ReactiveFunctionTransform.steps in
@@ -19,7 +19,7 @@ returns-in_err-walk_held g c =
     ((c.walk_held.new.transform, c.walk_held.new.state), c.walk_held.new.statement)
     ((c.walk_held.new.transform, c.walk_held.new.state), c.walk_held.new.statement) (c.in_err-walk_held.ensures n)))
 
--- the walk of what the statement holds, and then its `transform_` step
+-- the walk of the statement's part, and then its `transform_` step
 pub returns : goal.returns
 returns g c =
     let steps = g.T.ReactiveFunctionTransform.steps in

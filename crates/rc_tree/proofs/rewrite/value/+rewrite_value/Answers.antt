@@ -2,10 +2,10 @@ use Rattle.std.proofs.Common.{◌∙◌, inr, Ok, Err, ap, arith}
 use Rattle.std.proofs.lemmas.List.{reverse-reverse}
 use Rattle.std.proofs.lemmas.Result.{err_from_is_err_and}
 use Rattle.rc_tree.proofs.PlaceLemmas.{most_pop}
-use Rattle.rc_tree.proofs.RewriteRunLemmas.{meets_inside_fault, so_far_next, most-reverse}
+use Rattle.rc_tree.proofs.FuelLemmas.{meets_inside_fault, so_far_next, most-reverse}
 use Rattle.rc_tree.proofs.RewriteValueLemmas.{meets_instruction_at, meets_value_to, rows_at-in_turn}
-use Rattle.rc_tree.specs.Run.{kept_into}
-use Rattle.rc_tree.specs.Rewrite.{instruction_at, instruction_inside, rows_at, value_inside, value_to}
+use Rattle.rc_tree.specs.Fuel.{kept_into}
+use Rattle.rc_tree.specs.Rewrite.Values.{instruction_at, instruction_inside, rows_at, value_inside, value_to}
 use Rattle.rc_tree.proofs.value.ReactiveInstruction.TheLaws.{the_size}
 use Rattle.rc_tree.proofs.rewrite.value.+rewrite_value.Goals as goal
 

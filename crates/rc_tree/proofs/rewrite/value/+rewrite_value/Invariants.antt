@@ -1,9 +1,9 @@
--- What is left is no deeper than all rows, and so far the walk of all is that of what is left.
+-- The rows that are left are no deeper than all, and their walk from here is the walk of all.
 use Rattle.std.proofs.Common.{◌≤◌, ℕ, reverse, length}
 use denote.Param.Weighed.{most}
-use Rattle.rc_tree.proofs.RewriteRunLemmas.{SoFar}
-use Rattle.rc_tree.specs.Run.{in_turn, kept_into}
-use Rattle.rc_tree.specs.Rewrite.{instruction_at, rows_at, value_to}
+use Rattle.rc_tree.proofs.FuelLemmas.{SoFar}
+use Rattle.rc_tree.specs.Fuel.{in_turn, kept_into}
+use Rattle.rc_tree.specs.Rewrite.Values.{instruction_at, rows_at, value_to}
 use Rattle.rc_tree.proofs.value.ReactiveInstruction.TheLaws.{the_size}
 use Rattle.rc_tree.proofs.rewrite.value.+rewrite_value.Given as goal
 

@@ -1,7 +1,7 @@
 use Rattle.std.proofs.Common.{◌∙◌, sym, ap}
 use Rattle.std.specs.Option.{option_copied}
-use Rattle.rc_checks.specs.Membership.{is_among}
-use Rattle.rc_checks.proofs.OpenScopesLemmas.{stands_there, nothing_there, nothing_kept}
+use Rattle.rc_names.specs.Numbers.{is_among}
+use Rattle.rc_checks.proofs.MembershipCheck.OpenScopesLemmas.{stands_there, nothing_there, nothing_kept}
 use Rattle.rc_checks.proofs.membership.open_scopes.OpenScopes.contains.Goals as goal
 
 pub returns-in-Some-get : goal.returns-in-Some-get

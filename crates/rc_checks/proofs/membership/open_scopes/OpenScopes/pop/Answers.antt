@@ -1,4 +1,4 @@
-use Rattle.rc_checks.proofs.OpenScopesLemmas.{after_pop}
+use Rattle.rc_checks.proofs.MembershipCheck.OpenScopesLemmas.{after_pop}
 use Rattle.rc_checks.proofs.membership.open_scopes.OpenScopes.pop.Goals as goal
 
 pub invariant_of-self : goal.invariant_of-self

@@ -1,6 +1,6 @@
 use Rattle.std.proofs.Common.{◌≡◌, ◌∙◌, sym, ap, true, false}
-use Rattle.rc_checks.specs.Membership.{is_among}
-use Rattle.rc_checks.proofs.OpenScopesLemmas.{pushed_new, pushed_again}
+use Rattle.rc_names.specs.Numbers.{is_among}
+use Rattle.rc_checks.proofs.MembershipCheck.OpenScopesLemmas.{pushed_new, pushed_again}
 use Rattle.rc_checks.proofs.membership.open_scopes.OpenScopes.push.Goals.{then-not-contains+in_ok-insert}
 use Rattle.rc_checks.proofs.membership.open_scopes.OpenScopes.push.Goals.{else-not-contains}
 use Rattle.rc_checks.proofs.membership.open_scopes.OpenScopes.push.Goals as goal

@@ -4,7 +4,7 @@ use Rattle.rc_hir.specs.PartNames.{under_key}
 use Rattle.rc_hir.proofs.NamesLemmas.{judges_next_at, judges_no_part, judges_stop_at}
 use Rattle.rc_hir.proofs.names.parts.KeyedHoldsNames.check.Goals as goal
 
--- the fault of a value is one for the values that are left
+-- the fault of a value is a fault of the values that are left
 pub returns-in_err-check_at : goal.returns-in_err-check_at
 returns-in_err-check_at g c =
     let p = err_from_is_err_and c.from_residual.result c.from_residual.ensures.1 in

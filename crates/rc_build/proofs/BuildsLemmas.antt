@@ -1,0 +1,107 @@
+-- What a function of the builder ensures where a fault ends it, and where it goes on with another one.
+use Rattle.std.proofs.Common.{◌≡◌, Result, Ok, Err, Option, Some, IfOk, IfErr, IsErrAnd, refl, sym, ap, ◌∙◌, subst}
+use Rattle.std.proofs.lemmas.Result.{err_from_is_err_and}
+use Rattle.rc_names.specs.Numbers.{BlockId}
+use Rattle.rc_names.specs.declared.span.Span.{Span}
+use Rattle.rc_hir.specs.Model.{Terminal, Fault, Rule}
+use Rattle.rc_hir.specs.declared.fault.Fault.TheVariants as faults
+use Rattle.rc_build.specs.declared.builder.Builder.{Builder}
+use Rattle.rc_build.specs.declared.builder.Site.{Site}
+use Rattle.rc_build.specs.RuleFacts.{FaultFact, RuleFact}
+use Rattle.rc_build.specs.inside.Setting.{Setting, setting_of}
+use Rattle.rc_build.specs.inside.Task.{FromTerminal, Spells, Task, left, progress_of}
+use Rattle.rc_build.specs.inside.Built.{Builds, BuildsTask, BuiltPrefix, Refused, IfMalformed}
+use Rattle.rc_build.proofs.BuiltLemmas.{prefix_then, prefix_refused}
+
+-- the fault that a `?` passes on is that of its call
+pub passed_on : {A B : Type 0} {inner fault : Fault} {result : Result A Fault}
+    → IsErrAnd result (λ passed. passed ≡ inner) → result ≡ Err fault → ◌≡◌ {A = Result B Fault} (Err inner) (Err fault)
+passed_on {inner = inner} {fault = fault} {result = result} passed e =
+    let p = err_from_is_err_and result passed in let same : inner ≡ fault = cc (p.1, p.2, e) in ap Err same
+
+-- something is built
+pub is_built : {A : Type 0} {old new : Builder} {site : Site} {Built : A → Type 0} {N : Type 0} (answer : A)
+    → Built answer → setting_of new site ≡ setting_of old site → Builds old new site Built N (Ok answer)
+is_built answer b same = record {
+  ok = b;
+  refused = λ named rule e. absurd (let bad : ⊥ = cc in bad);
+  facts = tt;
+  frames = same;
+}
+
+-- a rule is broken
+pub breaks_rule : {A : Type 0} {old new : Builder} {site : Site} {Built : A → Type 0} {N : Type 0} {fault : Fault}
+    (block : BlockId) (rule : Rule) → fault ≡ faults.Malformed block rule → N → RuleFact old.hir.now rule block
+    → Builds old new site Built N (Err fault)
+breaks_rule {old = old} block rule is none fact = record {
+  ok = tt;
+  refused = λ named other e. none;
+  facts = subst (FaultFact old.hir.now) (sym is) fact;
+  frames = tt;
+}
+
+-- a `?` passes on the fault of a call that builds nothing
+pub fails : {A : Type 0} {old new : Builder} {site : Site} {Built : A → Type 0} {N : Type 0} {fault : Fault}
+    {result : Result A Fault} → IsErrAnd result (λ passed. passed ≡ fault) → FaultFact old.hir.now fault
+    → ((block : BlockId) (rule : Rule) → fault ≡ faults.Malformed block rule → N)
+    → Builds old new site Built N result
+fails {old = old} {site = site} {Built = Built} {N = N} {fault = fault} {result = result} passed fact refuses =
+    let p = err_from_is_err_and result passed in
+    rw (p.1, p.2) (record {
+      ok = tt;
+      refused = λ named rule e. refuses named rule (let same : fault ≡ faults.Malformed named rule = cc in same);
+      facts = fact;
+      frames = tt;
+    })
+
+-- out of memory, which names no rule
+pub out_of_memory : {A : Type 0} {old new : Builder} {site : Site} {Built : A → Type 0} {N : Type 0}
+    {result : Result A Fault} → IsErrAnd result (λ passed. passed ≡ faults.NoMemory)
+    → Builds old new site Built N result
+out_of_memory passed = fails passed tt (λ named rule e. absurd (let bad : ⊥ = cc in bad))
+
+-- a `?` passes on the fault of a function that builds from the same graph
+pub passes_on : {A B : Type 0} {old now later new : Builder} {site there : Site} {Built : A → Type 0}
+    {BuiltThere : B → Type 0} {N NThere : Type 0} {fault : Fault} {result : Result A Fault} →
+    IsErrAnd result (λ passed. passed ≡ fault) → now.hir.now ≡ old.hir.now →
+    Builds now later there BuiltThere NThere (Err fault) → (NThere → N) → Builds old new site Built N result
+passes_on {fault = fault} passed same inner refuses =
+    fails passed (subst (λ z. FaultFact z fault) same inner.facts)
+    (λ named rule e. refuses (inner.refused named rule (ap Err e)))
+
+-- what is built of a terminal, whatever its span
+pub builds_terminal : {old new : Builder} {site : Site} {result : Result (Option BlockId) Fault} {terminal : Terminal}
+    (form : Option Span → Terminal) (span : Option Span) → terminal ≡ form span
+    → ((other : Option Span) → BuildsTask old new site (FromTerminal (form other)) left result)
+    → BuildsTask old new site (FromTerminal terminal) left result
+builds_terminal {old} {new} {site} {result} form span is built =
+    subst (λ k. BuildsTask old new site (FromTerminal k) left result) (sym is) (built span)
+
+-- what a function builds of what another one left
+pub builds_then : {A : Type 0} {old mid new : Builder} {site : Site} {task between : Task} {rest : A → Task}
+    {result : Result A Fault} → setting_of mid site ≡ setting_of old site →
+    BuiltPrefix (setting_of old site) task between (progress_of old) (progress_of mid) →
+    BuildsTask mid new site between rest result → BuildsTask old new site task rest result
+builds_then {A = A} {old} {mid} {new} {site} {task} {between} {rest} {result} same first later = record {
+  ok = go result later.ok;
+  refused = λ named rule e. prefix_refused first
+      (subst (λ (z : Setting). Refused z.hir (Spells z between) mid.marks.used) same (later.refused named rule e));
+  facts = facts result later.facts;
+  frames = frames result later.frames;
+}
+  where
+    go : (r : Result A Fault) →
+        IfOk r (λ answer. BuiltPrefix (setting_of mid site) between (rest answer) (progress_of mid) (progress_of new)) →
+        IfOk r (λ answer. BuiltPrefix (setting_of old site) task (rest answer) (progress_of old) (progress_of new))
+    go (Ok answer) b = prefix_then first (subst
+        (λ (z : Setting). BuiltPrefix z between (rest answer) (progress_of mid) (progress_of new)) same b)
+    go (Err fault) b = tt
+
+    facts : (r : Result A Fault) → IfErr r (FaultFact mid.hir.now) → IfErr r (FaultFact old.hir.now)
+    facts (Ok answer) f = tt
+    facts (Err fault) f = subst (λ (z : Setting). FaultFact z.hir fault) same f
+
+    frames : (r : Result A Fault) → IfOk r (λ _. setting_of new site ≡ setting_of mid site)
+        → IfOk r (λ _. setting_of new site ≡ setting_of old site)
+    frames (Ok answer) e = e ∙ same
+    frames (Err fault) e = tt

@@ -1,0 +1,262 @@
+use Rattle.std.proofs.Common.{[], Some, None, refl, sym, ap, ◌∙◌, subst, arith, rules}
+use Rattle.std.proofs.lemmas.List.{append-nil}
+use Rattle.std.proofs.lemmas.Result.{IfOk-weaker}
+use Rattle.rc_runs.specs.declared.frames.Frame.TheVariants as frame_kinds
+use Rattle.rc_hir.specs.declared.fault.Rule.TheVariants.{FallsElsewhere}
+use Rattle.rc_hir.specs.declared.terminal.Terminal.TheVariants as terminals
+use Rattle.rc_tree.specs.declared.terminal.ReactiveTerminal.TheVariants as tree
+use Rattle.rc_runs.specs.PlainTree.{Nil}
+use Rattle.rc_runs.specs.Grammar.{SpellsTerminal, unreachable}
+use Rattle.rc_build.specs.declared.builder.Site.{Site}
+use Rattle.rc_build.specs.inside.CanBuild.{CanBuildList, CanBuildTerminal}
+use Rattle.rc_build.specs.inside.Depths.{frames_inside}
+use Rattle.rc_build.specs.inside.Enclosures.{statement_around}
+use Rattle.rc_build.specs.inside.Setting.{Setting, part_setting, setting_of, terminal_statement}
+use Rattle.rc_build.specs.inside.Task.{SpellsAlternate, progress_of, FromBlock, Nothing, Spells}
+use Rattle.rc_build.specs.inside.Built.{Refused, BuiltAlternate, BuiltList, BuiltPrefix}
+use Rattle.rc_build.proofs.BuildsLemmas.{breaks_rule, builds_terminal, builds_then, is_built, passes_on}
+use Rattle.rc_build.proofs.BuiltLemmas.{whole_list, marking_beside}
+use Rattle.rc_build.proofs.EnclosureLemmas.{enclosure_built, enclosure_can, enclosure_refused}
+use Rattle.rc_build.proofs.IfLemmas.{alternate_absent, alternate_present, alternate_refused, if_built, if_refused}
+use Rattle.rc_build.proofs.IfLemmas.{if_elsewhere, if_refused_later, elsewhere_parts}
+use Rattle.rc_build.proofs.ListLemmas.{list_done, list_further, list_next, list_refused, list_start, same_blocks}
+use Rattle.rc_build.proofs.ListLemmas.{used_longer}
+use Rattle.rc_build.proofs.JumpLemmas.{builds_end}
+use Rattle.rc_build.proofs.MarksLemmas.{room}
+use Rattle.rc_build.proofs.StatementLemmas.{setting_left, falls_badly, at_part_site}
+use Rattle.rc_build.proofs.WalkLemmas.{at_first_part, none_used, at_part}
+use Rattle.rc_build.proofs.builder.Builder.+builder.Goals as goal
+
+-- the loop over the blocks of a list
+
+pub build_list-list-init : goal.build_list-list-init
+build_list-list-init t c = list_start c.args.self.now c.args.site c.requires.marked
+
+pub build_list-build_block-requires : goal.build_list-build_block-requires
+build_list-build_block-requires t c = (
+  omega (arith, same_blocks c.args.self.now c.list.self c.args.site c.list.invariant.setting, used_longer c.list.invariant.built.marking),
+  list_next c.in-Some.is c.list.invariant c.requires,
+)
+
+pub build_list-list-preserved : goal.build_list-list-preserved
+build_list-list-preserved t c =
+    let step = c.in_ok-at.ensures.builds in
+    list_further c.in-Some.is c.list.invariant step.frames step.ok
+
+pub build_list-list-smaller : goal.build_list-list-smaller
+build_list-list-smaller t c =
+    let step = c.in_ok-at.ensures.builds in
+    let r = room c.list.self.hir.now c.build_block.new.self.marks step.ok.marking.marked in
+    omega (arith, r, same_blocks c.list.self c.build_block.new.self c.args.site step.frames, c.in_ok-at.ensures.more)
+
+pub build_list-returns-in_err-at : goal.build_list-returns-in_err-at
+build_list-returns-in_err-at t c =
+    passes_on c.from_residual.ensures.1 (ap (λ (z : Setting). z.hir) c.list.invariant.setting) c.in_err-at.ensures.builds
+    (list_refused c.in-Some.is c.list.invariant)
+
+pub build_list-returns : goal.build_list-returns
+build_list-returns t c = record {
+  ok = list_done c.in_default.is c.list.invariant;
+  refused = search rules;
+  facts = tt;
+  frames = c.list.invariant.setting;
+}
+
+-- a block
+
+pub build_block-build_terminal-requires : goal.build_block-build_terminal-requires
+build_block-build_terminal-requires t c =
+    let taken = c.in_ok-terminal.ensures in
+    let mid = c.take_block.new.self in (
+      omega (arith, room c.args.self.now.hir.now mid.marks taken.ok.ready.marked, same_blocks c.args.self.now mid c.args.site taken.frames, taken.ok.more),
+      subst (λ (z : Setting). CanBuildTerminal z.hir mid.marks z.context.frames c.args.site.block
+          c.in_ok-terminal.terminal.now) (sym taken.frames) taken.ok.ready,
+    )
+
+pub build_block-returns-in_err-terminal : goal.build_block-returns-in_err-terminal
+build_block-returns-in_err-terminal t c = record {
+  builds = passes_on c.from_residual.ensures.1 refl c.in_err-terminal.ensures (λ none. none);
+  more = search rules;
+}
+
+pub build_block-returns-clause-builds : goal.build_block-returns-clause-builds
+build_block-returns-clause-builds t c =
+    builds_then c.in_ok-terminal.ensures.frames c.in_ok-terminal.ensures.ok.rows c.build_terminal.ensures
+
+pub build_block-returns-clause-more : goal.build_block-returns-clause-more
+build_block-returns-clause-more t c =
+    IfOk-weaker c.build_terminal.result _ _ (λ rest built.
+    omega (arith, c.in_ok-terminal.ensures.ok.more, used_longer built.marking)) c.build_terminal.ensures.ok
+
+-- a terminal
+
+pub build_terminal-returns-in-Return : goal.build_terminal-returns-in-Return
+build_terminal-returns-in-Return t c =
+    builds_terminal (terminals.Return c.in-Return.value c.in-Return.id) _ c.in-Return.is c.build_return.ensures
+
+pub build_terminal-returns-in-Goto : goal.build_terminal-returns-in-Goto
+build_terminal-returns-in-Goto t c =
+    builds_terminal (terminals.Goto c.in-Goto.block c.in-Goto.variant c.in-Goto.id) _ c.in-Goto.is c.build_goto.ensures
+
+pub build_terminal-returns-in-If : goal.build_terminal-returns-in-If
+build_terminal-returns-in-If t c =
+    builds_terminal (terminals.If c.in-If.test c.in-If.consequent c.in-If.alternate c.in-If.fallthrough c.in-If.id) _
+    c.in-If.is c.build_if.ensures
+
+pub build_terminal-returns-in-Label : goal.build_terminal-returns-in-Label
+build_terminal-returns-in-Label t c =
+    builds_terminal (terminals.Label c.in-Label.block c.in-Label.fallthrough c.in-Label.id) _ c.in-Label.is
+    c.build_enclosure.ensures
+
+pub build_terminal-returns-in-Scope : goal.build_terminal-returns-in-Scope
+build_terminal-returns-in-Scope t c =
+    builds_terminal (terminals.Scope c.in-Scope.fallthrough c.in-Scope.block c.in-Scope.scope c.in-Scope.id) _
+    c.in-Scope.is c.build_enclosure-in-Scope.ensures
+
+pub build_terminal-returns-in-PrunedScope : goal.build_terminal-returns-in-PrunedScope
+build_terminal-returns-in-PrunedScope t c = builds_terminal
+    (terminals.PrunedScope c.in-PrunedScope.fallthrough c.in-PrunedScope.block c.in-PrunedScope.scope c.in-PrunedScope.id)
+    _ c.in-PrunedScope.is c.build_enclosure-in-PrunedScope.ensures
+
+pub build_terminal-returns-in-Unreachable : goal.build_terminal-returns-in-Unreachable
+build_terminal-returns-in-Unreachable t c =
+    let builder = c.args.self.now in
+    builds_end c.args.terminal.now Nil c.requires.marked (sym (append-nil builder.out))
+    (subst (λ k. SpellsTerminal builder.hir.now builder.env.now k (setting_of builder c.args.site).context Nil [])
+    (sym c.in-Unreachable.is) unreachable)
+
+-- a part
+
+pub build_part-build_list-requires : goal.build_part-build_list-requires
+build_part-build_list-requires t c =
+    let builder = c.args.self.now in (
+      omega arith,
+      subst (λ (z : Site). CanBuildList builder.hir.now builder.marks c.enter.new.self z.block) (sym c.inside.ensures)
+          (subst (λ z. CanBuildList builder.hir.now builder.marks z c.args.part) (sym c.in_ok-enter.ensures.ok)
+          c.requires),
+    )
+
+pub build_part-returns-in_err-build_list : goal.build_part-returns-in_err-build_list
+build_part-returns-in_err-build_list t c =
+    let old = c.args.self.now in
+    passes_on c.from_residual-in_err-build_list.ensures.1 refl c.in_err-build_list.ensures
+    (at_part_site (λ z k. Refused z.hir (Spells z (FromBlock k)) old.marks.used) (record old { frames = c.enter.new.self })
+    old.frames c.args.opened c.args.frame c.args.part c.args.site c.inside.result c.inside.ensures c.in_ok-enter.ensures.ok)
+
+pub build_part-returns : goal.build_part-returns
+build_part-returns t c =
+    let old = c.args.self.now in
+    let started = record old { frames = c.enter.new.self; out = c.take-outer.new.self } in
+    let list = c.in_ok-build_list.ensures in
+    is_built c.replace.result
+    (whole_list (at_part_site (λ z k. BuiltPrefix z (FromBlock k) Nothing (progress_of started)
+    (progress_of c.build_list.new.self)) started old.frames c.args.opened c.args.frame c.args.part c.args.site
+    c.inside.result c.inside.ensures c.in_ok-enter.ensures.ok list.ok) c.take-outer.ensures.left c.replace.ensures.value
+    (c.replace.ensures.after ∙ c.take-outer.ensures.list))
+    (setting_left old started c.build_list.new.self c.args.site c.inside.result c.leave.new.self list.frames refl refl
+    (c.leave.ensures c.args.frame old.frames (ap (λ (z : Setting). z.context.frames) list.frames
+    ∙ c.in_ok-enter.ensures.ok)))
+
+-- a statement with one part
+
+pub build_enclosure-build_part-requires : goal.build_enclosure-build_part-requires
+build_enclosure-build_part-requires t c =
+    let old = c.args.self.now in
+    let opened = c.open_around-opened.result in (
+      omega arith,
+      subst (λ z. CanBuildList old.hir.now old.marks (frames_inside opened z old.frames) c.args.part) (sym c.frame.ensures)
+          (enclosure_can opened c.args.enclosure c.args.part c.args.fallthrough c.args.id c.requires.0 c.requires.1),
+    )
+
+pub build_enclosure-returns-in_err-body : goal.build_enclosure-returns-in_err-body
+build_enclosure-returns-in_err-body t c = λ span.
+    let old = c.args.self.now in
+    passes_on c.from_residual.ensures.1 refl c.in_err-body.ensures
+    (λ none. enclosure_refused c.args.enclosure c.args.part c.args.fallthrough c.args.id span old.marks.used
+    c.open_around-opened.ensures (subst (λ z. Refused old.hir.now (Spells (part_setting c.open_around-opened.result z (setting_of old c.args.site))
+    (FromBlock c.args.part)) old.marks.used) c.frame.ensures none))
+
+pub build_enclosure-returns : goal.build_enclosure-returns
+build_enclosure-returns t c = λ span.
+    let old = c.args.self.now in
+    let body = c.in_ok-body.ensures in
+    is_built c.open_around-opened.result
+    (enclosure_built c.args.enclosure c.args.part c.args.fallthrough c.args.id span c.open_around-opened.ensures
+    (subst (λ z. BuiltList (part_setting c.open_around-opened.result z (setting_of old c.args.site)) c.args.part
+    c.in_ok-body.body (progress_of old) (progress_of c.build_part.new.self)) c.frame.ensures body.ok)
+    (c.in_ok-statement.ensures ∙ ap (statement_around c.args.enclosure c.in_ok-body.body c.args.id) c.label_at.ensures)
+    c.in_ok-push.ensures.ok) body.frames
+
+-- an if
+
+pub build_if-returns-then-falls_elsewhere : goal.build_if-returns-then-falls_elsewhere
+build_if-returns-then-falls_elsewhere t c = λ span.
+    let opened = c.open_reachable-opened.ensures in
+    let parts = elsewhere_parts _ _ (sym c.falls_elsewhere.ensures ∙ c.if-falls_elsewhere.true) in
+    breaks_rule c.args.site.block FallsElsewhere c.malformed.ensures (if_elsewhere opened c.args.self.now.marks.used parts.0 parts.1)
+    (falls_badly c.args.site.next c.requires.1 refl opened parts.1)
+
+pub build_if-build_part-requires : goal.build_if-build_part-requires
+build_if-build_part-requires t c = (
+  omega arith,
+  at_first_part c.args.self.now.hir.now (frame_kinds.Statement c.args.fallthrough) c.open_reachable-opened.result
+      c.requires.1 refl (none_used c.args.self.now.marks) (λ other. omega arith),
+)
+
+pub build_if-returns-in_err-part : goal.build_if-returns-in_err-part
+build_if-returns-in_err-part t c = λ span.
+    passes_on c.from_residual.ensures.1 refl c.in_err-part.ensures (if_refused c.open_reachable-opened.ensures c.args.self.now.marks.used)
+
+pub build_if-build_alternate-requires : goal.build_if-build_alternate-requires
+build_if-build_alternate-requires t c =
+    let old = c.args.self.now in
+    let part = c.in_ok-part.ensures in
+    let mid = c.build_part.new.self in
+    let frame = frame_kinds.Statement c.args.fallthrough in (
+      omega (
+        arith,
+        same_blocks old mid c.args.site part.frames,
+        used_longer part.ok.marking,
+      ),
+      subst (λ (z : Setting). CanBuildList z.hir mid.marks (frames_inside c.open_reachable-opened.result frame
+          z.context.frames) c.args.alternate) (sym part.frames) (at_part old.hir.now frame c.open_reachable-opened.result
+          c.requires.1 refl (none_used mid.marks) (marking_beside old.hir.now part.ok.marking)),
+    )
+
+pub build_if-returns-in_err-other : goal.build_if-returns-in_err-other
+build_if-returns-in_err-other t c = λ span.
+    let part = c.in_ok-part.ensures in
+    passes_on c.from_residual-in_err-other.ensures.1 (ap (λ (z : Setting). z.hir) part.frames) c.in_err-other.ensures
+    (λ none. if_refused_later c.open_reachable-opened.ensures part.ok (subst (λ (z : Setting). Refused z.hir
+    (SpellsAlternate (part_setting c.open_reachable-opened.result (frame_kinds.Statement c.args.fallthrough) z)
+    c.args.alternate c.args.fallthrough) c.build_part.new.self.marks.used) part.frames none))
+
+pub build_if-returns : goal.build_if-returns
+build_if-returns t c = λ span.
+    let part = c.in_ok-part.ensures in
+    let other = c.in_ok-other.ensures in
+    is_built c.open_reachable-opened.result
+    (if_built c.open_reachable-opened.ensures (sym c.falls_elsewhere.ensures ∙ c.if-falls_elsewhere.false) part.ok
+    (subst (λ (z : Setting). BuiltAlternate (part_setting c.open_reachable-opened.result
+    (frame_kinds.Statement c.args.fallthrough) z) c.args.alternate c.args.fallthrough c.in_ok-other.other
+    (progress_of c.build_part.new.self) (progress_of c.build_alternate.new.self)) part.frames other.ok)
+    (c.in_ok-statement.ensures ∙ ap (terminal_statement (tree.If c.args.test (record { statements = c.in_ok-part.part })
+    c.in_ok-other.other c.args.id)) c.label_at.ensures) c.in_ok-push.ensures.ok)
+    (other.frames ∙ part.frames)
+
+-- an alternate
+
+pub build_alternate-returns-then-eq : goal.build_alternate-returns-then-eq
+build_alternate-returns-then-eq t c =
+    is_built None (alternate_absent (part_setting c.args.opened (frame_kinds.Statement c.args.fallthrough)
+    (setting_of c.args.self.now c.args.site)) c.args.alternate c.args.fallthrough (sym c.eq.ensures ∙ c.if-eq.true) c.requires.marked) refl
+
+pub build_alternate-returns-in_err-statements : goal.build_alternate-returns-in_err-statements
+build_alternate-returns-in_err-statements t c =
+    passes_on c.from_residual.ensures.1 refl c.in_err-statements.ensures
+    (alternate_refused c.args.fallthrough c.args.self.now.marks.used (sym c.eq.ensures ∙ c.if-eq.false))
+
+pub build_alternate-returns : goal.build_alternate-returns
+build_alternate-returns t c =
+    is_built (Some (record { statements = c.in_ok-statements.statements }))
+    (alternate_present c.args.fallthrough (sym c.eq.ensures ∙ c.if-eq.false) c.in_ok-statements.ensures.ok) c.in_ok-statements.ensures.frames

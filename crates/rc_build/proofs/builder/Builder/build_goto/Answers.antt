@@ -1,0 +1,11 @@
+use Rattle.std.proofs.Common.{Option, sym, subst}
+use Rattle.rc_names.specs.declared.span.Span.{Span}
+use Rattle.rc_hir.specs.declared.terminal.Terminal.TheVariants as terminals
+use Rattle.rc_build.specs.inside.Task.{FromTerminal, left}
+use Rattle.rc_build.specs.inside.Built.{BuildsTask}
+use Rattle.rc_build.proofs.builder.Builder.build_goto.Goals as goal
+
+pub returns-in-Break : goal.returns-in-Break
+returns-in-Break c = subst (λ v. (span : Option Span) → BuildsTask c.args.self.now c.build_break.new.self c.args.site
+    (FromTerminal (terminals.Goto c.args.target v c.args.id span)) left c.build_break.result) (sym c.in-Break.is)
+    c.build_break.ensures

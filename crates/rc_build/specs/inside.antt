@@ -1,0 +1,9 @@
+-- What the builder's own functions say of each other; no public clause speaks of it.
+pub mod Depths
+pub mod Rows
+pub mod Marks
+pub mod CanBuild
+pub mod Setting
+pub mod Task
+pub mod Built
+pub mod Enclosures

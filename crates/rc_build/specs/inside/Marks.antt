@@ -1,0 +1,20 @@
+-- The marks: the used blocks, the scopes that they open, and the blocks that are pending.
+use Rattle.std.specs.Prelude.{◌≡◌, Bool, true, List, ◌++◌, Option, Some, None, not}
+use Rattle.std.specs.List.{list_any}
+use Rattle.rc_names.specs.Numbers.{BlockId, ScopeId, same_id}
+use Rattle.rc_hir.specs.Model.{HirFunction}
+use Rattle.rc_build.specs.declared.builder.Marks.{Marks}
+use Rattle.rc_build.specs.inside.CanBuild.{AreMarked, AreReferenced}
+
+-- these blocks are marked; of the references that were pending `before`, those `after` are left
+pub record MarksBlocks (hir : HirFunction) (before after : List BlockId) (old new : Marks)
+    (blocks : List BlockId) : Type 0 where
+  pub used : new.used ≡ old.used ++ blocks
+  pub marked : AreMarked hir new
+  pub referenced : (pending : List BlockId) → AreReferenced hir old.used (before ++ pending) →
+      AreReferenced hir new.used (after ++ pending)
+
+-- the scope isn't among these, or there is none
+abbrev pub is_fresh_scope : List ScopeId → Option ScopeId → Bool
+is_fresh_scope scopes None = true
+is_fresh_scope scopes (Some scope) = not (list_any (same_id scope) scopes)

@@ -1,0 +1,148 @@
+//! What the builder reads and keeps, and what the functions that build statements share.
+
+ghost use Rattle.std.specs.Prelude.{◌≡◌, [], IfOk, is_some};
+ghost use Rattle.rc_hir.specs.declared.fault.Fault.TheVariants as faults;
+ghost use Rattle.rc_runs.specs.Grammar as grammar;
+ghost use Rattle.rc_build.specs.inside.Setting as settings;
+ghost use Rattle.rc_build.specs.inside.Task as tasks;
+
+use crate::frames::FrameStack;
+use crate::unreachable::ends_unreachable;
+use rc_hir::{Environment, Fault, HirFunction, Rule};
+use rc_names::{BlockId, Boxed, KeySet, List, ScopeId};
+use rc_runs::Frame;
+use rc_tree::{ReactiveLabel, ReactiveStatement, ReactiveTerminal, ReactiveTerminalStatement};
+use std::alloc::{AllocError, Global};
+
+/// The used blocks and the scopes that they open, in the order in which they were marked.
+#[derive(Drop)]
+pub struct Marks {
+    pub used: KeySet<BlockId>,
+    pub scopes: KeySet<ScopeId>,
+}
+
+/// Where statements are put.
+#[derive(Clone, Copy)]
+pub struct Site {
+    /// The block that asks for them.
+    pub block: BlockId,
+    /// The block that falling off their list reaches.
+    pub next: Option<BlockId>,
+    /// The block of the current handler.
+    pub handler: Option<BlockId>,
+}
+
+/// Builds the lists of a graph, one inside the other.
+#[derive(Drop)]
+pub struct Builder<'g> {
+    pub alloc: Global,
+    pub hir: &'g HirFunction,
+    pub env: &'g Environment,
+    pub marks: Marks,
+    pub frames: FrameStack,
+    /// The statements of the list that is built.
+    pub out: List<ReactiveStatement>,
+}
+
+impl Site {
+    /// The site of a part of a statement, whose frame is around it where the statement's fallthrough is opened.
+    pub fn inside(self, part: BlockId, frame: Frame, opened: Option<BlockId>) -> Site
+        ensures { result ≡ settings.site_inside opened frame part self }
+    {
+        let next = match opened {
+            Some(_) => Some(frame.fall_block()),
+            None => self.next,
+        };
+        Site {
+            block: part,
+            next,
+            handler: self.handler,
+        }
+    }
+}
+
+impl<'g> Builder<'g> {
+    /// Nothing is used, no statement is built, and nothing stands around the list. It takes no memory.
+    pub fn new(alloc: Global, hir: &'g HirFunction, env: &'g Environment) -> Builder<'g>
+        ensures hir { result.hir.now ≡ hir.now }
+        ensures env { result.env.now ≡ env.now }
+        ensures frames { result.frames ≡ [] }
+        ensures progress { tasks.progress_of result ≡ tasks.no_progress }
+    {
+        Builder {
+            alloc,
+            hir,
+            env,
+            marks: Marks {
+                used: KeySet::new(alloc),
+                scopes: KeySet::new(alloc),
+            },
+            frames: FrameStack::new(alloc),
+            out: List::new(alloc),
+        }
+    }
+
+    /// The fallthrough of a scope, where it is opened: no jump can name it already.
+    pub fn open(&self, fallthrough: BlockId) -> Option<BlockId>
+        ensures { result ≡ settings.open_block (grammar.opens self.now.frames fallthrough) fallthrough }
+    {
+        if self.frames.is_jump_target(fallthrough) {
+            None
+        } else {
+            Some(fallthrough)
+        }
+    }
+
+    /// The fallthrough of any other statement, where it is opened: one that ends in `Unreachable` isn't.
+    pub fn open_reachable(&self, fallthrough: BlockId) -> Option<BlockId>
+        ensures { result ≡
+            settings.open_block (grammar.opens_reachable self.now.hir.now self.now.frames fallthrough) fallthrough }
+    {
+        if self.frames.is_jump_target(fallthrough) || ends_unreachable(self.hir, fallthrough) {
+            None
+        } else {
+            Some(fallthrough)
+        }
+    }
+}
+
+/// The fault of a block that breaks a rule.
+pub fn malformed(block: BlockId, rule: Rule) -> Fault
+    ensures { result ≡ faults.Malformed block rule }
+{
+    Fault::Malformed { block, rule }
+}
+
+/// Whether leaving a statement leads to its fallthrough, in the tree as in the graph.
+pub fn falls_to(opened: Option<BlockId>, fallthrough: BlockId, next: Option<BlockId>) -> bool
+    ensures { result ≡ grammar.falls_to (is_some opened) fallthrough next }
+{
+    opened.is_some() || next == Some(fallthrough)
+}
+
+/// The label of a statement: its fallthrough where that is opened.
+pub fn label_at(opened: Option<BlockId>) -> Option<ReactiveLabel>
+    ensures { result ≡ settings.label_at opened }
+{
+    match opened {
+        Some(id) => Some(ReactiveLabel {
+            id,
+            implicit: false,
+        }),
+        None => None,
+    }
+}
+
+/// The statement of a terminal with a label. The only error is out of memory.
+pub fn terminal_statement(
+    alloc: Global,
+    terminal: ReactiveTerminal,
+    label: Option<ReactiveLabel>,
+) -> Result<ReactiveStatement, AllocError>
+    ensures { IfOk result (λ statement. statement ≡ settings.terminal_statement terminal label) }
+{
+    Ok(ReactiveStatement::Terminal(Boxed::new(
+        alloc,
+        ReactiveTerminalStatement { terminal, label },
+    )?))
+}

@@ -1,0 +1,178 @@
+-- The check of break targets meets no jump in a spelled tree: it enters scopes alone, and a break out of a scope is no
+-- statement.
+use Rattle.std.proofs.Common.{◌≡◌, ℕ, zero, suc, List, [], ◌∷◌, ◌++◌, flat_map, Bool, true, false}
+use Rattle.std.proofs.Common.{if◌then◌else◌, ◌||◌, ◌⊎◌, inl, inr, Option, None, Some, Result, Ok, Err, IfErr}
+use Rattle.std.proofs.Common.{sym, ap, subst}
+use Rattle.rc_names.specs.Numbers.{BlockId, EvaluationOrder, same_id}
+use Rattle.rc_hir.specs.Model.{Environment, Fault, HirFunction, Instruction, Terminal}
+use Rattle.rc_hir.specs.declared.fault.Fault.TheVariants.{BadTarget, NoMemory}
+use Rattle.rc_tree.specs.Model.{ReactiveFunction, ReactiveLabel, ReactiveInstruction}
+use Rattle.rc_tree.specs.declared.terminal.ReactiveTerminal.{out-ReactiveTerminal}
+use Rattle.rc_tree.specs.declared.terminal.ReactiveTerminal.TheVariants as tree
+use Rattle.rc_tree.specs.declared.value.ReactiveValue.TheVariants as reactive_values
+use Rattle.rc_runs.specs.Frames.{resolve_break, resolve_from, resolve_at}
+use Rattle.rc_runs.specs.Grammar.{SpellsList, SpellsRest, SpellsStatement, SpellsTerminal, break_statements}
+use Rattle.rc_runs.specs.Grammar.{rows_before}
+use Rattle.rc_runs.specs.Grammar.{block, returns, unreachable, breaks, and_rest, if_only, if_else, label, scope}
+use Rattle.rc_runs.specs.Grammar.{pruned_scope, closed, opened}
+use Rattle.rc_runs.specs.ListContext.{ListContext, inside}
+use Rattle.rc_runs.specs.PlainTree.{Base, Statement, RowStatement, TerminalStatement, Statements, Nil, Cons}
+use Rattle.rc_runs.specs.PlainTree.{TreeTerminal, Return, If, Label, Absent, Present}
+use Rattle.rc_runs.specs.Spelled.{Spells}
+use Rattle.rc_runs.specs.TreeOf.{block_of, statement_of, statements_of, terminal_of}
+use Rattle.rc_runs.specs.declared.frames.Frame.{Frame}
+use Rattle.rc_runs.specs.declared.frames.Frame.TheVariants as frame_kinds
+use Rattle.rc_runs.specs.declared.frames.BreakResult.{BreakResult}
+use Rattle.rc_runs.specs.declared.frames.BreakResult.TheVariants.{NoFrame, LeavesScope, LeavesCase, FallsOff, Breaks}
+use Rattle.rc_checks.specs.BreakTargets.{Terminals, met_in, met_at, target_of, IsFirstUnmet, IsJumpTo}
+use Rattle.rc_checks.proofs.BreakTargets.MetLemmas.{met_in-statements, met_at-Instruction, met_at-Terminal}
+use Rattle.rc_checks.proofs.BreakTargets.MetLemmas.{met_at-Scope}
+use Rattle.rc_checks.proofs.BreakTargets.MetLemmas.{met_at-PrunedScope}
+
+-- none of the terminals is a jump
+abbrev NoJumps : Terminals → Type 0
+NoJumps [] = Unit {0}
+NoJumps (x ∷ xs) = (x.target ≡ None) × NoJumps xs
+
+no_jumps-append : (xs ys : Terminals) → NoJumps xs → NoJumps ys → NoJumps (xs ++ ys)
+no_jumps-append [] ys first second = second
+no_jumps-append (x ∷ xs) ys first second = (first.0, no_jumps-append xs ys first.1 second)
+
+no_jump_at : (xs : Terminals) (place : ℕ) (target : BlockId) → NoJumps xs → IsJumpTo xs place target → ⊥
+no_jump_at [] place target none jumps = let no : ⊥ = cc in no
+no_jump_at (x ∷ xs) zero target none jumps =
+    let here : x.target ≡ Some target = jumps in let not : x.target ≡ None = none.0 in let no : ⊥ = cc in no
+no_jump_at (x ∷ xs) (suc place) target none jumps = no_jump_at xs place target none.1 jumps
+
+-- each frame is that of a scope
+abbrev AreScopes : List Frame → Type 0
+AreScopes [] = Unit {0}
+AreScopes (frame_kinds.Scope of ∷ frames) = AreScopes frames
+AreScopes (_ ∷ frames) = ⊥
+
+-- a break among the frames of scopes is no statement
+abbrev IsNoBreak : BreakResult → Type 0
+IsNoBreak (Breaks kind) = ⊥
+IsNoBreak _ = Unit {0}
+
+scopes_way : (innermost in_loop : Bool) (frames : List Frame) (target : BlockId) → AreScopes frames
+    → IsNoBreak (resolve_from innermost in_loop frames target)
+scopes_way innermost in_loop [] target all = tt
+scopes_way innermost in_loop (frame_kinds.Scope of ∷ frames) target all =
+    split (same_id of target) innermost (scopes_way false (in_loop || false) frames target all)
+  where
+    split : (same innermost : Bool) → IsNoBreak (resolve_from false (in_loop || false) frames target)
+        → IsNoBreak (if same then resolve_at innermost in_loop (frame_kinds.Scope of)
+        else resolve_from false (in_loop || false) frames target)
+    split true true later = tt
+    split true false later = tt
+    split false innermost later = later
+scopes_way innermost in_loop (frame_kinds.Statement of ∷ frames) target all = absurd all
+scopes_way innermost in_loop (frame_kinds.Switch of ∷ frames) target all = absurd all
+scopes_way innermost in_loop (frame_kinds.Case of ∷ frames) target all = absurd all
+scopes_way innermost in_loop (frame_kinds.Loop of again ∷ frames) target all = absurd all
+
+-- no jump is met in a list of statements
+abbrev Quiet : Statements → Type 0
+Quiet statements = NoJumps (flat_map met_at (statements_of statements))
+
+cons_quiet : (statement : Statement) (rest : Statements) → NoJumps (met_at (statement_of statement)) → Quiet rest
+    → Quiet (Cons statement rest)
+cons_quiet statement rest first later =
+    no_jumps-append (met_at (statement_of statement)) (flat_map met_at (statements_of rest)) first later
+
+rows_quiet : (rows : List Instruction) (rest : Statements) → Quiet rest → Quiet (rows_before rows rest)
+rows_quiet [] rest later = later
+rows_quiet (row ∷ rows) rest later =
+    let x : ReactiveInstruction =
+    record { id = row.id; lvalue = Some row.lvalue; value = reactive_values.Instruction row.value; span = row.span } in
+    cons_quiet (RowStatement row.id (Some row.lvalue) (Base row.value) row.span) (rows_before rows rest)
+    (subst NoJumps (sym (met_at-Instruction x)) tt) (rows_quiet rows rest later)
+
+-- a terminal that is no jump
+still : (terminal : TreeTerminal) (own : Option ReactiveLabel)
+    → target_of (out-ReactiveTerminal (terminal_of terminal)) ≡ None
+    → NoJumps (met_at (statement_of (TerminalStatement terminal own)))
+still terminal own none =
+    subst NoJumps (sym (met_at-Terminal (record { terminal = terminal_of terminal; label = own }))) (none, tt)
+
+break_quiet : (way : BreakResult) (target : BlockId) (id : EvaluationOrder) (statements : Statements) → IsNoBreak way
+    → break_statements way target id ≡ Some statements → Quiet statements
+break_quiet NoFrame target id statements is e = absurd (let no : ⊥ = cc in no)
+break_quiet LeavesScope target id statements is e = absurd (let no : ⊥ = cc in no)
+break_quiet LeavesCase target id statements is e = absurd (let no : ⊥ = cc in no)
+break_quiet FallsOff target id statements is e = subst Quiet (let same : Nil ≡ statements = cc in same) tt
+break_quiet (Breaks kind) target id statements is e = absurd is
+
+-- the frames inside a scope
+inside_scopes : (opened : Bool) (fallthrough : BlockId) (context : ListContext) → AreScopes context.frames
+    → AreScopes (inside opened (frame_kinds.Scope fallthrough) context).frames
+inside_scopes true fallthrough context all = all
+inside_scopes false fallthrough context all = all
+
+block_quiet : (part : Statements) → Quiet part → NoJumps (met_in (block_of part))
+block_quiet part quiet = subst NoJumps (sym (met_in-statements (block_of part))) quiet
+
+module _ {hir : HirFunction} {env : Environment} where
+  mutual
+    quiet_list : {key : BlockId} {context : ListContext} {statements : Statements} {used : List BlockId} →
+        SpellsList hir env key context statements used → AreScopes context.frames → Quiet statements
+    quiet_list (block {rest = rest} {block = b} usable live d w) all =
+        subst Quiet (sym w) (rows_quiet b.rows rest (quiet_terminal d all))
+
+    quiet_terminal : {terminal : Terminal} {context : ListContext} {statements : Statements} {used : List BlockId} →
+        SpellsTerminal hir env terminal context statements used → AreScopes context.frames → Quiet statements
+    quiet_terminal (returns {value = value} {id = id}) all =
+        cons_quiet (TerminalStatement (Return value id) None) Nil
+        (still (Return value id) None (ap target_of (tree.outs-Return value id))) tt
+    quiet_terminal unreachable all = tt
+    quiet_terminal (breaks {target = target} {id = id} {context = context} {statements = statements} e) all =
+        break_quiet (resolve_break context.frames target) target id statements
+        (scopes_way true false context.frames target all) e
+    quiet_terminal (and_rest {statement = statement} {rest = rest} d r w) all =
+        cons_quiet statement rest (quiet_statement d all) (quiet_rest r all)
+
+    quiet_statement : {terminal : Terminal} {context : ListContext} {o : Bool} {f : BlockId} {statement : Statement}
+        {used : List BlockId} →
+        SpellsStatement hir env terminal context o f statement used → AreScopes context.frames
+        → NoJumps (met_at (statement_of statement))
+    quiet_statement (if_only {test = test} {id = id} {label = own} {part = part} i l s falls d) all =
+        still (If test part Absent id) own (ap target_of (tree.outs-If test (block_of part) None id))
+    quiet_statement (if_else {test = test} {id = id} {label = own} {part = part} {other = other} i l s d e w) all =
+        still (If test part (Present other) id) own (ap target_of
+        (tree.outs-If test (block_of part) (Some (block_of other)) id))
+    quiet_statement (label {id = id} {label = own} {part = part} i l d) all =
+        still (Label part id) own (ap target_of (tree.outs-Label (block_of part) id))
+    quiet_statement (scope {fallthrough = f} {scope = of} {context = context} {opened = o} {part = part} i d) all =
+        subst NoJumps (sym (met_at-Scope (record { scope = of; instructions = block_of part })))
+        (block_quiet part (quiet_list d (inside_scopes o f context all)))
+    quiet_statement (pruned_scope {fallthrough = f} {scope = of} {context = context} {opened = o} {part = part} i d)
+        all =
+        subst NoJumps (sym (met_at-PrunedScope (record { scope = of; instructions = block_of part })))
+        (block_quiet part (quiet_list d (inside_scopes o f context all)))
+
+    quiet_rest : {o : Bool} {f : BlockId} {context : ListContext} {statements : Statements} {used : List BlockId} →
+        SpellsRest hir env o f context statements used → AreScopes context.frames → Quiet statements
+    quiet_rest closed all = tt
+    quiet_rest (opened d) all = quiet_list d all
+
+-- no jump is met in a spelled function
+no_jump_is_met : (hir : HirFunction) (env : Environment) (func : ReactiveFunction) → Spells hir env func → (place : ℕ)
+    (target : BlockId) → IsJumpTo (met_in func.body) place target → ⊥
+no_jump_is_met hir env func spelled place target jumps =
+    let same : met_in func.body ≡ met_in (block_of spelled.statements) = ap (λ f. met_in f.body) spelled.whole in
+    no_jump_at (met_in (block_of spelled.statements)) place target
+    (block_quiet spelled.statements (quiet_list spelled.body.list tt))
+    (subst (λ met. IsJumpTo met place target) same jumps)
+
+-- so the check of a spelled function ends in want of memory alone, where it ends in a fault
+pub only_memory : (hir : HirFunction) (env : Environment) (func : ReactiveFunction)
+    (result : Result (Unit {0}) Fault) → ((target : BlockId) → result ≡ Err (BadTarget target)
+    → IsFirstUnmet (met_in func.body) target)
+    → IfErr result (λ fault. (fault ≡ NoMemory) ⊎ ((target : BlockId) × (fault ≡ BadTarget target)))
+    → Spells hir env func → IfErr result (λ fault. fault ≡ NoMemory)
+only_memory hir env func (Ok done) first only spelled = tt
+only_memory hir env func (Err fault) first (inl memory) spelled = memory
+only_memory hir env func (Err fault) first (inr bad) spelled =
+    let unmet = first bad.0 (ap (λ f. Err f) bad.1) in
+    absurd (no_jump_is_met hir env func spelled unmet.place bad.0 unmet.jumps)

@@ -1,0 +1,10 @@
+-- Why label pruning follows its rule, and that it keeps runs, numbers and scope blocks.
+pub mod PruningLemmas
+pub mod Opened
+pub mod Judged
+pub mod WalkLemmas
+pub mod Keep
+pub mod TargetsLemmas
+pub mod PlainPruned
+pub mod PlainKeepsRuns
+pub mod KeepRuns

@@ -1,0 +1,195 @@
+-- Label pruning changes no label's catch, and the jumps out of each form name targets behind it.
+use Rattle.std.proofs.Common.{◌≡◌, List, [], ◌∷◌, ◌++◌, Bool, true, false, Option, Some, None, ◌||◌, if◌then◌else◌}
+use Rattle.std.proofs.Common.{refl, sym, ap, ◌∙◌, subst}
+use Rattle.std.proofs.lemmas.List.Folds.{list_any-append}
+use Rattle.indexmap.specs.IndexSet.{insert_key}
+use Rattle.rc_names.specs.Numbers.{BlockId, EvaluationOrder, ScopeId, same_id}
+use Rattle.rc_names.specs.declared.span.Span.{Span}
+use Rattle.rc_hir.specs.Model.{Environment, Place}
+use Rattle.rc_tree.specs.Model.{ReactiveTerminalTargetKind, ReactiveLabel}
+use Rattle.rc_tree.specs.declared.kind.ReactiveTerminalTargetKind.TheVariants.{Implicit, Labeled, Unlabeled}
+use Rattle.rc_runs.specs.Event.{Event}
+use Rattle.rc_runs.specs.PlainTree.{Value, Statements, Nil, Cons, Statement, RowStatement, TerminalStatement}
+use Rattle.rc_runs.specs.PlainTree.{ScopeStatement, PrunedScopeStatement, TreeTerminal, Break, Return, If, Label}
+use Rattle.rc_runs.specs.PlainTree.{Alternate, Absent, Present}
+use Rattle.rc_runs.specs.BodyRun.{Completion, Normal, BreakTo, BreakLoop, ContinueTo, ContinueLoop, Ended, caught}
+use Rattle.rc_runs.specs.BodyRun.{RunsList, stopped, nothing, and_then, goes_on, leaves_list, RunsStatement, quiet_row}
+use Rattle.rc_runs.specs.BodyRun.{did_row, returned, break_implicit, break_labeled, break_unlabeled, took_arm}
+use Rattle.rc_runs.specs.BodyRun.{took_other, in_label, in_scope, in_pruned_scope, RunsAlternate, absent, present}
+use Rattle.rc_names.proofs.NumbersLemmas.{ids_equivalence, same_id-eq}
+use Rattle.rc_runs.proofs.KeepsRunsLemmas.{CatchAlike, has_no_runs}
+use Rattle.rc_checks.specs.Labels.{Targets, is_target, with_jump, is_named, label_after}
+
+-- the block stays a target
+abbrev Stays : BlockId → Targets → Targets → Type 0
+Stays block targets targets' = is_target targets block ≡ true → is_target targets' block ≡ true
+
+-- each target stays one
+abbrev pub AllStay : Targets → Targets → Type 0
+AllStay targets targets' = (block : BlockId) → Stays block targets targets'
+
+-- where another block is put in
+is_target-insert : (targets : Targets) (target block : BlockId) →
+    Stays block targets (insert_key same_id targets target)
+is_target-insert targets target block e = go (is_target targets target)
+  where
+    go : (there : Bool) → is_target (if there then targets else targets ++ target ∷ []) block ≡ true
+    go true = e
+    go false = list_any-append (same_id block) targets (target ∷ []) ∙ ap (λ b. b || is_target (target ∷ []) block) e
+
+-- a block that is put in is a target
+is_target-inserted : (targets : Targets) (target : BlockId) →
+    is_target (insert_key same_id targets target) target ≡ true
+is_target-inserted targets target = go (is_target targets target) refl
+  where
+    last : (b : Bool) → (b || is_target (target ∷ []) target) ≡ true
+    last true = refl
+    last false = ap (λ b. b || false) (ids_equivalence.refl target)
+
+    go : (there : Bool) → is_target targets target ≡ there →
+        is_target (if there then targets else targets ++ target ∷ []) target ≡ true
+    go true e = e
+    go false e = list_any-append (same_id target) targets (target ∷ []) ∙ last (is_target targets target)
+
+pub is_target-with_jump : (kind : ReactiveTerminalTargetKind) (target : BlockId) (targets : Targets) →
+    AllStay targets (with_jump kind target targets)
+is_target-with_jump Labeled target targets block e = is_target-insert targets target block e
+is_target-with_jump Implicit target targets block e = e
+is_target-with_jump Unlabeled target targets block e = e
+
+-- a break that isn't caught is one inside
+inner_break : (label : Option ReactiveLabel) (inner : Completion) (target : BlockId) →
+    caught label inner ≡ BreakTo target → inner ≡ BreakTo target
+inner_break None inner target e = e
+inner_break (Some label) (BreakTo other) target e = go (same_id label.id other) e
+  where
+    go : (same : Bool) → (if same then Normal else BreakTo other) ≡ BreakTo target → BreakTo other ≡ BreakTo target
+    go true e = absurd (let bad : ⊥ = cc in bad)
+    go false e = e
+inner_break (Some label) Normal target e = e
+inner_break (Some label) BreakLoop target e = e
+inner_break (Some label) (ContinueTo other) target e = e
+inner_break (Some label) ContinueLoop target e = e
+inner_break (Some label) (Ended end) target e = e
+
+same_break : (a b : BlockId) → BreakTo a ≡ BreakTo b → a ≡ b
+same_break a b e = cc
+
+-- where the part leads is no jump to a block, but to a target
+abbrev pub Names : BlockId → Completion → Targets → Type 0
+Names block outcome targets = outcome ≡ BreakTo block → is_target targets block ≡ true
+
+-- each run out of a part that jumps to a block jumps to a target
+abbrev pub AllNamed : (List Event → Completion → Type 0) → Targets → Type 0
+AllNamed Runs targets = (events : List Event) (outcome : Completion) → Runs events outcome → (block : BlockId)
+    → Names block outcome targets
+
+-- the jumps out of each form name targets, where those out of its parts do
+module _ (env : Environment) where
+  pub nil_named : (targets : Targets) → AllNamed (RunsList env Nil) targets
+  nil_named targets events outcome stopped block e = absurd (let bad : ⊥ = cc in bad)
+  nil_named targets events outcome nothing block e = absurd (let bad : ⊥ = cc in bad)
+
+  pub row_named : {id : EvaluationOrder} {target : Option Place} {value : Value} {span : Option Span}
+      (targets : Targets) → AllNamed (RunsStatement env (RowStatement id target value span)) targets
+  row_named targets events outcome (quiet_row s) block e = absurd (let bad : ⊥ = cc in bad)
+  row_named targets events outcome (did_row s) block e = absurd (let bad : ⊥ = cc in bad)
+
+  pub return_named : {value : Place} {id : EvaluationOrder} {label : Option ReactiveLabel} (targets : Targets)
+      → AllNamed (RunsStatement env (TerminalStatement (Return value id) label)) targets
+  return_named targets events outcome returned block e = absurd (let bad : ⊥ = cc in bad)
+
+  pub break_named : {target : BlockId} {kind : ReactiveTerminalTargetKind} {id : EvaluationOrder}
+      {label : Option ReactiveLabel} (targets : Targets)
+      → AllNamed (RunsStatement env (TerminalStatement (Break target kind id) label)) (with_jump kind target targets)
+  break_named targets events outcome break_implicit block e = absurd (let bad : ⊥ = cc in bad)
+  break_named targets events outcome (break_labeled {target = target} {label = label} q) block e =
+      let same = same_break target block (inner_break label (BreakTo target) block (sym q ∙ e)) in
+      subst (λ b. is_target (insert_key same_id targets target) b ≡ true) same (is_target-inserted targets target)
+  break_named targets events outcome break_unlabeled block e = absurd (let bad : ⊥ = cc in bad)
+
+  -- no run goes through the terminal
+  pub no_run_named : {terminal : TreeTerminal} {label : Option ReactiveLabel} (targets : Targets)
+      → has_no_runs terminal ≡ true → AllNamed (RunsStatement env (TerminalStatement terminal label)) targets
+  no_run_named targets none events outcome returned block e = absurd (let bad : ⊥ = cc in bad)
+  no_run_named targets none events outcome break_implicit block e = absurd (let bad : ⊥ = cc in bad)
+  no_run_named targets none events outcome (break_labeled q) block e = absurd (let bad : ⊥ = cc in bad)
+  no_run_named targets none events outcome break_unlabeled block e = absurd (let bad : ⊥ = cc in bad)
+  no_run_named targets none events outcome (took_arm r q) block e = absurd (let bad : ⊥ = cc in bad)
+  no_run_named targets none events outcome (took_other r q) block e = absurd (let bad : ⊥ = cc in bad)
+  no_run_named targets none events outcome (in_label r q) block e = absurd (let bad : ⊥ = cc in bad)
+
+  module _ (targets : Targets) {body : Statements} (inside : AllNamed (RunsList env body) targets) where
+    pub label_named : {id : EvaluationOrder} {label : Option ReactiveLabel}
+        → AllNamed (RunsStatement env (TerminalStatement (Label body id) label)) targets
+    label_named events outcome (in_label {label = label} {inner = inner} r q) block e =
+        inside events inner r block (inner_break label inner block (sym q ∙ e))
+
+    pub scope_named : {scope : ScopeId} → AllNamed (RunsStatement env (ScopeStatement scope body)) targets
+    scope_named events outcome (in_scope r) = inside events outcome r
+
+    pub pruned_scope_named : {scope : ScopeId} → AllNamed (RunsStatement env (PrunedScopeStatement scope body)) targets
+    pruned_scope_named events outcome (in_pruned_scope r) = inside events outcome r
+
+    pub present_named : AllNamed (RunsAlternate env (Present body)) targets
+    present_named events outcome (present r) = inside events outcome r
+
+  pub absent_named : (targets : Targets) → AllNamed (RunsAlternate env Absent) targets
+  absent_named targets events outcome absent block e = absurd (let bad : ⊥ = cc in bad)
+
+  -- one part and then another, behind which the targets of the first are still targets
+  module _ (targets targets' : Targets) (stay : AllStay targets targets') where
+    pub cons_named : {statement : Statement} {rest : Statements} → AllNamed (RunsStatement env statement) targets
+        → AllNamed (RunsList env rest) targets' → AllNamed (RunsList env (Cons statement rest)) targets'
+    cons_named first later events outcome stopped block e = absurd (let bad : ⊥ = cc in bad)
+    cons_named first later events outcome (and_then r (goes_on h) q) block e = later _ outcome h block e
+    cons_named first later events outcome (and_then r (leaves_list l) q) block e =
+        stay block (first _ outcome r block e)
+
+    pub if_named : {test : Place} {consequent : Statements} {alternate : Alternate} {id : EvaluationOrder}
+        {label : Option ReactiveLabel} → AllNamed (RunsList env consequent) targets
+        → AllNamed (RunsAlternate env alternate) targets'
+        → AllNamed (RunsStatement env (TerminalStatement (If test consequent alternate id) label)) targets'
+    if_named arm other events outcome (took_arm {label = label} {inner = inner} r q) block e =
+        stay block (arm _ inner r block (inner_break label inner block (sym q ∙ e)))
+    if_named arm other events outcome (took_other {label = label} {inner = inner} r q) block e =
+        other _ inner r block (inner_break label inner block (sym q ∙ e))
+
+-- a label that nothing names catches nothing
+pub caught-unnamed : (label : Option ReactiveLabel) (outcome : Completion) (targets : Targets) →
+    is_named targets label ≡ false → ((block : BlockId) → Names block outcome targets) → caught label outcome ≡ outcome
+caught-unnamed None outcome targets unnamed names = refl
+caught-unnamed (Some label) (BreakTo target) targets unnamed names = go (same_id label.id target) refl
+  where
+    go : (same : Bool) → same_id label.id target ≡ same → (if same then Normal else BreakTo target) ≡ BreakTo target
+    go false e = refl
+    go true e =
+        let here : label.id ≡ target = same_id-eq label.id target e in
+        let named : is_target targets label.id ≡ true =
+        subst (λ b. is_target targets b ≡ true) (sym here) (names target refl) in
+        absurd (let bad : ⊥ = cc in bad)
+caught-unnamed (Some label) Normal targets unnamed names = refl
+caught-unnamed (Some label) BreakLoop targets unnamed names = refl
+caught-unnamed (Some label) (ContinueTo other) targets unnamed names = refl
+caught-unnamed (Some label) ContinueLoop targets unnamed names = refl
+caught-unnamed (Some label) (Ended end) targets unnamed names = refl
+
+-- a label that is made implicit catches the same jumps
+pub label_after-catches : (targets : Targets) (label : Option ReactiveLabel)
+    → CatchAlike label (label_after targets label)
+label_after-catches targets None outcome = refl
+label_after-catches targets (Some label) outcome = go (is_target targets label.id) outcome
+  where
+    go : (named : Bool) →
+        CatchAlike (Some label) (Some (if named then label else record { id = label.id; implicit = true }))
+    go true outcome = refl
+    go false (BreakTo target) = refl
+    go false Normal = refl
+    go false BreakLoop = refl
+    go false (ContinueTo target) = refl
+    go false ContinueLoop = refl
+    go false (Ended end) = refl
+
+pub catches-label_after : (targets : Targets) (label : Option ReactiveLabel)
+    → CatchAlike (label_after targets label) label
+catches-label_after targets label outcome = sym (label_after-catches targets label outcome)

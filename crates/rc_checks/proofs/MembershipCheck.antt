@@ -1,0 +1,6 @@
+-- Why the membership check is right.
+pub mod OpenScopesLemmas
+pub mod WalkLemmas
+pub mod CheckLemmas
+pub mod UnknownOperands
+pub mod UnknownVisits

@@ -1,0 +1,3 @@
+-- The scope blocks of a tree, and that a spelled tree has each scope once.
+pub mod ContentsLemmas
+pub mod SpelledOnce

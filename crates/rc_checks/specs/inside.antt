@@ -1,0 +1,6 @@
+-- The steps of the checks and passes, by which their private functions are specified.
+pub mod TargetSteps
+pub mod OpenScopes
+pub mod MembershipSteps
+pub mod LabelPruning
+pub mod UnusedScopesSteps

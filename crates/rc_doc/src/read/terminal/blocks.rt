@@ -1,0 +1,116 @@
+//! Readers of the terminals that go into one block and then on at their fallthrough.
+
+ghost use Rattle.serde_json.specs.View.{view};
+ghost use Rattle.rc_doc.specs.Reading.{IsRead};
+ghost use Rattle.rc_doc.specs.Terminals.Blocks.{label_of, pruned_scope_of, scope_of, sequence_of, try_of};
+
+use crate::fields::{optional, required};
+use crate::known::known_names;
+use crate::refusal::Refusal;
+use rc_hir::Terminal;
+use serde_json::Value;
+use std::alloc::Global;
+
+#[tactic(auto, unfolding(crate::specs::Terminals::Blocks::sequence_of))]
+pub(super) fn sequence(alloc: Global, from: &Value) -> Result<Terminal, Refusal>
+    ensures { IsRead result (sequence_of (view from.now)) }
+{
+    known_names(from, &["block", "fallthrough", "id", "k", "span"])?;
+    let block = required(alloc, from, "block")?;
+    let fallthrough = required(alloc, from, "fallthrough")?;
+    let id = required(alloc, from, "id")?;
+    let span = optional(alloc, from, "span")?;
+    Ok(Terminal::Sequence {
+        block,
+        fallthrough,
+        id,
+        span,
+    })
+}
+
+#[tactic(auto, unfolding(crate::specs::Terminals::Blocks::label_of))]
+pub(super) fn label(alloc: Global, from: &Value) -> Result<Terminal, Refusal>
+    ensures { IsRead result (label_of (view from.now)) }
+{
+    known_names(from, &["block", "fallthrough", "id", "k", "span"])?;
+    let block = required(alloc, from, "block")?;
+    let fallthrough = required(alloc, from, "fallthrough")?;
+    let id = required(alloc, from, "id")?;
+    let span = optional(alloc, from, "span")?;
+    Ok(Terminal::Label {
+        block,
+        fallthrough,
+        id,
+        span,
+    })
+}
+
+#[tactic(auto, unfolding(crate::specs::Terminals::Blocks::scope_of))]
+pub(super) fn scope(alloc: Global, from: &Value) -> Result<Terminal, Refusal>
+    ensures { IsRead result (scope_of (view from.now)) }
+{
+    known_names(from, &["block", "fallthrough", "id", "k", "scope", "span"])?;
+    let fallthrough = required(alloc, from, "fallthrough")?;
+    let block = required(alloc, from, "block")?;
+    let scope = required(alloc, from, "scope")?;
+    let id = required(alloc, from, "id")?;
+    let span = optional(alloc, from, "span")?;
+    Ok(Terminal::Scope {
+        fallthrough,
+        block,
+        scope,
+        id,
+        span,
+    })
+}
+
+#[tactic(auto, unfolding(crate::specs::Terminals::Blocks::pruned_scope_of))]
+pub(super) fn pruned_scope(alloc: Global, from: &Value) -> Result<Terminal, Refusal>
+    ensures { IsRead result (pruned_scope_of (view from.now)) }
+{
+    known_names(from, &["block", "fallthrough", "id", "k", "scope", "span"])?;
+    let fallthrough = required(alloc, from, "fallthrough")?;
+    let block = required(alloc, from, "block")?;
+    let scope = required(alloc, from, "scope")?;
+    let id = required(alloc, from, "id")?;
+    let span = optional(alloc, from, "span")?;
+    Ok(Terminal::PrunedScope {
+        fallthrough,
+        block,
+        scope,
+        id,
+        span,
+    })
+}
+
+#[tactic(auto, unfolding(crate::specs::Terminals::Blocks::try_of))]
+pub(super) fn try_terminal(alloc: Global, from: &Value) -> Result<Terminal, Refusal>
+    ensures { IsRead result (try_of (view from.now)) }
+{
+    known_names(
+        from,
+        &[
+            "block",
+            "fallthrough",
+            "handler",
+            "handler_binding",
+            "id",
+            "k",
+            "span",
+        ],
+    )?;
+    let block = required(alloc, from, "block")?;
+    let handler_binding = optional(alloc, from, "handler_binding")?;
+    let handler = required(alloc, from, "handler")?;
+    let fallthrough = required(alloc, from, "fallthrough")?;
+    let id = required(alloc, from, "id")?;
+    let span = optional(alloc, from, "span")?;
+    Ok(Terminal::Try {
+        block,
+        handler_binding,
+        handler,
+        fallthrough,
+        id,
+        span,
+    })
+}

@@ -1,0 +1,180 @@
+//! Readers of the terminals that choose a way.
+
+ghost use Rattle.std.specs.Prelude.{◌≡◌};
+ghost use Rattle.serde_json.specs.View.{view};
+ghost use Rattle.rc_doc.specs.Reading.{IsRead};
+ghost use Rattle.rc_doc.specs.Terminals.Branches.{branch_of, case_of, if_of, logical_of, logical_operator_of};
+ghost use Rattle.rc_doc.specs.Terminals.Branches.{operator_named, optional_of, switch_of, ternary_of};
+
+use crate::fields::{Read, flag, list_or_empty, optional, or_refuse, required};
+use crate::known::known_names;
+use crate::refusal::Refusal;
+use rc_hir::{Case, LogicalOperator, Terminal};
+use serde_json::Value;
+use std::alloc::Global;
+
+fn operator_named(name: &str) -> Option<LogicalOperator>
+    ensures { result ≡ operator_named name.now }
+{
+    match name {
+        "And" => Some(LogicalOperator::And),
+        "Or" => Some(LogicalOperator::Or),
+        "Coalesce" => Some(LogicalOperator::Coalesce),
+        _ => None,
+    }
+}
+
+impl Read for LogicalOperator {
+    ghost reads = { logical_operator_of };
+
+    fn read(_alloc: Global, from: &Value) -> Result<LogicalOperator, Refusal> {
+        let name = or_refuse(from.as_str())?;
+        or_refuse(operator_named(name))
+    }
+}
+
+impl Read for Case {
+    ghost reads = { case_of };
+
+    #[tactic(auto, unfolding(crate::specs::Terminals::Branches::case_of))]
+    fn read(alloc: Global, from: &Value) -> Result<Case, Refusal> {
+        known_names(from, &["block", "test"])?;
+        let test = optional(alloc, from, "test")?;
+        let block = required(alloc, from, "block")?;
+        Ok(Case { test, block })
+    }
+}
+
+#[tactic(auto, unfolding(crate::specs::Terminals::Branches::if_of))]
+pub(super) fn if_terminal(alloc: Global, from: &Value) -> Result<Terminal, Refusal>
+    ensures { IsRead result (if_of (view from.now)) }
+{
+    known_names(
+        from,
+        &[
+            "alternate",
+            "consequent",
+            "fallthrough",
+            "id",
+            "k",
+            "span",
+            "test",
+        ],
+    )?;
+    let test = required(alloc, from, "test")?;
+    let consequent = required(alloc, from, "consequent")?;
+    let alternate = required(alloc, from, "alternate")?;
+    let fallthrough = required(alloc, from, "fallthrough")?;
+    let id = required(alloc, from, "id")?;
+    let span = optional(alloc, from, "span")?;
+    Ok(Terminal::If {
+        test,
+        consequent,
+        alternate,
+        fallthrough,
+        id,
+        span,
+    })
+}
+
+#[tactic(auto, unfolding(crate::specs::Terminals::Branches::branch_of))]
+pub(super) fn branch(alloc: Global, from: &Value) -> Result<Terminal, Refusal>
+    ensures { IsRead result (branch_of (view from.now)) }
+{
+    known_names(
+        from,
+        &["alternate", "consequent", "id", "k", "span", "test"],
+    )?;
+    let test = required(alloc, from, "test")?;
+    let consequent = required(alloc, from, "consequent")?;
+    let alternate = required(alloc, from, "alternate")?;
+    let id = required(alloc, from, "id")?;
+    let span = optional(alloc, from, "span")?;
+    Ok(Terminal::Branch {
+        test,
+        consequent,
+        alternate,
+        id,
+        span,
+    })
+}
+
+#[tactic(auto, unfolding(crate::specs::Terminals::Branches::logical_of))]
+pub(super) fn logical(alloc: Global, from: &Value) -> Result<Terminal, Refusal>
+    ensures { IsRead result (logical_of (view from.now)) }
+{
+    known_names(
+        from,
+        &["fallthrough", "id", "k", "operator", "span", "test"],
+    )?;
+    let operator = required(alloc, from, "operator")?;
+    let test = required(alloc, from, "test")?;
+    let fallthrough = required(alloc, from, "fallthrough")?;
+    let id = required(alloc, from, "id")?;
+    let span = optional(alloc, from, "span")?;
+    Ok(Terminal::Logical {
+        operator,
+        test,
+        fallthrough,
+        id,
+        span,
+    })
+}
+
+#[tactic(auto, unfolding(crate::specs::Terminals::Branches::ternary_of))]
+pub(super) fn ternary(alloc: Global, from: &Value) -> Result<Terminal, Refusal>
+    ensures { IsRead result (ternary_of (view from.now)) }
+{
+    known_names(from, &["fallthrough", "id", "k", "span", "test"])?;
+    let test = required(alloc, from, "test")?;
+    let fallthrough = required(alloc, from, "fallthrough")?;
+    let id = required(alloc, from, "id")?;
+    let span = optional(alloc, from, "span")?;
+    Ok(Terminal::Ternary {
+        test,
+        fallthrough,
+        id,
+        span,
+    })
+}
+
+#[tactic(auto, unfolding(crate::specs::Terminals::Branches::optional_of))]
+pub(super) fn optional_terminal(alloc: Global, from: &Value) -> Result<Terminal, Refusal>
+    ensures { IsRead result (optional_of (view from.now)) }
+{
+    known_names(
+        from,
+        &["fallthrough", "id", "k", "optional", "span", "test"],
+    )?;
+    let is_optional = flag(from, "optional")?;
+    let test = required(alloc, from, "test")?;
+    let fallthrough = required(alloc, from, "fallthrough")?;
+    let id = required(alloc, from, "id")?;
+    let span = optional(alloc, from, "span")?;
+    Ok(Terminal::Optional {
+        optional: is_optional,
+        test,
+        fallthrough,
+        id,
+        span,
+    })
+}
+
+#[tactic(auto, unfolding(crate::specs::Terminals::Branches::switch_of))]
+pub(super) fn switch(alloc: Global, from: &Value) -> Result<Terminal, Refusal>
+    ensures { IsRead result (switch_of (view from.now)) }
+{
+    known_names(from, &["cases", "fallthrough", "id", "k", "span", "test"])?;
+    let test = required(alloc, from, "test")?;
+    let cases = list_or_empty(alloc, from, "cases")?;
+    let fallthrough = required(alloc, from, "fallthrough")?;
+    let id = required(alloc, from, "id")?;
+    let span = optional(alloc, from, "span")?;
+    Ok(Terminal::Switch {
+        test,
+        cases,
+        fallthrough,
+        id,
+        span,
+    })
+}

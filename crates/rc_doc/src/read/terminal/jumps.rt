@@ -1,0 +1,100 @@
+//! Readers of the terminals that jump or end a run, and of the one that may throw.
+
+ghost use Rattle.std.specs.Prelude.{◌≡◌};
+ghost use Rattle.serde_json.specs.View.{view};
+ghost use Rattle.rc_doc.specs.Reading.{IsRead};
+ghost use Rattle.rc_doc.specs.Terminals.Jumps.{goto_named, goto_of, goto_variant_of, maybe_throw_of, return_of};
+ghost use Rattle.rc_doc.specs.Terminals.Jumps.{throw_of, unreachable_of};
+
+use crate::fields::{Read, optional, or_refuse, required};
+use crate::known::known_names;
+use crate::refusal::Refusal;
+use rc_hir::{GotoVariant, Terminal};
+use serde_json::Value;
+use std::alloc::Global;
+
+fn goto_named(name: &str) -> Option<GotoVariant>
+    ensures { result ≡ goto_named name.now }
+{
+    match name {
+        "Break" => Some(GotoVariant::Break),
+        "Continue" => Some(GotoVariant::Continue),
+        "Try" => Some(GotoVariant::Try),
+        _ => None,
+    }
+}
+
+impl Read for GotoVariant {
+    ghost reads = { goto_variant_of };
+
+    fn read(_alloc: Global, from: &Value) -> Result<GotoVariant, Refusal> {
+        let name = or_refuse(from.as_str())?;
+        or_refuse(goto_named(name))
+    }
+}
+
+#[tactic(auto, unfolding(crate::specs::Terminals::Jumps::throw_of))]
+pub(super) fn throw(alloc: Global, from: &Value) -> Result<Terminal, Refusal>
+    ensures { IsRead result (throw_of (view from.now)) }
+{
+    known_names(from, &["id", "k", "span", "value"])?;
+    let value = required(alloc, from, "value")?;
+    let id = required(alloc, from, "id")?;
+    let span = optional(alloc, from, "span")?;
+    Ok(Terminal::Throw { value, id, span })
+}
+
+#[tactic(auto, unfolding(crate::specs::Terminals::Jumps::return_of))]
+pub(super) fn return_terminal(alloc: Global, from: &Value) -> Result<Terminal, Refusal>
+    ensures { IsRead result (return_of (view from.now)) }
+{
+    known_names(from, &["id", "k", "span", "value"])?;
+    let value = required(alloc, from, "value")?;
+    let id = required(alloc, from, "id")?;
+    let span = optional(alloc, from, "span")?;
+    Ok(Terminal::Return { value, id, span })
+}
+
+#[tactic(auto, unfolding(crate::specs::Terminals::Jumps::goto_of))]
+pub(super) fn goto(alloc: Global, from: &Value) -> Result<Terminal, Refusal>
+    ensures { IsRead result (goto_of (view from.now)) }
+{
+    known_names(from, &["block", "id", "k", "span", "variant"])?;
+    let block = required(alloc, from, "block")?;
+    let variant = required(alloc, from, "variant")?;
+    let id = required(alloc, from, "id")?;
+    let span = optional(alloc, from, "span")?;
+    Ok(Terminal::Goto {
+        block,
+        variant,
+        id,
+        span,
+    })
+}
+
+#[tactic(auto, unfolding(crate::specs::Terminals::Jumps::unreachable_of))]
+pub(super) fn unreachable(alloc: Global, from: &Value) -> Result<Terminal, Refusal>
+    ensures { IsRead result (unreachable_of (view from.now)) }
+{
+    known_names(from, &["id", "k", "span"])?;
+    let id = required(alloc, from, "id")?;
+    let span = optional(alloc, from, "span")?;
+    Ok(Terminal::Unreachable { id, span })
+}
+
+#[tactic(auto, unfolding(crate::specs::Terminals::Jumps::maybe_throw_of))]
+pub(super) fn maybe_throw(alloc: Global, from: &Value) -> Result<Terminal, Refusal>
+    ensures { IsRead result (maybe_throw_of (view from.now)) }
+{
+    known_names(from, &["continuation", "handler", "id", "k", "span"])?;
+    let continuation = required(alloc, from, "continuation")?;
+    let handler = optional(alloc, from, "handler")?;
+    let id = required(alloc, from, "id")?;
+    let span = optional(alloc, from, "span")?;
+    Ok(Terminal::MaybeThrow {
+        continuation,
+        handler,
+        id,
+        span,
+    })
+}

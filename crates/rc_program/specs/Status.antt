@@ -1,0 +1,161 @@
+-- The facts that each status gives of the words, of the bytes taken and of the bytes written; and the status that is
+-- due for bytes.
+use Rattle.std.specs.Prelude.{◌≡◌, ℕ, ◌+◌, ◌≤◌, ◌<◌, List, [], ◌∷◌, length, Option, None, Some, Result, Ok, Err, codes}
+use Rattle.std.specs.Prelude.{⊤, IsSome}
+use Rattle.std.specs.Str.{IsUtf8}
+use Rattle.std.specs.Io.KnownBytes.{Appends}
+use Rattle.serde_json.specs.Data.{Data}
+use Rattle.serde_json.specs.Read.{read}
+use Rattle.rc_hir.specs.Model.{Environment, Fault}
+use Rattle.rc_tree.specs.Model.{ReactiveFunction}
+use Rattle.rc_pipe.specs.declared.pipeline.Pruned.{Pruned}
+use Rattle.rc_pipe.specs.Headline.{HasAnswer, IsAccepted, IsAnswer, IsCause}
+use Rattle.rc_doc.specs.declared.document.Doc.{Doc}
+use Rattle.rc_doc.specs.Document.{doc_of}
+use Rattle.rc_program.specs.declared.stop.Stop.{Stop}
+use Rattle.rc_program.specs.declared.stop.Stop.TheVariants as stops
+use Rattle.rc_program.specs.declared.status.Status.{Status}
+use Rattle.rc_program.specs.declared.status.Status.TheVariants.{Done, Usage, NotJson, NotDoc, Refused, ReadFault}
+use Rattle.rc_program.specs.declared.status.Status.TheVariants.{WriteFault, TooLarge, NoMemory}
+use Rattle.rc_program.specs.FunctionLines.{lines_of}
+use Rattle.rc_program.specs.FaultLine.{fault_line, fault_name}
+use Rattle.rc_program.specs.Device.{most_bytes, HasTaken, IsReadToEnd, HasAppendedPrefix}
+use Rattle.rc_program.specs.Stop.{status_of}
+
+-- the words are the one word `tree`
+abbrev pub IsTree : List (List ℕ) → Type 0
+IsTree words = words ≡ codes "tree" ∷ []
+
+-- the bytes are JSON of this value
+pub record IsJson (bytes : List ℕ) (value : Data) : Type 0 where
+  pub utf8 : IsUtf8 bytes
+  pub reads : read bytes ≡ Some value
+
+-- the bytes are JSON of no value
+abbrev pub IsNoJson : List ℕ → Type 0
+IsNoJson bytes = IsUtf8 bytes → read bytes ≡ None
+
+-- the bytes are JSON of this document
+pub record IsJsonOfDoc (bytes : List ℕ) (doc : Doc) : Type 0 where
+  pub value : Data
+  pub json : IsJson bytes value
+  pub document : doc_of value ≡ Some doc
+
+-- the bytes are JSON of a value that is no document
+pub record IsJsonOfOther (bytes : List ℕ) : Type 0 where
+  pub value : Data
+  pub json : IsJson bytes value
+  pub other : doc_of value ≡ None
+
+-- the document's graph is accepted and has an answer
+pub record IsAnswerable (doc : Doc) : Type 0 where
+  pub accepted : IsAccepted doc.hir doc.env
+  pub func : ReactiveFunction
+  pub answer : HasAnswer doc.hir doc.env func
+
+-- The status that is due for the bytes of a source.
+abbrev pub IsDue : List ℕ → Status → Type 0
+IsDue bytes TooLarge = most_bytes < length bytes
+IsDue bytes NotJson = (length bytes ≤ most_bytes) × IsNoJson bytes
+IsDue bytes NotDoc = (length bytes ≤ most_bytes) × IsJsonOfOther bytes
+IsDue bytes Refused = (length bytes ≤ most_bytes) × ((doc : Doc) × IsJsonOfDoc bytes doc × ¬ IsAnswerable doc)
+IsDue bytes Done = (length bytes ≤ most_bytes) × ((doc : Doc) × IsJsonOfDoc bytes doc × IsAnswerable doc)
+IsDue bytes _ = ⊥
+
+-- A status that may come instead of the due one: `NoMemory`, or the fault of a device whose count rose. The sink's
+-- fault may come only for a document, since nothing else is written.
+abbrev pub CanReplace : Type 0 → Type 0 → Status → Status → Type 0
+CanReplace source_rose sink_rose due NoMemory = ⊤
+CanReplace source_rose sink_rose due ReadFault = source_rose
+CanReplace source_rose sink_rose Done WriteFault = sink_rose
+CanReplace source_rose sink_rose Refused WriteFault = sink_rose
+CanReplace source_rose sink_rose due _ = ⊥
+
+-- a step over these bytes stopped with the status that is due for them, or ran out of memory
+abbrev pub IsStopFor : List ℕ → Stop → Type 0
+IsStopFor bytes stops.NoMemory = ⊤
+IsStopFor bytes stop = IsDue bytes (status_of stop)
+
+-- more bytes were taken than a document may have, by at most one buffer
+abbrev pub HasTakenTooMany : Option (List ℕ) → Option (List ℕ) → Type 0
+HasTakenTooMany = HasTaken (λ count. (most_bytes < count) × (count ≤ most_bytes + 4096))
+
+-- at most as many bytes were taken as a document may have
+abbrev pub HasTakenSome : Option (List ℕ) → Option (List ℕ) → Type 0
+HasTakenSome = HasTaken (λ count. count ≤ most_bytes)
+
+-- Reading to the end gave these bytes, or stopped for this reason.
+abbrev pub IsReadOrStop : {X : Type 0} → (X → List ℕ) → Option (List ℕ) → Option (List ℕ) → Result X Stop → Type 0
+IsReadOrStop bytes_of left left' (Ok read_bytes) = IsReadToEnd left left' (bytes_of read_bytes)
+IsReadOrStop bytes_of left left' (Err stops.TooLarge) = HasTakenTooMany left left'
+IsReadOrStop bytes_of left left' (Err stops.ReadFault) = HasTakenSome left left'
+IsReadOrStop bytes_of left left' (Err stops.NoMemory) = ⊤
+IsReadOrStop bytes_of left left' (Err _) = ⊥
+
+-- bytes for which this status is due were read to their end
+pub record HasReadDue (left left' : Option (List ℕ)) (status : Status) : Type 0 where
+  pub bytes : List ℕ
+  pub whole : IsReadToEnd left left' bytes
+  pub due : IsDue bytes status
+
+-- bytes that are JSON of this document were read to their end
+pub record HasLoaded (left left' : Option (List ℕ)) (doc : Doc) : Type 0 where
+  pub bytes : List ℕ
+  pub whole : IsReadToEnd left left' bytes
+  pub document : IsJsonOfDoc bytes doc
+
+-- This document was loaded, or loading stopped for this reason.
+abbrev pub IsLoadOrStop : Option (List ℕ) → Option (List ℕ) → Result Doc Stop → Type 0
+IsLoadOrStop left left' (Ok doc) = HasLoaded left left' doc
+IsLoadOrStop left left' (Err stops.NotJson) = HasReadDue left left' NotJson
+IsLoadOrStop left left' (Err stops.NotDoc) = HasReadDue left left' NotDoc
+IsLoadOrStop left left' (Err stops.TooLarge) = HasTakenTooMany left left'
+IsLoadOrStop left left' (Err stops.ReadFault) = HasTakenSome left left'
+IsLoadOrStop left left' (Err stops.NoMemory) = ⊤
+IsLoadOrStop left left' (Err _) = ⊥
+
+-- the text has the lines of a function that is an answer for this document, by the headline
+pub record IsTreeText (doc : Doc) (text : List ℕ) : Type 0 where
+  pub pruned : Pruned
+  -- the environment after the passes
+  pub answered : Environment
+  pub answer : IsAnswer doc.hir doc.env answered pruned
+  pub lines : text ≡ lines_of pruned.func pruned.fates
+
+-- the text is the line of a fault with which this document's graph is refused; the fault has a line
+pub record IsRefusalText (doc : Doc) (text : List ℕ) : Type 0 where
+  pub fault : Fault
+  pub named : IsSome (fault_name fault)
+  pub cause : IsCause doc.hir doc.env fault
+  pub no_answer : ¬ IsAnswerable doc
+  pub line : text ≡ fault_line fault
+
+-- the text that is written for this document if the program ends with that status
+abbrev pub IsTextFor : Doc → Status → List ℕ → Type 0
+IsTextFor doc Done text = IsTreeText doc text
+IsTextFor doc Refused text = IsRefusalText doc text
+IsTextFor doc _ text = ⊥
+
+-- a document was read to its end, and the text for it with that status was written in this way
+pub record HasPrinted (status : Status) (Writes : List ℕ → Type 0) (left left' : Option (List ℕ)) : Type 0 where
+  pub doc : Doc
+  pub text : List ℕ
+  pub loaded : HasLoaded left left' doc
+  pub answered : IsTextFor doc status text
+  pub written : Writes text
+
+-- The facts that each status gives of the words, of the bytes taken from the source and of those given to the sink.
+abbrev pub IsOutcome : List (List ℕ) → Option (List ℕ) → Option (List ℕ) → Option (List ℕ) → Option (List ℕ) → Status
+    → Type 0
+IsOutcome words left left' written written' Done = IsTree words × HasPrinted Done (Appends written written') left left'
+IsOutcome words left left' written written' Refused = IsTree words
+    × HasPrinted Refused (Appends written written') left left'
+IsOutcome words left left' written written' Usage = ¬ IsTree words × (left' ≡ left) × (written' ≡ written)
+IsOutcome words left left' written written' NotJson = IsTree words × HasReadDue left left' NotJson
+    × (written' ≡ written)
+IsOutcome words left left' written written' NotDoc = IsTree words × HasReadDue left left' NotDoc × (written' ≡ written)
+IsOutcome words left left' written written' ReadFault = IsTree words × HasTakenSome left left' × (written' ≡ written)
+IsOutcome words left left' written written' WriteFault =
+    IsTree words × ((status : Status) × HasPrinted status (HasAppendedPrefix written written') left left')
+IsOutcome words left left' written written' TooLarge = IsTree words × HasTakenTooMany left left' × (written' ≡ written)
+IsOutcome words left left' written written' NoMemory = IsTree words × (written' ≡ written)

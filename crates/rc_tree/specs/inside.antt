@@ -1,0 +1,5 @@
+-- What private functions, and lemmas, say of each other.
+pub mod RewriteInPlace
+pub mod RewriteKeeps
+pub mod Refines
+pub mod StatementsRefine
