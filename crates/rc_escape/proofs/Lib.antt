@@ -1,0 +1,11 @@
+pub mod LevelLaws
+pub mod ListLemmas
+pub mod PlaceLemmas
+pub mod FrameLemmas
+pub mod WorkLemmas
+pub mod StepRules
+pub mod WalkLoop
+pub mod LeastIsMemoized
+pub mod MemoizedIsInGreatest
+pub mod LowestScopeLemmas
+pub mod MemoSetLemmas

@@ -1,0 +1,5 @@
+use Rattle.rc_escape.proofs.LowestScopeLemmas.{IsLowestSoFar}
+use Rattle.rc_escape.proofs.missing_scopes.lowest_in.Given as goal
+
+abbrev pub invariant-loop-place : goal.invariant-loop-place
+invariant-loop-place l = IsLowestSoFar l.rec l.fn.before l.scopes l.place l.lowest

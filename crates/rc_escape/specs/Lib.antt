@@ -1,0 +1,6 @@
+-- Read in this order: the levels, the walk over a record, the sets between which its result lies, the memoized names.
+pub mod Level
+pub mod MemoWalk
+pub mod MemoBounds
+pub mod MemoSet
+pub mod inside

@@ -1,0 +1,20 @@
+//! Escape analysis: which names have to be memoized, since they escape from the function or since a name that escapes
+//! needs them.
+//!
+//! A record tells of each name how much it asks to be memoized, on which names it depends, and which scopes compute it.
+//! A walk over the record from the names that escape decides which names are memoized.
+//!
+//! After oxc's prune_non_escaping_scopes.
+#![tactic(auto)]
+
+mod bit_row;
+mod level;
+mod memo_walk;
+mod memoized_names;
+mod missing_scopes;
+mod record;
+mod walk_state;
+
+pub use level::{MemoizationLevel, join_aliases};
+pub use memoized_names::memoized;
+pub use record::{DeclSet, MemoNode, MemoRecord};

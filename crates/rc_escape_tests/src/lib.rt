@@ -1,0 +1,5 @@
+//! Tests of the levels and of the memoized names of records.
+#![tactic(auto)]
+
+#[cfg(test)]
+mod tests;

@@ -1,0 +1,5 @@
+//! Records that are written here, and the names that are memoized.
+
+mod levels;
+mod records;
+mod walks;
