@@ -11,8 +11,8 @@ use Rattle.rc_runs.specs.PlainTree.{Statements, Nil, Cons, Statement, RowStateme
 use Rattle.rc_runs.specs.Frames.{is_jump_target}
 use Rattle.rc_runs.specs.Graph.{usable_block}
 use Rattle.rc_runs.specs.TreeOf.{statements_of, statement_of}
-use Rattle.rc_runs.specs.Grammar.{SpellsList, SpellsTerminal, SpellsStatement, SpellsRest, rows_before, block, and_rest}
-use Rattle.rc_runs.specs.Grammar.{opened, closed, returns, unreachable, breaks}
+use Rattle.rc_runs.specs.Grammar.{SpellsList, SpellsTerminal, SpellsStatement, SpellsRest, rows_before, from_block, and_rest}
+use Rattle.rc_runs.specs.Grammar.{has_rest, no_rest, returns, unreachable, breaks}
 use Rattle.rc_runs.specs.Spelled.{AreSound}
 use Rattle.rc_build.specs.References.{referenced_blocks}
 use Rattle.rc_build.specs.inside.Rows.{row_statement_of}
@@ -181,21 +181,21 @@ module _ {s : Setting} where
     newly = key ∷ [];
     put = e ∙ ap (λ z. old.out ++ z) (sym (rows_put rows));
     marking = marking;
-    onward = λ rest used d. block usable apart d (sym (rows_join rows rest));
+    onward = λ rest used d. from_block usable apart d (sym (rows_join rows rest));
     only = only;
   }
     where
       only : (all : Statements) (used : List BlockId) → SpellsList s.hir s.env key s.context all used →
           (rest : Statements) × (later : List BlockId) × SpellsTerminal s.hir s.env found.terminal s.context rest
           later × (used ≡ key ∷ later)
-      only all used (block {rest = rest} {used = later} {block = other} u l d w) =
+      only all used (from_block {rest = rest} {used = later} {block = other} u l d w) =
           let same : other ≡ filled found rows = cc in
           (rest, later, terminal_at same d, refl)
 
   -- a block that no tree may use there
   pub block_refused : (key : BlockId) (marks : Marks) → IsUnusable s.hir s.context.frames key marks
       → Refused s.hir (Spells s (FromBlock key)) marks.used
-  block_refused key marks none all used (block {used = later} {block = found} u l d w) sound =
+  block_refused key marks none all used (from_block {used = later} {block = found} u l d w) sound =
       none found u l (refused_front s.hir marks.used (key ∷ []) later sound refl)
 
   -- a terminal that ends its list
@@ -219,16 +219,16 @@ module _ {s : Setting} where
   rest_left : (is_open : Bool) (fallthrough : BlockId) (rest : Statements) (used : List BlockId)
       → Spells s (left (open_block is_open fallthrough)) rest used
       → SpellsRest s.hir s.env is_open fallthrough s.context rest used
-  rest_left true fallthrough rest used d = opened d
+  rest_left true fallthrough rest used d = has_rest d
   rest_left false fallthrough rest used d =
       subst (λ z. SpellsRest s.hir s.env false fallthrough s.context z used) (sym d.0)
-      (subst (SpellsRest s.hir s.env false fallthrough s.context Nil) (sym d.1) closed)
+      (subst (SpellsRest s.hir s.env false fallthrough s.context Nil) (sym d.1) no_rest)
 
   left_rest : (is_open : Bool) (fallthrough : BlockId) (rest : Statements) (used : List BlockId)
       → SpellsRest s.hir s.env is_open fallthrough s.context rest used
       → Spells s (left (open_block is_open fallthrough)) rest used
-  left_rest true fallthrough rest used (opened d) = d
-  left_rest false fallthrough rest used closed = (refl, refl)
+  left_rest true fallthrough rest used (has_rest d) = d
+  left_rest false fallthrough rest used no_rest = (refl, refl)
 
   -- what follows a statement
   after_statement : {terminal : Terminal} {is_open : Bool} {fallthrough : BlockId} {statement : Statement}

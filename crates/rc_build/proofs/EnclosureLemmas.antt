@@ -12,7 +12,7 @@ use Rattle.rc_runs.specs.ListContext.{inside}
 use Rattle.rc_runs.specs.PlainTree.{Statements, Statement, TerminalStatement, ScopeStatement, PrunedScopeStatement}
 use Rattle.rc_runs.specs.PlainTree.{Label}
 use Rattle.rc_runs.specs.TreeOf.{statements_of, statement_of}
-use Rattle.rc_runs.specs.Grammar.{SpellsList, SpellsStatement, label_of, label, scope, pruned_scope, and_rest}
+use Rattle.rc_runs.specs.Grammar.{SpellsList, SpellsStatement, label_of, label_statement, scope_statement, pruned_scope_statement, and_rest}
 use Rattle.rc_build.specs.References.{referenced_blocks}
 use Rattle.rc_build.specs.inside.Marks.{MarksBlocks}
 use Rattle.rc_build.specs.inside.CanBuild.{CanBuildList, CanBuildTerminal}
@@ -54,9 +54,9 @@ spelled_around : {s : Setting} (e : Enclosure) (part fallthrough : BlockId) (id 
     → SpellsList s.hir s.env part (inside is_open (frame_of e fallthrough) s.context) statements used
     → SpellsStatement s.hir s.env (terminal_around e part fallthrough id span) s.context is_open fallthrough
     (plain_around e statements id (label_of is_open fallthrough)) used
-spelled_around enclosures.Label part fallthrough id span i d = label i refl d
-spelled_around (enclosures.Scope number) part fallthrough id span i d = scope i d
-spelled_around (enclosures.PrunedScope number) part fallthrough id span i d = pruned_scope i d
+spelled_around enclosures.Label part fallthrough id span i d = label_statement i refl d
+spelled_around (enclosures.Scope number) part fallthrough id span i d = scope_statement i d
+spelled_around (enclosures.PrunedScope number) part fallthrough id span i d = pruned_scope_statement i d
 
 -- a statement whose part is refused is refused
 pub enclosure_refused : {s : Setting} {at : Option BlockId} (e : Enclosure) (part fallthrough : BlockId)
@@ -65,15 +65,15 @@ pub enclosure_refused : {s : Setting} {at : Option BlockId} (e : Enclosure) (par
     → Refused s.hir (Spells (part_setting at (frame_of e fallthrough) s) (FromBlock part)) used
     → Refused s.hir (Spells s (FromTerminal (terminal_around e part fallthrough id span))) used
 enclosure_refused {s} {at} enclosures.Label part fallthrough id span used o none all blocks
-    (and_rest {part_used = front} {rest_used = back} (label {opened = p} {part = x} i l d) r w) sound =
+    (and_rest {part_used = front} {rest_used = back} (label_statement {opened = p} {part = x} i l d) r w) sound =
     none x front (part_at (frame_kinds.Statement fallthrough) s.context (is_some at) p
     (i ∙ sym (is_some-opened _ fallthrough o)) d) (refused_front s.hir used front back sound w)
 enclosure_refused {s} {at} (enclosures.Scope number) part fallthrough id span used o none all blocks
-    (and_rest {part_used = front} {rest_used = back} (scope {opened = p} {part = x} i d) r w) sound =
+    (and_rest {part_used = front} {rest_used = back} (scope_statement {opened = p} {part = x} i d) r w) sound =
     none x front (part_at (frame_kinds.Scope fallthrough) s.context (is_some at) p
     (i ∙ sym (is_some-opened _ fallthrough o)) d) (refused_front s.hir used front back sound w)
 enclosure_refused {s} {at} (enclosures.PrunedScope number) part fallthrough id span used o none all blocks
-    (and_rest {part_used = front} {rest_used = back} (pruned_scope {opened = p} {part = x} i d) r w) sound =
+    (and_rest {part_used = front} {rest_used = back} (pruned_scope_statement {opened = p} {part = x} i d) r w) sound =
     none x front (part_at (frame_kinds.Scope fallthrough) s.context (is_some at) p
     (i ∙ sym (is_some-opened _ fallthrough o)) d) (refused_front s.hir used front back sound w)
 

@@ -103,7 +103,7 @@ module _ (hir : HirFunction) (env : Environment) where
       {events : List Event} {outcome : Completion} → SpellsList hir env key context statements used → Fits context
       → (outcome ≡ Normal → ends_unreachable hir key ≡ false) → AllAlive used →
       Carries context statements events outcome → After context (GraphRunAt hir env key) events outcome
-  at_block {key} {context} (grammar.block {used = later} {block = block} found l d q) fits live alive carries =
+  at_block {key} {context} (grammar.from_block {used = later} {block = block} found l d q) fits live alive carries =
       let at = usable_block-at hir key block found in
       let rows = subst (λ s. SpellsRows hir env block.rows block.terminal context s later) (sym q)
       (rows_spelled block.rows d) in
@@ -164,10 +164,10 @@ module _ (hir : HirFunction) (env : Environment) where
       → SpellsRest hir env opened fallthrough context rest used
       → After (leaving opened fallthrough context) run first Normal → RunsList env rest second outcome
       → all ≡ first ++ second → AllAlive used → Carries context rest second outcome → After context run all outcome
-  onward {run} fits grammar.closed (leads a live k) body.stopped q alive carries =
+  onward {run} fits grammar.no_rest (leads a live k) body.stopped q alive carries =
       ends (subst (λ l. run l Open) (sym q) (k [] Open graph.arrives))
-  onward fits grammar.closed (leads a live k) body.nothing q alive carries = alone (leads a live k) q
-  onward {fallthrough = fallthrough} {first = first} fits (grammar.opened d) (leads {key = key} a live k) x q alive
+  onward fits grammar.no_rest (leads a live k) body.nothing q alive carries = alone (leads a live k) q
+  onward {fallthrough = fallthrough} {first = first} fits (grammar.has_rest d) (leads {key = key} a live k) x q alive
       carries =
       let same : key ≡ fallthrough = cc in
       ahead first (at_block d fits (λ n. subst (λ b. ends_unreachable hir b ≡ false) same live) alive carries) q
@@ -248,11 +248,11 @@ module _ (hir : HirFunction) (env : Environment) where
     statement_to_graph (body.took_other (body.present x) q) fits
         (grammar.if_else {part_used = u} {other_used = v} i l same d e w) moves alive =
         labeled_part _ _ fits l q graph.else_arm e moves (alive_behind u v w alive) (list_to_graph x)
-    statement_to_graph (body.in_label x q) fits (grammar.label i l d) moves alive =
+    statement_to_graph (body.in_label x q) fits (grammar.label_statement i l d) moves alive =
         labeled_part _ _ fits l q graph.into_label d moves alive (list_to_graph x)
-    statement_to_graph (body.in_scope x) fits (grammar.scope i d) moves alive =
+    statement_to_graph (body.in_scope x) fits (grammar.scope_statement i d) moves alive =
         scope_part _ _ fits graph.into_scope d moves alive (list_to_graph x)
-    statement_to_graph (body.in_pruned_scope x) fits (grammar.pruned_scope i d) moves alive =
+    statement_to_graph (body.in_pruned_scope x) fits (grammar.pruned_scope_statement i d) moves alive =
         scope_part _ _ fits graph.into_pruned_scope d moves alive (list_to_graph x)
     statement_to_graph (body.quiet_row h) fits d moves alive = elim d [ ]
     statement_to_graph (body.did_row h) fits d moves alive = elim d [ ]

@@ -20,9 +20,9 @@ use Rattle.rc_runs.specs.GraphRun.{GraphRun, stopped, quiet, did, moved, returne
 use Rattle.rc_runs.specs.PlainTree.{Statements, Cons, Statement, ScopeStatement, PrunedScopeStatement}
 use Rattle.rc_runs.specs.ListContext.{ListContext, outermost, inside}
 use Rattle.rc_runs.specs.Grammar.{rows_before, SpellsList, SpellsTerminal, SpellsStatement, SpellsRest}
-use Rattle.rc_runs.specs.Grammar.{block, returns, unreachable, breaks, and_rest, if_only, if_else, label, scope}
-use Rattle.rc_runs.specs.Grammar.{pruned_scope}
-use Rattle.rc_runs.specs.Grammar.{closed as no_rest, opened as has_rest}
+use Rattle.rc_runs.specs.Grammar.{from_block, returns, unreachable, breaks, and_rest, if_only, if_else, label_statement, scope_statement}
+use Rattle.rc_runs.specs.Grammar.{pruned_scope_statement}
+use Rattle.rc_runs.specs.Grammar.{no_rest, has_rest}
 use Rattle.rc_runs.specs.Spelled.{SpellsBody, Spells}
 use Rattle.rc_runs.specs.BodyRun.{Completion, Normal, BreakTo, BreakLoop, ContinueTo, ContinueLoop, Ended, leaves}
 use Rattle.rc_runs.specs.BodyRun.{caught}
@@ -214,14 +214,14 @@ module _ (hir : HirFunction) (env : Environment) where
         part_leads o (frame_kinds.Statement f) l (Arm false ∷ [])
         (aims_labeled o (frame_kinds.Statement f) context l refl refl j)
         (λ events inner outer p q. took_other (present p) q) a run small
-    statement_leads (label {fallthrough = f} {opened = o} {label = l} i j d) into_label run small =
+    statement_leads (label_statement {fallthrough = f} {opened = o} {label = l} i j d) into_label run small =
         part_leads o (frame_kinds.Statement f) l [] (aims_labeled o (frame_kinds.Statement f) context l refl refl j)
         (λ events inner outer p q. in_label p q) d run small
-    statement_leads (scope {fallthrough = f} {scope = number} {opened = o} {part = part} i d) into_scope run small =
+    statement_leads (scope_statement {fallthrough = f} {scope = number} {opened = o} {part = part} i d) into_scope run small =
         part_leads o (frame_kinds.Scope f) None [] (aims_scope o f context)
         (λ events inner outer p q. subst (RunsStatement env (ScopeStatement number part) events) (sym q)
         (in_scope p)) d run small
-    statement_leads (pruned_scope {fallthrough = f} {scope = number} {opened = o} {part = part} i d) into_pruned_scope
+    statement_leads (pruned_scope_statement {fallthrough = f} {scope = number} {opened = o} {part = part} i d) into_pruned_scope
         run small =
         part_leads o (frame_kinds.Scope f) None [] (aims_scope o f context)
         (λ events inner outer p q. subst (RunsStatement env (PrunedScopeStatement number part) events) (sym q)
@@ -255,7 +255,7 @@ module _ (hir : HirFunction) (env : Environment) where
       → Leads context (suc bound) (RunsList env statements) events end
   unfolding size_at
   list_leads below d fits arrives small = ends stops
-  list_leads {bound} {key} {context} {events = events} {end} below (block {rest = rest} {block = b} found live d w) fits
+  list_leads {bound} {key} {context} {events = events} {end} below (from_block {rest = rest} {block = b} found live d w) fits
       (enters {block = other} at run) small =
       let same : b ≡ other = one_held at (usable_block-at hir key b found) in
       subst (λ s. Leads context (suc bound) (RunsList env s) events end)

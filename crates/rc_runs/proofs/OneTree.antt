@@ -13,8 +13,8 @@ use Rattle.rc_runs.specs.PlainTree.{Statements, Statement}
 use Rattle.rc_runs.specs.TreeOf.{block_of}
 use Rattle.rc_runs.specs.ListContext.{ListContext, inside}
 use Rattle.rc_runs.specs.Grammar.{SpellsList, SpellsTerminal, SpellsStatement, SpellsRest}
-use Rattle.rc_runs.specs.Grammar.{block, returns, unreachable, breaks, and_rest, if_only, if_else, label, scope}
-use Rattle.rc_runs.specs.Grammar.{pruned_scope, closed, opened}
+use Rattle.rc_runs.specs.Grammar.{from_block, returns, unreachable, breaks, and_rest, if_only, if_else, label_statement, scope_statement}
+use Rattle.rc_runs.specs.Grammar.{pruned_scope_statement, no_rest, has_rest}
 use Rattle.rc_runs.specs.Spelled.{with_header, SpellsBody, Spells}
 
 -- the same part and the same used blocks
@@ -48,7 +48,7 @@ module _ {hir : HirFunction} {env : Environment} where
   mutual
     pub one_list : {key : BlockId} {context : ListContext} {a b : Statements} {u v : List BlockId}
         → SpellsList hir env key context a u → SpellsList hir env key context b v → Same a u b v
-    one_list (block {key = key} {block = p} found live d w) (block {block = q} found' live' d' w') =
+    one_list (from_block {key = key} {block = p} found live d w) (from_block {block = q} found' live' d' w') =
         let same : q ≡ p = one_held found found' in
         let h = one_terminal d (terminal_at same d') in
         (cc, ap (λ used. key ∷ used) h.1)
@@ -86,24 +86,24 @@ module _ {hir : HirFunction} {env : Environment} where
         let h = one_list d (part_at (frame_kinds.Statement f) around o p same d') in
         let k = one_list a (part_at (frame_kinds.Statement f) around o p same a') in
         (sym same, refl, cc, cc)
-    one_statement (label {fallthrough = f} {context = around} {opened = o} i l d) (label {opened = p} i' l' d') =
+    one_statement (label_statement {fallthrough = f} {context = around} {opened = o} i l d) (label_statement {opened = p} i' l' d') =
         let same : p ≡ o = i' ∙ sym i in
         let h = one_list d (part_at (frame_kinds.Statement f) around o p same d') in
         (sym same, refl, cc, h.1)
-    one_statement (scope {fallthrough = f} {context = around} {opened = o} i d) (scope {opened = p} i' d') =
+    one_statement (scope_statement {fallthrough = f} {context = around} {opened = o} i d) (scope_statement {opened = p} i' d') =
         let same : p ≡ o = i' ∙ sym i in
         let h = one_list d (part_at (frame_kinds.Scope f) around o p same d') in
         (sym same, refl, cc, h.1)
-    one_statement (pruned_scope {fallthrough = f} {context = around} {opened = o} i d)
-        (pruned_scope {opened = p} i' d') =
+    one_statement (pruned_scope_statement {fallthrough = f} {context = around} {opened = o} i d)
+        (pruned_scope_statement {opened = p} i' d') =
         let same : p ≡ o = i' ∙ sym i in
         let h = one_list d (part_at (frame_kinds.Scope f) around o p same d') in
         (sym same, refl, cc, h.1)
 
     pub one_rest : {o : Bool} {f : BlockId} {context : ListContext} {a b : Statements} {u v : List BlockId}
         → SpellsRest hir env o f context a u → SpellsRest hir env o f context b v → Same a u b v
-    one_rest closed closed = (refl, refl)
-    one_rest (opened d) (opened d') = one_list d d'
+    one_rest no_rest no_rest = (refl, refl)
+    one_rest (has_rest d) (has_rest d') = one_list d d'
 
   -- a graph spells at most one list of statements
   pub spells_one_tree : {a b : Statements} → SpellsBody hir env a → SpellsBody hir env b → a ≡ b

@@ -20,8 +20,8 @@ use Rattle.rc_runs.specs.Graph.{Block, basic_block, block_at, rows_of, with_rows
 use Rattle.rc_runs.specs.ListContext.{ListContext}
 use Rattle.rc_runs.specs.Grammar.{SpellsList, SpellsRest, SpellsStatement, SpellsTerminal, break_statements}
 use Rattle.rc_runs.specs.Grammar.{rows_before, unlabeled}
-use Rattle.rc_runs.specs.Grammar.{block, returns, unreachable, breaks, and_rest, if_only, if_else, label, scope}
-use Rattle.rc_runs.specs.Grammar.{pruned_scope, closed, opened}
+use Rattle.rc_runs.specs.Grammar.{from_block, returns, unreachable, breaks, and_rest, if_only, if_else, label_statement, scope_statement}
+use Rattle.rc_runs.specs.Grammar.{pruned_scope_statement, no_rest, has_rest}
 use Rattle.rc_runs.specs.PlainTree.{Base, Statement, RowStatement, TerminalStatement, Statements, Nil, Cons}
 use Rattle.rc_runs.specs.PlainTree.{TreeTerminal, Break, Return, If, Label, Absent, Present}
 use Rattle.rc_runs.specs.Spelled.{Spells}
@@ -207,7 +207,7 @@ module _ (hir : HirFunction) (env : Environment) (named : FunctionInTables env h
   mutual
     held_list : {key : BlockId} {context : ListContext} {statements : Statements} {used : List BlockId} →
         SpellsList hir env key context statements used → Held (names_in_list (statements_of statements))
-    held_list (block {key = key} {rest = rest} {block = b} usable live d w) =
+    held_list (from_block {key = key} {rest = rest} {block = b} usable live d w) =
         let here = block_held key b (usable_block-at hir key b usable) in
         subst (λ s. Held (names_in_list (statements_of s))) (sym w)
         (rows_first b.rows rest here.0 (held_terminal here.1 d))
@@ -241,17 +241,17 @@ module _ (hir : HirFunction) (env : Environment) (named : FunctionInTables env h
         (All-append InTable (place_names test) _ (place_held test held)
         (All-append InTable (names_in (block_of part)) (names_in (block_of other)) (block_first part (held_list d))
         (block_first other (held_list e))))
-    held_statement held (label {id = id} {label = own} {part = part} i l d) =
+    held_statement held (label_statement {id = id} {label = own} {part = part} i l d) =
         terminal_first (Label part id) own (names_in (block_of part))
         (collected-Label names_of_parts (block_of part) id)
         (block_first part (held_list d))
-    held_statement held (scope {scope = of} {part = part} i d) =
+    held_statement held (scope_statement {scope = of} {part = part} i d) =
         let x : ReactiveScopeBlock = record { scope = of; instructions = block_of part } in
         by_same (names_in_statement (reactive.Scope x)) (scope_name of ++ names_in (block_of part))
         (collected-Scope names_of_parts x)
         (All-append InTable (scope_name of) (names_in (block_of part)) (scope_held of held)
         (block_first part (held_list d)))
-    held_statement held (pruned_scope {scope = of} {part = part} i d) =
+    held_statement held (pruned_scope_statement {scope = of} {part = part} i d) =
         let x : PrunedReactiveScopeBlock = record { scope = of; instructions = block_of part } in
         by_same (names_in_statement (reactive.PrunedScope x)) (scope_name of ++ names_in (block_of part))
         (collected-PrunedScope names_of_parts x)
@@ -260,8 +260,8 @@ module _ (hir : HirFunction) (env : Environment) (named : FunctionInTables env h
 
     held_rest : {o : Bool} {f : BlockId} {context : ListContext} {statements : Statements} {used : List BlockId} →
         SpellsRest hir env o f context statements used → Held (names_in_list (statements_of statements))
-    held_rest closed = All-nil InTable
-    held_rest (opened d) = held_list d
+    held_rest no_rest = All-nil InTable
+    held_rest (has_rest d) = held_list d
 
   -- the numbers of a spelled function's body are in their tables
   pub spelled_names_held : (func : ReactiveFunction) → Spells hir env func → Held (names_in func.body)

@@ -1,12 +1,15 @@
--- Frames: which blocks a jump can name, where falling off leads, and how a break is resolved. The innermost frame
--- is the first.
+-- Frames: which blocks a jump can name, where falling off leads, and how a break or a continue is resolved. The
+-- innermost frame is the first.
 use Rattle.std.specs.Prelude.{Bool, true, false, List, [], ◌∷◌, Option, Some, None, if◌then◌else◌, ◌||◌}
 use Rattle.rc_names.specs.Numbers.{BlockId, same_id}
+use Rattle.rc_tree.specs.Model.{ReactiveTerminalTargetKind}
 use Rattle.rc_tree.specs.declared.kind.ReactiveTerminalTargetKind.TheVariants.{Implicit, Labeled, Unlabeled}
 use Rattle.rc_runs.specs.declared.frames.Frame.{Frame}
 use Rattle.rc_runs.specs.declared.frames.Frame.TheVariants as frame_kinds
 use Rattle.rc_runs.specs.declared.frames.BreakResult.{BreakResult}
 use Rattle.rc_runs.specs.declared.frames.BreakResult.TheVariants.{NoFrame, LeavesScope, LeavesCase, FallsOff, Breaks}
+use Rattle.rc_runs.specs.declared.frames.ContinueResult.{ContinueResult}
+use Rattle.rc_runs.specs.declared.frames.ContinueResult.TheVariants.{NoLoop, Continues}
 
 -- the block that a break out of the frame names
 abbrev pub break_block : Frame → BlockId
@@ -63,3 +66,23 @@ resolve_from innermost in_loop (frame ∷ frames) key =
 -- how a break to the block is resolved
 abbrev pub resolve_break : List Frame → BlockId → BreakResult
 resolve_break frames key = resolve_from true false frames key
+
+-- the block is the continue block of the frame
+abbrev pub continues_at : Frame → BlockId → Bool
+continues_at (frame_kinds.Loop block again) key = same_id again key
+continues_at _ key = false
+
+-- the kind of a continue of a loop; `innermost`: no frame is inside the loop's, `in_loop`: a loop frame is inside it
+abbrev pub continue_kind : Bool → Bool → ReactiveTerminalTargetKind
+continue_kind innermost in_loop = if in_loop then Labeled else (if innermost then Implicit else Unlabeled)
+
+-- the first loop from the inside with that continue block decides; the continue names it by its break block
+abbrev pub continue_from : Bool → Bool → List Frame → BlockId → ContinueResult
+continue_from innermost in_loop [] key = NoLoop
+continue_from innermost in_loop (frame ∷ frames) key =
+    if continues_at frame key then Continues (break_block frame) (continue_kind innermost in_loop)
+    else continue_from false (in_loop || is_loop frame) frames key
+
+-- how a continue to the block is resolved
+abbrev pub resolve_continue : List Frame → BlockId → ContinueResult
+resolve_continue frames key = continue_from true false frames key

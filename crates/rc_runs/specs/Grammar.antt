@@ -3,14 +3,18 @@
 -- A fallthrough is the block where the parts of a statement meet again. If it is opened, the parts fall off to it, the
 -- jumps in them may name it, and it is spelled once, after the statement. A fallthrough that a jump can name already
 -- is spelled further out. So it isn't opened again, and the list ends with the statement.
--- No rule reads `env` or the handler yet: `env` is for nested values, and the handler for throws.
+-- A loop always opens its fallthrough. Its body falls off to the block with which each turn begins.
+-- No rule sets the handler yet.
 --
 -- The indices of each family are: a block or a terminal, the context of the list, the statements, and the used blocks
 -- in the order in which they are marked.
-use Rattle.std.specs.Prelude.{◌≡◌, Bool, true, false, List, [], ◌∷◌, ◌++◌, Option, Some, None, not, if◌then◌else◌}
+use Rattle.std.specs.Prelude.{◌≡◌, Bool, true, false, List, [], ◌∷◌, ◌++◌, Option, Some, None, not, ◌||◌}
+use Rattle.std.specs.Prelude.{if◌then◌else◌}
+use Rattle.std.specs.List.{list_any}
 use Rattle.rc_names.specs.Numbers.{BlockId, ScopeId, EvaluationOrder, same_id}
 use Rattle.rc_names.specs.declared.span.Span.{Span}
-use Rattle.rc_hir.specs.Model.{Place, Terminal, Instruction, HirFunction, Environment}
+use Rattle.rc_hir.specs.Model.{Place, Case, Terminal, Instruction, HirFunction, Environment}
+use Rattle.rc_hir.specs.Successors.{is_default}
 use Rattle.rc_hir.specs.declared.terminal.GotoVariant.TheVariants as variants
 use Rattle.rc_hir.specs.declared.terminal.Terminal.TheVariants as terminals
 use Rattle.rc_tree.specs.Model.{ReactiveLabel}
@@ -18,12 +22,18 @@ use Rattle.rc_runs.specs.declared.frames.Frame.{Frame}
 use Rattle.rc_runs.specs.declared.frames.Frame.TheVariants as frame_kinds
 use Rattle.rc_runs.specs.declared.frames.BreakResult.{BreakResult}
 use Rattle.rc_runs.specs.declared.frames.BreakResult.TheVariants.{NoFrame, LeavesScope, LeavesCase, FallsOff, Breaks}
+use Rattle.rc_runs.specs.declared.frames.ContinueResult.{ContinueResult}
+use Rattle.rc_runs.specs.declared.frames.ContinueResult.TheVariants.{NoLoop, Continues}
 use Rattle.rc_runs.specs.Graph.{Block, usable_block, ends_unreachable}
-use Rattle.rc_runs.specs.Frames.{is_jump_target, resolve_break}
-use Rattle.rc_runs.specs.ListContext.{ListContext, inside}
-use Rattle.rc_runs.specs.PlainTree.{Base, Statements, Nil, Cons, Statement, RowStatement, TerminalStatement}
-use Rattle.rc_runs.specs.PlainTree.{ScopeStatement, PrunedScopeStatement, TreeTerminal, Break, Return, If, Label}
-use Rattle.rc_runs.specs.PlainTree.{Absent, Present}
+use Rattle.rc_runs.specs.Frames.{is_jump_target, resolve_break, resolve_continue}
+use Rattle.rc_runs.specs.ListContext.{ListContext, inside, value_context}
+use Rattle.rc_runs.specs.LoopParts.{LoopBlocks, LoopParts, turn_start, loop_frame}
+use Rattle.rc_runs.specs.SwitchCases.{kept_cases, has_one_default, tests_past, case_context}
+use Rattle.rc_runs.specs.ValueGrammar.{SpellsGoing, SpellsTest}
+use Rattle.rc_runs.specs.PlainTree.{Value, Base, Statements, Nil, Cons, Statement, RowStatement, TerminalStatement}
+use Rattle.rc_runs.specs.PlainTree.{ScopeStatement, PrunedScopeStatement, TreeTerminal, Break, Continue, Return, Throw}
+use Rattle.rc_runs.specs.PlainTree.{Switch, DoWhile, While, For, ForOf, ForIn, If, Label, Absent, Present}
+use Rattle.rc_runs.specs.PlainTree.{Cases, NoCases, Case as TreeCase}
 
 -- a fallthrough is opened unless a jump can name it already
 abbrev pub opens : List Frame → BlockId → Bool
@@ -65,11 +75,24 @@ break_statements LeavesCase target id = None
 break_statements FallsOff target id = Some Nil
 break_statements (Breaks kind) target id = Some (unlabeled (Break target kind id))
 
+-- the statements of a continue; none if no loop takes it
+abbrev pub continue_statements : ContinueResult → EvaluationOrder → Option Statements
+continue_statements NoLoop id = None
+continue_statements (Continues target kind) id = Some (unlabeled (Continue target kind id))
+
+-- the value with which each turn of a loop begins before its test, if there is one
+pub data SpellsBefore (hir : HirFunction) (env : Environment) (blocks : LoopBlocks) (context : ListContext) :
+    Option BlockId → Option Value → List BlockId → Type 0 where
+  no_value : SpellsBefore hir env blocks context None None []
+  some_value : {key : BlockId} {value : Value} {used : List BlockId} →
+      SpellsGoing hir env blocks.flat key (value_context blocks.span context) blocks.test value used →
+      SpellsBefore hir env blocks context (Some key) (Some value) used
+
 mutual
   -- the statements from a block on
   pub data SpellsList (hir : HirFunction) (env : Environment) : BlockId → ListContext → Statements →
       List BlockId → Type 0 where
-    block : {key : BlockId} {context : ListContext} {rest statements : Statements} {used : List BlockId}
+    from_block : {key : BlockId} {context : ListContext} {rest statements : Statements} {used : List BlockId}
         {block : Block} →
         usable_block hir key ≡ Some block → is_jump_target context.frames key ≡ false →
         SpellsTerminal hir env block.terminal context rest used → statements ≡ rows_before block.rows rest →
@@ -80,12 +103,35 @@ mutual
       List BlockId → Type 0 where
     returns : {value : Place} {id : EvaluationOrder} {span : Option Span} {context : ListContext} →
         SpellsTerminal hir env (terminals.Return value id span) context (unlabeled (Return value id)) []
+    -- a throw is spelled outside of handlers alone
+    throws : {value : Place} {id : EvaluationOrder} {span : Option Span} {context : ListContext} →
+        context.handler ≡ None →
+        SpellsTerminal hir env (terminals.Throw value id span) context (unlabeled (Throw value id)) []
     -- a block that is never left has no statement for its end
     unreachable : {id : EvaluationOrder} {span : Option Span} {context : ListContext} →
         SpellsTerminal hir env (terminals.Unreachable id span) context Nil []
     breaks : {target : BlockId} {id : EvaluationOrder} {span : Option Span} {context : ListContext}
         {statements : Statements} → break_statements (resolve_break context.frames target) target id ≡ Some statements →
         SpellsTerminal hir env (terminals.Goto target variants.Break id span) context statements []
+    continues : {target : BlockId} {id : EvaluationOrder} {span : Option Span} {context : ListContext}
+        {statements : Statements} →
+        continue_statements (resolve_continue context.frames target) id ≡ Some statements →
+        SpellsTerminal hir env (terminals.Goto target variants.Continue id span) context statements []
+    -- a branch is an if without a label or fallthrough: its arms stay in the context of the list
+    branch_arms : {test : Place} {consequent alternate : BlockId} {id : EvaluationOrder} {span : Option Span}
+        {context : ListContext} {part other : Statements} {part_used other_used used : List BlockId} →
+        SpellsList hir env consequent context part part_used → SpellsList hir env alternate context other other_used →
+        used ≡ part_used ++ other_used →
+        SpellsTerminal hir env (terminals.Branch test consequent alternate id span) context
+        (unlabeled (If test part (Present other) id)) used
+    -- a consequent that a jump can name is a break to it
+    branch_break : {test : Place} {consequent alternate : BlockId} {id : EvaluationOrder} {span : Option Span}
+        {context : ListContext} {part other : Statements} {used : List BlockId} →
+        is_jump_target context.frames consequent ≡ true →
+        break_statements (resolve_break context.frames consequent) consequent id ≡ Some part →
+        SpellsList hir env alternate context other used →
+        SpellsTerminal hir env (terminals.Branch test consequent alternate id span) context
+        (unlabeled (If test part (Present other) id)) used
     -- a statement with parts, and then the statements of its fallthrough, if that is opened
     and_rest : {terminal : Terminal} {opened : Bool} {fallthrough : BlockId} {context : ListContext}
         {statement : Statement} {rest : Statements} {part_used rest_used used : List BlockId} →
@@ -115,30 +161,109 @@ mutual
         used ≡ part_used ++ other_used →
         SpellsStatement hir env (terminals.If test consequent alternate fallthrough id span) context
         opened fallthrough (TerminalStatement (If test part (Present other) id) label) used
-    label : {inner fallthrough : BlockId} {id : EvaluationOrder} {span : Option Span} {context : ListContext}
+    label_statement : {inner fallthrough : BlockId} {id : EvaluationOrder} {span : Option Span} {context : ListContext}
         {opened : Bool} {label : Option ReactiveLabel} {part : Statements} {used : List BlockId} →
         opened ≡ opens_reachable hir context.frames fallthrough → label ≡ label_of opened fallthrough →
         SpellsList hir env inner (inside opened (frame_kinds.Statement fallthrough) context) part used →
         SpellsStatement hir env (terminals.Label inner fallthrough id span) context
         opened fallthrough (TerminalStatement (Label part id) label) used
     -- scopes have no label, and open an `Unreachable` fallthrough like any other
-    scope : {inner fallthrough : BlockId} {scope : ScopeId} {id : EvaluationOrder} {span : Option Span}
+    scope_statement : {inner fallthrough : BlockId} {scope : ScopeId} {id : EvaluationOrder} {span : Option Span}
         {context : ListContext} {opened : Bool} {part : Statements} {used : List BlockId} →
         opened ≡ opens context.frames fallthrough →
         SpellsList hir env inner (inside opened (frame_kinds.Scope fallthrough) context) part used →
         SpellsStatement hir env (terminals.Scope fallthrough inner scope id span) context
         opened fallthrough (ScopeStatement scope part) used
-    pruned_scope : {inner fallthrough : BlockId} {scope : ScopeId} {id : EvaluationOrder}
+    pruned_scope_statement : {inner fallthrough : BlockId} {scope : ScopeId} {id : EvaluationOrder}
         {span : Option Span} {context : ListContext} {opened : Bool} {part : Statements} {used : List BlockId} →
         opened ≡ opens context.frames fallthrough →
         SpellsList hir env inner (inside opened (frame_kinds.Scope fallthrough) context) part used →
         SpellsStatement hir env (terminals.PrunedScope fallthrough inner scope id span) context
         opened fallthrough (PrunedScopeStatement scope part) used
 
+    -- a default that leads straight to the fallthrough, which then has to be reached without it, is left out
+    switch_statement : {test : Place} {cases kept : List Case} {fallthrough : BlockId} {id : EvaluationOrder}
+        {span : Option Span} {context : ListContext} {opened : Bool} {label : Option ReactiveLabel} {parts : Cases}
+        {used : List BlockId} →
+        opened ≡ opens_reachable hir context.frames fallthrough → label ≡ label_of opened fallthrough →
+        has_one_default cases ≡ true → tests_past fallthrough cases ≡ false →
+        kept ≡ kept_cases (opened || is_jump_target context.frames fallthrough) fallthrough cases →
+        list_any is_default kept || falls_to opened fallthrough context.next ≡ true →
+        SpellsCases hir env kept (inside opened (frame_kinds.Switch fallthrough) context) parts used →
+        SpellsStatement hir env (terminals.Switch test cases fallthrough id span) context
+        opened fallthrough (TerminalStatement (Switch test parts id) label) used
+    -- of the loops, a while alone asks that its fallthrough doesn't end in `Unreachable`
+    while_loop : {test body fallthrough : BlockId} {id : EvaluationOrder} {span : Option Span} {context : ListContext}
+        {parts : LoopParts} {used : List BlockId} →
+        ends_unreachable hir fallthrough ≡ false →
+        SpellsTurns hir env
+        (record { before = None; test = test; body = body; fallthrough = fallthrough; flat = false; span = span })
+        context parts used →
+        SpellsStatement hir env (terminals.While test body fallthrough id span) context
+        true fallthrough (TerminalStatement (While parts.test parts.body id) (label_of true fallthrough)) used
+    do_while_loop : {test body fallthrough : BlockId} {id : EvaluationOrder} {span : Option Span}
+        {context : ListContext} {parts : LoopParts} {used : List BlockId} →
+        SpellsTurns hir env
+        (record { before = None; test = test; body = body; fallthrough = fallthrough; flat = false; span = span })
+        context parts used →
+        SpellsStatement hir env (terminals.DoWhile body test fallthrough id span) context
+        true fallthrough (TerminalStatement (DoWhile parts.body parts.test id) (label_of true fallthrough)) used
+    -- the init runs once before all turns
+    for_loop : {init test body fallthrough : BlockId} {update : Option BlockId} {id : EvaluationOrder}
+        {span : Option Span} {context : ListContext} {init_value : Value} {parts : LoopParts}
+        {init_used turns_used used : List BlockId} →
+        SpellsGoing hir env true init (value_context span context) test init_value init_used →
+        SpellsTurns hir env
+        (record { before = update; test = test; body = body; fallthrough = fallthrough; flat = false; span = span })
+        context parts turns_used →
+        used ≡ init_used ++ turns_used →
+        SpellsStatement hir env (terminals.For init test update body fallthrough id span) context true fallthrough
+        (TerminalStatement (For init_value parts.test parts.before parts.body id) (label_of true fallthrough)) used
+    for_of_loop : {init test body fallthrough : BlockId} {id : EvaluationOrder} {span : Option Span}
+        {context : ListContext} {init_value : Value} {parts : LoopParts} {used : List BlockId} →
+        parts.before ≡ Some init_value →
+        SpellsTurns hir env
+        (record { before = Some init; test = test; body = body; fallthrough = fallthrough; flat = true; span = span })
+        context parts used →
+        SpellsStatement hir env (terminals.ForOf init test body fallthrough id span) context true fallthrough
+        (TerminalStatement (ForOf init_value parts.test parts.body span id) (label_of true fallthrough)) used
+    for_in_loop : {init body fallthrough : BlockId} {id : EvaluationOrder} {span : Option Span}
+        {context : ListContext} {parts : LoopParts} {used : List BlockId} →
+        SpellsTurns hir env
+        (record { before = None; test = init; body = body; fallthrough = fallthrough; flat = true; span = span })
+        context parts used →
+        SpellsStatement hir env (terminals.ForIn init body fallthrough id span) context true fallthrough
+        (TerminalStatement (ForIn parts.test parts.body span id) (label_of true fallthrough)) used
+
+  -- the kept cases of a switch; the blocks of the later ones are marked first
+  pub data SpellsCases (hir : HirFunction) (env : Environment) : List Case → ListContext → Cases → List BlockId →
+      Type 0 where
+    no_cases : {context : ListContext} → SpellsCases hir env [] context NoCases []
+    one_case : {case : Case} {later : List Case} {context : ListContext} {part : Statements} {parts : Cases}
+        {later_used part_used used : List BlockId} →
+        SpellsCases hir env later context parts later_used →
+        SpellsList hir env case.block (case_context later context) part part_used →
+        used ≡ later_used ++ part_used →
+        SpellsCases hir env (case ∷ later) context (TreeCase case.test (Present part) parts) used
+
+  -- the turns of a loop; the blocks of its values are marked before those of its body
+  pub data SpellsTurns (hir : HirFunction) (env : Environment) : LoopBlocks → ListContext → LoopParts →
+      List BlockId → Type 0 where
+    turns : {blocks : LoopBlocks} {context : ListContext} {parts : LoopParts}
+        {test_used before_used body_used used : List BlockId} →
+        is_jump_target context.frames blocks.fallthrough ≡ false →
+        is_jump_target context.frames (turn_start blocks) ≡ false →
+        SpellsTest hir env blocks.flat blocks.test (value_context blocks.span context) blocks.body
+        blocks.fallthrough parts.test test_used →
+        SpellsBefore hir env blocks context blocks.before parts.before before_used →
+        SpellsList hir env blocks.body (inside true (loop_frame blocks) context) parts.body body_used →
+        used ≡ test_used ++ (before_used ++ body_used) →
+        SpellsTurns hir env blocks context parts used
+
   -- the statements after a statement: those of its fallthrough, if that is opened
   pub data SpellsRest (hir : HirFunction) (env : Environment) : Bool → BlockId → ListContext →
       Statements → List BlockId → Type 0 where
-    closed : {fallthrough : BlockId} {context : ListContext} → SpellsRest hir env false fallthrough context Nil []
-    opened : {fallthrough : BlockId} {context : ListContext} {statements : Statements} {used : List BlockId} →
+    no_rest : {fallthrough : BlockId} {context : ListContext} → SpellsRest hir env false fallthrough context Nil []
+    has_rest : {fallthrough : BlockId} {context : ListContext} {statements : Statements} {used : List BlockId} →
         SpellsList hir env fallthrough context statements used →
         SpellsRest hir env true fallthrough context statements used

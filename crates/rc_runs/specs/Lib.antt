@@ -8,6 +8,12 @@ pub mod PlainTree
 pub mod TreeOf
 pub mod Erase
 pub mod ListContext
+pub mod LoopParts
+pub mod SwitchCases
+pub mod LastRow
+pub mod Flattened
+pub mod ValueGrammar
 pub mod Grammar
 pub mod Spelled
+pub mod ValueRun
 pub mod BodyRun

@@ -1,4 +1,4 @@
-//! The frames around the list that is built, and the resolution of breaks.
+//! The frames around the list that is built, and the resolution of breaks and continues.
 //!
 //! After the frames of oxc's build_reactive_function.
 
@@ -47,6 +47,18 @@ pub enum BreakResult {
     FallsOff,
     /// The break is a statement of that kind.
     Breaks(ReactiveTerminalTargetKind),
+}
+
+/// The resolution of a continue.
+#[derive(Clone, Copy, Debug, PartialEq, Eq)]
+pub enum ContinueResult {
+    /// No loop has that continue block.
+    NoLoop,
+    /// The continue is a statement of that kind, and names its loop by the loop's break block.
+    Continues {
+        target: BlockId,
+        kind: ReactiveTerminalTargetKind,
+    },
 }
 
 impl Frame {
@@ -129,6 +141,19 @@ impl Frame {
             } else {
                 ReactiveTerminalTargetKind::Unlabeled
             }),
+        }
+    }
+
+    /// Returns the kind of a continue of a loop. `innermost`: no frame is inside the loop's; `in_loop`: a loop is.
+    pub fn continue_kind(innermost: bool, in_loop: bool) -> ReactiveTerminalTargetKind
+        ensures { result ≡ spec.continue_kind innermost in_loop }
+    {
+        if in_loop {
+            ReactiveTerminalTargetKind::Labeled
+        } else if innermost {
+            ReactiveTerminalTargetKind::Implicit
+        } else {
+            ReactiveTerminalTargetKind::Unlabeled
         }
     }
 }

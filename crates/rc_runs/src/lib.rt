@@ -6,4 +6,4 @@
 
 mod frames;
 
-pub use frames::{BreakResult, Frame};
+pub use frames::{BreakResult, ContinueResult, Frame};

@@ -13,8 +13,8 @@ use Rattle.rc_tree.specs.declared.value.ReactiveValue.TheVariants as reactive_va
 use Rattle.rc_runs.specs.Frames.{resolve_break, resolve_from, resolve_at}
 use Rattle.rc_runs.specs.Grammar.{SpellsList, SpellsRest, SpellsStatement, SpellsTerminal, break_statements}
 use Rattle.rc_runs.specs.Grammar.{rows_before}
-use Rattle.rc_runs.specs.Grammar.{block, returns, unreachable, breaks, and_rest, if_only, if_else, label, scope}
-use Rattle.rc_runs.specs.Grammar.{pruned_scope, closed, opened}
+use Rattle.rc_runs.specs.Grammar.{from_block, returns, unreachable, breaks, and_rest, if_only, if_else, label_statement, scope_statement}
+use Rattle.rc_runs.specs.Grammar.{pruned_scope_statement, no_rest, has_rest}
 use Rattle.rc_runs.specs.ListContext.{ListContext, inside}
 use Rattle.rc_runs.specs.PlainTree.{Base, Statement, RowStatement, TerminalStatement, Statements, Nil, Cons}
 use Rattle.rc_runs.specs.PlainTree.{TreeTerminal, Return, If, Label, Absent, Present}
@@ -117,7 +117,7 @@ module _ {hir : HirFunction} {env : Environment} where
   mutual
     quiet_list : {key : BlockId} {context : ListContext} {statements : Statements} {used : List BlockId} →
         SpellsList hir env key context statements used → AreScopes context.frames → Quiet statements
-    quiet_list (block {rest = rest} {block = b} usable live d w) all =
+    quiet_list (from_block {rest = rest} {block = b} usable live d w) all =
         subst Quiet (sym w) (rows_quiet b.rows rest (quiet_terminal d all))
 
     quiet_terminal : {terminal : Terminal} {context : ListContext} {statements : Statements} {used : List BlockId} →
@@ -141,20 +141,20 @@ module _ {hir : HirFunction} {env : Environment} where
     quiet_statement (if_else {test = test} {id = id} {label = own} {part = part} {other = other} i l s d e w) all =
         still (If test part (Present other) id) own (ap target_of
         (tree.outs-If test (block_of part) (Some (block_of other)) id))
-    quiet_statement (label {id = id} {label = own} {part = part} i l d) all =
+    quiet_statement (label_statement {id = id} {label = own} {part = part} i l d) all =
         still (Label part id) own (ap target_of (tree.outs-Label (block_of part) id))
-    quiet_statement (scope {fallthrough = f} {scope = of} {context = context} {opened = o} {part = part} i d) all =
+    quiet_statement (scope_statement {fallthrough = f} {scope = of} {context = context} {opened = o} {part = part} i d) all =
         subst NoJumps (sym (met_at-Scope (record { scope = of; instructions = block_of part })))
         (block_quiet part (quiet_list d (inside_scopes o f context all)))
-    quiet_statement (pruned_scope {fallthrough = f} {scope = of} {context = context} {opened = o} {part = part} i d)
+    quiet_statement (pruned_scope_statement {fallthrough = f} {scope = of} {context = context} {opened = o} {part = part} i d)
         all =
         subst NoJumps (sym (met_at-PrunedScope (record { scope = of; instructions = block_of part })))
         (block_quiet part (quiet_list d (inside_scopes o f context all)))
 
     quiet_rest : {o : Bool} {f : BlockId} {context : ListContext} {statements : Statements} {used : List BlockId} →
         SpellsRest hir env o f context statements used → AreScopes context.frames → Quiet statements
-    quiet_rest closed all = tt
-    quiet_rest (opened d) all = quiet_list d all
+    quiet_rest no_rest all = tt
+    quiet_rest (has_rest d) all = quiet_list d all
 
 -- no jump is met in a spelled function
 no_jump_is_met : (hir : HirFunction) (env : Environment) (func : ReactiveFunction) → Spells hir env func → (place : ℕ)

@@ -16,8 +16,8 @@ use Rattle.rc_runs.specs.Frames.{resolve_break}
 use Rattle.rc_runs.specs.Graph.{Block, block_at}
 use Rattle.rc_runs.specs.Grammar.{SpellsList, SpellsRest, SpellsStatement, SpellsTerminal, break_statements}
 use Rattle.rc_runs.specs.Grammar.{rows_before, unlabeled}
-use Rattle.rc_runs.specs.Grammar.{block, returns, unreachable, breaks, and_rest, if_only, if_else, label, scope}
-use Rattle.rc_runs.specs.Grammar.{pruned_scope, closed, opened}
+use Rattle.rc_runs.specs.Grammar.{from_block, returns, unreachable, breaks, and_rest, if_only, if_else, label_statement, scope_statement}
+use Rattle.rc_runs.specs.Grammar.{pruned_scope_statement, no_rest, has_rest}
 use Rattle.rc_runs.specs.ListContext.{ListContext}
 use Rattle.rc_runs.specs.PlainTree.{Base, Statement, RowStatement, TerminalStatement, Statements, Nil, Cons}
 use Rattle.rc_runs.specs.PlainTree.{TreeTerminal, Break, Return, If, Label, Absent, Present}
@@ -172,7 +172,7 @@ module _ (hir : HirFunction) (env : Environment) (s : ScopeId) where
     -- the scopes of a list are opened by its used blocks
     list_times : {key : BlockId} {context : ListContext} {statements : Statements} {used : List BlockId}
         → SpellsList hir env key context statements used → tree_times statements ≤ used_times used
-    list_times (block {key = key} {rest = rest} {used = used} {block = found} usable apart terminal is) =
+    list_times (from_block {key = key} {rest = rest} {used = used} {block = found} usable apart terminal is) =
         let first = used-cons key found used (usable_block-at hir key found usable) in
         let rows : tree_times (rows_before found.rows rest) ≡ tree_times rest = tree-rows found.rows rest in
         rw is (omega (arith, first, rows, terminal_times terminal))
@@ -216,26 +216,26 @@ module _ (hir : HirFunction) (env : Environment) (s : ScopeId) where
           list_times e,
           used-append a b,
         ))
-    statement_times (label {id = id} {label = own} {part = part} i l d) =
+    statement_times (label_statement {id = id} {label = own} {part = part} i l d) =
         omega (
           arith,
           labeled_times (Label part id) own (collected-Label contents_of_parts (block_of part) id),
           part_times part,
           list_times d,
         )
-    statement_times (scope {scope = of} {part = part} i d) =
+    statement_times (scope_statement {scope = of} {part = part} i d) =
         let e = ap contents_times (collected-Scope contents_of_parts
         (record { scope = of; instructions = block_of part })) in
         omega (arith, e, part_times part, list_times d)
-    statement_times (pruned_scope {scope = of} {part = part} i d) =
+    statement_times (pruned_scope_statement {scope = of} {part = part} i d) =
         let e = ap contents_times (collected-PrunedScope contents_of_parts
         (record { scope = of; instructions = block_of part })) in
         omega (arith, e, part_times part, list_times d)
 
     rest_times : {o : Bool} {f : BlockId} {context : ListContext} {statements : Statements} {used : List BlockId}
         → SpellsRest hir env o f context statements used → tree_times statements ≤ used_times used
-    rest_times closed = omega arith
-    rest_times (opened d) = list_times d
+    rest_times no_rest = omega arith
+    rest_times (has_rest d) = list_times d
 
 -- no scope number stands in two scope blocks of a spelled tree
 pub spelled_once : (hir : HirFunction) (env : Environment) (func : ReactiveFunction) → Spells hir env func
