@@ -180,7 +180,6 @@ mutual
         SpellsList hir env inner (inside opened (frame_kinds.Scope fallthrough) context) part used →
         SpellsStatement hir env (terminals.PrunedScope fallthrough inner scope id span) context
         opened fallthrough (PrunedScopeStatement scope part) used
-
     -- a default that leads straight to the fallthrough, which then has to be reached without it, is left out
     switch_statement : {test : Place} {cases kept : List Case} {fallthrough : BlockId} {id : EvaluationOrder}
         {span : Option Span} {context : ListContext} {opened : Bool} {label : Option ReactiveLabel} {parts : Cases}

@@ -1,5 +1,5 @@
 -- The context of a list of statements, that of the parts of a statement, and that of a value.
-use Rattle.std.specs.Prelude.{Bool, true, false, List, [], ◌∷◌, Option, Some, None, if◌then◌else◌}
+use Rattle.std.specs.Prelude.{Bool, false, List, [], ◌∷◌, Option, Some, None, if◌then◌else◌}
 use Rattle.rc_names.specs.Numbers.{BlockId}
 use Rattle.rc_names.specs.declared.span.Span.{Span}
 use Rattle.rc_runs.specs.declared.frames.Frame.{Frame}

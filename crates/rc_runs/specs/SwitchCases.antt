@@ -1,5 +1,5 @@
 -- The cases of a switch that a tree keeps, and the context of each.
-use Rattle.std.specs.Prelude.{Bool, true, false, List, [], ◌∷◌, not, ◌&&◌, ◌||◌, if◌then◌else◌}
+use Rattle.std.specs.Prelude.{Bool, true, List, [], ◌∷◌, not, ◌&&◌}
 use Rattle.std.specs.List.{list_any, filter}
 use Rattle.rc_names.specs.Numbers.{BlockId, same_id}
 use Rattle.rc_hir.specs.Model.{Case}

@@ -45,7 +45,7 @@ pub data SpellsValue (hir : HirFunction) (env : Environment) : BlockId → Value
       SpellsValue hir env key context (Base (kinds.LoadLocal test test.span))
       (record { answer = test; id = id; last = block.terminal; left_open = None }) (key ∷ [])
   -- the last row is the value
-  last_block : {key : BlockId} {context : ValueContext} {block : Block} {rows : List Instruction} {row : Instruction} →
+  last_block : {key : BlockId} {context : ValueContext} {block : Block} (rows : List Instruction) (row : Instruction) →
       usable_block hir key ≡ Some block → ends_value block.terminal ≡ true → block.rows ≡ rows ++ row ∷ [] →
       SpellsValue hir env key context (after_rows rows row.id (Base (last_value env row.value)))
       (record {
