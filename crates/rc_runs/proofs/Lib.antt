@@ -3,6 +3,9 @@ pub mod AnyLemmas
 pub mod GraphLemmas
 pub mod FramesLemmas
 pub mod RowsLemmas
+pub mod SetIds
+pub mod LastRowLemmas
+pub mod FlattenedRuns
 pub mod TreeOfLemmas
 pub mod EveryBlockIsPlain
 pub mod OneTree

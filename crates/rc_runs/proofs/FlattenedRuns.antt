@@ -1,0 +1,227 @@
+-- A flattened value has the runs of the value itself.
+--
+-- The rows of nested sequences run in the same order in one sequence. The row for the final value runs as that value
+-- does; it is left out for a load alone, which is silent. The `undefined` behind it is silent too. The rows keep their
+-- ids, and the id of the new row has to be set, as all ids of usable blocks are.
+use Rattle.std.proofs.Common.{◌≡◌, Bool, true, false, List, [], Option, Some, if◌then◌else◌, refl, sym, ◌∙◌}
+use Rattle.std.proofs.Common.{ap, subst}
+use Rattle.std.proofs.lemmas.List.{append-nil}
+use Rattle.rc_names.specs.Numbers.{BlockId, EvaluationOrder}
+use Rattle.rc_names.specs.declared.span.Span.{Span}
+use Rattle.rc_hir.specs.Model.{Place, InstructionValue, HirFunction, Environment}
+use Rattle.rc_hir.specs.Terminal.{evaluation_order}
+use Rattle.rc_hir.specs.declared.instruction.InstructionValue.TheVariants as kinds
+use Rattle.rc_hir.specs.declared.instruction.PrimitiveValue.TheVariants as primitives
+use Rattle.rc_runs.specs.Event.{Event}
+use Rattle.rc_runs.specs.Silent.{is_unset, is_silent_value}
+use Rattle.rc_runs.specs.PlainTree.{Value, Base, Sequence, Rows, NoRows, Row}
+use Rattle.rc_runs.specs.ListContext.{ValueContext}
+use Rattle.rc_runs.specs.Flattened.{rows_join, flat_rows, final_value, loads_own, final_row, flattened}
+use Rattle.rc_runs.specs.ValueGrammar.{ValueEnd, SpellsValue, named_test, last_block, shown}
+use Rattle.rc_runs.specs.ValueRun.{Progress, Done, Short, Inside, goes_past, RunsValue, value_stopped, quiet_value}
+use Rattle.rc_runs.specs.ValueRun.{did_value, did_and_stopped, in_sequence, RunsRows, past_rows, past_row, in_row}
+use Rattle.rc_runs.specs.ValueRun.{unset_row, set_row}
+use Rattle.rc_runs.proofs.SetIds.{usable_block-set, last_set, AreSet}
+use Rattle.rc_runs.proofs.LastRowLemmas.{runs_alike}
+
+module _ {env : Environment} where
+  mutual
+    -- a run that came past the value may stop where it is
+    pub value_stops : {is_test : Bool} {value : Value} {events : List Event} {progress : Progress}
+        → RunsValue env is_test value events progress → RunsValue env is_test value events Inside
+    value_stops value_stopped = value_stopped
+    value_stops (quiet_value h) = value_stopped
+    value_stops (did_value h) = did_and_stopped h
+    value_stops (did_and_stopped h) = did_and_stopped h
+    value_stops (in_sequence run) = in_sequence (rows_stop run)
+
+    rows_stop : {is_test : Bool} {rows : Rows} {value : Value} {events : List Event} {progress : Progress}
+        → RunsRows env is_test rows value events progress → RunsRows env is_test rows value events Inside
+    rows_stop (past_rows run) = past_rows (value_stops run)
+    rows_stop (past_row first past run e) = past_row first past (rows_stop run) e
+    rows_stop (in_row run) = in_row run
+
+  mutual
+    -- only the test of an optional has a short end
+    pub past_is_done : {value : Value} {events : List Event} {progress : Progress}
+        → RunsValue env false value events progress → goes_past progress ≡ true → progress ≡ Done
+    past_is_done value_stopped past = absurd (let bad : ⊥ = cc in bad)
+    past_is_done (quiet_value h) past = refl
+    past_is_done (did_value h) past = refl
+    past_is_done (did_and_stopped h) past = absurd (let bad : ⊥ = cc in bad)
+    past_is_done (in_sequence run) past = past_rows_is_done run past
+
+    past_rows_is_done : {rows : Rows} {value : Value} {events : List Event} {progress : Progress}
+        → RunsRows env false rows value events progress → goes_past progress ≡ true → progress ≡ Done
+    past_rows_is_done (past_rows run) past = past_is_done run past
+    past_rows_is_done (past_row first gone run e) past = past_rows_is_done run past
+    past_rows_is_done (in_row run) past = absurd (let bad : ⊥ = cc in bad)
+
+  row_stopped : {id : EvaluationOrder} {target : Option Place} {own : Value} {span : Option Span} {rest : Rows}
+      {value : Value} (unset : Bool) → is_unset id ≡ unset → RunsRows env false rest value [] Inside
+      → RunsRows env false (Row id target own span rest) value [] Inside
+  row_stopped true u run = past_row (unset_row u) refl run refl
+  row_stopped false s run = in_row (set_row s value_stopped)
+
+  -- a run may stop in front of the rows
+  rows_stopped : (rows : Rows) {value : Value} → RunsRows env false rows value [] Inside
+  rows_stopped NoRows = past_rows value_stopped
+  rows_stopped (Row id target own span rest) = row_stopped (is_unset id) refl (rows_stopped rest)
+
+-- a load of the place's own identifier is silent
+loads_own-silent : (env : Environment) (answer : Place) (value : InstructionValue)
+    → loads_own answer (Base value) ≡ true → is_silent_value env value ≡ true
+unfolding is_silent_value
+loads_own-silent env answer (kinds.LoadLocal place span) own = refl
+loads_own-silent env answer value own = absurd (let bad : ⊥ = cc in bad)
+
+undefined-silent : (env : Environment) (span : Option Span)
+    → is_silent_value env (kinds.Primitive primitives.Undefined span) ≡ true
+unfolding is_silent_value
+undefined-silent env span = refl
+
+-- the value of a flattened sequence
+abbrev undefined : Option Span → Value
+undefined span = Base (kinds.Primitive primitives.Undefined span)
+
+module _ (env : Environment) (answer : Place) (id : EvaluationOrder) (span : Option Span) where
+  -- the runs of these rows as those of a flattened sequence
+  abbrev FlatRuns : Rows → List Event → Progress → Type 0
+  FlatRuns rows events progress = RunsRows env false rows (undefined span) events progress
+
+  load_as_undefined : (value : Value) {events : List Event} {progress : Progress} → loads_own answer value ≡ true
+      → RunsValue env false value events progress → RunsValue env false (undefined span) events progress
+  load_as_undefined (Base value) own run =
+      let silent = loads_own-silent env answer value own in
+      let same = undefined-silent env span in
+      runs_alike value (kinds.Primitive primitives.Undefined span) (silent ∙ sym same)
+      (λ seen. absurd (let bad : ⊥ = cc in bad)) run
+  load_as_undefined value own run = absurd (let bad : ⊥ = cc in bad)
+
+  undefined_as_load : (value : Value) {events : List Event} {progress : Progress} → loads_own answer value ≡ true
+      → RunsValue env false (undefined span) events progress → RunsValue env false value events progress
+  undefined_as_load (Base value) own run =
+      let silent = loads_own-silent env answer value own in
+      let same = undefined-silent env span in
+      runs_alike (kinds.Primitive primitives.Undefined span) value (same ∙ sym silent)
+      (λ seen. absurd (let bad : ⊥ = cc in bad)) run
+  undefined_as_load value own run = absurd (let bad : ⊥ = cc in bad)
+
+  module _ (set : is_unset id ≡ false) where
+    -- a run of the final value is one of its row
+    to_row : {value : Value} {events : List Event} (progress : Progress) → RunsValue env false value events progress
+        → FlatRuns (Row id (Some answer) value span NoRows) events progress
+    to_row {events = events} Done run =
+        past_row (set_row set run) refl (past_rows (quiet_value (undefined-silent env span))) (sym (append-nil events))
+    to_row Short run = absurd (let bad : ⊥ = cc (past_is_done run refl) in bad)
+    to_row Inside run = in_row (set_row set run)
+
+    from_row : {value : Value} {events : List Event} {progress : Progress}
+        → FlatRuns (Row id (Some answer) value span NoRows) events progress → RunsValue env false value events progress
+    from_row (past_row (unset_row u) past run e) = absurd (let bad : ⊥ = cc in bad)
+    from_row {value} (past_row {first = first} (set_row s own) past (past_rows value_stopped) e) =
+        subst (λ l. RunsValue env false value l Inside) (sym (e ∙ append-nil first)) (value_stops own)
+    from_row {value} (past_row {first = first} (set_row s own) past (past_rows (quiet_value h)) e) =
+        subst (λ l. RunsValue env false value l Done) (sym (e ∙ append-nil first))
+        (subst (RunsValue env false value first) (past_is_done own past) own)
+    from_row (past_row (set_row s own) past (past_rows (did_value h)) e) =
+        absurd (let bad : ⊥ = cc (undefined-silent env span) in bad)
+    from_row (past_row (set_row s own) past (past_rows (did_and_stopped h)) e) =
+        absurd (let bad : ⊥ = cc (undefined-silent env span) in bad)
+    from_row (in_row (set_row s own)) = own
+
+    -- the same where the row is left out for a load
+    to_final : (value : Value) {events : List Event} {progress : Progress} → RunsValue env false value events progress
+        → FlatRuns (final_row answer id span value) events progress
+    to_final value {events} {progress} run = go (loads_own answer value) refl
+      where
+        go : (own : Bool) → loads_own answer value ≡ own
+            → FlatRuns (if own then NoRows else Row id (Some answer) value span NoRows) events progress
+        go true own = past_rows (load_as_undefined value own run)
+        go false own = to_row progress run
+
+    from_final : (value : Value) {events : List Event} {progress : Progress}
+        → FlatRuns (final_row answer id span value) events progress → RunsValue env false value events progress
+    from_final value {events} {progress} run = go (loads_own answer value) refl run
+      where
+        go : (own : Bool) → loads_own answer value ≡ own
+            → FlatRuns (if own then NoRows else Row id (Some answer) value span NoRows) events progress
+            → RunsValue env false value events progress
+        go true own (past_rows run) = undefined_as_load value own run
+        go false own run = from_row run
+
+    -- the rows of a sequence, and then those of its value
+    join_rows : (rows front more : Rows) {value : Value} {events : List Event} {progress : Progress}
+        → ((events : List Event) (progress : Progress) → RunsValue env false value events progress
+        → FlatRuns (rows_join front more) events progress)
+        → RunsRows env false rows value events progress
+        → FlatRuns (rows_join (rows_join rows front) more) events progress
+    join_rows NoRows front more behind (past_rows run) = behind _ _ run
+    join_rows (Row first target own at rest) front more behind (past_row one past run e) =
+        past_row one past (join_rows rest front more behind run) e
+    join_rows (Row first target own at rest) front more behind (in_row one) = in_row one
+
+    part_rows : (rows front more : Rows) {value : Value} {events : List Event} {progress : Progress}
+        → ((events : List Event) (progress : Progress) → FlatRuns (rows_join front more) events progress
+        → RunsValue env false value events progress)
+        → FlatRuns (rows_join (rows_join rows front) more) events progress
+        → RunsRows env false rows value events progress
+    part_rows NoRows front more behind run = past_rows (behind _ _ run)
+    part_rows (Row first target own at rest) front more behind (past_row one past run e) =
+        past_row one past (part_rows rest front more behind run) e
+    part_rows (Row first target own at rest) front more behind (in_row one) = in_row one
+
+    to_flat : (value : Value) {events : List Event} {progress : Progress} → RunsValue env false value events progress
+        → FlatRuns (rows_join (flat_rows value) (final_row answer id span (final_value value))) events progress
+    to_flat (Sequence rows own value) value_stopped =
+        rows_stopped (rows_join (rows_join rows (flat_rows value)) (final_row answer id span (final_value value)))
+    to_flat (Sequence rows own value) (in_sequence run) =
+        join_rows rows (flat_rows value) (final_row answer id span (final_value value))
+        (λ events progress run. to_flat value run) run
+    to_flat value run = to_final value run
+
+    from_flat : (value : Value) {events : List Event} {progress : Progress}
+        → FlatRuns (rows_join (flat_rows value) (final_row answer id span (final_value value))) events progress
+        → RunsValue env false value events progress
+    from_flat (Sequence rows own value) run = in_sequence (part_rows rows (flat_rows value)
+        (final_row answer id span (final_value value)) (λ events progress run. from_flat value run) run)
+    from_flat value run = from_final value run
+
+-- a run of a value is a run of the flattened value
+runs-flattened : {env : Environment} (answer : Place) (id : EvaluationOrder) (span : Option Span) (value : Value)
+    {events : List Event} {progress : Progress} → is_unset id ≡ false → RunsValue env false value events progress
+    → RunsValue env false (flattened answer id span value) events progress
+runs-flattened {env} answer id span value set run = in_sequence (to_flat env answer id span set value run)
+
+-- a run of the flattened value is a run of the value
+flattened-runs : {env : Environment} (answer : Place) (id : EvaluationOrder) (span : Option Span) (value : Value)
+    {events : List Event} {progress : Progress} → is_unset id ≡ false
+    → RunsValue env false (flattened answer id span value) events progress → RunsValue env false value events progress
+flattened-runs answer id span value set value_stopped = value_stopped
+flattened-runs {env} answer id span value set (in_sequence run) = from_flat env answer id span set value run
+
+-- the id of a spelled value is set
+pub value_set : {hir : HirFunction} {env : Environment} {key : BlockId} {context : ValueContext} {value : Value}
+    {end : ValueEnd} {used : List BlockId} → SpellsValue hir env key context value end used → is_unset end.id ≡ false
+value_set {hir} {key = key} (named_test {block = block} found empty ends) =
+    sym (ap (λ t. is_unset (evaluation_order t)) ends) ∙ (usable_block-set hir key block found).terminal
+value_set {hir} {key = key} (last_block {block = block} rows row found ends whole) =
+    last_set rows row (subst AreSet whole (usable_block-set hir key block found).rows)
+
+-- a run of a spelled value is a run of the value as it stands in a loop
+pub runs-shown : {hir : HirFunction} {env : Environment} {key : BlockId} {context : ValueContext} {value : Value}
+    {end : ValueEnd} {used : List BlockId} {events : List Event} {progress : Progress} (flat : Bool)
+    (span : Option Span) → SpellsValue hir env key context value end used → RunsValue env false value events progress
+    → RunsValue env false (shown flat span end value) events progress
+runs-shown {value = value} {end} true span spelled run =
+    runs-flattened end.answer end.id span value (value_set spelled) run
+runs-shown false span spelled run = run
+
+-- a run of the value as it stands in a loop is a run of the spelled value
+pub shown-runs : {hir : HirFunction} {env : Environment} {key : BlockId} {context : ValueContext} {value : Value}
+    {end : ValueEnd} {used : List BlockId} {events : List Event} {progress : Progress} (flat : Bool)
+    (span : Option Span) → SpellsValue hir env key context value end used
+    → RunsValue env false (shown flat span end value) events progress → RunsValue env false value events progress
+shown-runs {value = value} {end} true span spelled run =
+    flattened-runs end.answer end.id span value (value_set spelled) run
+shown-runs false span spelled run = run
