@@ -1,31 +1,38 @@
 -- The block of the graph to which a completion of statements leads, by the frames around them.
 --
--- `Aims` says which block it is. `aims_labeled` and `aims_scope` say where a completion of a statement's parts leads
--- after the statement, and `break_jumps` gives the completions of a jump's statements. Both directions between runs
--- rest on these.
-use Rattle.std.proofs.Common.{◌≡◌, List, [], ◌∷◌, Bool, true, false, ◌||◌, if◌then◌else◌, Option, Some, None, refl, sym}
-use Rattle.std.proofs.Common.{ap, ◌∙◌, subst}
-use Rattle.std.proofs.lemmas.Bool.{or_parts}
-use Rattle.rc_names.specs.Numbers.{BlockId, EvaluationOrder, same_id}
-use Rattle.rc_tree.specs.declared.kind.ReactiveTerminalTargetKind.TheVariants.{Implicit, Labeled, Unlabeled}
+-- `Aims` says which block it is. `aims_labeled`, `aims_scope`, `aims_cases` and `rounded` say where a completion of a
+-- statement's parts leads after the statement. Both directions between runs rest on these.
+use Rattle.std.proofs.Common.{◌≡◌, List, [], ◌∷◌, Bool, true, false, if◌then◌else◌, Option, Some, None, refl, sym, ap}
+use Rattle.std.proofs.Common.{◌∙◌, subst, ◌⊎◌, inl, inr}
+use Rattle.rc_names.specs.Numbers.{BlockId, same_id}
+use Rattle.rc_hir.specs.Model.{Case}
 use Rattle.rc_tree.specs.Model.{ReactiveLabel}
 use Rattle.rc_runs.specs.declared.frames.Frame.{Frame}
 use Rattle.rc_runs.specs.declared.frames.Frame.TheVariants as frame_kinds
-use Rattle.rc_runs.specs.declared.frames.BreakResult.{BreakResult}
-use Rattle.rc_runs.specs.declared.frames.BreakResult.TheVariants.{NoFrame, LeavesScope, LeavesCase, FallsOff, Breaks}
 use Rattle.rc_runs.specs.Event.{End}
-use Rattle.rc_runs.specs.Frames.{break_block, fall_block, is_loop, resolve_at, resolve_from, resolve_break}
-use Rattle.rc_runs.specs.PlainTree.{Statements, Nil, Break}
+use Rattle.rc_runs.specs.Frames.{break_block, fall_block, is_jump_target, is_loop}
 use Rattle.rc_runs.specs.ListContext.{ListContext, outermost, inside}
-use Rattle.rc_runs.specs.Grammar.{label_of, falls_to, unlabeled, break_statements}
+use Rattle.rc_runs.specs.LoopParts.{LoopBlocks, turn_start, loop_frame}
+use Rattle.rc_runs.specs.SwitchCases.{case_context}
+use Rattle.rc_runs.specs.Grammar.{label_of, falls_to}
 use Rattle.rc_runs.specs.BodyRun.{Completion, Normal, BreakTo, BreakLoop, ContinueTo, ContinueLoop, Ended, leaves}
-use Rattle.rc_runs.specs.BodyRun.{caught}
+use Rattle.rc_runs.specs.BodyRun.{caught, turns_again, left_loop}
 use Rattle.rc_names.proofs.NumbersLemmas.{same_id-eq}
 
--- the innermost frame determines which block falling off reaches
+-- if the frame is a loop's, no jump further out can name its break block
+abbrev pub IsApart : Frame → List Frame → Type 0
+IsApart (frame_kinds.Loop block again) frames = is_jump_target frames block ≡ false
+IsApart _ frames = Unit {0}
+
+abbrev pub AreApart : List Frame → Type 0
+AreApart [] = Unit {0}
+AreApart (frame ∷ frames) = IsApart frame frames × AreApart frames
+
+-- the innermost frame determines which block falling off reaches, and each loop has a break block of its own
 pub record Fits (context : ListContext) : Type 0 where
   pub falls : (frame : Frame) (rest : List Frame) → context.frames ≡ frame ∷ rest
       → context.next ≡ Some (fall_block frame)
+  pub apart : AreApart context.frames
 
 -- a labeled break can leave the frame
 abbrev pub takes_labeled : Frame → Bool
@@ -79,6 +86,15 @@ Aims-leaves context next (ContinueTo target) key h a = a
 Aims-leaves context next ContinueLoop key h a = a
 Aims-leaves context next (Ended end) key h a = a
 
+-- a completion goes on with the next statement, or leaves
+pub by_leaves : (outcome : Completion) → (outcome ≡ Normal) ⊎ (leaves outcome ≡ true)
+by_leaves Normal = inl refl
+by_leaves (BreakTo target) = inr refl
+by_leaves BreakLoop = inr refl
+by_leaves (ContinueTo target) = inr refl
+by_leaves ContinueLoop = inr refl
+by_leaves (Ended end) = inr refl
+
 -- ends and falling off pass any label
 pub caught-ended : (label : Option ReactiveLabel) (end : End) → caught label (Ended end) ≡ Ended end
 caught-ended None end = refl
@@ -125,170 +141,91 @@ aims_labeled true frame context label t n e outcome key a =
 aims_labeled false frame context label t n e outcome key a =
     subst (λ l. Aims context (caught l outcome) key) (sym e) a
 
+-- a completion that leaves a part whose frame takes no labeled breaks
+aims_past : (frame : Frame) (context : ListContext) → takes_labeled frame ≡ false → is_loop frame ≡ false
+    → (outcome : Completion) (key : BlockId) → leaves outcome ≡ true → Aims (inside true frame context) outcome key
+    → Aims context outcome key
+aims_past frame context t n Normal key l a = absurd (let bad : ⊥ = cc in bad)
+aims_past frame context t n (BreakTo target) key l a = (a.0, go (same_id (break_block frame) target) a.1)
+  where
+    go : (same : Bool) → (if same then takes_labeled frame else has_target context.frames target) ≡ true
+        → has_target context.frames target ≡ true
+    go true h = absurd (let bad : ⊥ = cc in bad)
+    go false h = h
+aims_past frame context t n BreakLoop key l a = behind frame _ _ _ n a
+aims_past frame context t n (ContinueTo target) key l a = behind frame _ _ _ n a
+aims_past frame context t n ContinueLoop key l a = behind frame _ _ _ n a
+aims_past frame context t n (Ended end) key l a = a
+
 -- a completion of the part of a scope; a scope has no label, and no labeled break leaves it
 pub aims_scope : (opened : Bool) (fallthrough : BlockId) (context : ListContext) (outcome : Completion) (key : BlockId)
     → Aims (inside opened (frame_kinds.Scope fallthrough) context) outcome key
     → Aims (leaving opened fallthrough context) outcome key
 aims_scope false fallthrough context outcome key a = a
-aims_scope true fallthrough context Normal key a = a
-aims_scope true fallthrough context (BreakTo target) key a = go (same_id fallthrough target) a.1
+aims_scope true fallthrough context outcome key a = go (by_leaves outcome)
   where
-    go : (same : Bool) → (if same then false else has_target context.frames target) ≡ true
-        → Aims (leaving true fallthrough context) (BreakTo target) key
-    go true h = absurd (let bad : ⊥ = cc in bad)
-    go false h = (a.0, h)
-aims_scope true fallthrough context BreakLoop key a = a
-aims_scope true fallthrough context (ContinueTo target) key a = a
-aims_scope true fallthrough context ContinueLoop key a = a
-aims_scope true fallthrough context (Ended end) key a = a
+    go : (outcome ≡ Normal) ⊎ (leaves outcome ≡ true) → Aims (leaving true fallthrough context) outcome key
+    go (inl n) = rw n (subst (λ o. Aims (inside true (frame_kinds.Scope fallthrough) context) o key) n a)
+    go (inr l) = aims_past (frame_kinds.Scope fallthrough) (leaving true fallthrough context) refl refl outcome key l a
 
--- the statements of a jump to the block, by the block to which their completion leads
-pub data Jumps (context : ListContext) (key : BlockId) : Statements → Type 0 where
-  falls_off : context.next ≡ Some key → Jumps context key Nil
-  breaks_implicit : {target : BlockId} {id : EvaluationOrder} → context.next ≡ Some key
-      → Jumps context key (unlabeled (Break target Implicit id))
-  breaks_labeled : {target : BlockId} {id : EvaluationOrder} → target ≡ key → has_target context.frames target ≡ true
-      → Jumps context key (unlabeled (Break target Labeled id))
-  breaks_unlabeled : {target : BlockId} {id : EvaluationOrder} → loop_break context.frames ≡ Some key
-      → Jumps context key (unlabeled (Break target Unlabeled id))
+-- a completion that leaves a case of a switch, with these kept cases after it
+pub aims_cases : (later : List Case) (context : ListContext) (outcome : Completion) (key : BlockId)
+    → leaves outcome ≡ true → Aims (case_context later context) outcome key → Aims context outcome key
+aims_cases [] context outcome key l a = a
+aims_cases (case ∷ later) context outcome key l a =
+    aims_cases later context outcome key l
+    (aims_past (frame_kinds.Case case.block) (case_context later context) refl refl outcome key l a)
 
--- the facts that the resolution of a break to the block gives
-abbrev Says : Option BlockId → List Frame → BlockId → BreakResult → Type 0
-Says next frames key FallsOff = next ≡ Some key
-Says next frames key (Breaks Implicit) = next ≡ Some key
-Says next frames key (Breaks Labeled) = has_target frames key ≡ true
-Says next frames key (Breaks Unlabeled) = loop_break frames ≡ Some key
-Says next frames key _ = Unit {0}
+-- the label of a loop
+abbrev pub loop_label : LoopBlocks → Option ReactiveLabel
+loop_label blocks = label_of true blocks.fallthrough
 
--- the same facts if there are frames further inside, with a loop among them or not
-abbrev SaysBehind : Bool → List Frame → BlockId → BreakResult → Type 0
-SaysBehind in_loop frames key FallsOff = ⊥
-SaysBehind in_loop frames key (Breaks Implicit) = ⊥
-SaysBehind in_loop frames key (Breaks Labeled) = has_target frames key ≡ true
-SaysBehind in_loop frames key (Breaks Unlabeled) = (in_loop ≡ false) × (loop_break frames ≡ Some key)
-SaysBehind in_loop frames key _ = Unit {0}
+-- a completion of a loop's body leads to the next turn, or out of the loop
+pub data Rounded (blocks : LoopBlocks) (context : ListContext) (outcome : Completion) (key : BlockId) : Type 0 where
+  to_turn : turns_again (loop_label blocks) outcome ≡ true → key ≡ turn_start blocks
+      → Rounded blocks context outcome key
+  out_of_loop : turns_again (loop_label blocks) outcome ≡ false
+      → Aims (leaving true blocks.fallthrough context) (left_loop (loop_label blocks) outcome) key
+      → Rounded blocks context outcome key
 
--- the break block is that of the frame
-target_here : (frame : Frame) (frames : List Frame) (key : BlockId) → same_id (break_block frame) key ≡ true
-    → takes_labeled frame ≡ true →
-    has_target (frame ∷ frames) key ≡ true
-target_here frame frames key q t = ap (λ same. if same then takes_labeled frame else has_target frames key) q ∙ t
-
--- the break block isn't that of the frame
-target_behind : (frame : Frame) (frames : List Frame) (key : BlockId) → same_id (break_block frame) key ≡ false
-    → has_target frames key ≡ true →
-    has_target (frame ∷ frames) key ≡ true
-target_behind frame frames key q h = ap (λ same. if same then takes_labeled frame else has_target frames key) q ∙ h
-
-says_out_of : (in_loop : Bool) (frame : Frame) (frames : List Frame) (key : BlockId)
-    → same_id (break_block frame) key ≡ true →
-    SaysBehind in_loop (frame ∷ frames) key (resolve_at false in_loop frame)
-says_out_of in_loop (frame_kinds.Statement block) frames key q =
-    target_here (frame_kinds.Statement block) frames key q refl
-says_out_of in_loop (frame_kinds.Switch block) frames key q = target_here (frame_kinds.Switch block) frames key q refl
-says_out_of in_loop (frame_kinds.Case block) frames key q = tt
-says_out_of in_loop (frame_kinds.Scope block) frames key q = tt
-says_out_of true (frame_kinds.Loop block continue_block) frames key q =
-    target_here (frame_kinds.Loop block continue_block) frames key q refl
-says_out_of false (frame_kinds.Loop block continue_block) frames key q = (refl, ap Some (same_id-eq block key q))
-
--- a loop further out
-loop_behind : (frame : Frame) (frames : List Frame) (key : BlockId) → is_loop frame ≡ false
-    → loop_break frames ≡ Some key →
-    loop_break (frame ∷ frames) ≡ Some key
-loop_behind frame frames key n h = ap (λ loop. if loop then Some (break_block frame) else loop_break frames) n ∙ h
-
-says_further : (in_loop : Bool) (frame : Frame) (frames : List Frame) (key : BlockId) (way : BreakResult)
-    → same_id (break_block frame) key ≡ false →
-    SaysBehind (in_loop || is_loop frame) frames key way → SaysBehind in_loop (frame ∷ frames) key way
-says_further in_loop frame frames key NoFrame q h = tt
-says_further in_loop frame frames key LeavesScope q h = tt
-says_further in_loop frame frames key LeavesCase q h = tt
-says_further in_loop frame frames key FallsOff q h = h
-says_further in_loop frame frames key (Breaks Implicit) q h = h
-says_further in_loop frame frames key (Breaks Labeled) q h = target_behind frame frames key q h
-says_further in_loop frame frames key (Breaks Unlabeled) q h =
-    let n = or_parts in_loop (is_loop frame) h.0 in (n.0, loop_behind frame frames key n.1 h.1)
-
-says_behind : (in_loop : Bool) (frames : List Frame) (key : BlockId)
-    → SaysBehind in_loop frames key (resolve_from false in_loop frames key)
-says_behind in_loop [] key = tt
-says_behind in_loop (frame ∷ frames) key =
-    go (same_id (break_block frame) key) refl (resolve_from false (in_loop || is_loop frame) frames key)
-    (says_behind (in_loop || is_loop frame) frames key)
+pub rounded : (blocks : LoopBlocks) (context : ListContext) (outcome : Completion) (key : BlockId)
+    → Aims (inside true (loop_frame blocks) context) outcome key → Rounded blocks context outcome key
+rounded blocks context Normal key a = to_turn refl (let same : key ≡ turn_start blocks = cc in same)
+rounded blocks context (BreakTo target) key a = out_of_loop refl (go (same_id blocks.fallthrough target) refl a.1)
   where
-    go : (same : Bool) → same_id (break_block frame) key ≡ same → (way : BreakResult)
-        → SaysBehind (in_loop || is_loop frame) frames key way →
-        SaysBehind in_loop (frame ∷ frames) key (if same then resolve_at false in_loop frame else way)
-    go true q way h = says_out_of in_loop frame frames key q
-    go false q way h = says_further in_loop frame frames key way q h
-
--- a break out of the innermost frame
-says_here : (next : Option BlockId) (frame : Frame) (frames : List Frame) (key : BlockId)
-    → next ≡ Some (fall_block frame) →
-    same_id (break_block frame) key ≡ true → Says next (frame ∷ frames) key (resolve_at true false frame)
-says_here next (frame_kinds.Statement block) frames key n q = n ∙ ap Some (same_id-eq block key q)
-says_here next (frame_kinds.Switch block) frames key n q = n ∙ ap Some (same_id-eq block key q)
-says_here next (frame_kinds.Case block) frames key n q = n ∙ ap Some (same_id-eq block key q)
-says_here next (frame_kinds.Scope block) frames key n q = n ∙ ap Some (same_id-eq block key q)
-says_here next (frame_kinds.Loop block continue_block) frames key n q = ap Some (same_id-eq block key q)
-
-says_outside : (next : Option BlockId) (frame : Frame) (frames : List Frame) (key : BlockId) (way : BreakResult)
-    → same_id (break_block frame) key ≡ false →
-    SaysBehind (is_loop frame) frames key way → Says next (frame ∷ frames) key way
-says_outside next frame frames key NoFrame q h = tt
-says_outside next frame frames key LeavesScope q h = tt
-says_outside next frame frames key LeavesCase q h = tt
-says_outside next frame frames key FallsOff q h = absurd h
-says_outside next frame frames key (Breaks Implicit) q h = absurd h
-says_outside next frame frames key (Breaks Labeled) q h = target_behind frame frames key q h
-says_outside next frame frames key (Breaks Unlabeled) q h = loop_behind frame frames key h.0 h.1
-
-says : (next : Option BlockId) (frames : List Frame) (key : BlockId)
-    → ((frame : Frame) (rest : List Frame) → frames ≡ frame ∷ rest → next ≡ Some (fall_block frame))
-    → Says next frames key (resolve_break frames key)
-says next [] key falls = tt
-says next (frame ∷ frames) key falls =
-    go (same_id (break_block frame) key) refl (resolve_from false (is_loop frame) frames key)
-    (says_behind (is_loop frame) frames key)
+    go : (same : Bool) → same_id blocks.fallthrough target ≡ same
+        → (if same then true else has_target context.frames target) ≡ true
+        → Aims (leaving true blocks.fallthrough context) (if same then Normal else BreakTo target) key
+    go true q h = ap Some (same_id-eq blocks.fallthrough target q ∙ a.0)
+    go false q h = (a.0, h)
+rounded blocks context BreakLoop key a = out_of_loop refl a
+rounded blocks context (ContinueTo target) key a = go (same_id blocks.fallthrough target) refl a
   where
-    go : (same : Bool) → same_id (break_block frame) key ≡ same → (way : BreakResult)
-        → SaysBehind (is_loop frame) frames key way →
-        Says next (frame ∷ frames) key (if same then resolve_at true false frame else way)
-    go true q way h = says_here next frame frames key (falls frame frames refl) q
-    go false q way h = says_outside next frame frames key way q h
-
--- the statements of a break jump to its target
-pub break_jumps : (context : ListContext) (key : BlockId) (id : EvaluationOrder) (statements : Statements)
-    → Fits context → break_statements (resolve_break context.frames key) key id ≡ Some statements
-    → Jumps context key statements
-break_jumps context key id statements fits e =
-    go (resolve_break context.frames key) (says context.next context.frames key fits.falls) e
-  where
-    these : {jump : Statements} → Jumps context key jump → Some jump ≡ Some statements → Jumps context key statements
-    these {jump} j e = subst (Jumps context key) (let same : jump ≡ statements = cc in same) j
-
-    go : (way : BreakResult) → Says context.next context.frames key way → break_statements way key id ≡ Some statements
-        → Jumps context key statements
-    go NoFrame s e = absurd (let bad : ⊥ = cc in bad)
-    go LeavesScope s e = absurd (let bad : ⊥ = cc in bad)
-    go LeavesCase s e = absurd (let bad : ⊥ = cc in bad)
-    go FallsOff s e = these (falls_off s) e
-    go (Breaks Implicit) s e = these (breaks_implicit s) e
-    go (Breaks Labeled) s e = these (breaks_labeled refl s) e
-    go (Breaks Unlabeled) s e = these (breaks_unlabeled s) e
+    go : (same : Bool) → same_id blocks.fallthrough target ≡ same
+        → (if same then Some (turn_start blocks) else continue_of context.frames target) ≡ Some key
+        → Rounded blocks context (ContinueTo target) key
+    go true q h = to_turn q (let same : key ≡ turn_start blocks = cc in same)
+    go false q h = out_of_loop q h
+rounded blocks context ContinueLoop key a = to_turn refl (let same : key ≡ turn_start blocks = cc in same)
+rounded blocks context (Ended end) key a = absurd a
 
 -- the context of a body fits
 pub fits_body : Fits outermost
-fits_body = record { falls = λ frame rest e. absurd (let bad : ⊥ = cc in bad) }
+fits_body = record { falls = λ frame rest e. absurd (let bad : ⊥ = cc in bad); apart = tt }
 
 -- the context of a statement's part fits: the part falls off to the frame's fall block, if the fallthrough is opened
-pub fits_inside : (opened : Bool) (frame : Frame) {context : ListContext} → Fits context
+pub fits_inside : (opened : Bool) (frame : Frame) {context : ListContext} → IsApart frame context.frames → Fits context
     → Fits (inside opened frame context)
-fits_inside true frame fits = record {
+fits_inside true frame apart fits = record {
   falls = λ other rest q. let same : other ≡ frame = cc in ap (λ f. Some (fall_block f)) (sym same);
+  apart = (apart, fits.apart);
 }
-fits_inside false frame fits = fits
+fits_inside false frame apart fits = fits
+
+-- the context of a case fits
+pub fits_cases : (later : List Case) {context : ListContext} → Fits context → Fits (case_context later context)
+fits_cases [] fits = fits
+fits_cases (case ∷ later) fits = fits_inside true (frame_kinds.Case case.block) tt (fits_cases later fits)
 
 -- leaving the statement leads to its fallthrough
 pub falls_to-next : (opened : Bool) (fallthrough : BlockId) (next : Option BlockId)

@@ -2,6 +2,7 @@ pub mod AllLemmas
 pub mod AnyLemmas
 pub mod GraphLemmas
 pub mod FramesLemmas
+pub mod JumpsLemmas
 pub mod RowsLemmas
 pub mod SetIds
 pub mod LastRowLemmas
