@@ -148,7 +148,8 @@ says next (frame ∷ frames) key falls =
 -- the statements that an option holds jump there
 jumps_as : {context : ListContext} {key : BlockId} {jump statements : Statements} → Jumps context key jump
     → Some jump ≡ Some statements → Jumps context key statements
-jumps_as {context} {key} {jump} {statements} j e = subst (Jumps context key) (let same : jump ≡ statements = cc in same) j
+jumps_as {context} {key} {jump} {statements} j e =
+    subst (Jumps context key) (let same : jump ≡ statements = cc in same) j
 
 -- the statements of a break jump to its target
 pub break_jumps : (context : ListContext) (key : BlockId) (id : EvaluationOrder) (statements : Statements)

@@ -9,6 +9,7 @@ pub mod LastRowLemmas
 pub mod FlattenedRuns
 pub mod TreeOfLemmas
 pub mod EveryBlockIsPlain
+pub mod OneValue
 pub mod OneTree
 pub mod GraphToBody
 pub mod BodyToGraph

@@ -2,20 +2,27 @@
 --
 -- Two derivations with the same graph and context are compared. A terminal adds one case of `one_statement`, or of
 -- `one_terminal` if it ends its list.
-use Rattle.std.proofs.Common.{◌≡◌, List, ◌∷◌, Option, Some, Bool, refl, sym, ap, ◌∙◌, subst}
+use Rattle.std.proofs.Common.{◌≡◌, List, ◌∷◌, Option, Some, Bool, true, ◌||◌, refl, sym, ap, ◌∙◌, subst}
 use Rattle.rc_names.specs.Numbers.{BlockId}
-use Rattle.rc_hir.specs.Model.{Terminal, HirFunction, Environment}
+use Rattle.rc_hir.specs.Model.{Case, Terminal, HirFunction, Environment}
 use Rattle.rc_tree.specs.Model.{ReactiveFunction}
 use Rattle.rc_runs.specs.declared.frames.Frame.{Frame}
 use Rattle.rc_runs.specs.declared.frames.Frame.TheVariants as frame_kinds
 use Rattle.rc_runs.specs.Graph.{Block}
-use Rattle.rc_runs.specs.PlainTree.{Statements, Statement}
+use Rattle.rc_runs.specs.Frames.{is_jump_target}
+use Rattle.rc_runs.specs.PlainTree.{Value, Statements, Statement, TerminalStatement, While, DoWhile, ForIn, Cases}
 use Rattle.rc_runs.specs.TreeOf.{block_of}
 use Rattle.rc_runs.specs.ListContext.{ListContext, inside}
-use Rattle.rc_runs.specs.Grammar.{SpellsList, SpellsTerminal, SpellsStatement, SpellsRest}
-use Rattle.rc_runs.specs.Grammar.{from_block, returns, unreachable, breaks, and_rest, if_only, if_else, label_statement, scope_statement}
-use Rattle.rc_runs.specs.Grammar.{pruned_scope_statement, no_rest, has_rest}
+use Rattle.rc_runs.specs.LoopParts.{LoopBlocks, LoopParts}
+use Rattle.rc_runs.specs.SwitchCases.{kept_cases}
+use Rattle.rc_runs.specs.Grammar.{label_of, SpellsBefore, no_value, some_value, SpellsList, SpellsTerminal}
+use Rattle.rc_runs.specs.Grammar.{SpellsStatement, SpellsCases, SpellsTurns, SpellsRest, from_block, returns, throws}
+use Rattle.rc_runs.specs.Grammar.{unreachable, breaks, continues, branch_arms, branch_break, and_rest, if_only, if_else}
+use Rattle.rc_runs.specs.Grammar.{label_statement, scope_statement, pruned_scope_statement, switch_statement}
+use Rattle.rc_runs.specs.Grammar.{while_loop, do_while_loop, for_loop, for_of_loop, for_in_loop, no_cases, one_case}
+use Rattle.rc_runs.specs.Grammar.{turns, no_rest, has_rest}
 use Rattle.rc_runs.specs.Spelled.{with_header, SpellsBody, Spells}
+use Rattle.rc_runs.proofs.OneValue.{one_going, one_test}
 
 -- the same part and the same used blocks
 abbrev pub Same : {A : Type 0} → A → List BlockId → A → List BlockId → Type 0
@@ -24,6 +31,13 @@ Same a a_used b b_used = (a ≡ b) × (a_used ≡ b_used)
 -- an option has at most one value
 pub one_held : {A : Type 0} {option : Option A} {a b : A} → option ≡ Some a → option ≡ Some b → b ≡ a
 one_held e f = cc
+
+-- the parts of a loop are the same one by one
+same_parts : (a b : LoopParts) → a.before ≡ b.before → a.test ≡ b.test → a.body ≡ b.body → a ≡ b
+same_parts a b before test body =
+    ap (λ (v : Option Value). record { before = v; test = a.test; body = a.body }) before
+    ∙ ap (λ (v : Value). record { before = b.before; test = v; body = a.body }) test
+    ∙ ap (λ (v : Statements). record { before = b.before; test = b.test; body = v }) body
 
 module _ {hir : HirFunction} {env : Environment} where
   -- a terminal's derivation at an equal block
@@ -45,6 +59,20 @@ module _ {hir : HirFunction} {env : Environment} where
       subst (λ w. SpellsRest hir env a w context rest used) h
       (subst (λ v. SpellsRest hir env v g context rest used) e d)
 
+  -- the derivation of the cases of a switch, where the same are kept and its fallthrough is equally opened
+  cases_at : {parts : Cases} {used : List BlockId} (frame : Frame) (context : ListContext) (kept other : List Case)
+      (a b : Bool) → other ≡ kept → b ≡ a → SpellsCases hir env other (inside b frame context) parts used
+      → SpellsCases hir env kept (inside a frame context) parts used
+  cases_at {parts} {used} frame context kept other a b k e d =
+      subst (λ cases. SpellsCases hir env cases (inside a frame context) parts used) k
+      (subst (λ v. SpellsCases hir env other (inside v frame context) parts used) e d)
+
+  one_before : {blocks : LoopBlocks} {context : ListContext} {key : Option BlockId} {v w : Option Value}
+      {a b : List BlockId} → SpellsBefore hir env blocks context key v a → SpellsBefore hir env blocks context key w b
+      → (v ≡ w) × (a ≡ b)
+  one_before no_value no_value = (refl, refl)
+  one_before (some_value d) (some_value d') = let h = one_going d d' in (ap Some h.0, h.1)
+
   mutual
     pub one_list : {key : BlockId} {context : ListContext} {a b : Statements} {u v : List BlockId}
         → SpellsList hir env key context a u → SpellsList hir env key context b v → Same a u b v
@@ -56,14 +84,34 @@ module _ {hir : HirFunction} {env : Environment} where
     pub one_terminal : {terminal : Terminal} {context : ListContext} {a b : Statements} {u v : List BlockId}
         → SpellsTerminal hir env terminal context a u → SpellsTerminal hir env terminal context b v → Same a u b v
     one_terminal returns returns = (refl, refl)
+    one_terminal (throws h) (throws h') = (refl, refl)
     one_terminal unreachable unreachable = (refl, refl)
     one_terminal (breaks e) (breaks f) = (one_held f e, refl)
+    one_terminal (continues e) (continues f) = (one_held f e, refl)
+    one_terminal (branch_arms d e w) (branch_arms d' e' w') =
+        let h = one_list d d' in
+        let k = one_list e e' in
+        (cc, cc)
+    one_terminal (branch_break t b e) (branch_break t' b' e') =
+        let h = one_held b' b in
+        let k = one_list e e' in
+        (cc, k.1)
+    one_terminal (branch_arms (from_block f live d w) e v) (branch_break t b e') = absurd (let bad : ⊥ = cc in bad)
+    one_terminal (branch_break t b e') (branch_arms (from_block f live d w) e v) = absurd (let bad : ⊥ = cc in bad)
     one_terminal returns (and_rest d r w) = elim d [ ]
+    one_terminal (throws h) (and_rest d r w) = elim d [ ]
     one_terminal unreachable (and_rest d r w) = elim d [ ]
     one_terminal (breaks e) (and_rest d r w) = elim d [ ]
+    one_terminal (continues e) (and_rest d r w) = elim d [ ]
+    one_terminal (branch_arms x y z) (and_rest d r w) = elim d [ ]
+    one_terminal (branch_break x y z) (and_rest d r w) = elim d [ ]
     one_terminal (and_rest d r w) returns = elim d [ ]
+    one_terminal (and_rest d r w) (throws h) = elim d [ ]
     one_terminal (and_rest d r w) unreachable = elim d [ ]
     one_terminal (and_rest d r w) (breaks e) = elim d [ ]
+    one_terminal (and_rest d r w) (continues e) = elim d [ ]
+    one_terminal (and_rest d r w) (branch_arms x y z) = elim d [ ]
+    one_terminal (and_rest d r w) (branch_break x y z) = elim d [ ]
     one_terminal (and_rest d r w) (and_rest d' r' w') =
         let h = one_statement d d' in
         let k = one_rest r (rest_at (sym h.1) (sym h.0) r') in
@@ -86,11 +134,13 @@ module _ {hir : HirFunction} {env : Environment} where
         let h = one_list d (part_at (frame_kinds.Statement f) around o p same d') in
         let k = one_list a (part_at (frame_kinds.Statement f) around o p same a') in
         (sym same, refl, cc, cc)
-    one_statement (label_statement {fallthrough = f} {context = around} {opened = o} i l d) (label_statement {opened = p} i' l' d') =
+    one_statement (label_statement {fallthrough = f} {context = around} {opened = o} i l d)
+        (label_statement {opened = p} i' l' d') =
         let same : p ≡ o = i' ∙ sym i in
         let h = one_list d (part_at (frame_kinds.Statement f) around o p same d') in
         (sym same, refl, cc, h.1)
-    one_statement (scope_statement {fallthrough = f} {context = around} {opened = o} i d) (scope_statement {opened = p} i' d') =
+    one_statement (scope_statement {fallthrough = f} {context = around} {opened = o} i d)
+        (scope_statement {opened = p} i' d') =
         let same : p ≡ o = i' ∙ sym i in
         let h = one_list d (part_at (frame_kinds.Scope f) around o p same d') in
         (sym same, refl, cc, h.1)
@@ -99,6 +149,45 @@ module _ {hir : HirFunction} {env : Environment} where
         let same : p ≡ o = i' ∙ sym i in
         let h = one_list d (part_at (frame_kinds.Scope f) around o p same d') in
         (sym same, refl, cc, h.1)
+    one_statement (switch_statement {cases = cases} {kept = kept} {fallthrough = f} {context = around} {opened = o} i l
+        one past k z d) (switch_statement {kept = other} {opened = p} i' l' one' past' k' z' d') =
+        let same : p ≡ o = i' ∙ sym i in
+        let alike : other ≡ kept =
+        k' ∙ ap (λ v. kept_cases (v || is_jump_target around.frames f) f cases) same ∙ sym k in
+        let h = one_cases d (cases_at (frame_kinds.Switch f) around kept other o p alike same d') in
+        (sym same, refl, cc, h.1)
+    one_statement (while_loop {fallthrough = f} {id = id} h d) (while_loop h' d') =
+        let k = one_turns d d' in
+        (refl, refl, ap (λ (p : LoopParts). TerminalStatement (While p.test p.body id) (label_of true f)) k.0, k.1)
+    one_statement (do_while_loop {fallthrough = f} {id = id} d) (do_while_loop d') =
+        let k = one_turns d d' in
+        (refl, refl, ap (λ (p : LoopParts). TerminalStatement (DoWhile p.body p.test id) (label_of true f)) k.0, k.1)
+    one_statement (for_loop g d w) (for_loop g' d' w') =
+        let h = one_going g g' in
+        let k = one_turns d d' in
+        (refl, refl, cc, cc)
+    one_statement (for_of_loop e d) (for_of_loop e' d') =
+        let k = one_turns d d' in
+        (refl, refl, cc, k.1)
+    one_statement (for_in_loop {fallthrough = f} {id = id} {span = span} d) (for_in_loop d') =
+        let k = one_turns d d' in
+        (refl, refl, ap (λ (p : LoopParts). TerminalStatement (ForIn p.test p.body span id) (label_of true f)) k.0, k.1)
+
+    pub one_cases : {cases : List Case} {context : ListContext} {a b : Cases} {u v : List BlockId}
+        → SpellsCases hir env cases context a u → SpellsCases hir env cases context b v → Same a u b v
+    one_cases no_cases no_cases = (refl, refl)
+    one_cases (one_case d e w) (one_case d' e' w') =
+        let h = one_cases d d' in
+        let k = one_list e e' in
+        (cc, cc)
+
+    pub one_turns : {blocks : LoopBlocks} {context : ListContext} {a b : LoopParts} {u v : List BlockId}
+        → SpellsTurns hir env blocks context a u → SpellsTurns hir env blocks context b v → Same a u b v
+    one_turns (turns {parts = a} n m t e d w) (turns {parts = b} n' m' t' e' d' w') =
+        let h = one_test t t' in
+        let k = one_before e e' in
+        let l = one_list d d' in
+        (same_parts a b k.0 h.0 l.0, cc)
 
     pub one_rest : {o : Bool} {f : BlockId} {context : ListContext} {a b : Statements} {u v : List BlockId}
         → SpellsRest hir env o f context a u → SpellsRest hir env o f context b v → Same a u b v
