@@ -7,6 +7,9 @@ pub mod RowsLemmas
 pub mod SetIds
 pub mod LastRowLemmas
 pub mod FlattenedRuns
+pub mod Covers
+pub mod ValueToGraph
+pub mod AliveBlocks
 pub mod TreeOfLemmas
 pub mod EveryBlockIsPlain
 pub mod OneValue
