@@ -1,274 +1,258 @@
 -- Each run of a spelled body is a run of its graph: by recursion on the run of the body.
 --
--- For statements that end with a completion, `After` says how runs of the graph go on: they end there, or any run from
--- the block to which the completion leads continues them. A block that ends in `Unreachable` spells nothing, so its
--- list falls off where the graph goes nowhere. But no used block leads to such a block, and no statement follows the
--- entry's list.
-use Rattle.std.proofs.Common.{◌≡◌, List, [], ◌∷◌, ◌++◌, Bool, true, false, Option, None, ◌⊎◌, inl, inr, refl, sym, ap}
-use Rattle.std.proofs.Common.{◌∙◌, subst, append_assoc, arith, Contains, Some}
-use Rattle.std.proofs.lemmas.List.{append-nil}
-use Rattle.std.proofs.lemmas.List.Elements.{Contains-append_left, Contains-append_right}
-use Rattle.rc_names.specs.Numbers.{BlockId, same_id}
-use Rattle.rc_tree.specs.Model.{ReactiveLabel, ReactiveFunction}
-use Rattle.rc_hir.specs.Model.{Terminal, Instruction, HirFunction, Environment}
+-- Each form adds its clauses to the recursion; how runs of the graph go on after its parts is shown in `AfterParts`,
+-- `JumpToGraph`, `SwitchToGraph` and `LoopToGraph`.
+use Rattle.std.proofs.Common.{◌≡◌, List, [], ◌++◌, Bool, true, false, ◌||◌, Option, Some, None, refl, sym, ap, ◌∙◌}
+use Rattle.std.proofs.Common.{subst}
+use Rattle.rc_names.specs.Numbers.{BlockId, EvaluationOrder}
+use Rattle.rc_names.specs.declared.span.Span.{Span}
+use Rattle.rc_tree.specs.Model.{ReactiveFunction}
+use Rattle.rc_hir.specs.Model.{Place, Case, Terminal, HirFunction, Environment}
+use Rattle.rc_hir.specs.declared.terminal.Terminal.TheVariants as terminals
 use Rattle.rc_runs.specs.declared.frames.Frame.TheVariants as frame_kinds
-use Rattle.rc_runs.specs.Event.{Event, Did, Arm, End, Open}
-use Rattle.rc_runs.specs.Graph.{Block, block_at, is_unreachable, ends_unreachable}
-use Rattle.rc_runs.specs.GraphRun.{Edge, HasNoUnreachableSuccessor, GraphRun, GraphRunAt, IsGraphRun}
+use Rattle.rc_runs.specs.Event.{Event, End}
+use Rattle.rc_runs.specs.Graph.{ends_unreachable}
+use Rattle.rc_runs.specs.GraphRun.{InCases, HasNoUnreachableSuccessor, GraphRun, GraphRunAt, IsGraphRun}
 use Rattle.rc_runs.specs.GraphRun as graph
-use Rattle.rc_runs.specs.PlainTree.{Statements, Statement}
+use Rattle.rc_runs.specs.PlainTree.{Statements, Statement, TerminalStatement, If, Alternate, Cases}
 use Rattle.rc_runs.specs.TreeOf.{block_of}
-use Rattle.rc_runs.specs.ListContext.{ListContext, outermost, inside}
-use Rattle.rc_runs.specs.Grammar.{label_of, falls_to, SpellsList, SpellsStatement, SpellsRest}
+use Rattle.rc_runs.specs.ListContext.{ListContext, outermost}
+use Rattle.rc_runs.specs.LoopParts.{LoopBlocks, LoopParts}
+use Rattle.rc_runs.specs.SwitchCases.{case_context}
+use Rattle.rc_runs.specs.Frames.{is_jump_target}
+use Rattle.rc_runs.specs.Grammar.{unlabeled, SpellsList, SpellsTerminal, SpellsStatement, SpellsCases}
 use Rattle.rc_runs.specs.Grammar as grammar
 use Rattle.rc_runs.specs.Spelled.{SpellsBody, Spells}
-use Rattle.rc_runs.specs.BodyRun.{Completion, Normal, Ended, leaves, caught, RunsList, RunsStatement, IsBodyRun}
+use Rattle.rc_runs.specs.BodyRun.{Completion, Normal, Ended, leaves, row_completion, Spot, RunsList, RunsStatement}
+use Rattle.rc_runs.specs.BodyRun.{RunsLoop, RunsCases, RunsChosen, IsBodyRun}
 use Rattle.rc_runs.specs.BodyRun as body
+use Rattle.rc_runs.specs.ValueRun.{Progress}
 use Rattle.rc_names.proofs.NumbersLemmas.{same_id-eq}
-use Rattle.rc_runs.proofs.GraphLemmas.{usable_block-at, ends_unreachable-at}
-use Rattle.rc_runs.proofs.FramesLemmas.{Fits, fits_body, fits_inside, Aims, Aims-leaves, leaving, falls_to-next}
-use Rattle.rc_runs.proofs.FramesLemmas.{caught-ended, caught-normal, aims_labeled, aims_scope, Jumps, falls_off}
-use Rattle.rc_runs.proofs.FramesLemmas.{breaks_implicit, breaks_labeled, breaks_unlabeled, break_jumps}
+use Rattle.rc_runs.proofs.FramesLemmas.{Fits, fits_body, fits_inside, leaving, loop_label, caught-normal}
+use Rattle.rc_runs.proofs.JumpsLemmas.{break_jumps, continue_jumps}
 use Rattle.rc_runs.proofs.TreeOfLemmas.{block_of-injective}
-use Rattle.rc_runs.proofs.RowsLemmas.{SpellsRows, row_then, rows_done, rows_spelled}
+use Rattle.rc_runs.proofs.RowsLemmas.{row_then, rows_done}
+use Rattle.rc_runs.proofs.Covers.{Covers, passes, stays, row_covered}
+use Rattle.rc_runs.proofs.ValueToGraph.{going_on, going_stops, test_stops}
+use Rattle.rc_runs.proofs.AliveBlocks.{AllAlive, alive_front, alive_behind}
+use Rattle.rc_runs.proofs.AfterParts.{After, ends, leads, Carries, ahead, alone, elsewhere, behind_label, at_block}
+use Rattle.rc_runs.proofs.AfterParts.{in_part, labeled_part, scope_part, past_part, then_nothing, onward}
+use Rattle.rc_runs.proofs.JumpToGraph.{jump_to_graph}
+use Rattle.rc_runs.proofs.SwitchToGraph.{Chosen, kept_live, chosen_part, past_kept, chosen_further, at_case, falls_on}
+use Rattle.rc_runs.proofs.SwitchToGraph.{out_of_case}
+use Rattle.rc_runs.proofs.LoopToGraph.{Looped, looped, with_before, before_none, spot_block, turn_is_test, turn_going}
+use Rattle.rc_runs.proofs.LoopToGraph.{into_body, out_by_test, around_again, out_by_body}
 
 module _ (hir : HirFunction) (env : Environment) where
-  -- no used block leads to one that ends in `Unreachable`
-  abbrev AllAlive : List BlockId → Type 0
-  AllAlive used = (key : BlockId) → Contains used key → (block : Block) → block_at hir key ≡ Some block
-      → HasNoUnreachableSuccessor hir block.terminal
+  -- a row, and then more statements
+  row_onward : {context : ListContext} {whole behind : List Event → End → Type 0} {first second all : List Event}
+      {progress : Progress} {outcome : Completion} → Covers whole behind first progress
+      → Normal ≡ row_completion progress → After hir env context behind second outcome → all ≡ first ++ second
+      → After hir env context whole all outcome
+  row_onward {first = first} (passes go) o after q = ahead first after q (λ events end run. go events end run)
+  row_onward (stays stop) o after q = absurd (let bad : ⊥ = cc in bad)
 
-  alive_front : {used : List BlockId} (front behind : List BlockId) → used ≡ front ++ behind → AllAlive used
-      → AllAlive front
-  alive_front front behind e alive =
-      λ key c. alive key (subst (λ u. Contains u key) (sym e) (Contains-append_left front behind key c))
-
-  alive_behind : {used : List BlockId} (front behind : List BlockId) → used ≡ front ++ behind → AllAlive used
-      → AllAlive behind
-  alive_behind front behind e alive =
-      λ key c. alive key (subst (λ u. Contains u key) (sym e) (Contains-append_right front behind key c))
-
-  -- how runs of the graph go on after statements with that completion
-  data After (context : ListContext) (run : List Event → End → Type 0) (events : List Event) : Completion → Type 0 where
-    ends : {end : End} → run events end → After context run events (Ended end)
-    leads : {outcome : Completion} {key : BlockId} → Aims context outcome key → ends_unreachable hir key ≡ false →
-        ((more : List Event) (end : End) → GraphRunAt hir env key more end → run (events ++ more) end)
-        → After context run events outcome
-
-  -- more events in front
-  ahead : {context : ListContext} {inner run : List Event → End → Type 0} {events all : List Event}
-      {outcome : Completion}
-      (first : List Event) → After context inner events outcome → all ≡ first ++ events →
-      ((events : List Event) (end : End) → inner events end → run (first ++ events) end)
-      → After context run all outcome
-  ahead {run = run} {events = events} first (ends {end} r) q h = ends (subst (λ l. run l end) (sym q) (h events end r))
-  ahead {run = run} {events = events} first (leads a live k) q h =
-      leads a live (λ more end r.
-      let regrouped = sym (append_assoc first events more) ∙ sym (ap (λ l. l ++ more) q) in
-      subst (λ l. run l end) regrouped (h (events ++ more) end (k more end r)))
-
-  -- no events behind
-  alone : {context : ListContext} {run : List Event → End → Type 0} {first all : List Event} {outcome : Completion} →
-      After context run first outcome → all ≡ first ++ [] → After context run all outcome
-  alone {context} {run} {first} {outcome = outcome} a q =
-      subst (λ l. After context run l outcome) (sym (q ∙ append-nil first)) a
-
-  -- completions that leave, where falling off reaches another block
-  elsewhere : {context : ListContext} {next : Option BlockId} {run : List Event → End → Type 0} {events : List Event}
-      {outcome : Completion} → leaves outcome ≡ true → After (record context { next = next }) run events outcome
-      → After context run events outcome
-  elsewhere h (ends r) = ends r
-  elsewhere {context} {next} {outcome = outcome} h (leads {key = key} a live k) =
-      leads (Aims-leaves context next outcome key h a) live k
-
-  -- a completion of a statement's parts, after the statement's label
-  behind_label : {inner context : ListContext} {run : List Event → End → Type 0} {events : List Event}
-      {outcome outer : Completion} (label : Option ReactiveLabel) → After inner run events outcome →
-      ((key : BlockId) → Aims inner outcome key → Aims context (caught label outcome) key)
-      → outer ≡ caught label outcome → After context run events outer
-  behind_label {context = context} {run} {events} label (ends {end} r) h q =
-      subst (After context run events) (sym (q ∙ caught-ended label end)) (ends r)
-  behind_label {context = context} {run} {events} label (leads {key = key} a live k) h q =
-      subst (After context run events) (sym q) (leads (h key a) live k)
-
-  -- the claim of the recursion, for the statements that a block spells
-  abbrev Carries : ListContext → Statements → List Event → Completion → Type 0
-  Carries context statements events outcome =
-      Fits context → (rows : List Instruction) (terminal : Terminal) (used : List BlockId) →
-      SpellsRows hir env rows terminal context statements used → (outcome ≡ Normal → is_unreachable terminal ≡ false)
-      → HasNoUnreachableSuccessor hir terminal → AllAlive used
-      → After context (GraphRun hir env rows terminal) events outcome
-
-  at_block : {key : BlockId} {context : ListContext} {statements : Statements} {used : List BlockId}
-      {events : List Event} {outcome : Completion} → SpellsList hir env key context statements used → Fits context
-      → (outcome ≡ Normal → ends_unreachable hir key ≡ false) → AllAlive used →
-      Carries context statements events outcome → After context (GraphRunAt hir env key) events outcome
-  at_block {key} {context} (grammar.from_block {used = later} {block = block} found l d q) fits live alive carries =
-      let at = usable_block-at hir key block found in
-      let rows = subst (λ s. SpellsRows hir env block.rows block.terminal context s later) (sym q)
-      (rows_spelled block.rows d) in
-      let moves : HasNoUnreachableSuccessor hir block.terminal = alive key (0, omega arith, refl) block at in
-      ahead [] (carries fits block.rows block.terminal later rows
-      (λ n. sym (ends_unreachable-at hir key block at) ∙ live n)
-      moves (alive_behind (key ∷ []) later refl alive)) refl (λ events end run. graph.enters at run)
-
-  -- a part of a statement, to which the statement's terminal has an edge
-  in_part : {terminal : Terminal} {step : List Event} {key : BlockId} {context : ListContext} {part : Statements}
-      {used : List BlockId} {events : List Event} {outcome : Completion} → Edge terminal step key
-      → SpellsList hir env key context part used → Fits context → HasNoUnreachableSuccessor hir terminal → AllAlive used
-      → Carries context part events outcome → After context (GraphRun hir env [] terminal) (step ++ events) outcome
-  in_part {step = step} {key} move d fits moves alive carries =
-      ahead step (at_block d fits (λ n. moves step key move) alive carries) refl
-      (λ events end r. graph.moved move r refl)
-
-  -- a part of a statement that has a label if its fallthrough is opened
-  labeled_part : {terminal : Terminal} {step : List Event} {key : BlockId} {label : Option ReactiveLabel}
-      {context : ListContext} {part : Statements} {used : List BlockId} {events : List Event} {inner outer : Completion}
-      (opened : Bool) (fallthrough : BlockId) → Fits context → label ≡ label_of opened fallthrough
-      → outer ≡ caught label inner → Edge terminal step key
-      → SpellsList hir env key (inside opened (frame_kinds.Statement fallthrough) context) part used
-      → HasNoUnreachableSuccessor hir terminal → AllAlive used
-      → Carries (inside opened (frame_kinds.Statement fallthrough) context) part events inner
-      → After (leaving opened fallthrough context) (GraphRun hir env [] terminal) (step ++ events) outer
-  labeled_part {label = label} {context} {inner = inner} opened f fits l q move d moves alive carries =
-      behind_label label (in_part move d (fits_inside opened (frame_kinds.Statement f) fits) moves alive carries)
-      (aims_labeled opened (frame_kinds.Statement f) context label refl refl l inner) q
-
-  -- the part of a scope
-  scope_part : {terminal : Terminal} {key : BlockId} {context : ListContext} {part : Statements} {used : List BlockId}
-      {events : List Event} {outcome : Completion} (opened : Bool) (fallthrough : BlockId) → Fits context
-      → Edge terminal [] key → SpellsList hir env key (inside opened (frame_kinds.Scope fallthrough) context) part used
-      → HasNoUnreachableSuccessor hir terminal → AllAlive used
-      → Carries (inside opened (frame_kinds.Scope fallthrough) context) part events outcome
-      → After (leaving opened fallthrough context) (GraphRun hir env [] terminal) events outcome
-  scope_part {context = context} {outcome = outcome} opened f fits move d moves alive carries =
-      behind_label None (in_part move d (fits_inside opened (frame_kinds.Scope f) fits) moves alive carries)
-      (aims_scope opened f context outcome) refl
-
-  -- an alternate that is the fallthrough and is left out
-  absent_part : {terminal : Terminal} {alternate : BlockId} {outer : Completion} (opened : Bool) (fallthrough : BlockId)
-      (context : ListContext) (label : Option ReactiveLabel) → Edge terminal (Arm false ∷ []) alternate
-      → same_id alternate fallthrough ≡ true → falls_to opened fallthrough context.next ≡ true
-      → HasNoUnreachableSuccessor hir terminal → outer ≡ caught label Normal
-      → After (leaving opened fallthrough context) (GraphRun hir env [] terminal) (Arm false ∷ []) outer
-  absent_part {terminal} {alternate} opened f context label move same falls moves q =
-      let reached = falls_to-next opened f context.next falls ∙ ap Some (sym (same_id-eq alternate f same)) in
-      subst (After (leaving opened f context) (GraphRun hir env [] terminal) (Arm false ∷ []))
-      (sym (q ∙ caught-normal label))
-      (leads {key = alternate} reached (moves (Arm false ∷ []) alternate move)
-      (λ more end r. graph.moved move r refl))
-
-  -- the statements after a statement that is done
-  onward : {run : List Event → End → Type 0} {fallthrough : BlockId} {opened : Bool} {context : ListContext}
-      {rest : Statements} {used : List BlockId} {first second all : List Event} {outcome : Completion} → Fits context
-      → SpellsRest hir env opened fallthrough context rest used
-      → After (leaving opened fallthrough context) run first Normal → RunsList env rest second outcome
-      → all ≡ first ++ second → AllAlive used → Carries context rest second outcome → After context run all outcome
-  onward {run} fits grammar.no_rest (leads a live k) body.stopped q alive carries =
-      ends (subst (λ l. run l Open) (sym q) (k [] Open graph.arrives))
-  onward fits grammar.no_rest (leads a live k) body.nothing q alive carries = alone (leads a live k) q
-  onward {fallthrough = fallthrough} {first = first} fits (grammar.has_rest d) (leads {key = key} a live k) x q alive
-      carries =
-      let same : key ≡ fallthrough = cc in
-      ahead first (at_block d fits (λ n. subst (λ b. ends_unreachable hir b ≡ false) same live) alive carries) q
-      (λ more end r. k more end (subst (λ b. GraphRunAt hir env b more end) (sym same) r))
-
-  -- the runs of a jump's statements
-  jump_run : {context : ListContext} {key : BlockId} {statements : Statements} {events : List Event}
-      {outcome : Completion} → Jumps context key statements → RunsList env statements events outcome
-      → (events ≡ []) × ((outcome ≡ Ended Open) ⊎ Aims context outcome key)
-  jump_run j body.stopped = (refl, inl refl)
-  jump_run (falls_off n) body.nothing = (refl, inr n)
-  jump_run (breaks_implicit n) (body.and_then body.break_implicit (body.goes_on body.stopped) q) = (q, inl refl)
-  jump_run (breaks_implicit n) (body.and_then body.break_implicit (body.goes_on body.nothing) q) = (q, inr n)
-  jump_run (breaks_implicit n) (body.and_then body.break_implicit (body.leaves_list l) q) =
-      absurd (let bad : ⊥ = cc in bad)
-  jump_run (breaks_labeled e t) (body.and_then (body.break_labeled o) (body.goes_on x) q) =
-      absurd (let bad : ⊥ = cc in bad)
-  jump_run {context} {key} (breaks_labeled e t) (body.and_then (body.break_labeled o) (body.leaves_list l) q) =
-      (q, inr (subst (λ outcome. Aims context outcome key) (sym o) (e, t)))
-  jump_run (breaks_unlabeled n) (body.and_then body.break_unlabeled (body.leaves_list l) q) = (q, inr n)
-
-  jump_to_graph : {terminal : Terminal} {key : BlockId} {context : ListContext} {statements : Statements}
-      {events : List Event} {outcome : Completion} → Edge terminal [] key → HasNoUnreachableSuccessor hir terminal
-      → Jumps context key statements → RunsList env statements events outcome
-      → After context (GraphRun hir env [] terminal) events outcome
-  jump_to_graph {terminal} {key} {context} {outcome = outcome} move moves j run =
-      let led = jump_run j run in
-      subst (λ l. After context (GraphRun hir env [] terminal) l outcome) (sym led.0) (elim led.1 [
-        | inl q ↦ subst (After context (GraphRun hir env [] terminal) []) (sym q) (ends graph.stopped)
-        | inr a ↦ leads a (moves [] key move) (λ more end r. graph.moved move r refl)
-      ])
+  -- a row inside which the run stops
+  row_stops : {context : ListContext} {whole behind : List Event → End → Type 0} {events : List Event}
+      {progress : Progress} {outcome : Completion} → Covers whole behind events progress
+      → outcome ≡ row_completion progress → leaves outcome ≡ true → After hir env context whole events outcome
+  row_stops (passes go) o l = absurd (let bad : ⊥ = cc in bad)
+  row_stops {context} {whole} {events = events} (stays stop) o l =
+      subst (After hir env context whole events) (sym o) (ends stop)
 
   mutual
     list_to_graph : {context : ListContext} {statements : Statements} {events : List Event} {outcome : Completion} →
-        RunsList env statements events outcome → Carries context statements events outcome
+        RunsList env statements events outcome → Carries hir env context statements events outcome
     list_to_graph body.stopped fits _ _ _ d live moves alive = ends graph.stopped
     list_to_graph body.nothing fits _ _ _ (rows_done grammar.unreachable) live moves alive =
         absurd (let bad : ⊥ = cc (live refl) in bad)
     list_to_graph body.nothing fits _ _ _ (rows_done (grammar.breaks {id = id} e)) live moves alive =
         jump_to_graph graph.goes_to moves (break_jumps _ _ id _ fits e) body.nothing
+    list_to_graph body.nothing fits _ _ _ (rows_done (grammar.continues {id = id} e)) live moves alive =
+        jump_to_graph graph.goes_to moves (continue_jumps _ _ id _ fits e) body.nothing
     list_to_graph (body.and_then x y q) fits _ _ _ (rows_done (grammar.breaks {id = id} e)) live moves alive =
         jump_to_graph graph.goes_to moves (break_jumps _ _ id _ fits e) (body.and_then x y q)
-    list_to_graph (body.and_then (body.quiet_row h) (body.goes_on x) q) fits _ _ _ (row_then d) live moves alive =
-        ahead [] (list_to_graph x fits _ _ _ d live moves alive) q (λ more end r. graph.quiet h r)
-    list_to_graph (body.and_then (body.did_row {value = value} h) (body.goes_on x) q) fits _ _ _ (row_then d) live moves
+    list_to_graph (body.and_then x y q) fits _ _ _ (rows_done (grammar.continues {id = id} e)) live moves alive =
+        jump_to_graph graph.goes_to moves (continue_jumps _ _ id _ fits e) (body.and_then x y q)
+    list_to_graph (body.and_then (body.row x o) (body.goes_on y) q) fits _ _ _ (row_then {row = own} d) live moves
         alive =
-        ahead (Did value ∷ []) (list_to_graph x fits _ _ _ d live moves alive) q (λ more end r. graph.did h r)
-    list_to_graph (body.and_then (body.quiet_row h) (body.leaves_list l) q) fits _ _ _ (row_then d) live moves alive =
-        absurd (let bad : ⊥ = cc in bad)
-    list_to_graph (body.and_then (body.did_row h) (body.leaves_list l) q) fits _ _ _ (row_then d) live moves alive =
-        absurd (let bad : ⊥ = cc in bad)
+        row_onward (row_covered own x) o (list_to_graph y fits _ _ _ d live moves alive) q
+    list_to_graph (body.and_then (body.row x o) (body.leaves_list l) q) fits _ _ _ (row_then {row = own} d) live moves
+        alive =
+        alone (row_stops (row_covered own x) o l) q
     list_to_graph (body.and_then body.returned (body.leaves_list l) q) fits _ _ _ (rows_done grammar.returns) live moves
         alive =
         alone (ends graph.returned) q
+    list_to_graph (body.and_then body.thrown (body.leaves_list l) q) fits _ _ _ (rows_done (grammar.throws h)) live
+        moves alive =
+        alone (ends graph.thrown) q
+    list_to_graph (body.and_then x y q) fits _ _ _ (rows_done (grammar.branch_arms d e w)) live moves alive =
+        then_nothing (branch_to_graph x fits (grammar.branch_arms d e w) moves alive) y q
+    list_to_graph (body.and_then x y q) fits _ _ _ (rows_done (grammar.branch_break t j d)) live moves alive =
+        then_nothing (branch_to_graph x fits (grammar.branch_break t j d) moves alive) y q
     list_to_graph (body.and_then x (body.goes_on y) q) fits _ _ _
         (rows_done (grammar.and_rest {part_used = u} {rest_used = v} d r w)) live moves alive =
-        onward fits r (statement_to_graph x fits d moves (alive_front u v w alive)) y q (alive_behind u v w alive)
-        (list_to_graph y)
+        onward fits r (statement_to_graph x fits d moves (alive_front hir u v w alive)) y q
+        (alive_behind hir u v w alive) (list_to_graph y)
     list_to_graph (body.and_then x (body.leaves_list l) q) fits _ _ _
         (rows_done (grammar.and_rest {part_used = u} {rest_used = v} d r w)) live moves alive =
-        alone (elsewhere l (statement_to_graph x fits d moves (alive_front u v w alive))) q
+        alone (elsewhere l (statement_to_graph x fits d moves (alive_front hir u v w alive))) q
+
+    -- the if that a branch in a list is
+    branch_to_graph : {test place : Place} {part : Statements} {other : Alternate} {own id : EvaluationOrder}
+        {consequent alternate : BlockId} {span : Option Span} {context : ListContext} {used : List BlockId}
+        {events : List Event} {outcome : Completion} →
+        RunsStatement env (TerminalStatement (If place part other own) None) events outcome → Fits context
+        → SpellsTerminal hir env (terminals.Branch test consequent alternate id span) context
+        (unlabeled (If place part other own)) used
+        → HasNoUnreachableSuccessor hir (terminals.Branch test consequent alternate id span) → AllAlive hir used
+        → After hir env context (GraphRun hir env [] (terminals.Branch test consequent alternate id span)) events
+        outcome
+    branch_to_graph (body.took_arm x q) fits (grammar.branch_arms {part_used = u} {other_used = v} d e w) moves alive =
+        behind_label None (in_part graph.branch_true d fits moves (alive_front hir u v w alive) (list_to_graph x))
+        (λ key aim. aim) q
+    branch_to_graph (body.took_other (body.present x) q) fits
+        (grammar.branch_arms {part_used = u} {other_used = v} d e w) moves alive =
+        behind_label None (in_part graph.branch_false e fits moves (alive_behind hir u v w alive) (list_to_graph x))
+        (λ key aim. aim) q
+    branch_to_graph {id = id} (body.took_arm x q) fits (grammar.branch_break t j d) moves alive =
+        behind_label None (jump_to_graph graph.branch_true moves (break_jumps _ _ id _ fits j) x) (λ key aim. aim) q
+    branch_to_graph (body.took_other (body.present x) q) fits (grammar.branch_break t j d) moves alive =
+        behind_label None (in_part graph.branch_false d fits moves alive (list_to_graph x)) (λ key aim. aim) q
+    branch_to_graph x fits (grammar.and_rest d r w) moves alive = elim d [ ]
 
     statement_to_graph : {terminal : Terminal} {context : ListContext} {opened : Bool} {fallthrough : BlockId}
         {statement : Statement} {used : List BlockId} {events : List Event} {outcome : Completion}
         → RunsStatement env statement events outcome → Fits context
         → SpellsStatement hir env terminal context opened fallthrough statement used
-        → HasNoUnreachableSuccessor hir terminal
-        → AllAlive used
-        → After (leaving opened fallthrough context) (GraphRun hir env [] terminal) events outcome
+        → HasNoUnreachableSuccessor hir terminal → AllAlive hir used
+        → After hir env (leaving opened fallthrough context) (GraphRun hir env [] terminal) events outcome
     statement_to_graph (body.took_arm x q) fits (grammar.if_only i l same falls d) moves alive =
         labeled_part _ _ fits l q graph.then_arm d moves alive (list_to_graph x)
-    statement_to_graph (body.took_other body.absent q) fits (grammar.if_only {label = label} i l same falls d) moves
-        alive =
-        absent_part _ _ _ label graph.else_arm same falls moves q
+    statement_to_graph (body.took_other body.absent q) fits
+        (grammar.if_only {alternate = alternate} {fallthrough = f} {context = context} {opened = opened} {label = label} i
+        l same falls d) moves alive =
+        behind_label None (past_part opened f context graph.else_arm (same_id-eq alternate f same) falls moves)
+        (λ key aim. aim) (q ∙ caught-normal label)
     statement_to_graph (body.took_arm x q) fits (grammar.if_else {part_used = u} {other_used = v} i l same d e w) moves
         alive =
-        labeled_part _ _ fits l q graph.then_arm d moves (alive_front u v w alive) (list_to_graph x)
+        labeled_part _ _ fits l q graph.then_arm d moves (alive_front hir u v w alive) (list_to_graph x)
     statement_to_graph (body.took_other (body.present x) q) fits
         (grammar.if_else {part_used = u} {other_used = v} i l same d e w) moves alive =
-        labeled_part _ _ fits l q graph.else_arm e moves (alive_behind u v w alive) (list_to_graph x)
+        labeled_part _ _ fits l q graph.else_arm e moves (alive_behind hir u v w alive) (list_to_graph x)
     statement_to_graph (body.in_label x q) fits (grammar.label_statement i l d) moves alive =
         labeled_part _ _ fits l q graph.into_label d moves alive (list_to_graph x)
     statement_to_graph (body.in_scope x) fits (grammar.scope_statement i d) moves alive =
         scope_part _ _ fits graph.into_scope d moves alive (list_to_graph x)
     statement_to_graph (body.in_pruned_scope x) fits (grammar.pruned_scope_statement i d) moves alive =
         scope_part _ _ fits graph.into_pruned_scope d moves alive (list_to_graph x)
-    statement_to_graph (body.quiet_row h) fits d moves alive = elim d [ ]
-    statement_to_graph (body.did_row h) fits d moves alive = elim d [ ]
+    statement_to_graph (body.in_case x q) fits
+        (grammar.switch_statement {fallthrough = f} {context = context} {opened = opened} i l one tests keep reach d)
+        moves alive =
+        let is_target = opened || is_jump_target context.frames f in
+        chosen_part is_target keep opened context l q
+        (chosen_to_graph x d (fits_inside opened (frame_kinds.Switch f) tt fits) (kept_live is_target keep hir moves) alive)
+    statement_to_graph (body.past_cases none) fits
+        (grammar.switch_statement {fallthrough = f} {context = context} {opened = opened} i l one tests keep reach d)
+        moves alive =
+        past_kept (opened || is_jump_target context.frames f) keep opened context reach d none moves
+    statement_to_graph (body.in_while x) fits (grammar.while_loop live d) moves alive =
+        let k = looped d fits alive in
+        ahead [] (loop_to_graph x (with_before None (before_none k.before) k)) refl
+        (λ events end run. graph.moved graph.into_while run refl)
+    statement_to_graph (body.in_do_while x) fits (grammar.do_while_loop d) moves alive =
+        let k = looped d fits alive in
+        ahead [] (loop_to_graph x (with_before None (before_none k.before) k)) refl
+        (λ events end run. graph.moved graph.into_do_while run refl)
+    statement_to_graph (body.in_init v) fits (grammar.for_loop init d w) moves alive =
+        ends (graph.moved graph.into_for (going_stops init v) refl)
+    statement_to_graph (body.past_init {first = first} v past x q) fits
+        (grammar.for_loop {init_used = u} {turns_used = t} init d w) moves alive =
+        ahead first (loop_to_graph x (looped d fits (alive_behind hir u t w alive))) q
+        (λ events end run. graph.moved graph.into_for (going_on init v past run) refl)
+    statement_to_graph (body.in_for_of x) fits (grammar.for_of_loop {init_value = init} e d) moves alive =
+        ahead [] (loop_to_graph x (with_before (Some init) e (looped d fits alive))) refl
+        (λ events end run. graph.moved graph.into_for_of run refl)
+    statement_to_graph (body.in_for_in x) fits (grammar.for_in_loop d) moves alive =
+        let k = looped d fits alive in
+        ahead [] (loop_to_graph x (with_before None (before_none k.before) k)) refl
+        (λ events end run. graph.moved graph.into_for_in run refl)
+    statement_to_graph (body.row x o) fits d moves alive = elim d [ ]
     statement_to_graph body.returned fits d moves alive = elim d [ ]
+    statement_to_graph body.thrown fits d moves alive = elim d [ ]
     statement_to_graph body.break_implicit fits d moves alive = elim d [ ]
     statement_to_graph (body.break_labeled o) fits d moves alive = elim d [ ]
     statement_to_graph body.break_unlabeled fits d moves alive = elim d [ ]
+    statement_to_graph body.continue_implicit fits d moves alive = elim d [ ]
+    statement_to_graph body.continue_labeled fits d moves alive = elim d [ ]
+    statement_to_graph body.continue_unlabeled fits d moves alive = elim d [ ]
+
+    chosen_to_graph : {kept : List Case} {context : ListContext} {cases : Cases} {used : List BlockId}
+        {chosen : Option Place} {events : List Event} {outcome : Completion}
+        → RunsChosen env chosen cases events outcome → SpellsCases hir env kept context cases used → Fits context
+        → ((case : Case) → InCases case kept → ends_unreachable hir case.block ≡ false) → AllAlive hir used
+        → Chosen hir env context kept chosen events outcome
+    chosen_to_graph (body.chosen_here x) (grammar.one_case {case = case} d e w) fits live alive = record {
+      case = case;
+      among = graph.first refl;
+      test = refl;
+      after = cases_to_graph x (grammar.one_case d e w) fits alive case.block refl (live case (graph.first refl));
+    }
+    chosen_to_graph (body.chosen_later x) (grammar.one_case {case = case} {later_used = u} {part_used = v} d e w) fits
+        live alive =
+        chosen_further case
+        (chosen_to_graph x d fits (λ case among. live case (graph.later among)) (alive_front hir u v w alive))
+
+    -- the cases from the first one on, behind the block that falling off to them reaches
+    cases_to_graph : {kept : List Case} {context : ListContext} {cases : Cases} {used : List BlockId}
+        {events : List Event} {outcome : Completion} → RunsCases env cases events outcome
+        → SpellsCases hir env kept context cases used → Fits context → AllAlive hir used → (key : BlockId)
+        → (case_context kept context).next ≡ Some key → ends_unreachable hir key ≡ false
+        → After hir env context (GraphRunAt hir env key) events outcome
+    cases_to_graph body.no_more_cases grammar.no_cases fits alive key next live = leads next live (λ more end run. run)
+    cases_to_graph {context = context} (body.falls_into {events = events} (body.present x) y q)
+        (grammar.one_case {case = case} {later = others} {later_used = u} {part_used = v} d e w) fits alive key next
+        live =
+        let same : case.block ≡ key = cc in
+        falls_on others (at_case case same others e fits live (alive_behind hir u v w alive) (list_to_graph x))
+        (λ key next live. cases_to_graph y d fits (alive_front hir u v w alive) key next live) q
+    cases_to_graph (body.leaves_case (body.present x) l)
+        (grammar.one_case {case = case} {later = others} {later_used = u} {part_used = v} d e w) fits alive key next
+        live =
+        let same : case.block ≡ key = cc in
+        out_of_case others l (at_case case same others e fits live (alive_behind hir u v w alive) (list_to_graph x))
+    cases_to_graph (body.falls_into body.absent y q) d fits alive key next live = elim d [ ]
+    cases_to_graph (body.leaves_case body.absent l) d fits alive key next live = elim d [ ]
+
+    loop_to_graph : {blocks : LoopBlocks} {context : ListContext} {parts : LoopParts} {spot : Spot}
+        {events : List Event} {outcome : Completion} → RunsLoop env (loop_label blocks) parts spot events outcome
+        → Looped hir env blocks context parts
+        → After hir env (leaving true blocks.fallthrough context) (GraphRunAt hir env (spot_block blocks spot)) events
+        outcome
+    loop_to_graph (body.nothing_before e x) k =
+        ahead [] (loop_to_graph x k) refl
+        (λ events end run. subst (λ b. GraphRunAt hir env b events end) (sym (turn_is_test k.before e)) run)
+    loop_to_graph (body.in_before e v) k = ends (going_stops (turn_going k.before e) v)
+    loop_to_graph (body.past_before {first = first} e v past x q) k =
+        ahead first (loop_to_graph x k) q (λ events end run. going_on (turn_going k.before e) v past run)
+    loop_to_graph (body.in_test v) k = ends (test_stops k.test v)
+    loop_to_graph (body.test_fails v past q) k = out_by_test k v past q
+    loop_to_graph (body.test_holds v past x q) k = into_body k v past (loop_to_graph x k) q
+    loop_to_graph {blocks} {context} (body.next_turn {first = first} x again y q) k =
+        ahead first (loop_to_graph y k) q
+        (λ events end run. around_again blocks context again
+        (at_block k.body k.fits (λ n. k.body_live) k.alive (list_to_graph x)) run)
+    loop_to_graph {blocks} {context} (body.leaves_loop x left q) k =
+        out_by_body blocks context left q (at_block k.body k.fits (λ n. k.body_live) k.alive (list_to_graph x))
 
   -- the context of the entry's statements is empty, so their runs don't jump out
   all_ends : {run : List Event → End → Type 0} {events : List Event} {end : End}
-      → After outermost run events (Ended end) → run events end
+      → After hir env outermost run events (Ended end) → run events end
   all_ends (ends r) = r
   all_ends (leads a alive k) = absurd a
 
   entry_to_graph : {key : BlockId} {statements : Statements} {used : List BlockId} {events : List Event} {end : End} →
-      SpellsList hir env key outermost statements used → AllAlive used → RunsList env statements events (Ended end)
+      SpellsList hir env key outermost statements used → AllAlive hir used → RunsList env statements events (Ended end)
       → GraphRunAt hir env key events end
   entry_to_graph d alive x =
       all_ends (at_block d fits_body (λ n. absurd (let bad : ⊥ = cc in bad)) alive (list_to_graph x))

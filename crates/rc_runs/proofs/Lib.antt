@@ -10,6 +10,10 @@ pub mod FlattenedRuns
 pub mod Covers
 pub mod ValueToGraph
 pub mod AliveBlocks
+pub mod AfterParts
+pub mod JumpToGraph
+pub mod SwitchToGraph
+pub mod LoopToGraph
 pub mod TreeOfLemmas
 pub mod EveryBlockIsPlain
 pub mod OneValue

@@ -1,0 +1,197 @@
+-- How runs of the graph go on after the cases of a switch.
+--
+-- A default that leads straight to the fallthrough may be left out of the tree. The graph still takes it, and so comes
+-- to the fallthrough with the same event as if no case were chosen.
+use Rattle.std.proofs.Common.{◌≡◌, List, [], ◌∷◌, ◌++◌, Bool, true, false, ◌||◌, ◌&&◌, not, cond, Option, Some, None}
+use Rattle.std.proofs.Common.{is_none, refl, sym, ap, ◌∙◌, subst}
+use Rattle.std.proofs.lemmas.Bool.{or_parts}
+use Rattle.std.specs.List.{list_any}
+use Rattle.rc_names.specs.Numbers.{BlockId, EvaluationOrder}
+use Rattle.rc_names.specs.declared.span.Span.{Span}
+use Rattle.rc_hir.specs.Model.{Place, Case, HirFunction, Environment}
+use Rattle.rc_hir.specs.Successors.{is_default}
+use Rattle.rc_hir.specs.declared.terminal.Terminal.TheVariants as terminals
+use Rattle.rc_tree.specs.Model.{ReactiveLabel}
+use Rattle.rc_runs.specs.declared.frames.Frame.TheVariants as frame_kinds
+use Rattle.rc_runs.specs.Event.{Event, Chose, End}
+use Rattle.rc_runs.specs.Graph.{ends_unreachable}
+use Rattle.rc_runs.specs.GraphRun.{InCases, Edge, HasNoUnreachableSuccessor, GraphRun, GraphRunAt}
+use Rattle.rc_runs.specs.GraphRun as graph
+use Rattle.rc_runs.specs.PlainTree.{Statements, Cases}
+use Rattle.rc_runs.specs.ListContext.{ListContext, inside}
+use Rattle.rc_runs.specs.SwitchCases.{is_kept, kept_cases, case_context, leads_past}
+use Rattle.rc_runs.specs.Grammar.{label_of, falls_to, SpellsList, SpellsCases, no_cases, one_case}
+use Rattle.rc_runs.specs.BodyRun.{Completion, Normal, leaves, caught, has_default}
+use Rattle.rc_names.proofs.NumbersLemmas.{same_id-eq}
+use Rattle.rc_runs.proofs.FramesLemmas.{Fits, fits_cases, leaving, aims_labeled, aims_cases}
+use Rattle.rc_runs.proofs.AliveBlocks.{AllAlive}
+use Rattle.rc_runs.proofs.AfterParts.{After, leads, Carries, ahead, redirect, behind_label, at_block, past_part}
+
+-- a kept case is a case of the switch
+pub kept_in_cases : (is_target : Bool) (fallthrough : BlockId) (cases : List Case) {case : Case}
+    → InCases case (kept_cases is_target fallthrough cases) → InCases case cases
+kept_in_cases is_target f [] among = elim among [ ]
+kept_in_cases is_target f (other ∷ cases) {case} among =
+    go (is_kept is_target f other) among (λ further. kept_in_cases is_target f cases further)
+  where
+    go : (kept : Bool) → InCases case (cond kept (other ∷ kept_cases is_target f cases) (kept_cases is_target f cases))
+        → (InCases case (kept_cases is_target f cases) → InCases case cases) → InCases case (other ∷ cases)
+    go true (graph.first same) behind = graph.first same
+    go true (graph.later among) behind = graph.later (behind among)
+    go false among behind = graph.later (behind among)
+
+-- the tree's cases have a default exactly if a kept case is one
+pub same_default : {hir : HirFunction} {env : Environment} {kept : List Case} {context : ListContext} {cases : Cases}
+    {used : List BlockId} → SpellsCases hir env kept context cases used → list_any is_default kept ≡ has_default cases
+same_default no_cases = refl
+same_default (one_case {case = case} cases part w) = ap (λ others. is_none case.test || others) (same_default cases)
+
+-- a default that leads straight to the fallthrough
+record DefaultPast (cases : List Case) (fallthrough : BlockId) : Type 0 where
+  case : Case
+  among : InCases case cases
+  has_no_test : None ≡ case.test
+  is_past : case.block ≡ fallthrough
+
+further : (case : Case) {cases : List Case} {fallthrough : BlockId} → DefaultPast cases fallthrough
+    → DefaultPast (case ∷ cases) fallthrough
+further case d = record {
+  case = d.case;
+  among = graph.later d.among;
+  has_no_test = d.has_no_test;
+  is_past = d.is_past;
+}
+
+no_test : (test : Option Place) → is_none test ≡ true → None ≡ test
+no_test None e = refl
+no_test (Some test) e = absurd (let bad : ⊥ = cc in bad)
+
+dropped_past : (default past is_target : Bool) → not (default && (past && is_target)) ≡ false → past ≡ true
+dropped_past true true is_target e = refl
+dropped_past true false is_target e = absurd (let bad : ⊥ = cc in bad)
+dropped_past false past is_target e = absurd (let bad : ⊥ = cc in bad)
+
+-- if no kept case is a default, any default leads straight to the fallthrough
+default_past : (is_target : Bool) (fallthrough : BlockId) (cases : List Case) → list_any is_default cases ≡ true
+    → list_any is_default (kept_cases is_target fallthrough cases) ≡ false → DefaultPast cases fallthrough
+default_past is_target f [] some none = absurd (let bad : ⊥ = cc in bad)
+default_past is_target f (case ∷ cases) some none =
+    go (is_default case) refl (is_kept is_target f case) refl some none (default_past is_target f cases)
+  where
+    go : (default : Bool) → is_default case ≡ default → (kept : Bool) → is_kept is_target f case ≡ kept
+        → default || list_any is_default cases ≡ true
+        → list_any is_default (cond kept (case ∷ kept_cases is_target f cases) (kept_cases is_target f cases)) ≡ false
+        → (list_any is_default cases ≡ true → list_any is_default (kept_cases is_target f cases) ≡ false
+        → DefaultPast cases f) → DefaultPast (case ∷ cases) f
+    go true d true k some none behind =
+        let here = or_parts (is_default case) (list_any is_default (kept_cases is_target f cases)) none in
+        absurd (let bad : ⊥ = cc (here.0) in bad)
+    go true d false k some none behind = record {
+      case = case;
+      among = graph.first refl;
+      has_no_test = no_test case.test d;
+      is_past = same_id-eq case.block f (dropped_past (is_default case) (leads_past f case) is_target k);
+    }
+    go false d true k some none behind =
+        let rest = or_parts (is_default case) (list_any is_default (kept_cases is_target f cases)) none in
+        further case (behind some rest.1)
+    go false d false k some none behind = further case (behind some none)
+
+-- an edge by which the graph comes to the fallthrough with the event that no case is chosen
+pub record PastEdge (test : Place) (cases : List Case) (fallthrough : BlockId) (id : EvaluationOrder)
+    (span : Option Span) : Type 0 where
+  pub key : BlockId
+  pub edge : Edge (terminals.Switch test cases fallthrough id span) (Chose None ∷ []) key
+  pub is_past : key ≡ fallthrough
+
+pub past_edge : {test : Place} {cases kept : List Case} {fallthrough : BlockId} {id : EvaluationOrder}
+    {span : Option Span} (is_target : Bool) → kept ≡ kept_cases is_target fallthrough cases
+    → list_any is_default kept ≡ false → PastEdge test cases fallthrough id span
+past_edge {test} {cases} {fallthrough = f} {id} {span} is_target e none = go (list_any is_default cases) refl
+  where
+    go : (some : Bool) → list_any is_default cases ≡ some → PastEdge test cases f id span
+    go false q = record { key = f; edge = graph.past_cases q; is_past = refl }
+    go true q =
+        let d = default_past is_target f cases q (sym (ap (list_any is_default) e) ∙ none) in
+        record { key = d.case.block; edge = graph.to_case d.among d.has_no_test refl; is_past = d.is_past }
+
+-- a chosen case, and how runs of the graph go on after its block
+pub record Chosen (hir : HirFunction) (env : Environment) (context : ListContext) (kept : List Case)
+    (chosen : Option Place) (events : List Event) (outcome : Completion) : Type 0 where
+  pub case : Case
+  pub among : InCases case kept
+  pub test : chosen ≡ case.test
+  pub after : After hir env context (GraphRunAt hir env case.block) events outcome
+
+module _ {test : Place} {cases kept : List Case} {fallthrough : BlockId} {id : EvaluationOrder} {span : Option Span}
+    (is_target : Bool) (keep : kept ≡ kept_cases is_target fallthrough cases) where
+  -- the edge to a kept case
+  kept_edge : {case : Case} {chosen : Option Place} → InCases case kept → chosen ≡ case.test
+      → Edge (terminals.Switch test cases fallthrough id span) (Chose chosen ∷ []) case.block
+  kept_edge {case} among same =
+      graph.to_case (kept_in_cases is_target fallthrough cases (subst (InCases case) keep among)) same refl
+
+  -- no kept case ends in `Unreachable`
+  pub kept_live : (hir : HirFunction)
+      → HasNoUnreachableSuccessor hir (terminals.Switch test cases fallthrough id span)
+      → (case : Case) → InCases case kept → ends_unreachable hir case.block ≡ false
+  kept_live hir moves case among = moves (Chose case.test ∷ []) case.block (kept_edge among refl)
+
+  -- a chosen case, after the label of the switch
+  pub chosen_part : {hir : HirFunction} {env : Environment} {label : Option ReactiveLabel} {chosen : Option Place}
+      {events : List Event} {inner outer : Completion} (opened : Bool) (context : ListContext)
+      → label ≡ label_of opened fallthrough → outer ≡ caught label inner
+      → Chosen hir env (inside opened (frame_kinds.Switch fallthrough) context) kept chosen events inner
+      → After hir env (leaving opened fallthrough context)
+      (GraphRun hir env [] (terminals.Switch test cases fallthrough id span)) (Chose chosen ∷ events) outer
+  chosen_part {label = label} {chosen} {inner = inner} opened context l q c =
+      behind_label label
+      (ahead (Chose chosen ∷ []) c.after refl (λ events end run. graph.moved (kept_edge c.among c.test) run refl))
+      (aims_labeled opened (frame_kinds.Switch fallthrough) context label refl refl l inner) q
+
+  -- no kept case is chosen
+  pub past_kept : {hir : HirFunction} {env : Environment} {around : ListContext} {parts : Cases}
+      {used : List BlockId} (opened : Bool) (context : ListContext) → list_any is_default kept || falls_to opened fallthrough context.next ≡ true
+      → SpellsCases hir env kept around parts used → has_default parts ≡ false
+      → HasNoUnreachableSuccessor hir (terminals.Switch test cases fallthrough id span)
+      → After hir env (leaving opened fallthrough context)
+      (GraphRun hir env [] (terminals.Switch test cases fallthrough id span)) (Chose None ∷ []) Normal
+  past_kept opened context reach d none moves =
+      let no_default = same_default d ∙ none in
+      let falls = sym (ap (λ some. some || falls_to opened fallthrough context.next) no_default) ∙ reach in
+      let past : PastEdge test cases fallthrough id span = past_edge is_target keep no_default in
+      past_part opened fallthrough context past.edge past.is_past falls moves
+
+module _ {hir : HirFunction} {env : Environment} where
+  -- the chosen case is further on
+  pub chosen_further : {context : ListContext} {kept : List Case} {chosen : Option Place} {events : List Event}
+      {outcome : Completion} (case : Case) → Chosen hir env context kept chosen events outcome
+      → Chosen hir env context (case ∷ kept) chosen events outcome
+  chosen_further case c = record { case = c.case; among = graph.later c.among; test = c.test; after = c.after }
+
+  -- the block of a case
+  pub at_case : {key : BlockId} {context : ListContext} {part : Statements} {used : List BlockId} {events : List Event}
+      {outcome : Completion} (case : Case) → case.block ≡ key → (others : List Case)
+      → SpellsList hir env case.block (case_context others context) part used → Fits context
+      → ends_unreachable hir key ≡ false → AllAlive hir used
+      → Carries hir env (case_context others context) part events outcome
+      → After hir env (case_context others context) (GraphRunAt hir env key) events outcome
+  at_case {context = context} {part} {used} case same others d fits live alive carries =
+      let here = subst (λ b. SpellsList hir env b (case_context others context) part used) same d in
+      at_block here (fits_cases others fits) (λ n. live) alive carries
+
+  -- a case, and then the ones into which it falls
+  pub falls_on : {context : ListContext} {run : List Event → End → Type 0} {first second all : List Event}
+      {outcome : Completion} (others : List Case) → After hir env (case_context others context) run first Normal
+      → ((key : BlockId) → (case_context others context).next ≡ Some key → ends_unreachable hir key ≡ false
+      → After hir env context (GraphRunAt hir env key) second outcome) → all ≡ first ++ second
+      → After hir env context run all outcome
+  falls_on {first = first} others (leads {key = key} aim live go) on q =
+      ahead first (on key aim live) q (λ events end run. go events end run)
+
+  -- a case that is left
+  pub out_of_case : {context : ListContext} {run : List Event → End → Type 0} {events : List Event}
+      {outcome : Completion} (others : List Case) → leaves outcome ≡ true
+      → After hir env (case_context others context) run events outcome → After hir env context run events outcome
+  out_of_case {context} {outcome = outcome} others l after =
+      redirect after (λ key aim. aims_cases others context outcome key l aim) (λ end e. e)
