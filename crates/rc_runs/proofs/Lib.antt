@@ -18,6 +18,13 @@ pub mod TreeOfLemmas
 pub mod EveryBlockIsPlain
 pub mod OneValue
 pub mod OneTree
+pub mod RunSize
+pub mod GraphToValue
+pub mod KeptCases
+pub mod Leads
+pub mod GraphToLoop
+pub mod GraphToCases
+pub mod GraphToStatement
 pub mod GraphToBody
 pub mod BodyToGraph
 pub mod NamesOutsideLemmas

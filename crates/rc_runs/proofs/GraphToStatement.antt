@@ -1,0 +1,157 @@
+-- A run of the graph that takes an edge of a terminal with a fallthrough is one of the terminal's statement, or leads
+-- out of it.
+use Rattle.std.proofs.Common.{◌≡◌, ℕ, ◌<◌, ◌||◌, Bool, true, false, List, [], ◌∷◌, ◌++◌, Option, Some, None, refl}
+use Rattle.std.proofs.Common.{sym, ap, ◌∙◌, subst, arith}
+use Rattle.std.specs.List.{list_any}
+use Rattle.rc_names.specs.Numbers.{BlockId, EvaluationOrder}
+use Rattle.rc_hir.specs.Model.{Place, Case, Terminal, HirFunction, Environment}
+use Rattle.rc_hir.specs.Successors.{is_default}
+use Rattle.rc_tree.specs.Model.{ReactiveLabel}
+use Rattle.rc_runs.specs.declared.frames.Frame.{Frame}
+use Rattle.rc_runs.specs.declared.frames.Frame.TheVariants as frame_kinds
+use Rattle.rc_runs.specs.Event.{Event, Arm, Chose, End}
+use Rattle.rc_runs.specs.GraphRun.{Edge, then_arm, else_arm, to_case, past_cases as past_all, into_while, into_do_while}
+use Rattle.rc_runs.specs.GraphRun.{into_for, into_for_of, into_for_in, into_label, into_scope, into_pruned_scope}
+use Rattle.rc_runs.specs.GraphRun.{GraphRunAt}
+use Rattle.rc_runs.specs.PlainTree.{Value, Statements, Statement, TerminalStatement, ScopeStatement}
+use Rattle.rc_runs.specs.PlainTree.{PrunedScopeStatement, For, Switch, Cases}
+use Rattle.rc_runs.specs.ListContext.{ListContext, inside}
+use Rattle.rc_runs.specs.LoopParts.{LoopBlocks, LoopParts}
+use Rattle.rc_runs.specs.Grammar.{label_of, falls_to, SpellsList, SpellsStatement, SpellsCases, SpellsTurns, if_only}
+use Rattle.rc_runs.specs.Grammar.{if_else, label_statement, scope_statement, pruned_scope_statement, switch_statement}
+use Rattle.rc_runs.specs.Grammar.{while_loop, do_while_loop, for_loop, for_of_loop, for_in_loop}
+use Rattle.rc_runs.specs.BodyRun.{Completion, Ended, caught, RunsList, RunsStatement, took_arm, took_other, in_case}
+use Rattle.rc_runs.specs.BodyRun.{past_cases, in_while, in_do_while, in_init, past_init, in_for_of, in_for_in, in_label}
+use Rattle.rc_runs.specs.BodyRun.{in_scope, in_pruned_scope, absent, present}
+use Rattle.rc_names.proofs.NumbersLemmas.{same_id-eq}
+use Rattle.rc_runs.proofs.FramesLemmas.{IsApart, Fits, fits_inside, Aims, leaving, falls_to-next, caught-normal}
+use Rattle.rc_runs.proofs.FramesLemmas.{aims_labeled, aims_scope}
+use Rattle.rc_runs.proofs.RunSize.{size_at, run_to}
+use Rattle.rc_runs.proofs.GraphToValue.{Goes, stays_inside, goes, passes_going}
+use Rattle.rc_runs.proofs.KeptCases.{same_default, Kept, is_there, leads_on, kept_or_past, none_among_kept}
+use Rattle.rc_runs.proofs.Leads.{Runs, Leads, ends, leads, Below, lead_events, lead_behind, lead_out}
+use Rattle.rc_runs.proofs.GraphToLoop.{body_leads, test_leads, turn_leads, nothing_first, loop_with}
+use Rattle.rc_runs.proofs.GraphToCases.{chosen_leads}
+
+-- a run of the graph that begins at a statement with a fallthrough
+abbrev StatementLeads : (hir : HirFunction) → Environment → ℕ → ListContext → Bool → BlockId → Statement → List Event
+    → End → Type 0
+StatementLeads hir env bound context opened fallthrough statement events end =
+    Leads hir env (leaving opened fallthrough context) bound (RunsStatement env statement) events end
+
+module _ {hir : HirFunction} {env : Environment} {bound : ℕ} (below : Below hir env bound) {context : ListContext}
+    (fits : Fits context) where
+  -- a part of a statement, inside the frame of the statement's fallthrough
+  part_leads : {key : BlockId} {part : Statements} {used : List BlockId} {events : List Event} {end : End} {S : Runs}
+      {behind : ListContext} (opened : Bool) (own : Frame) (name : Option ReactiveLabel) (before : List Event) →
+      IsApart own context.frames →
+      ((outcome : Completion) (key : BlockId) → Aims (inside opened own context) outcome key
+      → Aims behind (caught name outcome) key) →
+      ((events : List Event) (inner outer : Completion) → RunsList env part events inner → outer ≡ caught name inner
+      → S (before ++ events) outer) →
+      SpellsList hir env key (inside opened own context) part used
+      → (run : GraphRunAt hir env key events end) → size_at run < bound
+      → Leads hir env behind bound S (before ++ events) end
+  part_leads opened own name before apart aims put d run small =
+      lead_out name before aims put (below.list d (fits_inside opened own apart fits) run small)
+
+  -- past all cases of a switch that keeps no default
+  past_leads : (opened : Bool) {test : Place} {kept : List Case} {fallthrough : BlockId} {id : EvaluationOrder}
+      {cases : Cases} {label : Option ReactiveLabel} {used : List BlockId} {events : List Event} {end : End}
+      → list_any is_default kept ≡ false → list_any is_default kept || falls_to opened fallthrough context.next ≡ true
+      → SpellsCases hir env kept (inside opened (frame_kinds.Switch fallthrough) context) cases used
+      → (run : GraphRunAt hir env fallthrough events end) → size_at run < bound
+      → StatementLeads hir env bound context opened fallthrough (TerminalStatement (Switch test cases id) label)
+      (Chose None ∷ events) end
+  past_leads o {fallthrough = f} none reached d run small =
+      leads (past_cases (sym (same_default d) ∙ none))
+      (falls_to-next o f context.next (sym (ap (λ kept. kept || falls_to o f context.next) none) ∙ reached)) run small
+      refl
+
+  -- a case of a switch, kept or not
+  switch_leads : (opened : Bool) {test : Place} {kept : List Case} {fallthrough : BlockId} {id : EvaluationOrder}
+      {cases : Cases} {label : Option ReactiveLabel} {used : List BlockId} {case : Case} {events : List Event}
+      {end : End} → label ≡ label_of opened fallthrough → Kept kept fallthrough case
+      → list_any is_default kept || falls_to opened fallthrough context.next ≡ true
+      → SpellsCases hir env kept (inside opened (frame_kinds.Switch fallthrough) context) cases used
+      → (run : GraphRunAt hir env case.block events end) → size_at run < bound
+      → StatementLeads hir env bound context opened fallthrough (TerminalStatement (Switch test cases id) label)
+      (Chose case.test ∷ events) end
+  switch_leads o {fallthrough = f} {label = l} {case = case} j (is_there among) reached d run small =
+      lead_out l (Chose case.test ∷ []) (aims_labeled o (frame_kinds.Switch f) context l refl refl j)
+      (λ events inner outer p q. in_case p q)
+      (chosen_leads below (fits_inside o (frame_kinds.Switch f) tt fits) among d run small)
+  switch_leads o {events = events} j (leads_on test block none) reached d run small =
+      let from = run_to block run small in
+      lead_events (ap (λ chosen. Chose chosen ∷ events) test) (past_leads o none reached d from.0 from.1)
+
+  -- the init of a `for`, and then its turns
+  for_leads : {blocks : LoopBlocks} {parts : LoopParts} {id : EvaluationOrder} {init_value : Value}
+      {used : List BlockId} {events : List Event} {end : End} → SpellsTurns hir env blocks context parts used
+      → (small : ℕ) → small < bound → Goes hir env init_value blocks.test small events end
+      → StatementLeads hir env bound context true blocks.fallthrough
+      (TerminalStatement (For init_value parts.test parts.before parts.body id) (label_of true blocks.fallthrough))
+      events end
+  for_leads {blocks} {parts} {id} {init_value} {events = events} d small less (stays_inside here e) =
+      ends (subst (λ z. RunsStatement env (TerminalStatement (For init_value parts.test parts.before parts.body id)
+      (label_of true blocks.fallthrough)) events (Ended z)) (sym e) (in_init here))
+  for_leads d small less (goes {front = front} here from nearer e) =
+      lead_events e (lead_behind front (λ events outcome after. past_init here refl after refl)
+      (test_leads below d fits from (omega arith)))
+
+  -- an edge from a terminal that has a fallthrough
+  pub statement_leads : {terminal : Terminal} {step : List Event} {key : BlockId} {opened : Bool}
+      {fallthrough : BlockId} {statement : Statement} {used : List BlockId} {events : List Event} {end : End} →
+      SpellsStatement hir env terminal context opened fallthrough statement used → Edge terminal step key →
+      (run : GraphRunAt hir env key events end) → size_at run < bound →
+      StatementLeads hir env bound context opened fallthrough statement (step ++ events) end
+  statement_leads (if_only {fallthrough = f} {opened = o} {label = l} i j x y d) then_arm run small =
+      part_leads o (frame_kinds.Statement f) l (Arm true ∷ []) tt
+      (aims_labeled o (frame_kinds.Statement f) context l refl refl j)
+      (λ events inner outer p q. took_arm p q) d run small
+  statement_leads (if_only {alternate = a} {fallthrough = f} {opened = o} {label = l} i j x y d) else_arm run small =
+      leads (took_other absent (sym (caught-normal l)))
+      (falls_to-next o f context.next y ∙ ap Some (sym (same_id-eq a f x))) run small refl
+  statement_leads (if_else {fallthrough = f} {opened = o} {label = l} i j x d a w) then_arm run small =
+      part_leads o (frame_kinds.Statement f) l (Arm true ∷ []) tt
+      (aims_labeled o (frame_kinds.Statement f) context l refl refl j)
+      (λ events inner outer p q. took_arm p q) d run small
+  statement_leads (if_else {fallthrough = f} {opened = o} {label = l} i j x d a w) else_arm run small =
+      part_leads o (frame_kinds.Statement f) l (Arm false ∷ []) tt
+      (aims_labeled o (frame_kinds.Statement f) context l refl refl j)
+      (λ events inner outer p q. took_other (present p) q) a run small
+  statement_leads (label_statement {fallthrough = f} {opened = o} {label = l} i j d) into_label run small =
+      part_leads o (frame_kinds.Statement f) l [] tt (aims_labeled o (frame_kinds.Statement f) context l refl refl j)
+      (λ events inner outer p q. in_label p q) d run small
+  statement_leads (scope_statement {fallthrough = f} {scope = number} {opened = o} {part = part} i d) into_scope run
+      small =
+      part_leads o (frame_kinds.Scope f) None [] tt (aims_scope o f context)
+      (λ events inner outer p q. subst (RunsStatement env (ScopeStatement number part) events) (sym q)
+      (in_scope p)) d run small
+  statement_leads (pruned_scope_statement {fallthrough = f} {scope = number} {opened = o} {part = part} i d)
+      into_pruned_scope run small =
+      part_leads o (frame_kinds.Scope f) None [] tt (aims_scope o f context)
+      (λ events inner outer p q. subst (RunsStatement env (PrunedScopeStatement number part) events) (sym q)
+      (in_pruned_scope p)) d run small
+  statement_leads {events = events} (switch_statement {cases = cases} {fallthrough = f} {opened = o} i j one past k
+      reached d) (to_case {case = case} among chosen block) run small =
+      let from = run_to block run small in
+      lead_events (ap (λ c. Chose c ∷ events) chosen)
+      (switch_leads o j (subst (λ kept. Kept kept f case) (sym k) (kept_or_past _ f case cases one among)) reached d
+      from.0 from.1)
+  statement_leads (switch_statement {cases = cases} {fallthrough = f} {opened = o} i j one past k reached d)
+      (past_all none) run small =
+      past_leads o (ap (list_any is_default) k ∙ none_among_kept _ f cases none) reached d run small
+  statement_leads (while_loop alive d) into_while run small =
+      lead_behind [] (λ events outcome after. in_while (loop_with None (nothing_first d refl) after))
+      (test_leads below d fits run (omega arith))
+  statement_leads (do_while_loop d) into_do_while run small =
+      lead_behind [] (λ events outcome after. in_do_while (loop_with None (nothing_first d refl) after))
+      (body_leads below d fits run small)
+  statement_leads (for_loop init d w) into_for run small = for_leads d (size_at run) small (passes_going init run)
+  statement_leads (for_of_loop {init_value = init} e d) into_for_of run small =
+      lead_behind [] (λ events outcome after. in_for_of (loop_with (Some init) e after))
+      (turn_leads below d fits run (omega arith))
+  statement_leads (for_in_loop d) into_for_in run small =
+      lead_behind [] (λ events outcome after. in_for_in (loop_with None (nothing_first d refl) after))
+      (test_leads below d fits run (omega arith))
