@@ -1,7 +1,7 @@
 -- Each run of a spelled body is a run of its graph: by recursion on the run of the body.
 --
 -- Each form adds its clauses to the recursion; how runs of the graph go on after its parts is shown in `AfterParts`,
--- `JumpToGraph`, `SwitchToGraph` and `LoopToGraph`.
+-- `JumpToGraph`, `CasesToGraph` and `LoopToGraph`.
 use Rattle.std.proofs.Common.{◌≡◌, List, [], ◌++◌, Bool, true, false, ◌||◌, Option, Some, None, refl, sym, ap, ◌∙◌}
 use Rattle.std.proofs.Common.{subst}
 use Rattle.rc_names.specs.Numbers.{BlockId, EvaluationOrder}
@@ -38,8 +38,8 @@ use Rattle.rc_runs.proofs.AliveBlocks.{AllAlive, alive_front, alive_behind}
 use Rattle.rc_runs.proofs.AfterParts.{After, ends, leads, Carries, ahead, alone, elsewhere, behind_label, at_block}
 use Rattle.rc_runs.proofs.AfterParts.{in_part, labeled_part, scope_part, past_part, then_nothing, onward}
 use Rattle.rc_runs.proofs.JumpToGraph.{jump_to_graph}
-use Rattle.rc_runs.proofs.SwitchToGraph.{Chosen, kept_live, chosen_part, past_kept, chosen_further, at_case, falls_on}
-use Rattle.rc_runs.proofs.SwitchToGraph.{out_of_case}
+use Rattle.rc_runs.proofs.CasesToGraph.{Chosen, kept_live, chosen_part, past_kept, chosen_further, at_case, falls_on}
+use Rattle.rc_runs.proofs.CasesToGraph.{out_of_case}
 use Rattle.rc_runs.proofs.LoopToGraph.{Looped, looped, with_before, before_none, spot_block, turn_is_test, turn_going}
 use Rattle.rc_runs.proofs.LoopToGraph.{into_body, out_by_test, around_again, out_by_body}
 
@@ -155,7 +155,7 @@ module _ (hir : HirFunction) (env : Environment) where
     statement_to_graph (body.past_cases none) fits
         (grammar.switch_statement {fallthrough = f} {context = context} {opened = opened} i l one tests keep reach d)
         moves alive =
-        past_kept (opened || is_jump_target context.frames f) keep opened context reach d none moves
+        past_kept (opened || is_jump_target context.frames f) keep opened context one reach d none moves
     statement_to_graph (body.in_while x) fits (grammar.while_loop live d) moves alive =
         let k = looped d fits alive in
         ahead [] (loop_to_graph x (with_before None (before_none k.before) k)) refl

@@ -12,7 +12,8 @@ pub mod ValueToGraph
 pub mod AliveBlocks
 pub mod AfterParts
 pub mod JumpToGraph
-pub mod SwitchToGraph
+pub mod KeptCases
+pub mod CasesToGraph
 pub mod LoopToGraph
 pub mod TreeOfLemmas
 pub mod EveryBlockIsPlain
@@ -20,7 +21,6 @@ pub mod OneValue
 pub mod OneTree
 pub mod RunSize
 pub mod GraphToValue
-pub mod KeptCases
 pub mod Leads
 pub mod GraphToLoop
 pub mod GraphToCases

@@ -2,9 +2,8 @@
 --
 -- A default that leads straight to the fallthrough may be left out of the tree. The graph still takes it, and so comes
 -- to the fallthrough with the same event as if no case were chosen.
-use Rattle.std.proofs.Common.{◌≡◌, List, [], ◌∷◌, ◌++◌, Bool, true, false, ◌||◌, ◌&&◌, not, cond, Option, Some, None}
-use Rattle.std.proofs.Common.{is_none, refl, sym, ap, ◌∙◌, subst}
-use Rattle.std.proofs.lemmas.Bool.{or_parts}
+use Rattle.std.proofs.Common.{◌≡◌, List, [], ◌∷◌, ◌++◌, Bool, true, false, ◌||◌, cond, Option, Some, None}
+use Rattle.std.proofs.Common.{refl, sym, ap, ◌∙◌, subst}
 use Rattle.std.specs.List.{list_any}
 use Rattle.rc_names.specs.Numbers.{BlockId, EvaluationOrder}
 use Rattle.rc_names.specs.declared.span.Span.{Span}
@@ -19,16 +18,16 @@ use Rattle.rc_runs.specs.GraphRun.{InCases, Edge, HasNoUnreachableSuccessor, Gra
 use Rattle.rc_runs.specs.GraphRun as graph
 use Rattle.rc_runs.specs.PlainTree.{Statements, Cases}
 use Rattle.rc_runs.specs.ListContext.{ListContext, inside}
-use Rattle.rc_runs.specs.SwitchCases.{is_kept, kept_cases, case_context, leads_past}
-use Rattle.rc_runs.specs.Grammar.{label_of, falls_to, SpellsList, SpellsCases, no_cases, one_case}
+use Rattle.rc_runs.specs.SwitchCases.{is_kept, kept_cases, has_one_default, case_context}
+use Rattle.rc_runs.specs.Grammar.{label_of, falls_to, SpellsList, SpellsCases}
 use Rattle.rc_runs.specs.BodyRun.{Completion, Normal, leaves, caught, has_default}
-use Rattle.rc_names.proofs.NumbersLemmas.{same_id-eq}
 use Rattle.rc_runs.proofs.FramesLemmas.{Fits, fits_cases, leaving, aims_labeled, aims_cases}
+use Rattle.rc_runs.proofs.KeptCases.{in_any, same_default, is_there, leads_on, kept_or_past}
 use Rattle.rc_runs.proofs.AliveBlocks.{AllAlive}
 use Rattle.rc_runs.proofs.AfterParts.{After, leads, Carries, ahead, redirect, behind_label, at_block, past_part}
 
 -- a kept case is a case of the switch
-pub kept_in_cases : (is_target : Bool) (fallthrough : BlockId) (cases : List Case) {case : Case}
+kept_in_cases : (is_target : Bool) (fallthrough : BlockId) (cases : List Case) {case : Case}
     → InCases case (kept_cases is_target fallthrough cases) → InCases case cases
 kept_in_cases is_target f [] among = elim among [ ]
 kept_in_cases is_target f (other ∷ cases) {case} among =
@@ -40,80 +39,52 @@ kept_in_cases is_target f (other ∷ cases) {case} among =
     go true (graph.later among) behind = graph.later (behind among)
     go false among behind = graph.later (behind among)
 
--- the tree's cases have a default exactly if a kept case is one
-pub same_default : {hir : HirFunction} {env : Environment} {kept : List Case} {context : ListContext} {cases : Cases}
-    {used : List BlockId} → SpellsCases hir env kept context cases used → list_any is_default kept ≡ has_default cases
-same_default no_cases = refl
-same_default (one_case {case = case} cases part w) = ap (λ others. is_none case.test || others) (same_default cases)
-
--- a default that leads straight to the fallthrough
-record DefaultPast (cases : List Case) (fallthrough : BlockId) : Type 0 where
+-- a default among cases
+record SomeDefault (cases : List Case) : Type 0 where
   case : Case
   among : InCases case cases
-  has_no_test : None ≡ case.test
-  is_past : case.block ≡ fallthrough
+  default : is_default case ≡ true
 
-further : (case : Case) {cases : List Case} {fallthrough : BlockId} → DefaultPast cases fallthrough
-    → DefaultPast (case ∷ cases) fallthrough
-further case d = record {
-  case = d.case;
-  among = graph.later d.among;
-  has_no_test = d.has_no_test;
-  is_past = d.is_past;
-}
-
-no_test : (test : Option Place) → is_none test ≡ true → None ≡ test
-no_test None e = refl
-no_test (Some test) e = absurd (let bad : ⊥ = cc in bad)
-
-dropped_past : (default past is_target : Bool) → not (default && (past && is_target)) ≡ false → past ≡ true
-dropped_past true true is_target e = refl
-dropped_past true false is_target e = absurd (let bad : ⊥ = cc in bad)
-dropped_past false past is_target e = absurd (let bad : ⊥ = cc in bad)
-
--- if no kept case is a default, any default leads straight to the fallthrough
-default_past : (is_target : Bool) (fallthrough : BlockId) (cases : List Case) → list_any is_default cases ≡ true
-    → list_any is_default (kept_cases is_target fallthrough cases) ≡ false → DefaultPast cases fallthrough
-default_past is_target f [] some none = absurd (let bad : ⊥ = cc in bad)
-default_past is_target f (case ∷ cases) some none =
-    go (is_default case) refl (is_kept is_target f case) refl some none (default_past is_target f cases)
+some_default : (cases : List Case) → list_any is_default cases ≡ true → SomeDefault cases
+some_default [] some = absurd (let bad : ⊥ = cc in bad)
+some_default (case ∷ cases) some = go (is_default case) refl some (some_default cases)
   where
-    go : (default : Bool) → is_default case ≡ default → (kept : Bool) → is_kept is_target f case ≡ kept
-        → default || list_any is_default cases ≡ true
-        → list_any is_default (cond kept (case ∷ kept_cases is_target f cases) (kept_cases is_target f cases)) ≡ false
-        → (list_any is_default cases ≡ true → list_any is_default (kept_cases is_target f cases) ≡ false
-        → DefaultPast cases f) → DefaultPast (case ∷ cases) f
-    go true d true k some none behind =
-        let here = or_parts (is_default case) (list_any is_default (kept_cases is_target f cases)) none in
-        absurd (let bad : ⊥ = cc (here.0) in bad)
-    go true d false k some none behind = record {
-      case = case;
-      among = graph.first refl;
-      has_no_test = no_test case.test d;
-      is_past = same_id-eq case.block f (dropped_past (is_default case) (leads_past f case) is_target k);
-    }
-    go false d true k some none behind =
-        let rest = or_parts (is_default case) (list_any is_default (kept_cases is_target f cases)) none in
-        further case (behind some rest.1)
-    go false d false k some none behind = further case (behind some none)
+    go : (default : Bool) → is_default case ≡ default → default || list_any is_default cases ≡ true
+        → (list_any is_default cases ≡ true → SomeDefault cases) → SomeDefault (case ∷ cases)
+    go true d some behind = record { case = case; among = graph.first refl; default = d }
+    go false d some behind =
+        let further = behind some in
+        record { case = further.case; among = graph.later further.among; default = further.default }
 
 -- an edge by which the graph comes to the fallthrough with the event that no case is chosen
-pub record PastEdge (test : Place) (cases : List Case) (fallthrough : BlockId) (id : EvaluationOrder)
-    (span : Option Span) : Type 0 where
-  pub key : BlockId
-  pub edge : Edge (terminals.Switch test cases fallthrough id span) (Chose None ∷ []) key
-  pub is_past : key ≡ fallthrough
+record PastEdge (test : Place) (cases : List Case) (fallthrough : BlockId) (id : EvaluationOrder) (span : Option Span) :
+    Type 0 where
+  key : BlockId
+  edge : Edge (terminals.Switch test cases fallthrough id span) (Chose None ∷ []) key
+  is_past : key ≡ fallthrough
 
-pub past_edge : {test : Place} {cases kept : List Case} {fallthrough : BlockId} {id : EvaluationOrder}
-    {span : Option Span} (is_target : Bool) → kept ≡ kept_cases is_target fallthrough cases
-    → list_any is_default kept ≡ false → PastEdge test cases fallthrough id span
-past_edge {test} {cases} {fallthrough = f} {id} {span} is_target e none = go (list_any is_default cases) refl
+past_edge : {test : Place} {cases kept : List Case} {fallthrough : BlockId} {id : EvaluationOrder}
+    {span : Option Span} (is_target : Bool) → has_one_default cases ≡ true
+    → kept ≡ kept_cases is_target fallthrough cases → list_any is_default kept ≡ false
+    → PastEdge test cases fallthrough id span
+past_edge {test} {cases} {fallthrough = f} {id} {span} is_target one keep none = go (list_any is_default cases) refl
   where
+    left_out : list_any is_default (kept_cases is_target f cases) ≡ false
+    left_out = sym (ap (list_any is_default) keep) ∙ none
+
+    by_default : SomeDefault cases → PastEdge test cases f id span
+    by_default d = elim (kept_or_past is_target f d.case cases one d.among) [
+      | is_there among ↦ absurd (let bad : ⊥ = cc (in_any among d.default, left_out) in bad)
+      | leads_on no_test past none ↦ record {
+        key = d.case.block;
+        edge = graph.to_case d.among (sym no_test) refl;
+        is_past = past;
+      }
+    ]
+
     go : (some : Bool) → list_any is_default cases ≡ some → PastEdge test cases f id span
     go false q = record { key = f; edge = graph.past_cases q; is_past = refl }
-    go true q =
-        let d = default_past is_target f cases q (sym (ap (list_any is_default) e) ∙ none) in
-        record { key = d.case.block; edge = graph.to_case d.among d.has_no_test refl; is_past = d.is_past }
+    go true q = by_default (some_default cases q)
 
 -- a chosen case, and how runs of the graph go on after its block
 pub record Chosen (hir : HirFunction) (env : Environment) (context : ListContext) (kept : List Case)
@@ -150,16 +121,17 @@ module _ {test : Place} {cases kept : List Case} {fallthrough : BlockId} {id : E
       (aims_labeled opened (frame_kinds.Switch fallthrough) context label refl refl l inner) q
 
   -- no kept case is chosen
-  pub past_kept : {hir : HirFunction} {env : Environment} {around : ListContext} {parts : Cases}
-      {used : List BlockId} (opened : Bool) (context : ListContext) → list_any is_default kept || falls_to opened fallthrough context.next ≡ true
+  pub past_kept : {hir : HirFunction} {env : Environment} {around : ListContext} {parts : Cases} {used : List BlockId}
+      (opened : Bool) (context : ListContext) → has_one_default cases ≡ true
+      → list_any is_default kept || falls_to opened fallthrough context.next ≡ true
       → SpellsCases hir env kept around parts used → has_default parts ≡ false
       → HasNoUnreachableSuccessor hir (terminals.Switch test cases fallthrough id span)
       → After hir env (leaving opened fallthrough context)
       (GraphRun hir env [] (terminals.Switch test cases fallthrough id span)) (Chose None ∷ []) Normal
-  past_kept opened context reach d none moves =
+  past_kept opened context one reach d none moves =
       let no_default = same_default d ∙ none in
       let falls = sym (ap (λ some. some || falls_to opened fallthrough context.next) no_default) ∙ reach in
-      let past : PastEdge test cases fallthrough id span = past_edge is_target keep no_default in
+      let past : PastEdge test cases fallthrough id span = past_edge is_target one keep no_default in
       past_part opened fallthrough context past.edge past.is_past falls moves
 
 module _ {hir : HirFunction} {env : Environment} where
