@@ -1,13 +1,15 @@
 -- The lookups of blocks, compared with each other.
-use Rattle.std.proofs.Common.{◌≡◌, ℕ, List, Bool, true, false, Option, Some, None, ap, eqb-true, option_and_then}
+use Rattle.std.proofs.Common.{◌≡◌, List, Bool, true, false, Option, Some, None, ap, option_and_then}
 use Rattle.std.proofs.Common.{option_map, if◌then◌else◌}
-use Rattle.std.specs.Cmp.{IsEquivalence}
-use Rattle.std.proofs.lemmas.Cmp.{nat_eq_equiv}
-use Rattle.rc_names.specs.Numbers.{BlockId, ScopeId, same_id}
+use Rattle.rc_names.specs.Numbers.{BlockId, same_id}
 use Rattle.rc_hir.specs.Model.{Instruction, BasicBlock, HirFunction}
 use Rattle.rc_runs.specs.Graph.{Block, basic_block, rows_of, with_rows, block_at, has_all_ids, with_ids}
 use Rattle.rc_runs.specs.Graph.{under_own_number, usable_block, is_unreachable, block_ends_unreachable}
 use Rattle.rc_runs.specs.Graph.{ends_unreachable}
+
+-- an option has at most one value
+pub one_held : {A : Type 0} {option : Option A} {a b : A} → option ≡ Some a → option ≡ Some b → b ≡ a
+one_held e f = cc
 
 -- a block whose ids are set is that block
 with_ids-same : (found : Option Block) (block : Block) → option_and_then with_ids found ≡ Some block

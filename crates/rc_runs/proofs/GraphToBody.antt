@@ -20,7 +20,7 @@ use Rattle.rc_runs.specs.BodyRun.{Completion, Normal, BreakTo, BreakLoop, Contin
 use Rattle.rc_runs.specs.BodyRun.{RunsList, RunsStatement, IsBodyRun, stopped as stops, nothing, and_then, goes_on}
 use Rattle.rc_runs.specs.BodyRun.{leaves_list, returned as returns_here, thrown as throws_here, took_arm, took_other}
 use Rattle.rc_runs.specs.BodyRun.{present}
-use Rattle.rc_runs.proofs.GraphLemmas.{usable_block-at}
+use Rattle.rc_runs.proofs.GraphLemmas.{one_held, usable_block-at}
 use Rattle.rc_runs.proofs.FramesLemmas.{Fits, fits_body, Aims, Aims-leaves, leaving, by_leaves}
 use Rattle.rc_runs.proofs.JumpsLemmas.{break_jumps, continue_jumps}
 use Rattle.rc_runs.proofs.RunSize.{size, size_at, run_to}
@@ -28,7 +28,7 @@ use Rattle.rc_runs.proofs.Leads.{Runs, Leads, ends, leads, Below, more_room, lea
 use Rattle.rc_runs.proofs.Leads.{jump_leads, alone_leads}
 use Rattle.rc_runs.proofs.GraphToLoop.{turn_leads}
 use Rattle.rc_runs.proofs.GraphToStatement.{statement_leads}
-use Rattle.rc_runs.proofs.OneTree.{one_held, terminal_at}
+use Rattle.rc_runs.proofs.OneTree.{terminal_at}
 
 module _ {hir : HirFunction} {env : Environment} {bound : ℕ} {context : ListContext} where
   -- the arms of a branch

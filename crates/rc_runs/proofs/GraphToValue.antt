@@ -19,12 +19,11 @@ use Rattle.rc_runs.specs.LastRow.{last_value, rows_then, after_rows}
 use Rattle.rc_runs.specs.ValueGrammar.{ValueEnd, SpellsValue, named_test, last_block, shown, SpellsGoing, SpellsTest}
 use Rattle.rc_runs.specs.ValueRun.{Progress, Done, Inside, RunsValue, value_stopped, quiet_value, did_value}
 use Rattle.rc_runs.specs.ValueRun.{in_sequence, RunsRows, past_rows, past_row, in_row, RunsRow, unset_row, set_row}
-use Rattle.rc_runs.proofs.GraphLemmas.{usable_block-at}
+use Rattle.rc_runs.proofs.GraphLemmas.{one_held, usable_block-at}
 use Rattle.rc_runs.proofs.RunSize.{size, size_at}
 use Rattle.rc_runs.proofs.SetIds.{AreSet, usable_block-set, first_set, last_set}
 use Rattle.rc_runs.proofs.LastRowLemmas.{runs-last_value}
 use Rattle.rc_runs.proofs.FlattenedRuns.{value_stops, runs-shown}
-use Rattle.rc_runs.proofs.OneTree.{one_held}
 
 -- a row that the graph runs with an event or without one
 pub quiet_row : {env : Environment} {id : EvaluationOrder} {value : InstructionValue} → is_silent env id value ≡ true

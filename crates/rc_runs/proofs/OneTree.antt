@@ -22,15 +22,12 @@ use Rattle.rc_runs.specs.Grammar.{label_statement, scope_statement, pruned_scope
 use Rattle.rc_runs.specs.Grammar.{while_loop, do_while_loop, for_loop, for_of_loop, for_in_loop, no_cases, one_case}
 use Rattle.rc_runs.specs.Grammar.{turns, no_rest, has_rest}
 use Rattle.rc_runs.specs.Spelled.{with_header, SpellsBody, Spells}
+use Rattle.rc_runs.proofs.GraphLemmas.{one_held}
 use Rattle.rc_runs.proofs.OneValue.{one_going, one_test}
 
 -- the same part and the same used blocks
 abbrev pub Same : {A : Type 0} → A → List BlockId → A → List BlockId → Type 0
 Same a a_used b b_used = (a ≡ b) × (a_used ≡ b_used)
-
--- an option has at most one value
-pub one_held : {A : Type 0} {option : Option A} {a b : A} → option ≡ Some a → option ≡ Some b → b ≡ a
-one_held e f = cc
 
 -- the parts of a loop are the same one by one
 same_parts : (a b : LoopParts) → a.before ≡ b.before → a.test ≡ b.test → a.body ≡ b.body → a ≡ b
@@ -60,14 +57,15 @@ module _ {hir : HirFunction} {env : Environment} where
       (subst (λ v. SpellsRest hir env v g context rest used) e d)
 
   -- the derivation of the cases of a switch, where the same are kept and its fallthrough is equally opened
-  cases_at : {parts : Cases} {used : List BlockId} (frame : Frame) (context : ListContext) (kept other : List Case)
+  pub cases_at : {parts : Cases} {used : List BlockId} (frame : Frame) (context : ListContext) (kept other : List Case)
       (a b : Bool) → other ≡ kept → b ≡ a → SpellsCases hir env other (inside b frame context) parts used
       → SpellsCases hir env kept (inside a frame context) parts used
   cases_at {parts} {used} frame context kept other a b k e d =
       subst (λ cases. SpellsCases hir env cases (inside a frame context) parts used) k
       (subst (λ v. SpellsCases hir env other (inside v frame context) parts used) e d)
 
-  one_before : {blocks : LoopBlocks} {context : ListContext} {key : Option BlockId} {v w : Option Value}
+  -- the value before the test of a loop
+  pub one_before : {blocks : LoopBlocks} {context : ListContext} {key : Option BlockId} {v w : Option Value}
       {a b : List BlockId} → SpellsBefore hir env blocks context key v a → SpellsBefore hir env blocks context key w b
       → (v ≡ w) × (a ≡ b)
   one_before no_value no_value = (refl, refl)

@@ -1,5 +1,5 @@
 -- A graph spells at most one value from a block on, and the value's blocks are used in one order.
-use Rattle.std.proofs.Common.{◌≡◌, Bool, List, [], ◌∷◌, ◌++◌, Option, Some, None, refl, sym, ap, ◌∙◌}
+use Rattle.std.proofs.Common.{◌≡◌, Bool, List, [], ◌∷◌, ◌++◌, None, refl, sym, ap, ◌∙◌}
 use Rattle.rc_names.specs.Numbers.{BlockId}
 use Rattle.rc_hir.specs.Model.{Place, Terminal, Instruction, HirFunction, Environment}
 use Rattle.rc_hir.specs.declared.instruction.InstructionValue.TheVariants as kinds
@@ -9,17 +9,14 @@ use Rattle.rc_runs.specs.PlainTree.{Value, Base}
 use Rattle.rc_runs.specs.ListContext.{ValueContext}
 use Rattle.rc_runs.specs.LastRow.{last_value, last_answer, after_rows}
 use Rattle.rc_runs.specs.ValueGrammar.{ValueEnd, SpellsValue, named_test, last_block, shown, SpellsGoing, SpellsTest}
+use Rattle.rc_runs.proofs.GraphLemmas.{one_held}
 
--- an option has at most one value
-held_alike : {A : Type 0} {option : Option A} {a b : A} → option ≡ Some a → option ≡ Some b → a ≡ b
-held_alike e f = cc
-
--- rows with one behind them are some rows
+-- a list with an element at its end isn't empty
 not_empty : {A : Type 0} (front : List A) (last : A) → [] ≡ front ++ last ∷ [] → ⊥
 not_empty [] last e = let bad : ⊥ = cc in bad
 not_empty (first ∷ front) last e = let bad : ⊥ = cc in bad
 
--- the last element and those before it
+-- equal lists have the same last element, and the same ones before it
 one_last : {A : Type 0} (front other : List A) {a b : A} → front ++ a ∷ [] ≡ other ++ b ∷ []
     → (front ≡ other) × (a ≡ b)
 one_last [] [] e = (refl, cc)
@@ -49,21 +46,21 @@ module _ {hir : HirFunction} {env : Environment} where
   one_value (named_test {block = block} {test = test} {consequent = c} {alternate = a} {id = id} {span = s} found empty
       ends) (named_test {block = other} {test = test'} {consequent = c'} {alternate = a'} {id = id'} {span = s'} found'
       empty' ends') =
-      let same : block ≡ other = held_alike found found' in
+      let same : block ≡ other = one_held found' found in
       let alike : terminals.Branch test c a id s ≡ terminals.Branch test' c' a' id' s' =
       sym ends ∙ ap (λ (b : Block). b.terminal) same ∙ ends' in
       let place : test ≡ test' = cc in
       let number : id ≡ id' = cc in
       (ap (λ (t : Place). Base (kinds.LoadLocal t t.span)) place, cc, refl)
   one_value (named_test {block = block} found empty ends) (last_block {block = other} rows row found' h whole) =
-      let same : block ≡ other = held_alike found found' in
+      let same : block ≡ other = one_held found' found in
       absurd (not_empty rows row (sym empty ∙ ap (λ (b : Block). b.rows) same ∙ whole))
   one_value (last_block {block = block} rows row found h whole) (named_test {block = other} found' empty ends) =
-      let same : block ≡ other = held_alike found found' in
+      let same : block ≡ other = one_held found' found in
       absurd (not_empty rows row (sym empty ∙ ap (λ (b : Block). b.rows) (sym same) ∙ whole))
   one_value (last_block {block = block} rows row found h whole)
       (last_block {block = other} rows' row' found' h' whole') =
-      let same : block ≡ other = held_alike found found' in
+      let same : block ≡ other = one_held found' found in
       let alike = one_last rows rows' (sym whole ∙ ap (λ (b : Block). b.rows) same ∙ whole') in (
         ap (λ (p : Instruction). block_value env rows p) alike.1 ∙ ap (λ front. block_value env front row') alike.0,
         ap (λ (p : Instruction). block_end env p block.terminal) alike.1
