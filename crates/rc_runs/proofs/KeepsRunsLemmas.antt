@@ -1,37 +1,27 @@
 -- When each run of a list is a run of another list: joined lists, and statements whose parts keep their runs.
-use Rattle.std.proofs.Common.{◌≡◌, List, [], ◌++◌, Bool, true, false, Option, refl, sym, ap, ◌∙◌, subst, append_assoc}
+use Rattle.std.proofs.Common.{◌≡◌, List, [], ◌++◌, Option, refl, sym, ap, ◌∙◌, subst, append_assoc}
 use Rattle.std.proofs.lemmas.List.{append-nil}
 use Rattle.rc_names.specs.Numbers.{BlockId, ScopeId, EvaluationOrder}
 use Rattle.rc_hir.specs.Model.{Environment, Place}
 use Rattle.rc_tree.specs.Model.{ReactiveTerminalTargetKind, ReactiveLabel}
 use Rattle.rc_runs.specs.Event.{Event, Open}
 use Rattle.rc_runs.specs.PlainTree.{Statements, Nil, Cons, Statement, TerminalStatement, ScopeStatement}
-use Rattle.rc_runs.specs.PlainTree.{PrunedScopeStatement, TreeTerminal, Break, Return, If, Label, Alternate, Absent}
-use Rattle.rc_runs.specs.PlainTree.{Present}
+use Rattle.rc_runs.specs.PlainTree.{PrunedScopeStatement, TreeTerminal, Break, Continue, Return, Throw, If, Label, Try}
+use Rattle.rc_runs.specs.PlainTree.{Alternate, Absent, Present}
 use Rattle.rc_runs.specs.BodyRun.{Completion, Normal, BreakTo, BreakLoop, ContinueTo, ContinueLoop, Ended, caught}
 use Rattle.rc_runs.specs.BodyRun.{RunsList, stopped, nothing, and_then, RunsAfter, goes_on, leaves_list, RunsStatement}
-use Rattle.rc_runs.specs.BodyRun.{returned, break_implicit, break_labeled, break_unlabeled, took_arm, took_other}
+use Rattle.rc_runs.specs.BodyRun.{returned, thrown, break_implicit, break_labeled, break_unlabeled}
+use Rattle.rc_runs.specs.BodyRun.{continue_implicit, continue_labeled, continue_unlabeled, took_arm, took_other}
 use Rattle.rc_runs.specs.BodyRun.{in_label, in_scope, in_pruned_scope, RunsAlternate, present}
+use Rattle.rc_runs.proofs.LabelLemmas.{NameAlike, caught-alike}
 use Rattle.rc_runs.proofs.PlainLists.{alone, labeled, append}
 
 append-Nil : (statements : Statements) → append statements Nil ≡ statements
 append-Nil Nil = refl
 append-Nil (Cons statement rest) = ap (Cons statement) (append-Nil rest)
 
--- both labels catch the same breaks
-abbrev pub CatchAlike : Option ReactiveLabel → Option ReactiveLabel → Type 0
-CatchAlike label label' = (outcome : Completion) → caught label outcome ≡ caught label' outcome
-
--- the terminal has no runs
-abbrev pub has_no_runs : TreeTerminal → Bool
-has_no_runs (Break target kind id) = false
-has_no_runs (Return value id) = false
-has_no_runs (If test consequent alternate id) = false
-has_no_runs (Label body id) = false
-has_no_runs _ = true
-
 -- each run of the first kind is one of the second
-abbrev AreAmong : (List Event → Completion → Type 0) → (List Event → Completion → Type 0) → Type 0
+abbrev pub AreAmong : (List Event → Completion → Type 0) → (List Event → Completion → Type 0) → Type 0
 AreAmong first second = (events : List Event) (outcome : Completion) → first events outcome → second events outcome
 
 module _ (env : Environment) where
@@ -181,32 +171,50 @@ module _ (env : Environment) where
       as_list outcome (in_pruned_scope (keeps events outcome r))
 
   -- the terminals with these labels
-  abbrev TerminalKeepsRuns : TreeTerminal → Option ReactiveLabel → TreeTerminal → Option ReactiveLabel → Type 0
+  abbrev pub TerminalKeepsRuns : TreeTerminal → Option ReactiveLabel → TreeTerminal → Option ReactiveLabel → Type 0
   TerminalKeepsRuns from label to label' =
       StatementKeepsRuns (TerminalStatement from label) (TerminalStatement to label')
 
   relabeled_break : (target : BlockId) (kind : ReactiveTerminalTargetKind) (id : EvaluationOrder)
-      (label label' : Option ReactiveLabel) → CatchAlike label label' →
+      (label label' : Option ReactiveLabel) → NameAlike label label' →
       TerminalKeepsRuns (Break target kind id) label (Break target kind id) label'
   relabeled_break target kind id label label' alike events outcome break_implicit = break_implicit
   relabeled_break target kind id label label' alike events outcome (break_labeled q) =
-      break_labeled (q ∙ alike (BreakTo target))
+      break_labeled (q ∙ caught-alike label label' alike (BreakTo target))
   relabeled_break target kind id label label' alike events outcome break_unlabeled = break_unlabeled
 
   -- a break, which may be caught by its own label
   pub break-keeps_runs : (target : BlockId) (kind : ReactiveTerminalTargetKind) (id : EvaluationOrder)
-      (label label' : Option ReactiveLabel) → CatchAlike label label' →
+      (label label' : Option ReactiveLabel) → NameAlike label label' →
       KeepsRuns (labeled (Break target kind id) label) (labeled (Break target kind id) label')
   break-keeps_runs target kind id label label' alike =
       statement-keeps_runs _ _ (relabeled_break target kind id label label' alike)
 
-  -- a return, whose label is never met
+  -- a continue, a return and a throw, whose own label is never met
+  pub continue-keeps_runs : (target : BlockId) (kind : ReactiveTerminalTargetKind) (id : EvaluationOrder)
+      (label label' : Option ReactiveLabel) →
+      KeepsRuns (labeled (Continue target kind id) label) (labeled (Continue target kind id) label')
+  continue-keeps_runs target kind id label label' = statement-keeps_runs _ _ (inside kind)
+    where
+      inside : (kind : ReactiveTerminalTargetKind) →
+          TerminalKeepsRuns (Continue target kind id) label (Continue target kind id) label'
+      inside kind events outcome continue_implicit = continue_implicit
+      inside kind events outcome continue_labeled = continue_labeled
+      inside kind events outcome continue_unlabeled = continue_unlabeled
+
   pub return-keeps_runs : (value : Place) (id : EvaluationOrder) (label label' : Option ReactiveLabel) →
       KeepsRuns (labeled (Return value id) label) (labeled (Return value id) label')
   return-keeps_runs value id label label' = statement-keeps_runs _ _ inside
     where
       inside : TerminalKeepsRuns (Return value id) label (Return value id) label'
       inside events outcome returned = returned
+
+  pub throw-keeps_runs : (value : Place) (id : EvaluationOrder) (label label' : Option ReactiveLabel) →
+      KeepsRuns (labeled (Throw value id) label) (labeled (Throw value id) label')
+  throw-keeps_runs value id label label' = statement-keeps_runs _ _ inside
+    where
+      inside : TerminalKeepsRuns (Throw value id) label (Throw value id) label'
+      inside events outcome thrown = thrown
 
   pub present-keeps_runs : (from to : Statements) → KeepsRuns from to → AlternateKeepsRuns (Present from) (Present to)
   present-keeps_runs from to keeps events outcome (present r) = present (keeps events outcome r)
@@ -216,21 +224,24 @@ module _ (env : Environment) where
 
   pub if-keeps_runs : (test : Place) (id : EvaluationOrder) (from to : Statements) (other other' : Alternate)
       (label label' : Option ReactiveLabel) → KeepsRuns from to → AlternateKeepsRuns other other' →
-      CatchAlike label label' →
+      NameAlike label label' →
       KeepsRuns (labeled (If test from other id) label) (labeled (If test to other' id) label')
   if-keeps_runs test id from to other other' label label' keeps keeps' alike = statement-keeps_runs _ _ inside
     where
       inside : TerminalKeepsRuns (If test from other id) label (If test to other' id) label'
-      inside events outcome (took_arm {inner = inner} r q) = took_arm (keeps _ _ r) (q ∙ alike inner)
-      inside events outcome (took_other {inner = inner} r q) = took_other (keeps' _ _ r) (q ∙ alike inner)
+      inside events outcome (took_arm {inner = inner} r q) =
+          took_arm (keeps _ _ r) (q ∙ caught-alike label label' alike inner)
+      inside events outcome (took_other {inner = inner} r q) =
+          took_other (keeps' _ _ r) (q ∙ caught-alike label label' alike inner)
 
   pub label-keeps_runs : (id : EvaluationOrder) (from to : Statements) (label label' : Option ReactiveLabel) →
-      KeepsRuns from to → CatchAlike label label' →
+      KeepsRuns from to → NameAlike label label' →
       KeepsRuns (labeled (Label from id) label) (labeled (Label to id) label')
   label-keeps_runs id from to label label' keeps alike = statement-keeps_runs _ _ inside
     where
       inside : TerminalKeepsRuns (Label from id) label (Label to id) label'
-      inside events outcome (in_label {inner = inner} r q) = in_label (keeps events inner r) (q ∙ alike inner)
+      inside events outcome (in_label {inner = inner} r q) =
+          in_label (keeps events inner r) (q ∙ caught-alike label label' alike inner)
 
   -- the label catches no completion of the list
   abbrev pub CatchesNothing : Option ReactiveLabel → Statements → Type 0
@@ -252,18 +263,10 @@ module _ (env : Environment) where
       let inside = keeps events outcome r in
       as_list outcome (in_label inside (sym (catches events outcome inside)))
 
-  never_runs : {terminal : TreeTerminal} {label : Option ReactiveLabel} {events : List Event} {outcome : Completion} →
-      has_no_runs terminal ≡ true → RunsStatement env (TerminalStatement terminal label) events outcome → ⊥
-  never_runs none returned = cc
-  never_runs none break_implicit = cc
-  never_runs none (break_labeled q) = cc
-  never_runs none break_unlabeled = cc
-  never_runs none (took_arm r q) = cc
-  never_runs none (took_other r q) = cc
-  never_runs none (in_label r q) = cc
-
-  -- a terminal that has no runs
-  pub no_runs-keeps_runs : (terminal : TreeTerminal) (label : Option ReactiveLabel) (to : Statement) →
-      has_no_runs terminal ≡ true → KeepsRuns (labeled terminal label) (alone to)
-  no_runs-keeps_runs terminal label to none =
-      from_statement (TerminalStatement terminal label) (alone to) (λ events outcome r. absurd (never_runs none r))
+  -- a try has no runs
+  pub try-keeps_runs : (body : Statements) (binding : Option Place) (handler : Statements) (id : EvaluationOrder)
+      (label : Option ReactiveLabel) (to : Statements) → KeepsRuns (labeled (Try body binding handler id) label) to
+  try-keeps_runs body binding handler id label to = from_statement _ to inside
+    where
+      inside : AreAmong (RunsStatement env (TerminalStatement (Try body binding handler id) label)) (RunsList env to)
+      inside events outcome r = elim r [ ]

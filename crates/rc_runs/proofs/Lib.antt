@@ -29,14 +29,21 @@ pub mod GraphToBody
 pub mod BodyToGraph
 pub mod NamesOutsideLemmas
 mod NoRowNamed
+mod BlockNames
+mod PlainNames
+mod SpelledValueNames
 pub mod SpelledNames
 pub mod SpelledInTables
 pub mod RebuiltFaults
 pub mod RebuiltKeeps
 pub mod PlainLists
+pub mod LabelLemmas
 pub mod KeepsRunsLemmas
+pub mod LoopsKeepRuns
+pub mod SwitchKeepsRuns
 pub mod ErasedPartLemmas
 pub mod EraseLemmas
 pub mod ErasedTreeLemmas
+mod ErasedValueRuns
 pub mod ErasedRuns
 mod Examples

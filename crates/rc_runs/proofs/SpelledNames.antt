@@ -1,270 +1,156 @@
 -- The numbers of a spelled tree are in their tables if those of its graph are; none of them is a row's.
-use Rattle.std.proofs.Common.{◌≡◌, ◌∙◌, ◌⊎◌, inl, inr, ℕ, ◌<◌, ◌≤◌, List, [], ◌∷◌, ◌++◌, length, get_or, Bool, Option}
-use Rattle.std.proofs.Common.{None, Some, option_and_then, option_map, slice_get, refl, sym, ap, subst}
-use Rattle.std.specs.List.{All, flat_map}
-use Rattle.std.proofs.lemmas.List.Elements.{All-append, All-nil}
-use Rattle.std.proofs.lemmas.Map.Views.{Contains-from_lookup}
-use Rattle.std.proofs.lemmas.Option.{slice_get_cases}
-use Rattle.rc_names.specs.Numbers.{BlockId, EvaluationOrder, InstructionId, ScopeId}
-use Rattle.rc_hir.specs.GraphNames.{Name, block_names, instruction_names, parameter_names, place_names}
-use Rattle.rc_hir.specs.GraphNames.{row_name, terminal_names, under_key}
-use Rattle.rc_hir.specs.PartNames.{scope_name}
+use Rattle.std.proofs.Common.{◌≡◌, Bool, true, false, List, [], ◌∷◌, Some, if◌then◌else◌, sym, subst}
+use Rattle.std.specs.List.{flat_map}
+use Rattle.rc_names.specs.Numbers.{BlockId, EvaluationOrder}
+use Rattle.rc_hir.specs.GraphNames.{case_names, place_names, terminal_names}
 use Rattle.rc_hir.specs.ValueNames.{value_names}
-use Rattle.rc_hir.specs.Names.{FunctionInTables, IsInTable, lengths}
-use Rattle.rc_hir.specs.Model.{Environment, BasicBlock, HirFunction, Instruction, Place, Terminal}
-use Rattle.rc_tree.specs.Model.{ReactiveFunction, PrunedReactiveScopeBlock, ReactiveScopeBlock, ReactiveLabel}
-use Rattle.rc_tree.specs.Model.{ReactiveTerminalStatement, ReactiveInstruction}
-use Rattle.rc_tree.specs.declared.statement.ReactiveStatement.TheVariants as reactive
-use Rattle.rc_tree.specs.declared.value.ReactiveValue.TheVariants as reactive_values
-use Rattle.rc_runs.specs.Graph.{Block, basic_block, block_at, rows_of, with_rows}
+use Rattle.rc_hir.specs.Names.{FunctionInTables}
+use Rattle.rc_hir.specs.Model.{Environment, HirFunction, Instruction, Terminal}
+use Rattle.rc_hir.specs.Model.{Case as GraphCase}
+use Rattle.rc_tree.specs.Model.{ReactiveFunction}
+use Rattle.rc_tree.specs.TreeNames.{names_in}
 use Rattle.rc_runs.specs.ListContext.{ListContext}
-use Rattle.rc_runs.specs.Grammar.{SpellsList, SpellsRest, SpellsStatement, SpellsTerminal, break_statements}
-use Rattle.rc_runs.specs.Grammar.{rows_before, unlabeled}
-use Rattle.rc_runs.specs.Grammar.{from_block, returns, unreachable, breaks, and_rest, if_only, if_else, label_statement, scope_statement}
-use Rattle.rc_runs.specs.Grammar.{pruned_scope_statement, no_rest, has_rest}
-use Rattle.rc_runs.specs.PlainTree.{Base, Statement, RowStatement, TerminalStatement, Statements, Nil, Cons}
-use Rattle.rc_runs.specs.PlainTree.{TreeTerminal, Break, Return, If, Label, Absent, Present}
+use Rattle.rc_runs.specs.LoopParts.{LoopBlocks, LoopParts}
+use Rattle.rc_runs.specs.SwitchCases.{is_kept, kept_cases}
+use Rattle.rc_runs.specs.Grammar.{SpellsList, SpellsRest, SpellsStatement, SpellsTerminal, SpellsCases, SpellsTurns}
+use Rattle.rc_runs.specs.Grammar.{break_statements, continue_statements, rows_before, unlabeled, from_block, returns}
+use Rattle.rc_runs.specs.Grammar.{throws, unreachable, breaks, continues, branch_arms, branch_break, and_rest, if_only}
+use Rattle.rc_runs.specs.Grammar.{if_else, label_statement, scope_statement, pruned_scope_statement, switch_statement}
+use Rattle.rc_runs.specs.Grammar.{while_loop, do_while_loop, for_loop, for_of_loop, for_in_loop, no_cases, one_case}
+use Rattle.rc_runs.specs.Grammar.{turns, no_rest, has_rest}
+use Rattle.rc_runs.specs.PlainTree.{Statement, Statements, Nil, Break, Continue, Cases}
 use Rattle.rc_runs.specs.Spelled.{Spells}
-use Rattle.rc_runs.specs.TreeOf.{block_of, statement_of, statements_of, terminal_of}
-use Rattle.rc_runs.specs.Frames.{resolve_break}
+use Rattle.rc_runs.specs.Frames.{resolve_break, resolve_continue}
 use Rattle.rc_runs.specs.declared.frames.BreakResult.{BreakResult}
 use Rattle.rc_runs.specs.declared.frames.BreakResult.TheVariants.{NoFrame, LeavesScope, LeavesCase, FallsOff, Breaks}
-use Rattle.rc_names.proofs.NumbersLemmas.{same_id-eq}
-use Rattle.rc_runs.proofs.GraphLemmas.{usable_block-at}
-use Rattle.rc_tree.specs.TreeNames.{names_in, names_in_list, names_in_statement, names_in_terminal, names_of_parts}
-use Rattle.rc_tree.specs.TreeNames.{names_of_values}
-use Rattle.rc_runs.proofs.AllLemmas.{All-left, All-right, All-flat_map}
-use Rattle.rc_runs.proofs.NoRowNamed.{IsNoRow, NoRows, all_in_environment, place_no_row, scope_no_row, value_no_row}
-use Rattle.rc_tree.proofs.CollectedLemmas.{collected-block, collected-row, collected-Base, collected-Instruction}
-use Rattle.rc_tree.proofs.CollectedLemmas.{collected-Terminal, collected-Scope, collected-PrunedScope, collected-Break}
-use Rattle.rc_tree.proofs.CollectedLemmas.{collected-Return, collected-If, collected-Label}
+use Rattle.rc_runs.specs.declared.frames.ContinueResult.{ContinueResult}
+use Rattle.rc_runs.specs.declared.frames.ContinueResult.TheVariants.{NoLoop, Continues}
+use Rattle.rc_runs.proofs.AllLemmas.{All-left, All-right}
+use Rattle.rc_runs.proofs.BlockNames.{InTable, Held, RowsHeld, InGraph, HeldByGraph, place_held, case_held, scope_held}
+use Rattle.rc_runs.proofs.BlockNames.{usable_block_held}
+use Rattle.rc_runs.proofs.PlainNames.{HeldValue, HeldOption, HeldStatements, HeldStatement, HeldCases, block_held}
+use Rattle.rc_runs.proofs.SpelledValueNames.{going_held, test_held, before_held}
 
-module _ (hir : HirFunction) (env : Environment) (named : FunctionInTables env hir) where
-  -- the number is in its table
-  abbrev InTable : Name → Type 0
-  InTable = IsInTable (lengths env 0)
-
-  abbrev Held : List Name → Type 0
-  Held names = All InTable names
-
-  -- the same, where the rows of the graph are a table too
-  abbrev InGraph : Name → Type 0
-  InGraph = IsInTable (lengths env (length hir.instructions))
-
-  abbrev HeldByGraph : List Name → Type 0
-  HeldByGraph names = All InGraph names
-
-  -- the numbers after those of the parameters and the context
-  blocks_and_rows : HeldByGraph
-      (flat_map (under_key block_names) hir.body.blocks ++ flat_map instruction_names hir.instructions)
-  blocks_and_rows =
-      All-right InGraph (flat_map place_names hir.context) _
-      (All-right InGraph (flat_map parameter_names hir.params) _ named)
-
-  -- numbers that are no rows'
-  rowless : (names : List Name) → NoRows names → HeldByGraph names → Held names
-  rowless names = all_in_environment env (length hir.instructions) names
-
-  place_held : (place : Place) → HeldByGraph (place_names place) → Held (place_names place)
-  place_held place = rowless (place_names place) (place_no_row place)
-
-  scope_held : (of : ScopeId) → HeldByGraph (scope_name of) → Held (scope_name of)
-  scope_held of = rowless (scope_name of) (scope_no_row of)
-
-  instruction_held : (row : Instruction) → HeldByGraph (instruction_names row) → Held (instruction_names row)
-  instruction_held row =
-      rowless (instruction_names row)
-      (All-append IsNoRow (place_names row.lvalue) (value_names row.value) (place_no_row row.lvalue)
-      (value_no_row row.value))
-
-  -- the numbers of each of these rows
-  abbrev RowsHeld : List Instruction → Type 0
-  RowsHeld [] = Unit {0}
-  RowsHeld (row ∷ rows) = Held (instruction_names row) × RowsHeld rows
-
-  row_held : (place : ℕ) (row : Instruction) → slice_get hir.instructions place ≡ Some row
-      → Held (instruction_names row)
-  row_held place row e = by (slice_get_cases hir.instructions place).1
-    where
-      by : ((x : Instruction) × (place < length hir.instructions) × (slice_get hir.instructions place ≡ Some x)
-          × (get_or hir.instructions place x ≡ x)) ⊎ ((length hir.instructions ≤ place)
-          × (slice_get hir.instructions place ≡ None))
-          → Held (instruction_names row)
-      by (inl found) =
-          let same : found.0 ≡ row = cc in
-          subst (λ x. Held (instruction_names x)) same
-          (instruction_held found.0
-          (All-flat_map InGraph instruction_names hir.instructions
-          (All-right InGraph (flat_map (under_key block_names) hir.body.blocks) _ blocks_and_rows)
-          place found.0 found.1 found.3))
-      by (inr past) = absurd (let no : ⊥ = cc in no)
-
-  found_rows : (numbers : List InstructionId) (rows : List Instruction) → rows_of hir.instructions numbers ≡ Some rows
-      → RowsHeld rows
-  found_rows [] rows e = subst RowsHeld (let same : [] ≡ rows = cc in same) tt
-  found_rows (number ∷ numbers) rows e =
-      go (slice_get hir.instructions number.0) (rows_of hir.instructions numbers) refl refl e (found_rows numbers)
-    where
-      go : (found : Option Instruction) (others : Option (List Instruction))
-          → slice_get hir.instructions number.0 ≡ found → rows_of hir.instructions numbers ≡ others
-          → option_and_then (λ row. option_map (λ rows. row ∷ rows) others) found ≡ Some rows
-          → ((more : List Instruction) → rows_of hir.instructions numbers ≡ Some more → RowsHeld more) → RowsHeld rows
-      go None others e f w later = absurd (let no : ⊥ = cc in no)
-      go (Some row) None e f w later = absurd (let no : ⊥ = cc in no)
-      go (Some row) (Some more) e f w later =
-          subst RowsHeld (let same : row ∷ more ≡ rows = cc in same) (row_held number.0 row e, later more f)
-
-  -- the numbers of a block with its rows
-  abbrev BlockHeld : Block → Type 0
-  BlockHeld b = RowsHeld b.rows × HeldByGraph (terminal_names b.terminal)
-
-  block_held : (key : BlockId) (b : Block) → block_at hir key ≡ Some b → BlockHeld b
-  unfolding block_at
-  block_held key b e = go (basic_block hir key) refl e
-    where
-      filled : (basic : BasicBlock) → basic_block hir key ≡ Some basic → (rows : Option (List Instruction))
-          → rows_of hir.instructions basic.instructions ≡ rows
-          → option_map (λ (r : List Instruction). record { rows = r; terminal = basic.terminal }) rows ≡ Some b
-          → BlockHeld b
-      filled basic found None f w = absurd (let no : ⊥ = cc in no)
-      filled basic found (Some rows) f w =
-          let held = Contains-from_lookup same_id-eq key basic hir.body.blocks found in
-          let here : HeldByGraph (flat_map row_name basic.instructions ++ terminal_names basic.terminal) =
-          All-flat_map InGraph (under_key block_names) hir.body.blocks
-          (All-left InGraph (flat_map (under_key block_names) hir.body.blocks) _ blocks_and_rows)
-          held.0 (key, basic) held.1 held.2
-          in
-          let whole : Block = record { rows = rows; terminal = basic.terminal } in
-          let same : whole ≡ b = cc in
-          subst BlockHeld same (
-            found_rows basic.instructions rows f,
-            All-right InGraph (flat_map row_name basic.instructions) (terminal_names basic.terminal) here,
-          )
-
-      go : (found : Option BasicBlock) → basic_block hir key ≡ found → option_and_then (with_rows hir) found ≡ Some b
-          → BlockHeld b
-      go None found e = absurd (let no : ⊥ = cc in no)
-      go (Some basic) found e = filled basic found (rows_of hir.instructions basic.instructions) refl e
-
-  -- equal lists of numbers
-  by_same : (names others : List Name) → names ≡ others → Held others → Held names
-  by_same names others e held = subst Held (sym e) held
-
-  one_statement : (statement : Statement) (rest : Statements) → Held (names_in_statement (statement_of statement))
-      → Held (names_in_list (statements_of rest)) → Held (names_in_list (statements_of (Cons statement rest)))
-  one_statement statement rest held later =
-      All-append InTable (names_in_statement (statement_of statement)) (names_in_list (statements_of rest)) held later
-
-  rows_first : (rows : List Instruction) (rest : Statements) → RowsHeld rows → Held (names_in_list (statements_of rest))
-      → Held (names_in_list (statements_of (rows_before rows rest)))
+module _ (env : Environment) where
+  -- rows, and the statements after them
+  rows_first : (rows : List Instruction) (rest : Statements) → RowsHeld env rows → HeldStatements env rest →
+      HeldStatements env (rows_before rows rest)
   rows_first [] rest held later = later
-  rows_first (row ∷ rows) rest held later =
-      let x : ReactiveInstruction =
-      record {
-        id = row.id;
-        lvalue = Some row.lvalue;
-        value = reactive_values.Instruction row.value;
-        span =
-            row.span;
-      } in
-      let names : names_in_statement (reactive.Instruction x) ≡ instruction_names row =
-      collected-Instruction names_of_parts x ∙ collected-row names_of_values x
-      ∙ ap (λ names. place_names row.lvalue ++ names) (collected-Base names_of_values row.value row.id)
-      in
-      one_statement (RowStatement row.id (Some row.lvalue) (Base row.value) row.span) (rows_before rows rest)
-      (by_same (names_in_statement (reactive.Instruction x)) (instruction_names row) names held.0)
-      (rows_first rows rest held.1 later)
+  rows_first (row ∷ rows) rest held later = (
+    (
+      All-left (InTable env) (place_names row.lvalue) (value_names row.value) held.0,
+      All-right (InTable env) (place_names row.lvalue) (value_names row.value) held.0,
+    ),
+    rows_first rows rest held.1 later,
+  )
 
-  -- a terminal's statement has the terminal's numbers
-  terminal_first : (terminal : TreeTerminal) (own : Option ReactiveLabel) (names : List Name)
-      → names_in_terminal (terminal_of terminal) ≡ names → Held names
-      → Held (names_in_statement (statement_of (TerminalStatement terminal own)))
-  terminal_first terminal own names e held =
-      let x : ReactiveTerminalStatement = record { terminal = terminal_of terminal; label = own } in
-      by_same (names_in_statement (reactive.Terminal x)) names (collected-Terminal names_of_parts x ∙ e) held
-
-  -- a break has no number of a table
-  break_held : (way : BreakResult) (target : BlockId) (id : EvaluationOrder) (statements : Statements)
-      → break_statements way target id ≡ Some statements → Held (names_in_list (statements_of statements))
+  -- a break and a continue have no number of a table
+  break_held : (result : BreakResult) (target : BlockId) (id : EvaluationOrder) (statements : Statements) →
+      break_statements result target id ≡ Some statements → HeldStatements env statements
   break_held NoFrame target id statements e = absurd (let no : ⊥ = cc in no)
   break_held LeavesScope target id statements e = absurd (let no : ⊥ = cc in no)
   break_held LeavesCase target id statements e = absurd (let no : ⊥ = cc in no)
   break_held FallsOff target id statements e =
-      subst (λ s. Held (names_in_list (statements_of s))) (let same : Nil ≡ statements = cc in same) (All-nil InTable)
+      subst (HeldStatements env) (let same : Nil ≡ statements = cc in same) tt
   break_held (Breaks kind) target id statements e =
-      let same : unlabeled (Break target kind id) ≡ statements = cc in
-      subst (λ s. Held (names_in_list (statements_of s))) same
-      (one_statement (TerminalStatement (Break target kind id) None) Nil
-      (terminal_first (Break target kind id) None [] (collected-Break names_of_parts target kind id) (All-nil InTable))
-      (All-nil InTable))
+      subst (HeldStatements env) (let same : unlabeled (Break target kind id) ≡ statements = cc in same) (tt, tt)
 
-  -- a block has the numbers of its statements
-  block_first : (part : Statements) → Held (names_in_list (statements_of part)) → Held (names_in (block_of part))
-  block_first part held =
-      by_same (names_in (block_of part)) (names_in_list (statements_of part))
-      (collected-block names_of_parts (block_of part)) held
+  continue_held : (result : ContinueResult) (id : EvaluationOrder) (statements : Statements) →
+      continue_statements result id ≡ Some statements → HeldStatements env statements
+  continue_held NoLoop id statements e = absurd (let no : ⊥ = cc in no)
+  continue_held (Continues target kind) id statements e =
+      subst (HeldStatements env) (let same : unlabeled (Continue target kind id) ≡ statements = cc in same) (tt, tt)
 
+module _ (hir : HirFunction) (env : Environment) where
+  -- the numbers of these cases
+  abbrev CasesHeld : List GraphCase → Type 0
+  CasesHeld [] = Unit {0}
+  CasesHeld (case ∷ cases) = Held env (case_names case) × CasesHeld cases
+
+  kept_held : (is_target : Bool) (fallthrough : BlockId) (cases : List GraphCase) →
+      HeldByGraph hir env (flat_map case_names cases) → CasesHeld (kept_cases is_target fallthrough cases)
+  kept_held is_target fallthrough [] held = tt
+  kept_held is_target fallthrough (case ∷ cases) held =
+      go (is_kept is_target fallthrough case)
+      (case_held hir env case (All-left (InGraph hir env) (case_names case) (flat_map case_names cases) held))
+      (kept_held is_target fallthrough cases
+      (All-right (InGraph hir env) (case_names case) (flat_map case_names cases) held))
+    where
+      go : (kept : Bool) → Held env (case_names case) → CasesHeld (kept_cases is_target fallthrough cases) →
+          CasesHeld (if kept then case ∷ kept_cases is_target fallthrough cases
+          else kept_cases is_target fallthrough cases)
+      go true first later = (first, later)
+      go false first later = later
+
+module _ (hir : HirFunction) (env : Environment) (named : FunctionInTables env hir) where
   mutual
-    held_list : {key : BlockId} {context : ListContext} {statements : Statements} {used : List BlockId} →
-        SpellsList hir env key context statements used → Held (names_in_list (statements_of statements))
-    held_list (from_block {key = key} {rest = rest} {block = b} usable live d w) =
-        let here = block_held key b (usable_block-at hir key b usable) in
-        subst (λ s. Held (names_in_list (statements_of s))) (sym w)
-        (rows_first b.rows rest here.0 (held_terminal here.1 d))
+    list_held : {key : BlockId} {context : ListContext} {statements : Statements} {used : List BlockId} →
+        SpellsList hir env key context statements used → HeldStatements env statements
+    list_held (from_block {key = key} {rest = rest} {block = b} usable apart d e) =
+        let here = usable_block_held hir env named key b usable in
+        subst (HeldStatements env) (sym e) (rows_first env b.rows rest here.0 (terminal_held here.1 d))
 
-    held_terminal : {terminal : Terminal} {context : ListContext} {statements : Statements} {used : List BlockId} →
-        HeldByGraph (terminal_names terminal) → SpellsTerminal hir env terminal context statements used →
-        Held (names_in_list (statements_of statements))
-    held_terminal held (returns {value = value} {id = id}) =
-        one_statement (TerminalStatement (Return value id) None) Nil
-        (terminal_first (Return value id) None (place_names value) (collected-Return names_of_parts value id)
-        (place_held value held))
-        (All-nil InTable)
-    held_terminal held unreachable = All-nil InTable
-    held_terminal held (breaks {target = target} {id = id} {context = around} {statements = statements} e) =
-        break_held (resolve_break around.frames target) target id statements e
-    held_terminal held (and_rest {statement = statement} {rest = rest} d r w) =
-        one_statement statement rest (held_statement held d) (held_rest r)
+    terminal_held : {terminal : Terminal} {context : ListContext} {statements : Statements} {used : List BlockId} →
+        HeldByGraph hir env (terminal_names terminal) → SpellsTerminal hir env terminal context statements used →
+        HeldStatements env statements
+    terminal_held held (returns {value = value}) = (place_held hir env value held, tt)
+    terminal_held held (throws {value = value} outside) = (place_held hir env value held, tt)
+    terminal_held held unreachable = tt
+    terminal_held held (breaks {target = target} {id = id} {context = around} {statements = statements} e) =
+        break_held env (resolve_break around.frames target) target id statements e
+    terminal_held held (continues {target = target} {id = id} {context = around} {statements = statements} e) =
+        continue_held env (resolve_continue around.frames target) id statements e
+    terminal_held held (branch_arms {test = test} d other e) =
+        ((place_held hir env test held, list_held d, list_held other), tt)
+    terminal_held held (branch_break {test = test} {consequent = consequent} {id = id} {context = around}
+        {part = part} names e other) =
+        let jump = break_held env (resolve_break around.frames consequent) consequent id part e in
+        ((place_held hir env test held, jump, list_held other), tt)
+    terminal_held held (and_rest d r e) = (statement_held held d, rest_held r)
 
-    held_statement : {terminal : Terminal} {context : ListContext} {o : Bool} {f : BlockId} {statement : Statement}
-        {used : List BlockId} → HeldByGraph (terminal_names terminal) →
-        SpellsStatement hir env terminal context o f statement used → Held (names_in_statement (statement_of statement))
-    held_statement held (if_only {test = test} {id = id} {label = own} {part = part} i l s falls d) =
-        terminal_first (If test part Absent id) own (place_names test ++ (names_in (block_of part) ++ []))
-        (collected-If names_of_parts test (block_of part) None id)
-        (All-append InTable (place_names test) _ (place_held test held)
-        (All-append InTable (names_in (block_of part)) [] (block_first part (held_list d)) (All-nil InTable)))
-    held_statement held (if_else {test = test} {id = id} {label = own} {part = part} {other = other} i l s d e w) =
-        terminal_first (If test part (Present other) id) own
-        (place_names test ++ (names_in (block_of part) ++ names_in (block_of other)))
-        (collected-If names_of_parts test (block_of part) (Some (block_of other)) id)
-        (All-append InTable (place_names test) _ (place_held test held)
-        (All-append InTable (names_in (block_of part)) (names_in (block_of other)) (block_first part (held_list d))
-        (block_first other (held_list e))))
-    held_statement held (label_statement {id = id} {label = own} {part = part} i l d) =
-        terminal_first (Label part id) own (names_in (block_of part))
-        (collected-Label names_of_parts (block_of part) id)
-        (block_first part (held_list d))
-    held_statement held (scope_statement {scope = of} {part = part} i d) =
-        let x : ReactiveScopeBlock = record { scope = of; instructions = block_of part } in
-        by_same (names_in_statement (reactive.Scope x)) (scope_name of ++ names_in (block_of part))
-        (collected-Scope names_of_parts x)
-        (All-append InTable (scope_name of) (names_in (block_of part)) (scope_held of held)
-        (block_first part (held_list d)))
-    held_statement held (pruned_scope_statement {scope = of} {part = part} i d) =
-        let x : PrunedReactiveScopeBlock = record { scope = of; instructions = block_of part } in
-        by_same (names_in_statement (reactive.PrunedScope x)) (scope_name of ++ names_in (block_of part))
-        (collected-PrunedScope names_of_parts x)
-        (All-append InTable (scope_name of) (names_in (block_of part)) (scope_held of held)
-        (block_first part (held_list d)))
+    statement_held : {terminal : Terminal} {context : ListContext} {opened : Bool} {fallthrough : BlockId}
+        {statement : Statement} {used : List BlockId} → HeldByGraph hir env (terminal_names terminal) →
+        SpellsStatement hir env terminal context opened fallthrough statement used → HeldStatement env statement
+    statement_held held (if_only {test = test} o l same falls d) = (place_held hir env test held, list_held d, tt)
+    statement_held held (if_else {test = test} o l same d other e) =
+        (place_held hir env test held, list_held d, list_held other)
+    statement_held held (label_statement o l d) = list_held d
+    statement_held held (scope_statement {scope = scope} o d) = (scope_held hir env scope held, list_held d)
+    statement_held held (pruned_scope_statement {scope = scope} o d) = (scope_held hir env scope held, list_held d)
+    statement_held held (switch_statement {test = test} {cases = cases} o l one past kept_are default d) =
+        let kept = kept_held hir env _ _ cases
+        (All-right (InGraph hir env) (place_names test) (flat_map case_names cases) held) in (
+          place_held hir env test
+              (All-left (InGraph hir env) (place_names test) (flat_map case_names cases) held),
+          cases_held (subst (CasesHeld hir env) (sym kept_are) kept) d,
+        )
+    statement_held held (while_loop reachable d) = let parts = turns_held d in (parts.1, parts.2)
+    statement_held held (do_while_loop d) = let parts = turns_held d in (parts.2, parts.1)
+    statement_held held (for_loop init d e) =
+        let parts = turns_held d in (going_held hir env named init, parts.1, parts.2, parts.0)
+    statement_held held (for_of_loop before d) =
+        let parts = turns_held d in (subst (HeldOption env) before parts.0, parts.1, parts.2)
+    statement_held held (for_in_loop d) = let parts = turns_held d in (parts.1, parts.2)
 
-    held_rest : {o : Bool} {f : BlockId} {context : ListContext} {statements : Statements} {used : List BlockId} →
-        SpellsRest hir env o f context statements used → Held (names_in_list (statements_of statements))
-    held_rest no_rest = All-nil InTable
-    held_rest (has_rest d) = held_list d
+    cases_held : {cases : List GraphCase} {context : ListContext} {parts : Cases} {used : List BlockId} →
+        CasesHeld hir env cases → SpellsCases hir env cases context parts used → HeldCases env parts
+    cases_held held no_cases = tt
+    cases_held held (one_case later d e) = (held.0, list_held d, cases_held held.1 later)
+
+    turns_held : {blocks : LoopBlocks} {context : ListContext} {parts : LoopParts} {used : List BlockId} →
+        SpellsTurns hir env blocks context parts used →
+        HeldOption env parts.before × HeldValue env parts.test × HeldStatements env parts.body
+    turns_held (turns apart again test before d e) =
+        (before_held hir env named before, test_held hir env named test, list_held d)
+
+    rest_held : {opened : Bool} {fallthrough : BlockId} {context : ListContext} {statements : Statements}
+        {used : List BlockId} → SpellsRest hir env opened fallthrough context statements used →
+        HeldStatements env statements
+    rest_held no_rest = tt
+    rest_held (has_rest d) = list_held d
 
   -- the numbers of a spelled function's body are in their tables
-  pub spelled_names_held : (func : ReactiveFunction) → Spells hir env func → Held (names_in func.body)
+  pub spelled_names_held : (func : ReactiveFunction) → Spells hir env func → Held env (names_in func.body)
   spelled_names_held func spelled =
-      by_same (names_in func.body) (names_in (block_of spelled.statements)) (ap (λ f. names_in f.body) spelled.whole)
-      (block_first spelled.statements (held_list spelled.body.list))
+      subst (λ f. Held env (names_in f.body)) (sym spelled.whole)
+      (block_held env spelled.statements (list_held spelled.body.list))
