@@ -5,6 +5,8 @@ pub mod Judged
 pub mod WalkLemmas
 pub mod Keep
 pub mod TargetsLemmas
+pub mod LoopsNamed
 pub mod PlainPruned
+pub mod PlainLoops
 pub mod PlainKeepsRuns
 pub mod KeepRuns

@@ -1,29 +1,33 @@
--- The check of break targets meets no jump in a spelled tree: it enters scopes alone, and a break out of a scope is no
--- statement.
+-- The check of break targets meets no jump in a spelled tree: it enters scopes alone, a break out of a scope is no
+-- statement, and a continue has no loop among scopes.
 use Rattle.std.proofs.Common.{◌≡◌, ℕ, zero, suc, List, [], ◌∷◌, ◌++◌, flat_map, Bool, true, false}
 use Rattle.std.proofs.Common.{if◌then◌else◌, ◌||◌, ◌⊎◌, inl, inr, Option, None, Some, Result, Ok, Err, IfErr}
-use Rattle.std.proofs.Common.{sym, ap, subst}
+use Rattle.std.proofs.Common.{option_map, refl, sym, ap, ◌∙◌, subst}
 use Rattle.rc_names.specs.Numbers.{BlockId, EvaluationOrder, same_id}
-use Rattle.rc_hir.specs.Model.{Environment, Fault, HirFunction, Instruction, Terminal}
+use Rattle.rc_hir.specs.Model.{Environment, Fault, HirFunction, Instruction, Place, Terminal}
 use Rattle.rc_hir.specs.declared.fault.Fault.TheVariants.{BadTarget, NoMemory}
 use Rattle.rc_tree.specs.Model.{ReactiveFunction, ReactiveLabel, ReactiveInstruction}
 use Rattle.rc_tree.specs.declared.terminal.ReactiveTerminal.{out-ReactiveTerminal}
 use Rattle.rc_tree.specs.declared.terminal.ReactiveTerminal.TheVariants as tree
 use Rattle.rc_tree.specs.declared.value.ReactiveValue.TheVariants as reactive_values
-use Rattle.rc_runs.specs.Frames.{resolve_break, resolve_from, resolve_at}
+use Rattle.rc_runs.specs.Frames.{resolve_break, resolve_from, resolve_at, resolve_continue, continue_from}
 use Rattle.rc_runs.specs.Grammar.{SpellsList, SpellsRest, SpellsStatement, SpellsTerminal, break_statements}
-use Rattle.rc_runs.specs.Grammar.{rows_before}
-use Rattle.rc_runs.specs.Grammar.{from_block, returns, unreachable, breaks, and_rest, if_only, if_else, label_statement, scope_statement}
-use Rattle.rc_runs.specs.Grammar.{pruned_scope_statement, no_rest, has_rest}
+use Rattle.rc_runs.specs.Grammar.{continue_statements, rows_before, unlabeled, from_block, returns, throws}
+use Rattle.rc_runs.specs.Grammar.{unreachable, breaks, continues, branch_arms, branch_break, and_rest, if_only, if_else}
+use Rattle.rc_runs.specs.Grammar.{label_statement, scope_statement, pruned_scope_statement, switch_statement}
+use Rattle.rc_runs.specs.Grammar.{while_loop, do_while_loop, for_loop, for_of_loop, for_in_loop, no_rest, has_rest}
 use Rattle.rc_runs.specs.ListContext.{ListContext, inside}
 use Rattle.rc_runs.specs.PlainTree.{Base, Statement, RowStatement, TerminalStatement, Statements, Nil, Cons}
-use Rattle.rc_runs.specs.PlainTree.{TreeTerminal, Return, If, Label, Absent, Present}
+use Rattle.rc_runs.specs.PlainTree.{TreeTerminal, Return, Throw, Switch, DoWhile, While, For, ForOf, ForIn, If, Label}
+use Rattle.rc_runs.specs.PlainTree.{Absent, Present}
 use Rattle.rc_runs.specs.Spelled.{Spells}
-use Rattle.rc_runs.specs.TreeOf.{block_of, statement_of, statements_of, terminal_of}
+use Rattle.rc_runs.specs.TreeOf.{value_of, block_of, cases_of, statement_of, statements_of, terminal_of}
 use Rattle.rc_runs.specs.declared.frames.Frame.{Frame}
 use Rattle.rc_runs.specs.declared.frames.Frame.TheVariants as frame_kinds
 use Rattle.rc_runs.specs.declared.frames.BreakResult.{BreakResult}
 use Rattle.rc_runs.specs.declared.frames.BreakResult.TheVariants.{NoFrame, LeavesScope, LeavesCase, FallsOff, Breaks}
+use Rattle.rc_runs.specs.declared.frames.ContinueResult.{ContinueResult}
+use Rattle.rc_runs.specs.declared.frames.ContinueResult.TheVariants.{NoLoop}
 use Rattle.rc_checks.specs.BreakTargets.{Terminals, met_in, met_at, target_of, IsFirstUnmet, IsJumpTo}
 use Rattle.rc_checks.proofs.BreakTargets.MetLemmas.{met_in-statements, met_at-Instruction, met_at-Terminal}
 use Rattle.rc_checks.proofs.BreakTargets.MetLemmas.{met_at-Scope}
@@ -72,6 +76,17 @@ scopes_way innermost in_loop (frame_kinds.Switch of ∷ frames) target all = abs
 scopes_way innermost in_loop (frame_kinds.Case of ∷ frames) target all = absurd all
 scopes_way innermost in_loop (frame_kinds.Loop of again ∷ frames) target all = absurd all
 
+-- nor has a continue a loop
+scopes_continue : (innermost in_loop : Bool) (frames : List Frame) (target : BlockId) → AreScopes frames
+    → continue_from innermost in_loop frames target ≡ NoLoop
+scopes_continue innermost in_loop [] target all = refl
+scopes_continue innermost in_loop (frame_kinds.Scope of ∷ frames) target all =
+    scopes_continue false (in_loop || false) frames target all
+scopes_continue innermost in_loop (frame_kinds.Statement of ∷ frames) target all = absurd all
+scopes_continue innermost in_loop (frame_kinds.Switch of ∷ frames) target all = absurd all
+scopes_continue innermost in_loop (frame_kinds.Case of ∷ frames) target all = absurd all
+scopes_continue innermost in_loop (frame_kinds.Loop of again ∷ frames) target all = absurd all
+
 -- no jump is met in a list of statements
 abbrev Quiet : Statements → Type 0
 Quiet statements = NoJumps (flat_map met_at (statements_of statements))
@@ -104,6 +119,24 @@ break_quiet LeavesCase target id statements is e = absurd (let no : ⊥ = cc in 
 break_quiet FallsOff target id statements is e = subst Quiet (let same : Nil ≡ statements = cc in same) tt
 break_quiet (Breaks kind) target id statements is e = absurd is
 
+-- one that is a statement alone
+still_alone : (terminal : TreeTerminal) → target_of (out-ReactiveTerminal (terminal_of terminal)) ≡ None
+    → Quiet (unlabeled terminal)
+still_alone terminal none = cons_quiet (TerminalStatement terminal None) Nil (still terminal None none) tt
+
+branch_quiet : (test : Place) (part other : Statements) (id : EvaluationOrder)
+    → Quiet (unlabeled (If test part (Present other) id))
+branch_quiet test part other id =
+    still_alone (If test part (Present other) id)
+    (ap target_of (tree.outs-If test (block_of part) (Some (block_of other)) id))
+
+continue_quiet : (result : ContinueResult) (id : EvaluationOrder) (statements : Statements) → result ≡ NoLoop
+    → continue_statements result id ≡ Some statements → Quiet statements
+continue_quiet result id statements none e =
+    let found : continue_statements NoLoop id ≡ Some statements =
+    ap (λ r. continue_statements r id) (sym none) ∙ e in
+    absurd (let no : ⊥ = cc in no)
+
 -- the frames inside a scope
 inside_scopes : (opened : Bool) (fallthrough : BlockId) (context : ListContext) → AreScopes context.frames
     → AreScopes (inside opened (frame_kinds.Scope fallthrough) context).frames
@@ -123,12 +156,20 @@ module _ {hir : HirFunction} {env : Environment} where
     quiet_terminal : {terminal : Terminal} {context : ListContext} {statements : Statements} {used : List BlockId} →
         SpellsTerminal hir env terminal context statements used → AreScopes context.frames → Quiet statements
     quiet_terminal (returns {value = value} {id = id}) all =
-        cons_quiet (TerminalStatement (Return value id) None) Nil
-        (still (Return value id) None (ap target_of (tree.outs-Return value id))) tt
+        still_alone (Return value id) (ap target_of (tree.outs-Return value id))
+    quiet_terminal (throws {value = value} {id = id} outside) all =
+        still_alone (Throw value id) (ap target_of (tree.outs-Throw value id))
     quiet_terminal unreachable all = tt
     quiet_terminal (breaks {target = target} {id = id} {context = context} {statements = statements} e) all =
         break_quiet (resolve_break context.frames target) target id statements
         (scopes_way true false context.frames target all) e
+    quiet_terminal (continues {target = target} {id = id} {context = context} {statements = statements} e) all =
+        continue_quiet (resolve_continue context.frames target) id statements
+        (scopes_continue true false context.frames target all) e
+    quiet_terminal (branch_arms {test = test} {id = id} {part = part} {other = other} d d' e) all =
+        branch_quiet test part other id
+    quiet_terminal (branch_break {test = test} {id = id} {part = part} {other = other} names e d) all =
+        branch_quiet test part other id
     quiet_terminal (and_rest {statement = statement} {rest = rest} d r w) all =
         cons_quiet statement rest (quiet_statement d all) (quiet_rest r all)
 
@@ -150,6 +191,25 @@ module _ {hir : HirFunction} {env : Environment} where
         all =
         subst NoJumps (sym (met_at-PrunedScope (record { scope = of; instructions = block_of part })))
         (block_quiet part (quiet_list d (inside_scopes o f context all)))
+    quiet_statement (switch_statement {test = test} {id = id} {label = own} {parts = parts} o l one past kept last d)
+        all =
+        still (Switch test parts id) own (ap target_of (tree.outs-Switch test (cases_of parts) id))
+    quiet_statement (while_loop {id = id} {parts = parts} reachable d) all =
+        still (While parts.test parts.body id) _
+        (ap target_of (tree.outs-While (value_of parts.test) (block_of parts.body) id))
+    quiet_statement (do_while_loop {id = id} {parts = parts} d) all =
+        still (DoWhile parts.body parts.test id) _
+        (ap target_of (tree.outs-DoWhile (block_of parts.body) (value_of parts.test) id))
+    quiet_statement (for_loop {id = id} {init_value = init} {parts = parts} d d' e) all =
+        still (For init parts.test parts.before parts.body id) _
+        (ap target_of (tree.outs-For (value_of init) (value_of parts.test) (option_map value_of parts.before)
+        (block_of parts.body) id))
+    quiet_statement (for_of_loop {id = id} {span = span} {init_value = init} {parts = parts} e d) all =
+        still (ForOf init parts.test parts.body span id) _
+        (ap target_of (tree.outs-ForOf (value_of init) (value_of parts.test) (block_of parts.body) span id))
+    quiet_statement (for_in_loop {id = id} {span = span} {parts = parts} d) all =
+        still (ForIn parts.test parts.body span id) _
+        (ap target_of (tree.outs-ForIn (value_of parts.test) (block_of parts.body) span id))
 
     quiet_rest : {o : Bool} {f : BlockId} {context : ListContext} {statements : Statements} {used : List BlockId} →
         SpellsRest hir env o f context statements used → AreScopes context.frames → Quiet statements

@@ -1,6 +1,6 @@
 -- Label pruning of the tree of plain statements leaves the tree of plain statements with the same runs: by recursion on
 -- the statements, with the targets behind them.
-use Rattle.std.proofs.Common.{Option, option_map, refl}
+use Rattle.std.proofs.Common.{Option, refl, sym}
 use Rattle.rc_hir.specs.Model.{Environment}
 use Rattle.rc_tree.specs.Unrolled.{UnrolledCase}
 use Rattle.rc_tree.specs.Model.{PrunedReactiveScopeBlock, ReactiveScopeBlock, ReactiveLabel}
@@ -8,26 +8,28 @@ use Rattle.rc_tree.specs.declared.terminal.ReactiveSwitchCase.{out-roll-Reactive
 use Rattle.rc_tree.specs.declared.terminal.ReactiveTerminal.TheVariants as tree
 use Rattle.rc_tree.proofs.RebuiltLemmas.{rebuilt-block, rebuilt-scope, rebuilt-pruned_scope, rebuilt-case, rebuilt-Instruction}
 use Rattle.rc_tree.proofs.RebuiltLemmas.{rebuilt-Scope, rebuilt-PrunedScope, rebuilt-Break, rebuilt-Continue}
-use Rattle.rc_tree.proofs.RebuiltLemmas.{rebuilt-Return, rebuilt-Throw, rebuilt-Switch, rebuilt-DoWhile, rebuilt-While}
-use Rattle.rc_tree.proofs.RebuiltLemmas.{rebuilt-For, rebuilt-ForOf, rebuilt-ForIn, rebuilt-If, rebuilt-Try}
+use Rattle.rc_tree.proofs.RebuiltLemmas.{rebuilt-Return, rebuilt-Throw, rebuilt-If, rebuilt-Try}
 use Rattle.rc_runs.specs.PlainTree.{Statements, Nil, Cons, Statement, RowStatement, TerminalStatement, ScopeStatement}
 use Rattle.rc_runs.specs.PlainTree.{PrunedScopeStatement, TreeTerminal, Break, Continue, Return, Throw, Switch, DoWhile}
 use Rattle.rc_runs.specs.PlainTree.{While, For, ForOf, ForIn, If, Label, Try, Alternate, Absent, Present, Cases}
 use Rattle.rc_runs.specs.PlainTree.{NoCases, Case}
-use Rattle.rc_runs.specs.TreeOf.{value_of, statements_of, statement_of, alternate_of, cases_of, block_of}
+use Rattle.rc_runs.specs.TreeOf.{value_of, statements_of, statement_of, alternate_of, block_of}
 use Rattle.rc_runs.proofs.PlainLists.{alone, append, statements_of-append}
 use Rattle.rc_runs.proofs.KeepsRunsLemmas.{append-keeps_runs, same-keeps_runs, scope-keeps_runs}
-use Rattle.rc_runs.proofs.KeepsRunsLemmas.{pruned_scope-keeps_runs, break-keeps_runs, return-keeps_runs}
-use Rattle.rc_runs.proofs.KeepsRunsLemmas.{present-keeps_runs, absent-keeps_runs, if-keeps_runs}
+use Rattle.rc_runs.proofs.KeepsRunsLemmas.{pruned_scope-keeps_runs, break-keeps_runs, continue-keeps_runs}
+use Rattle.rc_runs.proofs.KeepsRunsLemmas.{return-keeps_runs, throw-keeps_runs, present-keeps_runs}
+use Rattle.rc_runs.proofs.KeepsRunsLemmas.{absent-keeps_runs, if-keeps_runs, try-keeps_runs}
+use Rattle.rc_runs.proofs.SwitchKeepsRuns.{no_cases-keep_runs, case-keeps_runs}
 use Rattle.rc_checks.specs.Labels.{Targets, is_named, label_rules, with_jump}
-use Rattle.rc_checks.proofs.LabelPruning.TargetsLemmas.{break_named, cons_named, if_named, is_target-with_jump}
-use Rattle.rc_checks.proofs.LabelPruning.TargetsLemmas.{label_after-catches}
-use Rattle.rc_checks.proofs.LabelPruning.TargetsLemmas.{catches-label_after, nil_named, return_named, row_named}
-use Rattle.rc_checks.proofs.LabelPruning.TargetsLemmas.{scope_named}
-use Rattle.rc_checks.proofs.LabelPruning.TargetsLemmas.{pruned_scope_named, present_named, absent_named}
+use Rattle.rc_checks.proofs.LabelPruning.TargetsLemmas.{break_named, continue_named, cons_named, if_named}
+use Rattle.rc_checks.proofs.LabelPruning.TargetsLemmas.{is_target-with_jump, label_after-alike, nil_named}
+use Rattle.rc_checks.proofs.LabelPruning.TargetsLemmas.{return_named, throw_named, try_named, row_named}
+use Rattle.rc_checks.proofs.LabelPruning.TargetsLemmas.{scope_named, pruned_scope_named, present_named, absent_named}
+use Rattle.rc_checks.proofs.LabelPruning.LoopsNamed.{no_cases_named, case_named}
 use Rattle.rc_checks.proofs.LabelPruning.PlainPruned.{PrunedList, PrunedStatement, PrunedAlternate, PrunedCases}
-use Rattle.rc_checks.proofs.LabelPruning.PlainPruned.{cons_rebuilt}
-use Rattle.rc_checks.proofs.LabelPruning.PlainPruned.{stays_in_place, never_run, pruned_label}
+use Rattle.rc_checks.proofs.LabelPruning.PlainPruned.{cons_rebuilt, stays_in_place, pruned_label}
+use Rattle.rc_checks.proofs.LabelPruning.PlainLoops.{pruned_switch, pruned_do_while, pruned_while, pruned_for}
+use Rattle.rc_checks.proofs.LabelPruning.PlainLoops.{pruned_for_of, pruned_for_in}
 
 module _ (env : Environment) where
   mutual
@@ -108,63 +110,36 @@ module _ (env : Environment) where
         stays_in_place env (Break target kind id) (Break target kind id) label targets targets
         (rebuilt-Break label_rules target kind id targets) behind (rw (tree.outs-Break target kind id) refl)
         (is_target-with_jump kind target targets) (
-          break-keeps_runs env target kind id label _ (label_after-catches behind label),
-          break-keeps_runs env target kind id _ label (catches-label_after behind label),
+          break-keeps_runs env target kind id label _ (label_after-alike behind label),
+          break-keeps_runs env target kind id _ label (sym (label_after-alike behind label)),
         ) (break_named env targets)
     pruned_terminal (Continue target kind id) label targets =
-        never_run env (Continue target kind id) (Continue target kind id) label targets targets
-        (rebuilt-Continue label_rules target kind id targets)
-        (with_jump kind target targets) (rw (tree.outs-Continue target kind id) refl)
-        (is_target-with_jump kind target targets) refl refl
+        let behind : Targets = with_jump kind target targets in
+        stays_in_place env (Continue target kind id) (Continue target kind id) label targets targets
+        (rebuilt-Continue label_rules target kind id targets) behind (rw (tree.outs-Continue target kind id) refl)
+        (is_target-with_jump kind target targets)
+        (continue-keeps_runs env target kind id label _, continue-keeps_runs env target kind id _ label)
+        (continue_named env behind)
     pruned_terminal (Return value id) label targets =
         stays_in_place env (Return value id) (Return value id) label targets targets
         (rebuilt-Return label_rules value id targets) targets (rw (tree.outs-Return value id) refl) (λ block e. e)
         (return-keeps_runs env value id label _, return-keeps_runs env value id _ label) (return_named env targets)
     pruned_terminal (Throw value id) label targets =
-        never_run env (Throw value id) (Throw value id) label targets targets
-        (rebuilt-Throw label_rules value id targets)
-        targets (rw (tree.outs-Throw value id) refl) (λ block e. e) refl refl
+        stays_in_place env (Throw value id) (Throw value id) label targets targets
+        (rebuilt-Throw label_rules value id targets) targets (rw (tree.outs-Throw value id) refl) (λ block e. e)
+        (throw-keeps_runs env value id label _, throw-keeps_runs env value id _ label) (throw_named env targets)
     pruned_terminal (Switch test cases id) label targets =
-        let inside = pruned_cases cases targets in
-        never_run env (Switch test cases id) (Switch test inside.after id) label targets inside.behind
-        (rw (rebuilt-Switch label_rules test (cases_of cases) id targets, inside.rebuilt) refl)
-        inside.behind (rw (tree.outs-Switch test (cases_of inside.after) id) refl) inside.stay refl refl
+        pruned_switch env test cases id label targets (pruned_cases cases targets)
     pruned_terminal (DoWhile body test id) label targets =
-        let inside = pruned_list body targets in
-        never_run env (DoWhile body test id) (DoWhile inside.after test id) label targets inside.behind
-        (rw (rebuilt-DoWhile label_rules (block_of body) (value_of test) id targets, inside.rebuilt) refl)
-        inside.behind (rw (tree.outs-DoWhile (block_of inside.after) (value_of test) id) refl) inside.stay refl refl
+        pruned_do_while env body id label targets (pruned_list body targets) test
     pruned_terminal (While test body id) label targets =
-        let inside = pruned_list body targets in
-        never_run env (While test body id) (While test inside.after id) label targets inside.behind
-        (rw (rebuilt-While label_rules (value_of test) (block_of body) id targets, inside.rebuilt) refl)
-        inside.behind (rw (tree.outs-While (value_of test) (block_of inside.after) id) refl) inside.stay refl refl
+        pruned_while env body id label targets (pruned_list body targets) test
     pruned_terminal (For init test update body id) label targets =
-        let inside = pruned_list body targets in
-        never_run env (For init test update body id) (For init test update inside.after id) label targets inside.behind
-        (rw (
-          rebuilt-For label_rules (value_of init) (value_of test) (option_map value_of update) (block_of body) id
-              targets,
-          inside.rebuilt,
-        ) refl)
-        inside.behind
-        (rw (tree.outs-For (value_of init) (value_of test) (option_map value_of update) (block_of inside.after) id)
-        refl) inside.stay refl refl
+        pruned_for env body id label targets (pruned_list body targets) init test update
     pruned_terminal (ForOf init test body span id) label targets =
-        let inside = pruned_list body targets in
-        never_run env (ForOf init test body span id) (ForOf init test inside.after span id) label targets inside.behind
-        (rw (
-          rebuilt-ForOf label_rules (value_of init) (value_of test) (block_of body) span id targets,
-          inside.rebuilt,
-        ) refl)
-        inside.behind
-        (rw (tree.outs-ForOf (value_of init) (value_of test) (block_of inside.after) span id) refl)
-        inside.stay refl refl
+        pruned_for_of env body id label targets (pruned_list body targets) init test span
     pruned_terminal (ForIn init body span id) label targets =
-        let inside = pruned_list body targets in
-        never_run env (ForIn init body span id) (ForIn init inside.after span id) label targets inside.behind
-        (rw (rebuilt-ForIn label_rules (value_of init) (block_of body) span id targets, inside.rebuilt) refl)
-        inside.behind (rw (tree.outs-ForIn (value_of init) (block_of inside.after) span id) refl) inside.stay refl refl
+        pruned_for_in env body id label targets (pruned_list body targets) init span
     pruned_terminal (If test consequent alternate id) label targets =
         let inside = pruned_list consequent targets in
         let other = pruned_alternate alternate inside.behind in
@@ -178,9 +153,9 @@ module _ (env : Environment) where
         other.behind (rw (tree.outs-If test (block_of inside.after) (alternate_of other.after) id) refl)
         (λ block e. other.stay block (inside.stay block e)) (
           if-keeps_runs env test id consequent inside.after alternate other.after label _ inside.alike.0 other.alike.0
-              (label_after-catches other.behind label),
+              (label_after-alike other.behind label),
           if-keeps_runs env test id inside.after consequent other.after alternate _ label inside.alike.1 other.alike.1
-              (catches-label_after other.behind label),
+              (sym (label_after-alike other.behind label)),
         ) (if_named env inside.behind other.behind other.stay inside.named other.named)
     pruned_terminal (Label body id) label targets =
         let inside = pruned_list body targets in
@@ -188,7 +163,8 @@ module _ (env : Environment) where
     pruned_terminal (Try body binding handler id) label targets =
         let inside = pruned_list body targets in
         let last = pruned_list handler inside.behind in
-        never_run env (Try body binding handler id) (Try inside.after binding last.after id) label targets last.behind
+        stays_in_place env (Try body binding handler id) (Try inside.after binding last.after id) label targets
+        last.behind
         (rw (
           rebuilt-Try label_rules (block_of body) binding (block_of handler) id targets,
           inside.rebuilt,
@@ -196,7 +172,10 @@ module _ (env : Environment) where
         )
         refl)
         last.behind (rw (tree.outs-Try (block_of inside.after) binding (block_of last.after) id) refl)
-        (λ block e. last.stay block (inside.stay block e)) refl refl
+        (λ block e. last.stay block (inside.stay block e)) (
+          try-keeps_runs env body binding handler id label _,
+          try-keeps_runs env inside.after binding last.after id _ _,
+        ) (try_named env last.behind)
 
     pruned_alternate : (before : Alternate) (targets : Targets) → PrunedAlternate env before targets
     pruned_alternate Absent targets = record {
@@ -227,8 +206,8 @@ module _ (env : Environment) where
       behind = targets;
       rebuilt = refl;
       stay = λ block e. e;
-      alike = tt;
-      named = λ events outcome none. absurd none;
+      alike = (no_cases-keep_runs env, no_cases-keep_runs env);
+      named = no_cases_named env targets;
     }
     pruned_cases (Case test body rest) targets =
         let inside = pruned_alternate body targets in
@@ -244,6 +223,9 @@ module _ (env : Environment) where
             more.rebuilt,
           ) refl;
           stay = λ block e. more.stay block (inside.stay block e);
-          alike = tt;
-          named = λ events outcome none. absurd none;
+          alike = (
+            case-keeps_runs env test body inside.after rest more.after inside.alike.0 more.alike.0,
+            case-keeps_runs env test inside.after body more.after rest inside.alike.1 more.alike.1,
+          );
+          named = case_named env inside.behind more.behind more.stay inside.named more.named;
         }

@@ -1,7 +1,7 @@
 -- A part of a plain tree without its unused labels is a part of a plain tree again, with the same runs.
 --
 -- A `Label` that gives way caught nothing, since a jump out of its statements names a target behind them.
-use Rattle.std.proofs.Common.{◌≡◌, List, Bool, true, false, Option, Result, Ok, map, refl, ap, ◌++◌, ◌∷◌, Err}
+use Rattle.std.proofs.Common.{◌≡◌, List, Bool, true, false, Option, Result, Ok, map, refl, sym, ap, ◌++◌, ◌∷◌, Err}
 use Rattle.rc_hir.specs.Model.{Environment, Fault}
 use Rattle.rc_names.specs.Numbers.{EvaluationOrder}
 use Rattle.rc_tree.specs.Rebuilt.{Rebuilds, in_order, joined, rebuilt_block, rebuilt_case, rebuilt_statement}
@@ -14,12 +14,13 @@ use Rattle.rc_runs.specs.PlainTree.{Statements, Statement, TerminalStatement, Tr
 use Rattle.rc_runs.specs.TreeOf.{statements_of, statement_of, terminal_of, alternate_of, cases_of, block_of}
 use Rattle.rc_runs.specs.BodyRun.{Completion, RunsList, RunsStatement, RunsAlternate}
 use Rattle.rc_runs.proofs.PlainLists.{alone, labeled}
-use Rattle.rc_runs.proofs.KeepsRunsLemmas.{CatchesNothing, SameRuns, SameAlternateRuns, has_no_runs, label-keeps_runs}
-use Rattle.rc_runs.proofs.KeepsRunsLemmas.{flat-keeps_runs, keeps_runs-flat, no_runs-keeps_runs}
+use Rattle.rc_runs.proofs.KeepsRunsLemmas.{CatchesNothing, SameRuns, SameAlternateRuns, label-keeps_runs}
+use Rattle.rc_runs.proofs.KeepsRunsLemmas.{flat-keeps_runs, keeps_runs-flat}
+use Rattle.rc_runs.proofs.SwitchKeepsRuns.{SameCasesRuns}
 use Rattle.rc_checks.specs.Labels.{Targets, is_named, label_after, label_rules}
-use Rattle.rc_checks.proofs.LabelPruning.TargetsLemmas.{AllNamed, AllStay, caught-unnamed, label_after-catches}
-use Rattle.rc_checks.proofs.LabelPruning.TargetsLemmas.{catches-label_after}
-use Rattle.rc_checks.proofs.LabelPruning.TargetsLemmas.{label_named, no_run_named}
+use Rattle.rc_checks.proofs.LabelPruning.TargetsLemmas.{AllNamed, AllStay, caught-unnamed, label_after-alike}
+use Rattle.rc_checks.proofs.LabelPruning.TargetsLemmas.{label_named}
+use Rattle.rc_checks.proofs.LabelPruning.LoopsNamed.{RunsSomeCases}
 use Rattle.rc_tree.proofs.StepLemmas.{Ok-injective}
 use Rattle.rc_tree.specs.Step.{bind}
 
@@ -57,7 +58,7 @@ module _ (env : Environment) where
     pub alike : IsAlike after
     pub named : AllNamed Runs behind
 
-  -- statements, one statement, a block that may be left out, and the cases of a switch, which no run meets
+  -- statements, one statement, a block that may be left out, and the cases of a switch
   abbrev pub PrunedList : Statements → Targets → Type 0
   PrunedList before =
       Pruned (rebuilt_block label_rules (block_of before)) block_of (SameRuns env before) (RunsList env before)
@@ -72,7 +73,7 @@ module _ (env : Environment) where
 
   abbrev pub PrunedCases : Cases → Targets → Type 0
   PrunedCases before = Pruned (in_order (map (rebuilt_case label_rules) (cases_of before))) cases_of
-      (λ after. Unit {0}) (λ events outcome. ⊥)
+      (SameCasesRuns env before) (RunsSomeCases env before)
 
   -- a terminal whose inside is rebuilt, by the rule for it
   module _ (before after : TreeTerminal) (label : Option ReactiveLabel) (targets inside : Targets)
@@ -105,15 +106,6 @@ module _ (env : Environment) where
         named = named;
       }
 
-      -- the same where no run goes through it
-      pub never_run : has_no_runs before ≡ true → has_no_runs after ≡ true
-          → PrunedStatement (TerminalStatement before label) targets
-      never_run none none1 =
-          stays_in_place (
-            no_runs-keeps_runs env before label (TerminalStatement after (label_after behind label)) none,
-            no_runs-keeps_runs env after (label_after behind label) (TerminalStatement before label) none1,
-          ) (no_run_named env behind none)
-
   -- a `Label` whose inside is pruned, which gives way where nothing names it
   module _ (body : Statements) (id : EvaluationOrder) (label : Option ReactiveLabel) (targets : Targets)
       (inside : PrunedList body targets) where
@@ -130,8 +122,8 @@ module _ (env : Environment) where
     pruned_label true e =
         stays_in_place (Label body id) (Label inside.after id) label targets inside.behind label_rebuilt inside.behind
         (rw (tree.outs-Label (block_of inside.after) id, e) refl) inside.stay (
-          label-keeps_runs env id body inside.after label _ inside.alike.0 (label_after-catches inside.behind label),
-          label-keeps_runs env id inside.after body _ label inside.alike.1 (catches-label_after inside.behind label),
+          label-keeps_runs env id body inside.after label _ inside.alike.0 (label_after-alike inside.behind label),
+          label-keeps_runs env id inside.after body _ label inside.alike.1 (sym (label_after-alike inside.behind label)),
         ) (label_named env inside.behind inside.named)
     pruned_label false e = record {
       after = inside.after;

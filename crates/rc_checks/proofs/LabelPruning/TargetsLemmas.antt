@@ -1,4 +1,4 @@
--- Label pruning changes no label's catch, and the jumps out of each form name targets behind it.
+-- Label pruning changes no block that a label names, and the breaks out of each form name targets behind it.
 use Rattle.std.proofs.Common.{◌≡◌, List, [], ◌∷◌, ◌++◌, Bool, true, false, Option, Some, None, ◌||◌, if◌then◌else◌}
 use Rattle.std.proofs.Common.{refl, sym, ap, ◌∙◌, subst}
 use Rattle.std.proofs.lemmas.List.Folds.{list_any-append}
@@ -10,14 +10,16 @@ use Rattle.rc_tree.specs.Model.{ReactiveTerminalTargetKind, ReactiveLabel}
 use Rattle.rc_tree.specs.declared.kind.ReactiveTerminalTargetKind.TheVariants.{Implicit, Labeled, Unlabeled}
 use Rattle.rc_runs.specs.Event.{Event}
 use Rattle.rc_runs.specs.PlainTree.{Value, Statements, Nil, Cons, Statement, RowStatement, TerminalStatement}
-use Rattle.rc_runs.specs.PlainTree.{ScopeStatement, PrunedScopeStatement, TreeTerminal, Break, Return, If, Label}
-use Rattle.rc_runs.specs.PlainTree.{Alternate, Absent, Present}
+use Rattle.rc_runs.specs.PlainTree.{ScopeStatement, PrunedScopeStatement, Break, Continue, Return, Throw, If, Label}
+use Rattle.rc_runs.specs.PlainTree.{Try, Alternate, Absent, Present}
+use Rattle.rc_runs.specs.ValueRun.{Progress, Done, Short, Inside}
 use Rattle.rc_runs.specs.BodyRun.{Completion, Normal, BreakTo, BreakLoop, ContinueTo, ContinueLoop, Ended, caught}
-use Rattle.rc_runs.specs.BodyRun.{RunsList, stopped, nothing, and_then, goes_on, leaves_list, RunsStatement, quiet_row}
-use Rattle.rc_runs.specs.BodyRun.{did_row, returned, break_implicit, break_labeled, break_unlabeled, took_arm}
+use Rattle.rc_runs.specs.BodyRun.{row_completion, RunsList, stopped, nothing, and_then, goes_on, leaves_list}
+use Rattle.rc_runs.specs.BodyRun.{RunsStatement, row, returned, thrown, break_implicit, break_labeled}
+use Rattle.rc_runs.specs.BodyRun.{break_unlabeled, continue_implicit, continue_labeled, continue_unlabeled, took_arm}
 use Rattle.rc_runs.specs.BodyRun.{took_other, in_label, in_scope, in_pruned_scope, RunsAlternate, absent, present}
 use Rattle.rc_names.proofs.NumbersLemmas.{ids_equivalence, same_id-eq}
-use Rattle.rc_runs.proofs.KeepsRunsLemmas.{CatchAlike, has_no_runs}
+use Rattle.rc_runs.proofs.LabelLemmas.{NameAlike}
 use Rattle.rc_checks.specs.Labels.{Targets, is_target, with_jump, is_named, label_after}
 
 -- the block stays a target
@@ -58,7 +60,7 @@ is_target-with_jump Implicit target targets block e = e
 is_target-with_jump Unlabeled target targets block e = e
 
 -- a break that isn't caught is one inside
-inner_break : (label : Option ReactiveLabel) (inner : Completion) (target : BlockId) →
+pub inner_break : (label : Option ReactiveLabel) (inner : Completion) (target : BlockId) →
     caught label inner ≡ BreakTo target → inner ≡ BreakTo target
 inner_break None inner target e = e
 inner_break (Some label) (BreakTo other) target e = go (same_id label.id other) e
@@ -71,6 +73,12 @@ inner_break (Some label) BreakLoop target e = e
 inner_break (Some label) (ContinueTo other) target e = e
 inner_break (Some label) ContinueLoop target e = e
 inner_break (Some label) (Ended end) target e = e
+
+-- a row leads to no jump
+row_stays : (progress : Progress) (target : BlockId) → row_completion progress ≡ BreakTo target → ⊥
+row_stays Done target e = cc
+row_stays Short target e = cc
+row_stays Inside target e = cc
 
 same_break : (a b : BlockId) → BreakTo a ≡ BreakTo b → a ≡ b
 same_break a b e = cc
@@ -92,12 +100,16 @@ module _ (env : Environment) where
 
   pub row_named : {id : EvaluationOrder} {target : Option Place} {value : Value} {span : Option Span}
       (targets : Targets) → AllNamed (RunsStatement env (RowStatement id target value span)) targets
-  row_named targets events outcome (quiet_row s) block e = absurd (let bad : ⊥ = cc in bad)
-  row_named targets events outcome (did_row s) block e = absurd (let bad : ⊥ = cc in bad)
+  row_named targets events outcome (row {progress = progress} r q) block e =
+      absurd (row_stays progress block (sym q ∙ e))
 
   pub return_named : {value : Place} {id : EvaluationOrder} {label : Option ReactiveLabel} (targets : Targets)
       → AllNamed (RunsStatement env (TerminalStatement (Return value id) label)) targets
   return_named targets events outcome returned block e = absurd (let bad : ⊥ = cc in bad)
+
+  pub throw_named : {value : Place} {id : EvaluationOrder} {label : Option ReactiveLabel} (targets : Targets)
+      → AllNamed (RunsStatement env (TerminalStatement (Throw value id) label)) targets
+  throw_named targets events outcome thrown block e = absurd (let bad : ⊥ = cc in bad)
 
   pub break_named : {target : BlockId} {kind : ReactiveTerminalTargetKind} {id : EvaluationOrder}
       {label : Option ReactiveLabel} (targets : Targets)
@@ -108,16 +120,19 @@ module _ (env : Environment) where
       subst (λ b. is_target (insert_key same_id targets target) b ≡ true) same (is_target-inserted targets target)
   break_named targets events outcome break_unlabeled block e = absurd (let bad : ⊥ = cc in bad)
 
-  -- no run goes through the terminal
-  pub no_run_named : {terminal : TreeTerminal} {label : Option ReactiveLabel} (targets : Targets)
-      → has_no_runs terminal ≡ true → AllNamed (RunsStatement env (TerminalStatement terminal label)) targets
-  no_run_named targets none events outcome returned block e = absurd (let bad : ⊥ = cc in bad)
-  no_run_named targets none events outcome break_implicit block e = absurd (let bad : ⊥ = cc in bad)
-  no_run_named targets none events outcome (break_labeled q) block e = absurd (let bad : ⊥ = cc in bad)
-  no_run_named targets none events outcome break_unlabeled block e = absurd (let bad : ⊥ = cc in bad)
-  no_run_named targets none events outcome (took_arm r q) block e = absurd (let bad : ⊥ = cc in bad)
-  no_run_named targets none events outcome (took_other r q) block e = absurd (let bad : ⊥ = cc in bad)
-  no_run_named targets none events outcome (in_label r q) block e = absurd (let bad : ⊥ = cc in bad)
+  -- a continue leads to no break
+  pub continue_named : {target : BlockId} {kind : ReactiveTerminalTargetKind} {id : EvaluationOrder}
+      {label : Option ReactiveLabel} (targets : Targets)
+      → AllNamed (RunsStatement env (TerminalStatement (Continue target kind id) label)) targets
+  continue_named targets events outcome continue_implicit block e = absurd (let bad : ⊥ = cc in bad)
+  continue_named targets events outcome continue_labeled block e = absurd (let bad : ⊥ = cc in bad)
+  continue_named targets events outcome continue_unlabeled block e = absurd (let bad : ⊥ = cc in bad)
+
+  -- a try has no runs
+  pub try_named : {body : Statements} {binding : Option Place} {handler : Statements} {id : EvaluationOrder}
+      {label : Option ReactiveLabel} (targets : Targets)
+      → AllNamed (RunsStatement env (TerminalStatement (Try body binding handler id) label)) targets
+  try_named targets events outcome r block e = elim r [ ]
 
   module _ (targets : Targets) {body : Statements} (inside : AllNamed (RunsList env body) targets) where
     pub label_named : {id : EvaluationOrder} {label : Option ReactiveLabel}
@@ -174,22 +189,12 @@ caught-unnamed (Some label) (ContinueTo other) targets unnamed names = refl
 caught-unnamed (Some label) ContinueLoop targets unnamed names = refl
 caught-unnamed (Some label) (Ended end) targets unnamed names = refl
 
--- a label that is made implicit catches the same jumps
-pub label_after-catches : (targets : Targets) (label : Option ReactiveLabel)
-    → CatchAlike label (label_after targets label)
-label_after-catches targets None outcome = refl
-label_after-catches targets (Some label) outcome = go (is_target targets label.id) outcome
+-- a label that is made implicit names the same block
+pub label_after-alike : (targets : Targets) (label : Option ReactiveLabel) → NameAlike label (label_after targets label)
+label_after-alike targets None = refl
+label_after-alike targets (Some label) = go (is_target targets label.id)
   where
     go : (named : Bool) →
-        CatchAlike (Some label) (Some (if named then label else record { id = label.id; implicit = true }))
-    go true outcome = refl
-    go false (BreakTo target) = refl
-    go false Normal = refl
-    go false BreakLoop = refl
-    go false (ContinueTo target) = refl
-    go false ContinueLoop = refl
-    go false (Ended end) = refl
-
-pub catches-label_after : (targets : Targets) (label : Option ReactiveLabel)
-    → CatchAlike (label_after targets label) label
-catches-label_after targets label outcome = sym (label_after-catches targets label outcome)
+        NameAlike (Some label) (Some (if named then label else record { id = label.id; implicit = true }))
+    go true = refl
+    go false = refl

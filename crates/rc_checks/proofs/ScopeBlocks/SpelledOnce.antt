@@ -1,81 +1,46 @@
 -- A spelled tree has each scope in one scope block: its scopes are among those that its used blocks open, each of which
 -- is opened once.
-use Rattle.std.proofs.Common.{◌≡◌, ◌∙◌, ◌≤◌, ◌+◌, ℕ, Bool, true, false, List, [], ◌∷◌, ◌++◌, Option, None, Some}
-use Rattle.std.proofs.Common.{if◌then◌else◌, option_and_then, arith, refl, sym, ap, subst}
-use Rattle.std.specs.List.{AllByRecursion, IsDistinct, filter_map}
+use Rattle.std.proofs.Common.{◌≡◌, ◌∙◌, ◌≤◌, ◌+◌, ℕ, Bool, true, List, [], ◌∷◌, ◌++◌, Option, None, Some}
+use Rattle.std.proofs.Common.{option_and_then, option_map, arith, refl, ap, subst}
+use Rattle.std.specs.List.{filter_map}
 use Rattle.std.proofs.lemmas.List.Elements.{filter_map-append}
-use Rattle.rc_names.specs.Numbers.{BlockId, ScopeId, EvaluationOrder, same_id, times}
-use Rattle.rc_hir.specs.Model.{Environment, HirFunction, Instruction, Terminal}
-use Rattle.rc_tree.specs.Collected.{collected, collected_list, collected_statement, collected_terminal}
+use Rattle.rc_names.specs.Numbers.{BlockId, ScopeId, EvaluationOrder, times}
+use Rattle.rc_hir.specs.Model.{Environment, HirFunction, Instruction, Place, Terminal}
+use Rattle.rc_hir.specs.Model.{Case as GraphCase}
+use Rattle.rc_tree.specs.Collected.{collected, collected_case, collected_cases, collected_list, collected_statement}
+use Rattle.rc_tree.specs.Collected.{collected_terminal}
 use Rattle.rc_tree.specs.Model.{ReactiveFunction, ReactiveLabel}
+use Rattle.rc_tree.specs.declared.terminal.ReactiveSwitchCase.{roll-ReactiveSwitchCase}
 use Rattle.rc_tree.specs.declared.value.ReactiveValue.TheVariants as reactive_values
-use Rattle.rc_tree.proofs.CollectedLemmas.{collected-block, collected-Instruction, collected-Terminal, collected-Scope}
-use Rattle.rc_tree.proofs.CollectedLemmas.{collected-PrunedScope, collected-Break, collected-Return, collected-If}
-use Rattle.rc_tree.proofs.CollectedLemmas.{collected-Label}
-use Rattle.rc_runs.specs.Frames.{resolve_break}
+use Rattle.rc_tree.proofs.CollectedLemmas.{collected-block, collected-case, collected-Instruction, collected-Terminal}
+use Rattle.rc_tree.proofs.CollectedLemmas.{collected-Scope, collected-PrunedScope, collected-Break, collected-Continue}
+use Rattle.rc_tree.proofs.CollectedLemmas.{collected-Return, collected-Throw, collected-Switch, collected-DoWhile}
+use Rattle.rc_tree.proofs.CollectedLemmas.{collected-While, collected-For, collected-ForOf, collected-ForIn}
+use Rattle.rc_tree.proofs.CollectedLemmas.{collected-If, collected-Label}
+use Rattle.rc_runs.specs.Frames.{resolve_break, resolve_continue}
 use Rattle.rc_runs.specs.Graph.{Block, block_at}
-use Rattle.rc_runs.specs.Grammar.{SpellsList, SpellsRest, SpellsStatement, SpellsTerminal, break_statements}
-use Rattle.rc_runs.specs.Grammar.{rows_before, unlabeled}
-use Rattle.rc_runs.specs.Grammar.{from_block, returns, unreachable, breaks, and_rest, if_only, if_else, label_statement, scope_statement}
-use Rattle.rc_runs.specs.Grammar.{pruned_scope_statement, no_rest, has_rest}
+use Rattle.rc_runs.specs.Grammar.{SpellsList, SpellsRest, SpellsStatement, SpellsTerminal, SpellsCases, SpellsTurns}
+use Rattle.rc_runs.specs.Grammar.{break_statements, continue_statements, label_of, rows_before, unlabeled, from_block}
+use Rattle.rc_runs.specs.Grammar.{returns, throws, unreachable, breaks, continues, branch_arms, branch_break, and_rest, if_only}
+use Rattle.rc_runs.specs.Grammar.{if_else, label_statement, scope_statement, pruned_scope_statement, switch_statement}
+use Rattle.rc_runs.specs.Grammar.{while_loop, do_while_loop, for_loop, for_of_loop, for_in_loop, no_cases, one_case}
+use Rattle.rc_runs.specs.Grammar.{turns, no_rest, has_rest}
 use Rattle.rc_runs.specs.ListContext.{ListContext}
+use Rattle.rc_runs.specs.LoopParts.{LoopBlocks, LoopParts}
 use Rattle.rc_runs.specs.PlainTree.{Base, Statement, RowStatement, TerminalStatement, Statements, Nil, Cons}
-use Rattle.rc_runs.specs.PlainTree.{TreeTerminal, Break, Return, If, Label, Absent, Present}
+use Rattle.rc_runs.specs.PlainTree.{TreeTerminal, Break, Continue, Return, Throw, Switch, DoWhile, While, For, ForOf}
+use Rattle.rc_runs.specs.PlainTree.{ForIn, If, Label, Absent, Present, Cases}
 use Rattle.rc_runs.specs.Spelled.{Spells, scope_at, scope_named}
-use Rattle.rc_runs.specs.TreeOf.{block_of, statement_of, statements_of, terminal_of}
+use Rattle.rc_runs.specs.TreeOf.{value_of, block_of, cases_of, statement_of, statements_of, terminal_of}
 use Rattle.rc_runs.specs.declared.frames.BreakResult.{BreakResult}
 use Rattle.rc_runs.specs.declared.frames.BreakResult.TheVariants.{NoFrame, LeavesScope, LeavesCase, FallsOff, Breaks}
-use Rattle.rc_names.proofs.NumbersLemmas.{ids_equivalence, same_id-eq}
+use Rattle.rc_runs.specs.declared.frames.ContinueResult.{ContinueResult}
+use Rattle.rc_runs.specs.declared.frames.ContinueResult.TheVariants.{NoLoop, Continues}
 use Rattle.rc_runs.proofs.GraphLemmas.{usable_block-at}
 use Rattle.rc_checks.specs.ScopeBlocks.{Contents, contents_of_parts, HasScopesOnce, scopes_in, scopes_of}
 use Rattle.rc_checks.specs.ScopeBlocks.{joining}
 use Rattle.rc_checks.proofs.ScopeBlocks.ContentsLemmas.{scopes_of-both}
-
-times-append : (s : ScopeId) (xs ys : List ScopeId) → times s (xs ++ ys) ≡ times s xs + times s ys
-times-append s [] ys = omega arith
-times-append s (x ∷ xs) ys = omega (arith, times-append s xs ys)
-
--- a scope that differs from all is none of them
-none_times : (s : ScopeId) (xs : List ScopeId) → AllByRecursion (λ y. same_id s y ≡ false) xs → times s xs ≡ 0
-none_times s [] none = refl
-none_times s (x ∷ xs) none = rw none.0 (omega (arith, none_times s xs none.1))
-
--- the other way round
-apart_of : (s : ScopeId) (xs : List ScopeId) → times s xs ≡ 0 → AllByRecursion (λ y. same_id s y ≡ false) xs
-apart_of s [] none = tt
-apart_of s (x ∷ xs) none = split (same_id s x) refl none (apart_of s xs)
-  where
-    split : (b : Bool) → same_id s x ≡ b → (if b then 1 else 0) + times s xs ≡ 0
-        → (times s xs ≡ 0 → AllByRecursion (λ y. same_id s y ≡ false) xs)
-        → AllByRecursion (λ y. same_id s y ≡ false) (x ∷ xs)
-    split true is none later = absurd (omega arith)
-    split false is none later = (is, later (omega arith))
-
--- scopes that differ are each among them once at most
-at_most_once : (xs : List ScopeId) → IsDistinct same_id xs → (s : ScopeId) → times s xs ≤ 1
-unfolding IsDistinct
-at_most_once [] distinct s = omega arith
-at_most_once (x ∷ xs) distinct s = split (same_id s x) refl (at_most_once xs distinct.1 s)
-  where
-    split : (b : Bool) → same_id s x ≡ b → times s xs ≤ 1 → (if b then 1 else 0) + times s xs ≤ 1
-    split true is later =
-        let same : s ≡ x = same_id-eq s x is in
-        let none : times s xs ≡ 0 = subst (λ z. times z xs ≡ 0) (sym same) (none_times x xs distinct.0) in
-        omega arith
-    split false is later = omega (arith, later)
-
--- the other way round
-differ : (xs : List ScopeId) → ((s : ScopeId) → times s xs ≤ 1) → IsDistinct same_id xs
-unfolding IsDistinct
-differ [] once = tt
-differ (x ∷ xs) once =
-    let own : same_id x x ≡ true = ids_equivalence.refl x in
-    let here : (if same_id x x then 1 else 0) + times x xs ≤ 1 = once x in
-    let none : times x xs ≡ 0 = omega (arith, rw own at here) in (
-      apart_of x xs none,
-      differ xs (λ s. let all : (if same_id s x then 1 else 0) + times s xs ≤ 1 = once s in
-          omega (arith, all)),
-    )
+use Rattle.rc_checks.proofs.ScopeBlocks.DistinctLemmas.{times-append, at_most_once, differ}
 
 module _ (hir : HirFunction) (env : Environment) (s : ScopeId) where
   -- how often the scope is that of a scope block in the contents of a part
@@ -165,8 +130,28 @@ module _ (hir : HirFunction) (env : Environment) (s : ScopeId) where
       subst (λ x. tree_times x ≡ 0) (let same : unlabeled (Break target kind id) ≡ statements = cc in same)
       (alone_times (Break target kind id) (collected-Break contents_of_parts target kind id))
 
+  continue_times : (result : ContinueResult) (id : EvaluationOrder) (statements : Statements)
+      → continue_statements result id ≡ Some statements → tree_times statements ≡ 0
+  continue_times NoLoop id statements e = absurd (let no : ⊥ = cc in no)
+  continue_times (Continues target kind) id statements e =
+      subst (λ x. tree_times x ≡ 0) (let same : unlabeled (Continue target kind id) ≡ statements = cc in same)
+      (alone_times (Continue target kind id) (collected-Continue contents_of_parts target kind id))
+
   part_times : (part : Statements) → contents_times (collected contents_of_parts (block_of part)) ≡ tree_times part
   part_times part = ap contents_times (collected-block contents_of_parts (block_of part))
+
+  -- the arms of a branch
+  branch_times : (test : Place) (part other : Statements) (id : EvaluationOrder)
+      → tree_times (unlabeled (If test part (Present other) id)) ≡ tree_times part + tree_times other
+  branch_times test part other id =
+      omega (
+        arith,
+        alone_times (If test part (Present other) id)
+            (collected-If contents_of_parts test (block_of part) (Some (block_of other)) id),
+        contents_times-both (collected contents_of_parts (block_of part)) (collected contents_of_parts (block_of other)),
+        part_times part,
+        part_times other,
+      )
 
   mutual
     -- the scopes of a list are opened by its used blocks
@@ -185,6 +170,21 @@ module _ (hir : HirFunction) (env : Environment) (s : ScopeId) where
     terminal_times (unreachable {id = id} {span = span}) = omega arith
     terminal_times (breaks {target = target} {id = id} {context = around} {statements = statements} e) =
         omega (arith, jump_times (resolve_break around.frames target) target id statements e)
+    terminal_times (throws {value = value} {id = id} outside) =
+        omega (arith, alone_times (Throw value id) (collected-Throw contents_of_parts value id))
+    terminal_times (continues {target = target} {id = id} {context = around} {statements = statements} e) =
+        omega (arith, continue_times (resolve_continue around.frames target) id statements e)
+    terminal_times (branch_arms {test = test} {id = id} {part = part} {other = other} {part_used = a} {other_used = b}
+        d e is) =
+        rw is (omega (arith, branch_times test part other id, used-append a b, list_times d, list_times e))
+    terminal_times (branch_break {test = test} {consequent = target} {id = id} {context = around} {part = part}
+        {other = other} names e d) =
+        omega (
+          arith,
+          branch_times test part other id,
+          jump_times (resolve_break around.frames target) target id part e,
+          list_times d,
+        )
     terminal_times (and_rest {statement = statement} {rest = rest} {part_used = a} {rest_used = b} d r is) =
         rw is (omega (arith, tree-Cons statement rest, used-append a b, statement_times d, rest_times r))
 
@@ -231,6 +231,78 @@ module _ (hir : HirFunction) (env : Environment) (s : ScopeId) where
         let e = ap contents_times (collected-PrunedScope contents_of_parts
         (record { scope = of; instructions = block_of part })) in
         omega (arith, e, part_times part, list_times d)
+    statement_times (switch_statement {test = test} {id = id} {label = own} {parts = parts} o l one past kept last d) =
+        omega (
+          arith,
+          labeled_times (Switch test parts id) own (collected-Switch contents_of_parts test (cases_of parts) id),
+          cases_times id d,
+        )
+    statement_times (while_loop {fallthrough = f} {id = id} {parts = parts} reachable d) =
+        omega (
+          arith,
+          labeled_times (While parts.test parts.body id) (label_of true f)
+              (collected-While contents_of_parts (value_of parts.test) (block_of parts.body) id),
+          part_times parts.body,
+          turns_times d,
+        )
+    statement_times (do_while_loop {fallthrough = f} {id = id} {parts = parts} d) =
+        omega (
+          arith,
+          labeled_times (DoWhile parts.body parts.test id) (label_of true f)
+              (collected-DoWhile contents_of_parts (block_of parts.body) (value_of parts.test) id),
+          contents_times-both (collected contents_of_parts (block_of parts.body)) joining.nothing,
+          part_times parts.body,
+          turns_times d,
+        )
+    statement_times (for_loop {fallthrough = f} {id = id} {init_value = init} {parts = parts} {init_used = a} {turns_used = b} v d is) =
+        rw is (omega (
+          arith,
+          labeled_times (For init parts.test parts.before parts.body id) (label_of true f)
+              (collected-For contents_of_parts (value_of init) (value_of parts.test)
+              (option_map value_of parts.before) (block_of parts.body) id),
+          contents_times-both (collected contents_of_parts (block_of parts.body)) joining.nothing,
+          part_times parts.body,
+          used-append a b,
+          turns_times d,
+        ))
+    statement_times (for_of_loop {fallthrough = f} {id = id} {span = span} {init_value = init} {parts = parts} e d) =
+        omega (
+          arith,
+          labeled_times (ForOf init parts.test parts.body span id) (label_of true f)
+              (collected-ForOf contents_of_parts (value_of init) (value_of parts.test) (block_of parts.body) span id),
+          part_times parts.body,
+          turns_times d,
+        )
+    statement_times (for_in_loop {fallthrough = f} {id = id} {span = span} {parts = parts} d) =
+        omega (
+          arith,
+          labeled_times (ForIn parts.test parts.body span id) (label_of true f)
+              (collected-ForIn contents_of_parts (value_of parts.test) (block_of parts.body) span id),
+          part_times parts.body,
+          turns_times d,
+        )
+
+    cases_times : {cases : List GraphCase} {context : ListContext} {parts : Cases} {used : List BlockId}
+        (id : EvaluationOrder) → SpellsCases hir env cases context parts used
+        → contents_times (collected_cases contents_of_parts id (cases_of parts)) ≤ used_times used
+    cases_times id no_cases = omega arith
+    cases_times id (one_case {case = case} {part = part} {parts = rest} {later_used = a} {part_used = b} later d is) =
+        let first = collected_case contents_of_parts
+        (roll-ReactiveSwitchCase (record { test = case.test; block = Some (block_of part) })) id in
+        rw is (omega (
+          arith,
+          contents_times-both first (collected_cases contents_of_parts id (cases_of rest)),
+          ap contents_times (collected-case contents_of_parts case.test (Some (block_of part)) id),
+          part_times part,
+          used-append a b,
+          list_times d,
+          cases_times id later,
+        ))
+
+    turns_times : {blocks : LoopBlocks} {context : ListContext} {parts : LoopParts} {used : List BlockId}
+        → SpellsTurns hir env blocks context parts used → tree_times parts.body ≤ used_times used
+    turns_times (turns {test_used = a} {before_used = b} {body_used = c} apart again test before d is) =
+        rw is (omega (arith, used-append a (b ++ c), used-append b c, list_times d))
 
     rest_times : {o : Bool} {f : BlockId} {context : ListContext} {statements : Statements} {used : List BlockId}
         → SpellsRest hir env o f context statements used → tree_times statements ≤ used_times used
