@@ -10,8 +10,8 @@ use Rattle.rc_tree.specs.Model.{ReactiveFunction, ReactiveLabel}
 use Rattle.rc_runs.specs.Event.{Event, End}
 use Rattle.rc_runs.specs.PlainTree.{Value, Statements, Nil, Cons, Statement, RowStatement, TerminalStatement}
 use Rattle.rc_runs.specs.PlainTree.{ScopeStatement, PrunedScopeStatement, TreeTerminal, Break, Continue, Return, Throw}
-use Rattle.rc_runs.specs.PlainTree.{Switch, DoWhile, While, For, ForOf, ForIn, If, Label, Try, Alternate, Absent, Present}
-use Rattle.rc_runs.specs.PlainTree.{Cases, NoCases, Case}
+use Rattle.rc_runs.specs.PlainTree.{Switch, DoWhile, While, For, ForOf, ForIn, If, Label, Try, Alternate, Absent}
+use Rattle.rc_runs.specs.PlainTree.{Present, Cases, NoCases, Case}
 use Rattle.rc_runs.specs.BodyRun.{Ended, RunsList, row, IsBodyRun}
 use Rattle.rc_runs.specs.Erase.{erased_block, erased}
 use Rattle.rc_runs.proofs.PlainLists.{alone, labeled}

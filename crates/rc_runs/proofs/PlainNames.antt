@@ -12,11 +12,12 @@ use Rattle.rc_tree.specs.Joining.{all_of, lists}
 use Rattle.rc_tree.specs.TreeNames.{names_in, names_in_list, names_in_statement, names_in_terminal, names_of_parts}
 use Rattle.rc_tree.specs.TreeNames.{names_of_values}
 use Rattle.rc_tree.proofs.CollectedLemmas.{collected-row, collected-Base, collected-Logical, collected-Conditional}
-use Rattle.rc_tree.proofs.CollectedLemmas.{collected-Sequence, collected-Optional, collected-block, collected-Instruction}
-use Rattle.rc_tree.proofs.CollectedLemmas.{collected-Terminal, collected-Scope, collected-PrunedScope, collected-case}
+use Rattle.rc_tree.proofs.CollectedLemmas.{collected-Sequence, collected-Optional, collected-block}
+use Rattle.rc_tree.proofs.CollectedLemmas.{collected-Instruction, collected-Terminal, collected-Scope, collected-case}
 use Rattle.rc_tree.proofs.CollectedLemmas.{collected-Break, collected-Continue, collected-Return, collected-Throw}
 use Rattle.rc_tree.proofs.CollectedLemmas.{collected-Switch, collected-DoWhile, collected-While, collected-For}
-use Rattle.rc_tree.proofs.CollectedLemmas.{collected-ForOf, collected-ForIn, collected-If, collected-Label, collected-Try}
+use Rattle.rc_tree.proofs.CollectedLemmas.{collected-ForOf, collected-ForIn, collected-If, collected-Label}
+use Rattle.rc_tree.proofs.CollectedLemmas.{collected-PrunedScope, collected-Try}
 use Rattle.rc_runs.specs.PlainTree.{Value, Base, Logical, Conditional, Sequence, Optional, Rows, NoRows, Row}
 use Rattle.rc_runs.specs.PlainTree.{Statements, Nil, Cons, Statement, RowStatement, TerminalStatement, ScopeStatement}
 use Rattle.rc_runs.specs.PlainTree.{PrunedScopeStatement, TreeTerminal, Break, Continue, Return, Throw, Switch, DoWhile}
@@ -156,22 +157,26 @@ module _ (env : Environment) where
         by_same (collected-Terminal names_of_parts (record { terminal = terminal_of terminal; label = label }))
         (terminal_held terminal held)
     statement_held (ScopeStatement scope body) held =
-        by_parts (scope_name scope) _ (collected-Scope names_of_parts (record { scope = scope; instructions = block_of body })) held.0
+        by_parts (scope_name scope) _
+        (collected-Scope names_of_parts (record { scope = scope; instructions = block_of body })) held.0
         (as_block body (statements_held body held.1))
     statement_held (PrunedScopeStatement scope body) held =
-        by_parts (scope_name scope) _ (collected-PrunedScope names_of_parts (record { scope = scope; instructions = block_of body })) held.0
+        by_parts (scope_name scope) _
+        (collected-PrunedScope names_of_parts (record { scope = scope; instructions = block_of body })) held.0
         (as_block body (statements_held body held.1))
 
-    terminal_held : (terminal : TreeTerminal) → HeldTerminal terminal → Held env (names_in_terminal (terminal_of terminal))
+    terminal_held : (terminal : TreeTerminal) → HeldTerminal terminal →
+        Held env (names_in_terminal (terminal_of terminal))
     terminal_held (Break target kind id) held = by_same (collected-Break names_of_parts target kind id) none
     terminal_held (Continue target kind id) held = by_same (collected-Continue names_of_parts target kind id) none
     terminal_held (Return value id) held = by_same (collected-Return names_of_parts value id) held
     terminal_held (Throw value id) held = by_same (collected-Throw names_of_parts value id) held
     terminal_held (Switch test cases id) held =
-        by_parts (place_names test) _ (collected-Switch names_of_parts test (cases_of cases) id) held.0 (cases_held cases held.1 id)
+        by_parts (place_names test) _ (collected-Switch names_of_parts test (cases_of cases) id) held.0
+        (cases_held cases held.1 id)
     terminal_held (DoWhile body test id) held =
-        by_parts _ _ (collected-DoWhile names_of_parts (block_of body) (value_of test) id) (as_block body (statements_held body held.0))
-        (value_held test held.1 id)
+        by_parts _ _ (collected-DoWhile names_of_parts (block_of body) (value_of test) id)
+        (as_block body (statements_held body held.0)) (value_held test held.1 id)
     terminal_held (While test body id) held =
         by_parts _ _ (collected-While names_of_parts (value_of test) (block_of body) id) (value_held test held.0 id)
         (as_block body (statements_held body held.1))
@@ -179,20 +184,23 @@ module _ (env : Environment) where
         by_parts _ _
         (collected-For names_of_parts (value_of init) (value_of test) (option_map value_of update) (block_of body) id)
         (value_held init held.0 id)
-        (both _ _ (value_held test held.1 id) (both _ _ (as_block body (statements_held body held.2)) (option_held update held.3 id)))
+        (both _ _ (value_held test held.1 id)
+        (both _ _ (as_block body (statements_held body held.2)) (option_held update held.3 id)))
     terminal_held (ForOf init test body span id) held =
         by_parts _ _ (collected-ForOf names_of_parts (value_of init) (value_of test) (block_of body) span id)
         (value_held init held.0 id) (both _ _ (value_held test held.1 id) (as_block body (statements_held body held.2)))
     terminal_held (ForIn init body span id) held =
-        by_parts _ _ (collected-ForIn names_of_parts (value_of init) (block_of body) span id) (value_held init held.0 id)
-        (as_block body (statements_held body held.1))
+        by_parts _ _ (collected-ForIn names_of_parts (value_of init) (block_of body) span id)
+        (value_held init held.0 id) (as_block body (statements_held body held.1))
     terminal_held (If test consequent alternate id) held =
-        by_parts (place_names test) _ (collected-If names_of_parts test (block_of consequent) (alternate_of alternate) id) held.0
+        by_parts (place_names test) _
+        (collected-If names_of_parts test (block_of consequent) (alternate_of alternate) id) held.0
         (both _ _ (as_block consequent (statements_held consequent held.1)) (alternate_held alternate held.2))
     terminal_held (Label body id) held =
         by_same (collected-Label names_of_parts (block_of body) id) (as_block body (statements_held body held))
     terminal_held (Try body binding handler id) held =
-        by_parts _ _ (collected-Try names_of_parts (block_of body) binding (block_of handler) id) (as_block body (statements_held body held.0))
+        by_parts _ _ (collected-Try names_of_parts (block_of body) binding (block_of handler) id)
+        (as_block body (statements_held body held.0))
         (both _ _ held.1 (as_block handler (statements_held handler held.2)))
 
     alternate_held : (alternate : Alternate) → HeldAlternate alternate →
@@ -204,7 +212,8 @@ module _ (env : Environment) where
         Held env (collected_cases names_of_parts id (cases_of cases))
     cases_held NoCases held id = none
     cases_held (Case test body rest) held id =
-        both _ _ (by_parts _ _ (collected-case names_of_parts test (alternate_of body) id) held.0 (alternate_held body held.1))
+        both _ _
+        (by_parts _ _ (collected-case names_of_parts test (alternate_of body) id) held.0 (alternate_held body held.1))
         (cases_held rest held.2 id)
 
   pub block_held : (body : Statements) → HeldStatements body → Held env (names_in (block_of body))

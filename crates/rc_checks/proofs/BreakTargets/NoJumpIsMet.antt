@@ -184,11 +184,12 @@ module _ {hir : HirFunction} {env : Environment} where
         (tree.outs-If test (block_of part) (Some (block_of other)) id))
     quiet_statement (label_statement {id = id} {label = own} {part = part} i l d) all =
         still (Label part id) own (ap target_of (tree.outs-Label (block_of part) id))
-    quiet_statement (scope_statement {fallthrough = f} {scope = of} {context = context} {opened = o} {part = part} i d) all =
+    quiet_statement (scope_statement {fallthrough = f} {scope = of} {context = context} {opened = o} {part = part} i d)
+        all =
         subst NoJumps (sym (met_at-Scope (record { scope = of; instructions = block_of part })))
         (block_quiet part (quiet_list d (inside_scopes o f context all)))
-    quiet_statement (pruned_scope_statement {fallthrough = f} {scope = of} {context = context} {opened = o} {part = part} i d)
-        all =
+    quiet_statement (pruned_scope_statement {fallthrough = f} {scope = of} {context = context} {opened = o}
+        {part = part} i d) all =
         subst NoJumps (sym (met_at-PrunedScope (record { scope = of; instructions = block_of part })))
         (block_quiet part (quiet_list d (inside_scopes o f context all)))
     quiet_statement (switch_statement {test = test} {id = id} {label = own} {parts = parts} o l one past kept last d)

@@ -28,8 +28,8 @@ left_break label ContinueLoop target e = inner_break label ContinueLoop target e
 left_break label (Ended end) target e = inner_break label (Ended end) target e
 
 module _ (env : Environment) (targets : Targets) where
-  loop_named : {label : Option ReactiveLabel} {loop : LoopParts} {spot : Spot} → AllNamed (RunsList env loop.body) targets
-      → AllNamed (RunsLoop env label loop spot) targets
+  loop_named : {label : Option ReactiveLabel} {loop : LoopParts} {spot : Spot}
+      → AllNamed (RunsList env loop.body) targets → AllNamed (RunsLoop env label loop spot) targets
   loop_named inside events outcome (nothing_before none r) block e = loop_named inside events outcome r block e
   loop_named inside events outcome (in_before some r) block e = absurd (let bad : ⊥ = cc in bad)
   loop_named inside events outcome (past_before some r past later w) block e =

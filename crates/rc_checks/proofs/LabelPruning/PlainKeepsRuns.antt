@@ -6,7 +6,8 @@ use Rattle.rc_tree.specs.Unrolled.{UnrolledCase}
 use Rattle.rc_tree.specs.Model.{PrunedReactiveScopeBlock, ReactiveScopeBlock, ReactiveLabel}
 use Rattle.rc_tree.specs.declared.terminal.ReactiveSwitchCase.{out-roll-ReactiveSwitchCase, roll-ReactiveSwitchCase}
 use Rattle.rc_tree.specs.declared.terminal.ReactiveTerminal.TheVariants as tree
-use Rattle.rc_tree.proofs.RebuiltLemmas.{rebuilt-block, rebuilt-scope, rebuilt-pruned_scope, rebuilt-case, rebuilt-Instruction}
+use Rattle.rc_tree.proofs.RebuiltLemmas.{rebuilt-block, rebuilt-scope, rebuilt-pruned_scope, rebuilt-case}
+use Rattle.rc_tree.proofs.RebuiltLemmas.{rebuilt-Instruction}
 use Rattle.rc_tree.proofs.RebuiltLemmas.{rebuilt-Scope, rebuilt-PrunedScope, rebuilt-Break, rebuilt-Continue}
 use Rattle.rc_tree.proofs.RebuiltLemmas.{rebuilt-Return, rebuilt-Throw, rebuilt-If, rebuilt-Try}
 use Rattle.rc_runs.specs.PlainTree.{Statements, Nil, Cons, Statement, RowStatement, TerminalStatement, ScopeStatement}

@@ -123,7 +123,8 @@ module _ (env : Environment) where
         stays_in_place (Label body id) (Label inside.after id) label targets inside.behind label_rebuilt inside.behind
         (rw (tree.outs-Label (block_of inside.after) id, e) refl) inside.stay (
           label-keeps_runs env id body inside.after label _ inside.alike.0 (label_after-alike inside.behind label),
-          label-keeps_runs env id inside.after body _ label inside.alike.1 (sym (label_after-alike inside.behind label)),
+          label-keeps_runs env id inside.after body _ label inside.alike.1
+              (sym (label_after-alike inside.behind label)),
         ) (label_named env inside.behind inside.named)
     pruned_label false e = record {
       after = inside.after;

@@ -21,10 +21,10 @@ use Rattle.rc_runs.specs.Frames.{resolve_break, resolve_continue}
 use Rattle.rc_runs.specs.Graph.{Block, block_at}
 use Rattle.rc_runs.specs.Grammar.{SpellsList, SpellsRest, SpellsStatement, SpellsTerminal, SpellsCases, SpellsTurns}
 use Rattle.rc_runs.specs.Grammar.{break_statements, continue_statements, label_of, rows_before, unlabeled, from_block}
-use Rattle.rc_runs.specs.Grammar.{returns, throws, unreachable, breaks, continues, branch_arms, branch_break, and_rest, if_only}
-use Rattle.rc_runs.specs.Grammar.{if_else, label_statement, scope_statement, pruned_scope_statement, switch_statement}
+use Rattle.rc_runs.specs.Grammar.{returns, throws, unreachable, breaks, continues, branch_arms, branch_break, and_rest}
+use Rattle.rc_runs.specs.Grammar.{if_only, if_else, label_statement, scope_statement, pruned_scope_statement}
 use Rattle.rc_runs.specs.Grammar.{while_loop, do_while_loop, for_loop, for_of_loop, for_in_loop, no_cases, one_case}
-use Rattle.rc_runs.specs.Grammar.{turns, no_rest, has_rest}
+use Rattle.rc_runs.specs.Grammar.{switch_statement, turns, no_rest, has_rest}
 use Rattle.rc_runs.specs.ListContext.{ListContext}
 use Rattle.rc_runs.specs.LoopParts.{LoopBlocks, LoopParts}
 use Rattle.rc_runs.specs.PlainTree.{Base, Statement, RowStatement, TerminalStatement, Statements, Nil, Cons}
@@ -148,7 +148,8 @@ module _ (hir : HirFunction) (env : Environment) (s : ScopeId) where
         arith,
         alone_times (If test part (Present other) id)
             (collected-If contents_of_parts test (block_of part) (Some (block_of other)) id),
-        contents_times-both (collected contents_of_parts (block_of part)) (collected contents_of_parts (block_of other)),
+        contents_times-both (collected contents_of_parts (block_of part))
+            (collected contents_of_parts (block_of other)),
         part_times part,
         part_times other,
       )
@@ -254,7 +255,8 @@ module _ (hir : HirFunction) (env : Environment) (s : ScopeId) where
           part_times parts.body,
           turns_times d,
         )
-    statement_times (for_loop {fallthrough = f} {id = id} {init_value = init} {parts = parts} {init_used = a} {turns_used = b} v d is) =
+    statement_times (for_loop {fallthrough = f} {id = id} {init_value = init} {parts = parts} {init_used = a}
+        {turns_used = b} v d is) =
         rw is (omega (
           arith,
           labeled_times (For init parts.test parts.before parts.body id) (label_of true f)
