@@ -21,7 +21,7 @@ no_marks = record { used = []; scopes = [] }
 -- nothing stands around the entry's list
 pub at_outermost : (builder : Builder) (block : BlockId) {hir : HirFunction} {env : Environment}
     → builder.hir.now ≡ hir → builder.env.now ≡ env → builder.frames ≡ []
-    → setting_of builder (record { block = block; next = None; handler = None })
+    → setting_of builder (record { block = block; next = None })
     ≡ record { hir = hir; env = env; context = outermost }
 at_outermost builder block h e f = cc
 

@@ -1,16 +1,17 @@
 -- What a function of the builder ensures where a fault ends it, and where it goes on with another one.
-use Rattle.std.proofs.Common.{◌≡◌, Result, Ok, Err, Option, Some, IfOk, IfErr, IsErrAnd, refl, sym, ap, ◌∙◌, subst}
+use Rattle.std.proofs.Common.{◌≡◌, List, Result, Ok, Err, Option, Some, IfOk, IfErr, IsErrAnd, refl, sym, ap, ◌∙◌, subst}
 use Rattle.std.proofs.lemmas.Result.{err_from_is_err_and}
 use Rattle.rc_names.specs.Numbers.{BlockId}
 use Rattle.rc_names.specs.declared.span.Span.{Span}
 use Rattle.rc_hir.specs.Model.{Terminal, Fault, Rule}
 use Rattle.rc_hir.specs.declared.fault.Fault.TheVariants as faults
+use Rattle.rc_tree.specs.Model.{ReactiveStatement}
 use Rattle.rc_build.specs.declared.builder.Builder.{Builder}
 use Rattle.rc_build.specs.declared.builder.Site.{Site}
 use Rattle.rc_build.specs.RuleFacts.{FaultFact, RuleFact}
-use Rattle.rc_build.specs.inside.Setting.{Setting, setting_of}
+use Rattle.rc_build.specs.inside.Setting.{Setting, setting_of, site_at}
 use Rattle.rc_build.specs.inside.Task.{FromTerminal, Spells, Task, left, progress_of}
-use Rattle.rc_build.specs.inside.Built.{Builds, BuildsTask, BuiltPrefix, Refused, IfMalformed}
+use Rattle.rc_build.specs.inside.Built.{Builds, BuildsList, BuildsTask, BuiltPrefix, Refused, IfMalformed}
 use Rattle.rc_build.proofs.BuiltLemmas.{prefix_then, prefix_refused}
 
 -- the fault that a `?` passes on is that of its call
@@ -105,3 +106,24 @@ builds_then {A = A} {old} {mid} {new} {site} {task} {between} {rest} {result} sa
         → IfOk r (λ _. setting_of new site ≡ setting_of old site)
     frames (Ok answer) e = e ∙ same
     frames (Err fault) e = tt
+
+-- what is built at another block's site of the same list
+pub builds_at : {A : Type 0} {old new : Builder} {site : Site} (block : BlockId) {Built BuiltThere : A → Type 0}
+    {N NThere : Type 0} {result : Result A Fault} → ((answer : A) → BuiltThere answer → Built answer) → (NThere → N)
+    → Builds old new (site_at block site) BuiltThere NThere result → Builds old new site Built N result
+builds_at {A = A} {old} {new} {site} block {Built} {BuiltThere} {result = result} built none b = record {
+  ok = go result b.ok;
+  refused = λ named rule e. none (b.refused named rule e);
+  facts = b.facts;
+  frames = b.frames;
+}
+  where
+    go : (r : Result A Fault) → IfOk r BuiltThere → IfOk r Built
+    go (Ok answer) h = built answer h
+    go (Err fault) h = tt
+
+-- the list from another block on
+pub list_at : {old new : Builder} {site inner : Site} (block : BlockId) {result : Result (List ReactiveStatement) Fault}
+    → inner ≡ site_at block site → BuildsList old new inner inner.block result → BuildsList old new site block result
+list_at {old} {new} block {result} is b =
+    builds_at block (λ answer h. h) (λ none. none) (subst (λ (z : Site). BuildsList old new z z.block result) is b)

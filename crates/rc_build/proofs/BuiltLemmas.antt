@@ -12,7 +12,8 @@ use Rattle.rc_runs.specs.Frames.{is_jump_target}
 use Rattle.rc_runs.specs.Graph.{usable_block}
 use Rattle.rc_runs.specs.TreeOf.{statements_of, statement_of}
 use Rattle.rc_runs.specs.Grammar.{SpellsList, SpellsTerminal, SpellsStatement, SpellsRest, rows_before, from_block, and_rest}
-use Rattle.rc_runs.specs.Grammar.{has_rest, no_rest, returns, unreachable, breaks}
+use Rattle.rc_runs.specs.Grammar.{has_rest, no_rest, returns, throws, unreachable, breaks, continues, branch_arms}
+use Rattle.rc_runs.specs.Grammar.{branch_break}
 use Rattle.rc_runs.specs.Spelled.{AreSound}
 use Rattle.rc_build.specs.References.{referenced_blocks}
 use Rattle.rc_build.specs.inside.Rows.{row_statement_of}
@@ -198,23 +199,33 @@ module _ {s : Setting} where
   block_refused key marks none all used (from_block {used = later} {block = found} u l d w) sound =
       none found u l (refused_front s.hir marks.used (key ∷ []) later sound refl)
 
-  -- a terminal that ends its list
+  -- a terminal that ends its list, with parts that are marked
+  pub end_prefix : (terminal : Terminal) (statements : Statements) {blocks : List BlockId} {old new : Progress}
+      → new.out ≡ old.out ++ statements_of statements
+      → SpellsTerminal s.hir s.env terminal s.context statements blocks
+      → MarksBlocks s.hir (referenced_blocks terminal) [] old.marks new.marks blocks
+      → BuiltPrefix s (FromTerminal terminal) Nothing old new
+  end_prefix terminal statements {blocks} e d marking = record {
+    statements = statements;
+    newly = blocks;
+    put = e;
+    marking = marking;
+    onward = λ later used h. subst (λ z. SpellsTerminal s.hir s.env terminal s.context (join statements z) (blocks ++ used))
+        (sym h.0)
+        (subst (λ z. SpellsTerminal s.hir s.env terminal s.context (join statements Nil) (blocks ++ z)) (sym h.1)
+        (subst (SpellsTerminal s.hir s.env terminal s.context (join statements Nil)) (sym (append-nil blocks))
+        (subst (λ z. SpellsTerminal s.hir s.env terminal s.context z blocks) (sym (join-nil statements)) d)));
+    only = λ all used h. (Nil, [], (refl, refl), (one_terminal h d).1 ∙ sym (append-nil blocks));
+  }
+
+  -- one without parts
   pub leaf_prefix : (terminal : Terminal) (statements : Statements) {out whole : List ReactiveStatement} (marks : Marks)
       → AreMarked s.hir marks → whole ≡ out ++ statements_of statements →
       SpellsTerminal s.hir s.env terminal s.context statements []
       → BuiltPrefix s (FromTerminal terminal) Nothing (record { marks = marks; out = out })
       (record { marks = marks; out = whole })
-  leaf_prefix terminal statements marks m e d = record {
-    statements = statements;
-    newly = [];
-    put = e;
-    marking = marking_drop s.hir (λ key. omega arith) (marking_none s.hir (referenced_blocks terminal) marks m);
-    onward = λ later used h. subst (λ z. SpellsTerminal s.hir s.env terminal s.context (join statements z) used)
-        (sym h.0)
-        (subst (SpellsTerminal s.hir s.env terminal s.context (join statements Nil)) (sym h.1)
-        (subst (λ z. SpellsTerminal s.hir s.env terminal s.context z []) (sym (join-nil statements)) d));
-    only = λ all used h. (Nil, [], (refl, refl), (one_terminal h d).1);
-  }
+  leaf_prefix terminal statements marks m e d = end_prefix terminal statements e d
+      (marking_drop s.hir (λ key. omega arith) (marking_none s.hir (referenced_blocks terminal) marks m))
 
   rest_left : (is_open : Bool) (fallthrough : BlockId) (rest : Statements) (used : List BlockId)
       → Spells s (left (open_block is_open fallthrough)) rest used
@@ -237,8 +248,12 @@ module _ {s : Setting} where
       (rest : Statements) × (later : List BlockId) × SpellsRest s.hir s.env is_open fallthrough s.context rest later
       × (used ≡ blocks ++ later)
   after_statement d all used returns = elim d [ ]
+  after_statement d all used (throws h) = elim d [ ]
   after_statement d all used unreachable = elim d [ ]
   after_statement d all used (breaks e) = elim d [ ]
+  after_statement d all used (continues e) = elim d [ ]
+  after_statement d all used (branch_arms x y w) = elim d [ ]
+  after_statement d all used (branch_break l b e) = elim d [ ]
   after_statement d all used (and_rest {rest = rest} {rest_used = later} d' r w) =
       let h = one_statement d d' in
       (rest, later, rest_at (sym h.1) (sym h.0) r, w ∙ ap (λ z. z ++ later) (sym h.3))

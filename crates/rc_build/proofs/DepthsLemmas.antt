@@ -15,8 +15,10 @@ use Rattle.rc_runs.specs.declared.frames.Frame.TheVariants as frame_kinds
 use Rattle.rc_build.specs.declared.frames.stack.Entry.{Entry}
 use Rattle.rc_runs.specs.declared.frames.BreakResult.TheVariants.{NoFrame}
 use Rattle.rc_runs.specs.Frames.{break_block, is_jump_target, is_jump_target_at, is_loop, resolve_at, resolve_from}
-use Rattle.rc_runs.specs.Frames.{resolve_break}
-use Rattle.rc_runs.specs.Frames.{continue_block}
+use Rattle.rc_runs.specs.Frames.{resolve_break, continue_block, continues_at, continue_kind, continue_from}
+use Rattle.rc_runs.specs.Frames.{resolve_continue}
+use Rattle.rc_runs.specs.declared.frames.ContinueResult.{ContinueResult}
+use Rattle.rc_runs.specs.declared.frames.ContinueResult.TheVariants.{NoLoop, Continues}
 use Rattle.rc_build.specs.inside.Depths.{is_block, depth_where, break_depth, continue_depth, loop_depth, frame_of}
 use Rattle.rc_names.proofs.KeyedLemmas.{lookup-insert_there, lookup-insert_other}
 use Rattle.rc_names.proofs.NumbersLemmas.{ids_equivalence, same_id-eq}
@@ -98,59 +100,67 @@ loops_outside in_loop depth frame outer le = go (is_loop frame)
         ∙ sym (ap (λ b. if b then true else in_loop) (lt-ltb depth (length outer + 1) (omega arith)))
     go false = ap (λ z. if nat_lt depth (loop_depth outer) then true else z) (or-false in_loop)
 
--- the frame that decides of a break stands at the depth of its block
-pub resolved_at : (frames : List Frame) (innermost in_loop : Bool) (key : BlockId) (found : Frame)
-    → frame_at frames (break_depth frames key) ≡ Some found →
-    resolve_from innermost in_loop frames key
-    ≡ resolve_at (is_innermost innermost (break_depth frames key) frames)
-    (has_loop in_loop (break_depth frames key) frames) found
-resolved_at [] innermost in_loop key found is = let bad : ⊥ = cc in absurd bad
-resolved_at (frame ∷ outer) innermost in_loop key found is =
-    go (same_id (break_block frame) key) is (resolved_at outer false (in_loop || is_loop frame) key found)
-  where
-    go : (b : Bool) → frame_at (frame ∷ outer) (if b then length outer + 1 else break_depth outer key) ≡ Some found →
-        (frame_at outer (break_depth outer key) ≡ Some found →
-        resolve_from false (in_loop || is_loop frame) outer key
-        ≡ resolve_at (is_innermost false (break_depth outer key) outer)
-        (has_loop (in_loop || is_loop frame) (break_depth outer key) outer) found) →
-        (if b then resolve_at innermost in_loop frame else resolve_from false (in_loop || is_loop frame) outer key)
-        ≡ resolve_at (is_innermost innermost (if b then length outer + 1 else break_depth outer key) (frame ∷ outer))
-        (has_loop in_loop (if b then length outer + 1 else break_depth outer key) (frame ∷ outer)) found
-    go true at later =
-        let depth = length outer + 1 in
-        let here : frame ≡ found = let z : Some frame ≡ Some found = sym
-        (ap (λ b. if b then Some frame else frame_at outer depth) (eq-eqb depth depth refl)) ∙ at in cc in
-        let top = ap (λ b. if b then innermost else false) (eq-eqb depth (length (frame ∷ outer)) (omega arith)) in
-        let none = ap (λ b. if b then true else in_loop) (le-ltb depth (loop_depth (frame ∷ outer))
-        (omega (arith, depth-le is_loop (frame ∷ outer)))) in
-        sym (ap (λ b. resolve_at b (has_loop in_loop depth (frame ∷ outer)) found) top
-        ∙ ap (λ b. resolve_at innermost b found) none ∙ ap (λ (f : Frame). resolve_at innermost in_loop f)
-        (sym here))
-    go false at later =
-        let depth = break_depth outer key in
-        let le = depth-le (λ f. same_id (break_block f) key) outer in
-        let outside : nat_eq depth (length outer + 1) ≡ false = not_eq depth (length outer + 1) (omega (arith, le)) in
-        let inner = ap (λ b. if b then innermost else false) (not_eq depth (length (frame ∷ outer)) (omega (arith, le)))
-        in
-        later (sym (ap (λ b. if b then Some frame else frame_at outer depth) outside) ∙ at)
-        ∙ ap (λ b. resolve_at b (has_loop (in_loop || is_loop frame) depth outer) found)
-        (same_either (nat_eq depth (length outer)) ∙ sym inner)
-        ∙ ap (λ b. resolve_at (is_innermost innermost depth (frame ∷ outer)) b found)
-        (loops_outside in_loop depth frame outer le)
+-- how the first frame from the inside that passes a test decides of a jump
+module _ {R : Type 0} (test : Frame → Bool) (answer : Bool → Bool → Frame → R) (from : Bool → Bool → List Frame → R)
+    (first : (innermost in_loop : Bool) (frame : Frame) (outer : List Frame) → from innermost in_loop (frame ∷ outer)
+    ≡ (if test frame then answer innermost in_loop frame else from false (in_loop || is_loop frame) outer)) where
+  -- it stands at the depth of the test
+  resolved_at : (frames : List Frame) (innermost in_loop : Bool) (found : Frame)
+      → frame_at frames (depth_where test frames) ≡ Some found →
+      from innermost in_loop frames
+      ≡ answer (is_innermost innermost (depth_where test frames) frames)
+      (has_loop in_loop (depth_where test frames) frames) found
+  resolved_at [] innermost in_loop found is = let bad : ⊥ = cc in absurd bad
+  resolved_at (frame ∷ outer) innermost in_loop found is =
+      first innermost in_loop frame outer
+      ∙ go (test frame) is (resolved_at outer false (in_loop || is_loop frame) found)
+    where
+      go : (b : Bool)
+          → frame_at (frame ∷ outer) (if b then length outer + 1 else depth_where test outer) ≡ Some found →
+          (frame_at outer (depth_where test outer) ≡ Some found →
+          from false (in_loop || is_loop frame) outer
+          ≡ answer (is_innermost false (depth_where test outer) outer)
+          (has_loop (in_loop || is_loop frame) (depth_where test outer) outer) found) →
+          (if b then answer innermost in_loop frame else from false (in_loop || is_loop frame) outer)
+          ≡ answer (is_innermost innermost (if b then length outer + 1 else depth_where test outer) (frame ∷ outer))
+          (has_loop in_loop (if b then length outer + 1 else depth_where test outer) (frame ∷ outer)) found
+      go true at later =
+          let depth = length outer + 1 in
+          let here : frame ≡ found = let z : Some frame ≡ Some found = sym
+          (ap (λ b. if b then Some frame else frame_at outer depth) (eq-eqb depth depth refl)) ∙ at in cc in
+          let top = ap (λ b. if b then innermost else false) (eq-eqb depth (length (frame ∷ outer)) (omega arith)) in
+          let none = ap (λ b. if b then true else in_loop) (le-ltb depth (loop_depth (frame ∷ outer))
+          (omega (arith, depth-le is_loop (frame ∷ outer)))) in
+          sym (ap (λ b. answer b (has_loop in_loop depth (frame ∷ outer)) found) top
+          ∙ ap (λ b. answer innermost b found) none ∙ ap (λ (f : Frame). answer innermost in_loop f)
+          (sym here))
+      go false at later =
+          let depth = depth_where test outer in
+          let le = depth-le test outer in
+          let outside : nat_eq depth (length outer + 1) ≡ false = not_eq depth (length outer + 1) (omega (arith, le))
+          in
+          let inner = ap (λ b. if b then innermost else false)
+          (not_eq depth (length (frame ∷ outer)) (omega (arith, le))) in
+          later (sym (ap (λ b. if b then Some frame else frame_at outer depth) outside) ∙ at)
+          ∙ ap (λ b. answer b (has_loop (in_loop || is_loop frame) depth outer) found)
+          (same_either (nat_eq depth (length outer)) ∙ sym inner)
+          ∙ ap (λ b. answer (is_innermost innermost depth (frame ∷ outer)) b found)
+          (loops_outside in_loop depth frame outer le)
 
--- where no frame has the block as its break block
-pub resolved_nowhere : (frames : List Frame) (innermost in_loop : Bool) (key : BlockId) → break_depth frames key ≡ 0
-    → resolve_from innermost in_loop frames key ≡ NoFrame
-resolved_nowhere [] innermost in_loop key is = refl
-resolved_nowhere (frame ∷ outer) innermost in_loop key is =
-    go (same_id (break_block frame) key) is (resolved_nowhere outer false (in_loop || is_loop frame) key)
-  where
-    go : (b : Bool) → (if b then length outer + 1 else break_depth outer key) ≡ 0
-        → (break_depth outer key ≡ 0 → resolve_from false (in_loop || is_loop frame) outer key ≡ NoFrame) →
-        (if b then resolve_at innermost in_loop frame else resolve_from false (in_loop || is_loop frame) outer key)
-        ≡ NoFrame
-    go true e later = absurd (omega arith)
-    go false e later = later e
+  -- where no frame passes the test, no frame decides
+  resolved_nowhere : (none : R) → ((innermost in_loop : Bool) → from innermost in_loop [] ≡ none)
+      → (frames : List Frame) (innermost in_loop : Bool) → depth_where test frames ≡ 0
+      → from innermost in_loop frames ≡ none
+  resolved_nowhere none last [] innermost in_loop is = last innermost in_loop
+  resolved_nowhere none last (frame ∷ outer) innermost in_loop is =
+      first innermost in_loop frame outer
+      ∙ go (test frame) is (resolved_nowhere none last outer false (in_loop || is_loop frame))
+    where
+      go : (b : Bool) → (if b then length outer + 1 else depth_where test outer) ≡ 0
+          → (depth_where test outer ≡ 0 → from false (in_loop || is_loop frame) outer ≡ none) →
+          (if b then answer innermost in_loop frame else from false (in_loop || is_loop frame) outer) ≡ none
+      go true e later = absurd (omega arith)
+      go false e later = later e
 
 -- each depth but 0 is that of a frame
 pub frame_there : (test : Frame → Bool) (frames : List Frame) → frame_at frames (depth_where test frames) ≡ None
@@ -204,15 +214,56 @@ itself true = refl
 itself false = refl
 
 -- what becomes of a break, by the depth of its block
-pub resolve_break-found : (frames : List Frame) (key : BlockId) (found : Frame)
-    → frame_at frames (break_depth frames key) ≡ Some found →
-    resolve_break frames key ≡ resolve_at (nat_eq (break_depth frames key) (length frames))
-    (nat_lt (break_depth frames key) (loop_depth frames)) found
-resolve_break-found frames key found is =
-    let depth = break_depth frames key in
-    resolved_at frames true false key found is
-    ∙ ap (λ b. resolve_at b (has_loop false depth frames) found) (itself (nat_eq depth (length frames)))
-    ∙ ap (λ b. resolve_at (nat_eq depth (length frames)) b found) (itself (nat_lt depth (loop_depth frames)))
+module _ (frames : List Frame) (key : BlockId) where
+  pub resolve_break-found : (found : Frame) → frame_at frames (break_depth frames key) ≡ Some found →
+      resolve_break frames key ≡ resolve_at (nat_eq (break_depth frames key) (length frames))
+      (nat_lt (break_depth frames key) (loop_depth frames)) found
+  resolve_break-found found is =
+      let depth = break_depth frames key in
+      resolved_at (λ frame. is_block (Some (break_block frame)) key) resolve_at (λ i l fs. resolve_from i l fs key)
+      (λ i l frame outer. refl) frames true false found is
+      ∙ ap (λ b. resolve_at b (has_loop false depth frames) found) (itself (nat_eq depth (length frames)))
+      ∙ ap (λ b. resolve_at (nat_eq depth (length frames)) b found) (itself (nat_lt depth (loop_depth frames)))
+
+  pub resolve_break-nowhere : break_depth frames key ≡ 0 → resolve_break frames key ≡ NoFrame
+  resolve_break-nowhere is =
+      resolved_nowhere (λ frame. is_block (Some (break_block frame)) key) resolve_at (λ i l fs. resolve_from i l fs key)
+      (λ i l frame outer. refl) NoFrame (λ i l. refl) frames true false is
+
+-- what becomes of a continue, by the depth of its block
+abbrev continued : Bool → Bool → Frame → ContinueResult
+continued innermost in_loop frame = Continues (break_block frame) (continue_kind innermost in_loop)
+
+continues_at-block : (frame : Frame) (key : BlockId) → continues_at frame key ≡ is_block (continue_block frame) key
+continues_at-block (frame_kinds.Statement block) key = refl
+continues_at-block (frame_kinds.Switch block) key = refl
+continues_at-block (frame_kinds.Case block) key = refl
+continues_at-block (frame_kinds.Scope block) key = refl
+continues_at-block (frame_kinds.Loop block again) key = refl
+
+module _ (frames : List Frame) (key : BlockId) where
+  first_continue : (innermost in_loop : Bool) (frame : Frame) (outer : List Frame)
+      → continue_from innermost in_loop (frame ∷ outer) key
+      ≡ (if is_block (continue_block frame) key then continued innermost in_loop frame
+      else continue_from false (in_loop || is_loop frame) outer key)
+  first_continue innermost in_loop frame outer =
+      ap (λ b. if b then continued innermost in_loop frame else continue_from false (in_loop || is_loop frame) outer key)
+      (continues_at-block frame key)
+
+  pub resolve_continue-found : (found : Frame) → frame_at frames (continue_depth frames key) ≡ Some found →
+      resolve_continue frames key ≡ continued (nat_eq (continue_depth frames key) (length frames))
+      (nat_lt (continue_depth frames key) (loop_depth frames)) found
+  resolve_continue-found found is =
+      let depth = continue_depth frames key in
+      resolved_at (λ frame. is_block (continue_block frame) key) continued (λ i l fs. continue_from i l fs key)
+      first_continue frames true false found is
+      ∙ ap (λ b. continued b (has_loop false depth frames) found) (itself (nat_eq depth (length frames)))
+      ∙ ap (λ b. continued (nat_eq depth (length frames)) b found) (itself (nat_lt depth (loop_depth frames)))
+
+  pub resolve_continue-nowhere : continue_depth frames key ≡ 0 → resolve_continue frames key ≡ NoLoop
+  resolve_continue-nowhere is =
+      resolved_nowhere (λ frame. is_block (continue_block frame) key) continued (λ i l fs. continue_from i l fs key)
+      first_continue NoLoop (λ i l. refl) frames true false is
 
 -- a block is a jump target where it has a depth
 

@@ -1,22 +1,25 @@
--- Statements that end a list: what they are, and why a break is refused.
-use Rattle.std.proofs.Common.{◌≡◌, List, [], ◌++◌, Option, None, Ok, refl, sym, subst}
+-- Statements that end a list: what they are, and why a break or a continue is refused.
+use Rattle.std.proofs.Common.{◌≡◌, List, [], ◌++◌, Option, None, Ok, refl, sym, ap, subst}
 use Rattle.rc_names.specs.Numbers.{BlockId, EvaluationOrder}
 use Rattle.rc_names.specs.declared.span.Span.{Span}
 use Rattle.rc_hir.specs.declared.terminal.GotoVariant.TheVariants as variants
 use Rattle.rc_hir.specs.Model.{Terminal, HirFunction}
 use Rattle.rc_hir.specs.declared.terminal.Terminal.TheVariants as terminals
+use Rattle.rc_hir.specs.declared.fault.Rule.TheVariants.{ContinueTarget}
 use Rattle.rc_tree.specs.Model.{ReactiveStatement}
 use Rattle.rc_build.specs.declared.builder.Builder.{Builder}
+use Rattle.rc_build.specs.declared.builder.Marks.{Marks}
 use Rattle.rc_build.specs.declared.builder.Site.{Site}
-use Rattle.rc_runs.specs.Frames.{resolve_break}
+use Rattle.rc_runs.specs.declared.frames.Frame.{Frame}
+use Rattle.rc_runs.specs.Frames.{resolve_break, resolve_continue}
 use Rattle.rc_runs.specs.PlainTree.{Statements}
 use Rattle.rc_runs.specs.TreeOf.{statements_of}
-use Rattle.rc_runs.specs.Grammar.{SpellsTerminal, and_rest, break_statements, breaks}
-use Rattle.rc_build.specs.RuleFacts.{BlockIs, IsLostJump, Jumps, goto_break}
-use Rattle.rc_build.specs.inside.CanBuild.{AreMarked}
+use Rattle.rc_runs.specs.Grammar.{SpellsTerminal, and_rest, break_statements, breaks, continue_statements, continues}
+use Rattle.rc_build.specs.RuleFacts.{BlockIs, IsLostJump, Jumps, RuleFact, goto_break, is_continue}
+use Rattle.rc_build.specs.inside.CanBuild.{AreMarked, CanBreak, CanBuildTerminal}
 use Rattle.rc_build.specs.inside.Setting.{Setting, setting_of}
-use Rattle.rc_build.specs.inside.Task.{FromTerminal, Spells, left}
-use Rattle.rc_build.specs.inside.Built.{BuildsTask, Refused}
+use Rattle.rc_build.specs.inside.Task.{FromTerminal, Spells, left, progress_of}
+use Rattle.rc_build.specs.inside.Built.{BuildsTask, BuiltPrefix, PutsBreak, Refused}
 use Rattle.rc_build.proofs.BuildsLemmas.{is_built}
 use Rattle.rc_build.proofs.BuiltLemmas.{leaf_prefix}
 
@@ -29,28 +32,62 @@ pub builds_end : {old : Builder} {site : Site} {out : List ReactiveStatement} (t
 builds_end {old} {site} terminal statements marked put spelled =
     is_built None (leaf_prefix {s = setting_of old site} terminal statements old.marks marked put spelled) refl
 
--- a break that is refused
-pub break_refused : {s : Setting} {target : BlockId} {id : EvaluationOrder} {span : Option Span} (used : List BlockId)
-    → break_statements (resolve_break s.context.frames target) target id ≡ None
-    → Refused s.hir (Spells s (FromTerminal (terminals.Goto target variants.Break id span))) used
-break_refused used none all blocks (breaks some) sound = let bad : ⊥ = cc in bad
-break_refused used none all blocks (and_rest d r w) sound = elim d [ ]
+module _ {target : BlockId} {id : EvaluationOrder} {span : Option Span} where
+  -- a break is built where its statements are put
+  pub break_built : {old new : Builder} (site : Site) → AreMarked old.hir.now old.marks → PutsBreak old new target id
+      → BuiltPrefix (setting_of old site) (FromTerminal (terminals.Goto target variants.Break id span)) (left None)
+      (progress_of old) (progress_of new)
+  break_built {old} {new} site marked b = subst (λ (z : Marks). BuiltPrefix (setting_of old site)
+      (FromTerminal (terminals.Goto target variants.Break id span)) (left None) (progress_of old)
+      (record { marks = z; out = new.out })) (sym b.kept)
+      (leaf_prefix {s = setting_of old site} (terminals.Goto target variants.Break id span) b.statements old.marks marked
+      b.put (breaks b.asked))
 
-module _ (hir : HirFunction) {key target : BlockId} {id : EvaluationOrder} {span : Option Span}
-    (here : BlockIs hir key (λ block. block.terminal ≡ terminals.Goto target variants.Break id span)) where
-  -- a block that ends in a break, and what its target is
+  -- a break that is refused
+  pub break_refused : {s : Setting} (used : List BlockId)
+      → break_statements (resolve_break s.context.frames target) target id ≡ None
+      → Refused s.hir (Spells s (FromTerminal (terminals.Goto target variants.Break id span))) used
+  break_refused used none all blocks (breaks some) sound = let bad : ⊥ = cc in bad
+  break_refused used none all blocks (and_rest d r w) sound = elim d [ ]
+
+  -- a continue that is refused
+  pub continue_refused : {s : Setting} (used : List BlockId)
+      → continue_statements (resolve_continue s.context.frames target) id ≡ None
+      → Refused s.hir (Spells s (FromTerminal (terminals.Goto target variants.Continue id span))) used
+  continue_refused used none all blocks (continues some) sound = let bad : ⊥ = cc in bad
+  continue_refused used none all blocks (and_rest d r w) sound = elim d [ ]
+
+  -- a block that ends in a break can break
+  pub goto_can : {hir : HirFunction} {marks : Marks} {frames : List Frame} {key : BlockId}
+      → CanBuildTerminal hir marks frames key (terminals.Goto target variants.Break id span)
+      → CanBreak hir marks frames key (terminals.Goto target variants.Break id span) target
+  goto_can can = record { can = can; jumps = goto_break; lost = tt }
+
+  -- a block that ends in a continue
+  pub continue_at : {hir : HirFunction} {marks : Marks} {frames : List Frame} {key : BlockId}
+      → CanBuildTerminal hir marks frames key (terminals.Goto target variants.Continue id span)
+      → RuleFact hir ContinueTarget key
+  continue_at can = record {
+    block = can.here.block;
+    found = can.here.found;
+    holds = ap is_continue can.here.holds;
+  }
+
+module _ {hir : HirFunction} {marks : Marks} {frames : List Frame} {key target : BlockId} {terminal : Terminal}
+    (can : CanBreak hir marks frames key terminal target) where
+  -- a block that breaks, and what its target is
   pub jump_at : {P : BlockId → Type 0} → P target
       → BlockIs hir key (λ block. (x : BlockId) × Jumps block.terminal x × P x)
   jump_at p = record {
-    block = here.block;
-    found = here.found;
-    holds = (target, subst (λ z. Jumps z target) (sym here.holds) goto_break, p);
+    block = can.can.here.block;
+    found = can.can.here.found;
+    holds = (target, subst (λ z. Jumps z target) (sym can.can.here.holds) can.jumps, p);
   }
 
-  -- a block that ends in a break whose target is no frame's block
+  -- a block that breaks to no frame's block
   pub lost_at : BlockIs hir key (λ block. IsLostJump hir key block.terminal)
   lost_at = record {
-    block = here.block;
-    found = here.found;
-    holds = subst (IsLostJump hir key) (sym here.holds) tt;
+    block = can.can.here.block;
+    found = can.can.here.found;
+    holds = subst (IsLostJump hir key) (sym can.can.here.holds) can.lost;
   }

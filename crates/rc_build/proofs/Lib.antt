@@ -13,5 +13,6 @@ mod JumpLemmas
 mod StatementLemmas
 mod EnclosureLemmas
 mod IfLemmas
+mod BranchLemmas
 mod BuildLemmas
 mod BuildCausesLemmas

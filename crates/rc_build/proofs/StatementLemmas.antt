@@ -53,6 +53,14 @@ label_at-opened is_open fallthrough is = subst (λ z. label_at z ≡ label_of (i
     go true = refl
     go false = refl
 
+-- a block that a jump can name is framed apart from the block where the walk stands
+pub target_apart : {hir : HirFunction} {marks : Marks} {frames : List Frame} {key target : BlockId}
+    {terminal : Terminal} → CanBuildTerminal hir marks frames key terminal → is_jump_target frames target ≡ true
+    → IsFramedApart hir key target
+target_apart {hir} {marks} {frames} {key} {target} can live =
+    let o = target_framed hir (IsUsedApart marks key) frames target can.owned live in
+    record { other = o.owner; apart = o.chosen.1; frames = o.frames }
+
 -- a fallthrough to which a statement doesn't fall is framed apart, or ends in `Unreachable`
 pub falls_badly : {hir : HirFunction} {marks : Marks} {frames : List Frame} {key fallthrough : BlockId}
     {terminal : Terminal} {at : Option BlockId} (next : Option BlockId)
@@ -77,7 +85,5 @@ falls_badly {hir} {marks} {frames} {key} {fallthrough} {at = at} next a f o else
     go : (b : Bool) → is_jump_target frames fallthrough ≡ b
         → (if b then false else not (ends_unreachable hir fallthrough)) ≡ false
         → IsFramedApart hir key fallthrough ⊎ (ends_unreachable hir fallthrough ≡ true)
-    go true l h =
-        let o = target_framed hir (IsUsedApart marks key) frames fallthrough a.owned l in
-        inl (record { other = o.owner; apart = o.chosen.1; frames = o.frames })
+    go true l h = inl (target_apart a l)
     go false l h = inr (not-false (ends_unreachable hir fallthrough) h)

@@ -90,31 +90,29 @@ module _ (hir : HirFunction) where
       before other (inl h) = w other h
       before other (inr h) = a.used_before other h
 
+  -- a part that stands in the place of the list itself
+  pub at_arm : {old new : Marks} {frames : List Frame} {key part : BlockId} {terminal : Terminal}
+      {after blocks : List BlockId} → CanBuildTerminal hir old frames key terminal
+      → MarksBlocks hir (referenced_blocks terminal) (part ∷ after) old new blocks → CanBuildList hir new frames part
+  at_arm {old = old} {new = new} {frames = frames} {key = key} {part = part} {after = after} a m = record {
+    marked = m.marked;
+    referenced = referenced_fewer hir new.used (part ∷ pending_blocks frames) (part ∷ after ++ pending_blocks frames)
+        (λ other. omega (arith, times_append other after (pending_blocks frames)))
+        (m.referenced (pending_blocks frames) a.referenced);
+    used_before = λ other h. used_more m other (a.used_before other h);
+    owned = owned_weaker hir (IsUsedApart old key) (IsUsed new) frames (λ other h. used_more m other h.0) a.owned;
+  }
+
   -- a part of a statement can be built inside its frame, of whichever kind, once what is to be used before it is
   pub at_part : {old new : Marks} {frames : List Frame} {key part : BlockId} {terminal : Terminal}
       {blocks : List BlockId} (frame : Frame) (at : Option BlockId) → CanBuildTerminal hir old frames key terminal
       → IsFrameOf terminal frame → AreUsed new (used_at frame)
       → MarksBlocks hir (referenced_blocks terminal) (part ∷ pending_at frame) old new blocks
       → CanBuildList hir new (frames_inside at frame frames) part
-  at_part {old = old} {new = new} {frames = frames} {key = key} {part = part} frame at a f w m = go at
-    where
-      names : AreReferenced hir new.used (part ∷ pending_at frame ++ pending_blocks frames)
-      names = m.referenced (pending_blocks frames) a.referenced
-
-      outside : CanBuildList hir new frames part
-      outside = record {
-        marked = m.marked;
-        referenced = referenced_fewer hir new.used (part ∷ pending_blocks frames)
-            (part ∷ pending_at frame ++ pending_blocks frames)
-            (λ other. omega (arith, times_append other (pending_at frame) (pending_blocks frames))) names;
-        used_before = λ other h. used_more m other (a.used_before other h);
-        owned = owned_weaker hir (IsUsedApart old key) (IsUsed new) frames
-            (λ other h. used_more m other h.0) a.owned;
-      }
-
-      go : (at : Option BlockId) → CanBuildList hir new (frames_inside at frame frames) part
-      go (Some fallthrough) = framed_list frame (used_more m key a.used) a.here f w names outside
-      go None = outside
+  at_part {frames = frames} {key = key} {part = part} frame None a f w m = at_arm a m
+  at_part {frames = frames} {key = key} {part = part} frame (Some fallthrough) a f w m =
+      framed_list frame (used_more m key a.used) a.here f w (m.referenced (pending_blocks frames) a.referenced)
+      (at_arm a m)
 
   -- so can the first part of a statement
   pub at_first_part : {marks : Marks} {frames : List Frame} {key part : BlockId} {terminal : Terminal} (frame : Frame)

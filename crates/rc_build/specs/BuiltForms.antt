@@ -8,9 +8,12 @@ use Rattle.rc_hir.specs.declared.terminal.Terminal.TheVariants as terminals
 -- the terminal is of a form that is built
 abbrev pub is_built : Terminal → Bool
 is_built (terminals.If test consequent alternate fallthrough id span) = true
+is_built (terminals.Branch test consequent alternate id span) = true
+is_built (terminals.Throw value id span) = true
 is_built (terminals.Return value id span) = true
 is_built (terminals.Unreachable id span) = true
 is_built (terminals.Goto block variants.Break id span) = true
+is_built (terminals.Goto block variants.Continue id span) = true
 is_built (terminals.Label block fallthrough id span) = true
 is_built (terminals.Scope fallthrough block scope id span) = true
 is_built (terminals.PrunedScope fallthrough block scope id span) = true

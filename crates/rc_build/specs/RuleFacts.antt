@@ -1,5 +1,5 @@
 -- What holds of the block that a fault names, one equation a rule.
-use Rattle.std.specs.Prelude.{◌≡◌, ◌≤◌, ◌⊎◌, ℕ, true, false, List, Option, Some, None, nat_eq, slice_get}
+use Rattle.std.specs.Prelude.{◌≡◌, ◌≤◌, ◌⊎◌, ℕ, Bool, true, false, List, Option, Some, None, nat_eq, slice_get}
 use Rattle.std.specs.List.{list_any}
 use Rattle.rc_names.specs.Numbers.{BlockId, InstructionId, EvaluationOrder, ScopeId, same_id, is_among, times}
 use Rattle.rc_names.specs.declared.span.Span.{Span}
@@ -92,6 +92,11 @@ pub record FallsBadly (hir : HirFunction) (b : BlockId) (terminal : Terminal) : 
   pub falls : fallthrough_of terminal ≡ Some fallthrough
   pub bad : IsFramedApart hir b fallthrough ⊎ (ends_unreachable hir fallthrough ≡ true)
 
+-- the terminal is a `Goto` of variant `Continue`
+abbrev pub is_continue : Terminal → Bool
+is_continue (terminals.Goto target variants.Continue id span) = true
+is_continue _ = false
+
 -- the fact that a rule's fault states of its block; of the rules without a line no fault comes
 abbrev pub RuleFact : HirFunction → Rule → BlockId → Type 0
 RuleFact hir rules.NoBlock key = (basic_block hir key ≡ None) × (1 ≤ times_referenced hir key)
@@ -100,6 +105,7 @@ RuleFact hir rules.UnsetId key = BlockIs hir key
     (λ block. HasUnsetRow hir block ⊎ (is_unset (evaluation_order block.terminal) ≡ true))
 RuleFact hir rules.Twice key = BlockIs hir key (λ block. 2 ≤ times_referenced hir key)
 RuleFact hir rules.BreakTarget key = BlockIs hir key (λ block. IsLostJump hir key block.terminal)
+RuleFact hir rules.ContinueTarget key = BlockIs hir key (λ block. is_continue block.terminal ≡ true)
 RuleFact hir rules.CaseLabel key =
     BlockIs hir key (λ block. (target : BlockId) × Jumps block.terminal target × IsCaseBlock hir target)
 RuleFact hir rules.ScopeBreak key =

@@ -1,7 +1,7 @@
-//! Statements that choose between arms: `If`.
+//! Statements that choose between arms: `If`, and `Branch` in a list.
 
 ghost use Rattle.std.specs.Prelude.{◌≡◌, ◌&&◌, Option, IfOk, is_some, not};
-ghost use Rattle.rc_names.specs.Numbers.{same_id};
+ghost use Rattle.rc_names.specs.Numbers.{BlockId, same_id};
 ghost use Rattle.rc_names.specs.declared.span.Span.{Span};
 ghost use Rattle.rc_hir.specs.declared.terminal.Terminal.TheVariants as terminals;
 ghost use Rattle.rc_tree.specs.declared.terminal.ReactiveTerminal.TheVariants as tree;
@@ -10,8 +10,8 @@ ghost use Rattle.rc_runs.specs.declared.frames.Frame.TheVariants as frame_kinds;
 ghost use Rattle.rc_build.specs.inside.Depths.{frames_inside};
 ghost use Rattle.rc_build.specs.inside.CanBuild.{CanBuildList, CanBuildTerminal};
 ghost use Rattle.rc_build.specs.inside.Setting.{part_setting, setting_of};
-ghost use Rattle.rc_build.specs.inside.Task.{FromTerminal, SpellsAlternate, left, progress_of};
-ghost use Rattle.rc_build.specs.inside.Built.{Builds, BuildsTask, BuiltAlternate, Refused};
+ghost use Rattle.rc_build.specs.inside.Task.{FromTerminal, SpellsAlternate, SpellsConsequent, left, progress_of};
+ghost use Rattle.rc_build.specs.inside.Built.{Builds, BuildsTask, BuiltAlternate, BuiltConsequent, Refused};
 ghost use Rattle.rc_build.specs.inside.Setting as settings;
 
 use crate::builder::{Builder, Site, falls_to, label_at, malformed, terminal_statement};
@@ -20,6 +20,7 @@ use rc_names::{BlockId, EvaluationOrder, List};
 use rc_runs::Frame;
 use rc_tree::{ReactiveBlock, ReactiveLabel, ReactiveStatement, ReactiveTerminal};
 use std::alloc::{AllocError, Global};
+use std::mem;
 
 impl<'g> Builder<'g> {
     /// Builds an if, where an alternate that is the fallthrough gives none; returns where the list goes on.
@@ -49,6 +50,60 @@ impl<'g> Builder<'g> {
         let statement = if_statement(self.alloc, test, part, other, id, label_at(opened))?;
         self.out.push(statement)?;
         Ok(opened)
+    }
+
+    /// Builds a branch in a list, which is an if without a label whose arms stand where it stands; it ends the list.
+    ///
+    /// - `Malformed` with `BreakTarget`: a jump can name the alternate.
+    /// - `Malformed`, as for a break: a jump can name the consequent.
+    #[cycle(builder)]
+    pub fn build_branch(
+        &mut self,
+        site: Site,
+        test: Place,
+        consequent: BlockId,
+        alternate: BlockId,
+        id: EvaluationOrder,
+    ) -> Result<Option<BlockId>, Fault>
+        requires { (span : Option Span) × CanBuildTerminal self.old.hir.now self.old.marks self.old.frames site.block
+            (terminals.Branch test consequent alternate id span) }
+        ensures { (span : Option Span) → BuildsTask self.old self.new site
+            (FromTerminal (terminals.Branch test consequent alternate id span)) left result }
+    {
+        if self.frames.is_jump_target(alternate) {
+            return Err(malformed(site.block, Rule::BreakTarget));
+        }
+        let part = self.build_consequent(site, consequent, id)?;
+        let statements = self.build_apart(site.at(alternate))?;
+        let other = Some(ReactiveBlock { statements });
+        let statement = if_statement(self.alloc, test, part, other, id, None)?;
+        self.out.push(statement)?;
+        Ok(None)
+    }
+
+    /// Builds the list of a branch's consequent: a break to it where a jump can name it.
+    #[cycle(builder)]
+    fn build_consequent(
+        &mut self,
+        site: Site,
+        consequent: BlockId,
+        id: EvaluationOrder,
+    ) -> Result<List<ReactiveStatement>, Fault>
+        requires { (test : Place) × (alternate : BlockId) × (span : Option Span) ×
+            CanBuildTerminal self.old.hir.now self.old.marks self.old.frames site.block
+            (terminals.Branch test consequent alternate id span) }
+        ensures { Builds self.old self.new site
+            (λ list. BuiltConsequent (setting_of self.old site) consequent id list (progress_of self.old)
+            (progress_of self.new))
+            (Refused self.old.hir.now (SpellsConsequent (setting_of self.old site) consequent id) self.old.marks.used)
+            result }
+    {
+        if self.frames.is_jump_target(consequent) {
+            let outer = self.out.take();
+            self.put_break(site, consequent, id)?;
+            return Ok(mem::replace(&mut self.out, outer));
+        }
+        self.build_apart(site.at(consequent))
     }
 
     /// Builds the list of an alternate; none where it is the fallthrough.

@@ -28,8 +28,6 @@ pub struct Site {
     pub block: BlockId,
     /// The block that falling off their list reaches.
     pub next: Option<BlockId>,
-    /// The block of the current handler.
-    pub handler: Option<BlockId>,
 }
 
 /// Builds the lists of a graph, one inside the other.
@@ -53,10 +51,16 @@ impl Site {
             Some(_) => Some(frame.fall_block()),
             None => self.next,
         };
+        Site { block: part, next }
+    }
+
+    /// The site of another block in the same list.
+    pub fn at(self, block: BlockId) -> Site
+        ensures { result ≡ settings.site_at block self }
+    {
         Site {
-            block: part,
-            next,
-            handler: self.handler,
+            block,
+            next: self.next,
         }
     }
 }

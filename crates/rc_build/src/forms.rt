@@ -12,21 +12,21 @@ fn is_built(terminal: &Terminal) -> bool
 {
     match terminal {
         Terminal::If { .. }
+        | Terminal::Branch { .. }
+        | Terminal::Throw { .. }
         | Terminal::Return { .. }
         | Terminal::Unreachable { .. }
         | Terminal::Label { .. }
         | Terminal::Scope { .. }
         | Terminal::PrunedScope { .. } => true,
         Terminal::Goto { variant, .. } => match variant {
-            GotoVariant::Break => true,
-            GotoVariant::Continue | GotoVariant::Try => false,
+            GotoVariant::Break | GotoVariant::Continue => true,
+            GotoVariant::Try => false,
         },
-        Terminal::Branch { .. }
-        | Terminal::Logical { .. }
+        Terminal::Logical { .. }
         | Terminal::Ternary { .. }
         | Terminal::Optional { .. }
         | Terminal::Sequence { .. }
-        | Terminal::Throw { .. }
         | Terminal::Switch { .. }
         | Terminal::DoWhile { .. }
         | Terminal::While { .. }

@@ -1,19 +1,22 @@
-//! Statements that end a list: returns and breaks.
+//! Statements that end a list: returns, throws, breaks and continues.
 
 ghost use Rattle.std.specs.Prelude.{◌≡◌, Option, None, IfOk};
 ghost use Rattle.rc_names.specs.declared.span.Span.{Span};
+ghost use Rattle.rc_hir.specs.Model.{Terminal};
 ghost use Rattle.rc_hir.specs.declared.terminal.GotoVariant.TheVariants as variants;
 ghost use Rattle.rc_hir.specs.declared.terminal.Terminal.TheVariants as terminals;
 ghost use Rattle.rc_tree.specs.declared.terminal.ReactiveTerminal.TheVariants as tree;
-ghost use Rattle.rc_build.specs.inside.CanBuild.{CanBuildTerminal};
+ghost use Rattle.rc_runs.specs.Frames.{resolve_break};
+ghost use Rattle.rc_runs.specs.Grammar.{break_statements};
+ghost use Rattle.rc_build.specs.inside.CanBuild.{CanBreak, CanBuildTerminal};
 ghost use Rattle.rc_build.specs.inside.Task.{FromTerminal, left};
-ghost use Rattle.rc_build.specs.inside.Built.{BuildsTask};
+ghost use Rattle.rc_build.specs.inside.Built.{Builds, BuildsTask, PutsBreak};
 ghost use Rattle.rc_build.specs.inside.Setting as settings;
 
 use crate::builder::{Builder, Site, malformed, terminal_statement};
 use rc_hir::{Fault, GotoVariant, Place, Rule};
 use rc_names::{BlockId, EvaluationOrder};
-use rc_runs::BreakResult;
+use rc_runs::{BreakResult, ContinueResult};
 use rc_tree::{ReactiveStatement, ReactiveTerminal, ReactiveTerminalTargetKind};
 use std::alloc::{AllocError, Global};
 
@@ -36,10 +39,28 @@ impl<'g> Builder<'g> {
         Ok(None)
     }
 
+    /// Builds a throw, which ends the list. The only error is out of memory.
+    pub fn build_throw(
+        &mut self,
+        site: Site,
+        value: Place,
+        id: EvaluationOrder,
+    ) -> Result<Option<BlockId>, Fault>
+        requires { (span : Option Span) × CanBuildTerminal self.old.hir.now self.old.marks self.old.frames site.block
+            (terminals.Throw value id span) }
+        ensures { (span : Option Span) → BuildsTask self.old self.new site
+            (FromTerminal (terminals.Throw value id span)) left result }
+    {
+        let terminal = ReactiveTerminal::Throw { value, id };
+        let statement = terminal_statement(self.alloc, terminal, None)?;
+        self.out.push(statement)?;
+        Ok(None)
+    }
+
     /// Builds the statement of a jump, if it has one, and ends the list.
     ///
-    /// - `NotBuilt`: the jump is no break.
-    /// - `Malformed`: as for a break.
+    /// - `NotBuilt`: the jump is neither a break nor a continue.
+    /// - `Malformed`: as for a break or a continue.
     pub fn build_goto(
         &mut self,
         site: Site,
@@ -54,15 +75,12 @@ impl<'g> Builder<'g> {
     {
         match variant {
             GotoVariant::Break => self.build_break(site, target, id),
-            GotoVariant::Continue | GotoVariant::Try => Err(Fault::NotBuilt { block: site.block }),
+            GotoVariant::Continue => self.build_continue(site, target, id),
+            GotoVariant::Try => Err(Fault::NotBuilt { block: site.block }),
         }
     }
 
-    /// Builds the statement of a break, if it has one, and ends the list.
-    ///
-    /// - `Malformed` with `BreakTarget`: the target is no frame's block.
-    /// - `Malformed` with `ScopeBreak` or `CaseLabel`: it would leave a scope, or name a later case, from further
-    ///   inside.
+    /// Builds the statement of a break, if it has one, and ends the list. `Malformed`: as for `put_break`.
     fn build_break(
         &mut self,
         site: Site,
@@ -74,13 +92,56 @@ impl<'g> Builder<'g> {
         ensures { (span : Option Span) → BuildsTask self.old self.new site
             (FromTerminal (terminals.Goto target variants.Break id span)) left result }
     {
+        self.put_break(site, target, id)?;
+        Ok(None)
+    }
+
+    /// Puts the statement of a break out of the site's block, if it has one.
+    ///
+    /// - `Malformed` with `BreakTarget`: the target is no frame's block.
+    /// - `Malformed` with `ScopeBreak` or `CaseLabel`: it would leave a scope, or name a later case, from further
+    ///   inside.
+    pub fn put_break(
+        &mut self,
+        site: Site,
+        target: BlockId,
+        id: EvaluationOrder,
+    ) -> Result<(), Fault>
+        requires { (terminal : Terminal) × CanBreak self.old.hir.now self.old.marks self.old.frames site.block terminal
+            target }
+        ensures { Builds self.old self.new site (λ _. PutsBreak self.old self.new target id)
+            (break_statements (resolve_break self.old.frames target) target id ≡ None) result }
+    {
         match self.frames.resolve_break(target) {
             BreakResult::NoFrame => Err(malformed(site.block, Rule::BreakTarget)),
             BreakResult::LeavesScope => Err(malformed(site.block, Rule::ScopeBreak)),
             BreakResult::LeavesCase => Err(malformed(site.block, Rule::CaseLabel)),
-            BreakResult::FallsOff => Ok(None),
+            BreakResult::FallsOff => Ok(()),
             BreakResult::Breaks(kind) => {
                 let statement = break_statement(self.alloc, target, kind, id)?;
+                self.out.push(statement)?;
+                Ok(())
+            }
+        }
+    }
+
+    /// Builds a continue, which ends the list. `Malformed` with `ContinueTarget`: no loop around it has the target as
+    /// its continue block.
+    fn build_continue(
+        &mut self,
+        site: Site,
+        target: BlockId,
+        id: EvaluationOrder,
+    ) -> Result<Option<BlockId>, Fault>
+        requires { (span : Option Span) × CanBuildTerminal self.old.hir.now self.old.marks self.old.frames site.block
+            (terminals.Goto target variants.Continue id span) }
+        ensures { (span : Option Span) → BuildsTask self.old self.new site
+            (FromTerminal (terminals.Goto target variants.Continue id span)) left result }
+    {
+        match self.frames.resolve_continue(target) {
+            ContinueResult::NoLoop => Err(malformed(site.block, Rule::ContinueTarget)),
+            ContinueResult::Continues { target, kind } => {
+                let statement = continue_statement(self.alloc, target, kind, id)?;
                 self.out.push(statement)?;
                 Ok(None)
             }
@@ -99,6 +160,24 @@ fn break_statement(
         statement ≡ settings.terminal_statement (tree.Break target target_kind id) None) }
 {
     let terminal = ReactiveTerminal::Break {
+        target,
+        target_kind,
+        id,
+    };
+    terminal_statement(alloc, terminal, None)
+}
+
+/// The statement of a continue. The only error is out of memory.
+fn continue_statement(
+    alloc: Global,
+    target: BlockId,
+    target_kind: ReactiveTerminalTargetKind,
+    id: EvaluationOrder,
+) -> Result<ReactiveStatement, AllocError>
+    ensures { IfOk result (λ statement.
+        statement ≡ settings.terminal_statement (tree.Continue target target_kind id) None) }
+{
+    let terminal = ReactiveTerminal::Continue {
         target,
         target_kind,
         id,

@@ -5,7 +5,7 @@ ghost use Rattle.rc_build.specs.inside.Depths.{frames_inside};
 ghost use Rattle.rc_build.specs.inside.CanBuild.{CanBuildList, CanBuildTerminal};
 ghost use Rattle.rc_build.specs.inside.Setting.{part_setting, setting_of};
 ghost use Rattle.rc_build.specs.inside.Task.{FromBlock, FromTerminal, Nothing, Spells, left, progress_of};
-ghost use Rattle.rc_build.specs.inside.Built.{Builds, BuildsTask, BuiltList, Refused};
+ghost use Rattle.rc_build.specs.inside.Built.{Builds, BuildsList, BuildsTask, BuiltList, Refused};
 
 use crate::builder::{Builder, Site};
 use crate::enclosures::Enclosure;
@@ -27,7 +27,6 @@ impl<'g> Builder<'g> {
             let here = Site {
                 block,
                 next: site.next,
-                handler: site.handler,
             };
             at = self.build_block(here)?;
         }
@@ -54,6 +53,7 @@ impl<'g> Builder<'g> {
     {
         match terminal {
             Terminal::Return { value, id, .. } => self.build_return(site, *value, *id),
+            Terminal::Throw { value, id, .. } => self.build_throw(site, *value, *id),
             Terminal::Unreachable { .. } => Ok(None),
             Terminal::Goto {
                 block,
@@ -69,6 +69,13 @@ impl<'g> Builder<'g> {
                 id,
                 ..
             } => self.build_if(site, *test, *consequent, *alternate, *fallthrough, *id),
+            Terminal::Branch {
+                test,
+                consequent,
+                alternate,
+                id,
+                ..
+            } => self.build_branch(site, *test, *consequent, *alternate, *id),
             Terminal::Label {
                 block,
                 fallthrough,
@@ -100,12 +107,10 @@ impl<'g> Builder<'g> {
                 let enclosure = Enclosure::PrunedScope { scope: *scope };
                 self.build_enclosure(site, enclosure, *block, *fallthrough, *id)
             }
-            Terminal::Branch { .. }
-            | Terminal::Logical { .. }
+            Terminal::Logical { .. }
             | Terminal::Ternary { .. }
             | Terminal::Optional { .. }
             | Terminal::Sequence { .. }
-            | Terminal::Throw { .. }
             | Terminal::Switch { .. }
             | Terminal::DoWhile { .. }
             | Terminal::While { .. }
@@ -134,9 +139,19 @@ impl<'g> Builder<'g> {
             self.old.marks.used) result }
     {
         self.frames.enter(frame, opened)?;
-        let outer = self.out.take();
-        self.build_list(site.inside(part, frame, opened))?;
+        let list = self.build_apart(site.inside(part, frame, opened))?;
         self.frames.leave(opened);
+        Ok(list)
+    }
+
+    /// Builds the list from the site's block on, apart from the statements in front of it.
+    #[cycle(builder)]
+    pub fn build_apart(&mut self, site: Site) -> Result<List<ReactiveStatement>, Fault>
+        requires { CanBuildList self.old.hir.now self.old.marks self.old.frames site.block }
+        ensures { BuildsList self.old self.new site site.block result }
+    {
+        let outer = self.out.take();
+        self.build_list(site)?;
         Ok(mem::replace(&mut self.out, outer))
     }
 }

@@ -82,7 +82,6 @@ fn build(alloc: Global, hir: &HirFunction, env: &Environment) -> Result<Reactive
     let entry = Site {
         block: hir.body.entry,
         next: None,
-        handler: None,
     };
     let mut builder = Builder::new(alloc, hir, env);
     builder.build_list(entry)?;

@@ -1,6 +1,6 @@
 -- What the functions of the builder ensure.
-use Rattle.std.specs.Prelude.{◌≡◌, ◌<◌, List, [], ◌∷◌, ◌++◌, Option, Result, Err, IfOk, IfErr, length}
-use Rattle.rc_names.specs.Numbers.{BlockId}
+use Rattle.std.specs.Prelude.{◌≡◌, ◌<◌, List, [], ◌∷◌, ◌++◌, Option, Some, Result, Err, IfOk, IfErr, length}
+use Rattle.rc_names.specs.Numbers.{BlockId, EvaluationOrder}
 use Rattle.rc_hir.specs.Model.{Fault, Rule, Terminal, HirFunction}
 use Rattle.rc_hir.specs.declared.fault.Fault.TheVariants as faults
 use Rattle.rc_tree.specs.Model.{ReactiveBlock, ReactiveStatement}
@@ -8,13 +8,15 @@ use Rattle.rc_build.specs.declared.builder.Builder.{Builder}
 use Rattle.rc_build.specs.declared.builder.Site.{Site}
 use Rattle.rc_runs.specs.PlainTree.{Statements}
 use Rattle.rc_runs.specs.TreeOf.{alternate_of, statements_of}
+use Rattle.rc_runs.specs.Frames.{resolve_break}
+use Rattle.rc_runs.specs.Grammar.{break_statements}
 use Rattle.rc_runs.specs.Spelled.{AreSound}
 use Rattle.rc_build.specs.RuleFacts.{FaultFact}
 use Rattle.rc_build.specs.inside.Marks.{MarksBlocks}
 use Rattle.rc_build.specs.inside.CanBuild.{CanBuildTerminal}
 use Rattle.rc_build.specs.inside.Setting.{Setting, setting_of}
 use Rattle.rc_build.specs.inside.Task.{FromBlock, FromTerminal, Progress, Spells, SpellsAlternate, Task, join, left, pending}
-use Rattle.rc_build.specs.inside.Task.{progress_of}
+use Rattle.rc_build.specs.inside.Task.{SpellsConsequent, progress_of}
 
 -- of a task, the statements in front of what is left of it stand behind the old ones, and their blocks are marked
 pub record BuiltPrefix (setting : Setting) (task rest : Task) (old new : Progress) : Type 0 where
@@ -48,6 +50,18 @@ abbrev pub BuiltAlternate : Setting → BlockId → BlockId → Option ReactiveB
 BuiltAlternate setting alternate fallthrough built old new =
     BuiltPart alternate_of (SpellsAlternate setting alternate fallthrough) setting.hir (alternate ∷ []) built old new
 
+-- the consequent of a branch is built, as a part
+abbrev pub BuiltConsequent : Setting → BlockId → EvaluationOrder → List ReactiveStatement → Progress → Progress → Type 0
+BuiltConsequent setting consequent id list old new =
+    BuiltPart statements_of (SpellsConsequent setting consequent id) setting.hir (consequent ∷ []) list old new
+
+-- the statements of a break stand behind the others, and nothing is marked
+pub record PutsBreak (old new : Builder) (target : BlockId) (id : EvaluationOrder) : Type 0 where
+  pub statements : Statements
+  pub asked : break_statements (resolve_break old.frames target) target id ≡ Some statements
+  pub put : new.out ≡ old.out ++ statements_of statements
+  pub kept : new.marks ≡ old.marks
+
 -- what S asks for uses no blocks that are sound behind the used ones
 abbrev pub Refused : {A : Type 0} → HirFunction → (A → List BlockId → Type 0) → List BlockId → Type 0
 Refused {A} hir S used = (value : A) (blocks : List BlockId) → S value blocks → AreSound hir (used ++ blocks) → ⊥
@@ -70,6 +84,12 @@ abbrev pub BuildsTask : {A : Type 0} → Builder → Builder → Site → Task �
 BuildsTask old new site task rest result = Builds old new site
     (λ answer. BuiltPrefix (setting_of old site) task (rest answer) (progress_of old) (progress_of new))
     (Refused old.hir.now (Spells (setting_of old site) task) old.marks.used) result
+
+-- the list from a block on is built, as a part
+abbrev pub BuildsList : Builder → Builder → Site → BlockId → Result (List ReactiveStatement) Fault → Type 0
+BuildsList old new site key result = Builds old new site
+    (λ list. BuiltList (setting_of old site) key list (progress_of old) (progress_of new))
+    (Refused old.hir.now (Spells (setting_of old site) (FromBlock key)) old.marks.used) result
 
 -- the rows of a block are built, the block is marked, and its terminal can be built
 pub record TakesBlock (old new : Builder) (site : Site) (terminal : Terminal) : Type 0 where

@@ -10,7 +10,7 @@ use Rattle.rc_build.specs.declared.builder.Marks.{Marks}
 use Rattle.rc_runs.specs.Graph.{basic_block}
 use Rattle.rc_runs.specs.Spelled.{AreSound, scope_at}
 use Rattle.rc_build.specs.References.{referenced_blocks, tested_blocks, fallthrough_of, scope_fallthrough, cases_of}
-use Rattle.rc_build.specs.RuleFacts.{BlockIs}
+use Rattle.rc_build.specs.RuleFacts.{BlockIs, IsLostJump, Jumps}
 
 -- the used blocks are sound and blocks of the graph, and the used scopes are theirs
 pub record AreMarked (hir : HirFunction) (marks : Marks) : Type 0 where
@@ -99,3 +99,10 @@ pub record CanBuildTerminal (hir : HirFunction) (marks : Marks) (frames : List F
   pub referenced : AreReferenced hir marks.used (referenced_blocks terminal ++ pending_blocks frames)
   pub used_before : AreUsed marks (used_blocks frames)
   pub owned : AreOwned hir (IsUsedApart marks key) frames
+
+-- a break of that block's terminal to the target can be built, or is a fault of the block
+pub record CanBreak (hir : HirFunction) (marks : Marks) (frames : List Frame) (key : BlockId) (terminal : Terminal)
+    (target : BlockId) : Type 0 where
+  pub can : CanBuildTerminal hir marks frames key terminal
+  pub jumps : Jumps terminal target
+  pub lost : IsLostJump hir key terminal

@@ -1,12 +1,13 @@
 -- What the builder is asked for, and how far it has come.
-use Rattle.std.specs.Prelude.{◌≡◌, true, false, List, [], ◌∷◌, Option, Some, None}
-use Rattle.rc_names.specs.Numbers.{BlockId, same_id}
+use Rattle.std.specs.Prelude.{◌≡◌, ◌⊎◌, true, false, List, [], ◌∷◌, Option, Some, None}
+use Rattle.rc_names.specs.Numbers.{BlockId, EvaluationOrder, same_id}
 use Rattle.rc_hir.specs.Model.{Terminal}
 use Rattle.rc_tree.specs.Model.{ReactiveStatement}
 use Rattle.rc_build.specs.declared.builder.Builder.{Builder}
 use Rattle.rc_build.specs.declared.builder.Marks.{Marks}
 use Rattle.rc_runs.specs.PlainTree.{Statements, Nil, Cons, Alternate, Absent, Present}
-use Rattle.rc_runs.specs.Grammar.{SpellsList, SpellsTerminal}
+use Rattle.rc_runs.specs.Frames.{is_jump_target, resolve_break}
+use Rattle.rc_runs.specs.Grammar.{SpellsList, SpellsTerminal, break_statements}
 use Rattle.rc_build.specs.References.{referenced_blocks}
 use Rattle.rc_build.specs.inside.Setting.{Setting}
 
@@ -58,3 +59,10 @@ abbrev pub SpellsAlternate : Setting → BlockId → BlockId → Alternate → L
 SpellsAlternate setting alternate fallthrough Absent used = (same_id alternate fallthrough ≡ true) × (used ≡ [])
 SpellsAlternate setting alternate fallthrough (Present statements) used =
     (same_id alternate fallthrough ≡ false) × Spells setting (FromBlock alternate) statements used
+
+-- the consequent of a branch: a break to it where a jump can name it, else the list from it on
+abbrev pub SpellsConsequent : Setting → BlockId → EvaluationOrder → Statements → List BlockId → Type 0
+SpellsConsequent setting consequent id statements used =
+    ((is_jump_target setting.context.frames consequent ≡ true) × (used ≡ [])
+    × (break_statements (resolve_break setting.context.frames consequent) consequent id ≡ Some statements))
+    ⊎ Spells setting (FromBlock consequent) statements used

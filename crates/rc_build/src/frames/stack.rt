@@ -7,7 +7,7 @@ ghost use Rattle.rc_runs.specs.Frames as spec;
 
 use crate::frames::depths::Depths;
 use rc_names::{BlockId, List};
-use rc_runs::{BreakResult, Frame};
+use rc_runs::{BreakResult, ContinueResult, Frame};
 use std::alloc::{AllocError, Global};
 use std::marker::Model;
 
@@ -130,6 +130,23 @@ impl FrameStack {
                 .frame
                 .resolve_break(depth == self.entries.len(), depth < self.loop_depth()),
             None => BreakResult::NoFrame,
+        }
+    }
+
+    /// What becomes of a continue to the block.
+    pub fn resolve_continue(&self, key: BlockId) -> ContinueResult
+        ensures { result ≡ spec.resolve_continue self.now key }
+    {
+        let depth = self.continues.at(key);
+        if depth == 0 {
+            return ContinueResult::NoLoop;
+        }
+        match self.entries.get(depth - 1) {
+            Some(entry) => ContinueResult::Continues {
+                target: entry.frame.break_block(),
+                kind: Frame::continue_kind(depth == self.entries.len(), depth < self.loop_depth()),
+            },
+            None => ContinueResult::NoLoop,
         }
     }
 

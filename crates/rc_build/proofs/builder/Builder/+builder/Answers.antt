@@ -1,8 +1,8 @@
-use Rattle.std.proofs.Common.{[], Some, None, refl, sym, ap, ◌∙◌, subst, arith, rules}
+use Rattle.std.proofs.Common.{[], ◌∷◌, ◌++◌, Some, None, refl, sym, ap, ◌∙◌, subst, arith, rules}
 use Rattle.std.proofs.lemmas.List.{append-nil}
 use Rattle.std.proofs.lemmas.Result.{IfOk-weaker}
 use Rattle.rc_runs.specs.declared.frames.Frame.TheVariants as frame_kinds
-use Rattle.rc_hir.specs.declared.fault.Rule.TheVariants.{FallsElsewhere}
+use Rattle.rc_hir.specs.declared.fault.Rule.TheVariants.{BreakTarget, FallsElsewhere}
 use Rattle.rc_hir.specs.declared.terminal.Terminal.TheVariants as terminals
 use Rattle.rc_tree.specs.declared.terminal.ReactiveTerminal.TheVariants as tree
 use Rattle.rc_runs.specs.PlainTree.{Nil}
@@ -12,10 +12,14 @@ use Rattle.rc_build.specs.inside.CanBuild.{CanBuildList, CanBuildTerminal}
 use Rattle.rc_build.specs.inside.Depths.{frames_inside}
 use Rattle.rc_build.specs.inside.Enclosures.{statement_around}
 use Rattle.rc_build.specs.inside.Setting.{Setting, part_setting, setting_of, terminal_statement}
-use Rattle.rc_build.specs.inside.Task.{SpellsAlternate, progress_of, FromBlock, Nothing, Spells}
-use Rattle.rc_build.specs.inside.Built.{Refused, BuiltAlternate, BuiltList, BuiltPrefix}
-use Rattle.rc_build.proofs.BuildsLemmas.{breaks_rule, builds_terminal, builds_then, is_built, passes_on}
-use Rattle.rc_build.proofs.BuiltLemmas.{whole_list, marking_beside}
+use Rattle.rc_build.specs.inside.Task.{SpellsAlternate, progress_of, FromBlock, Spells}
+use Rattle.rc_runs.specs.TreeOf.{statements_of}
+use Rattle.rc_build.specs.inside.Built.{Refused, BuildsList, BuiltAlternate, BuiltList}
+use Rattle.rc_build.proofs.BuildsLemmas.{breaks_rule, builds_at, builds_terminal, builds_then, is_built, list_at, passes_on}
+use Rattle.rc_build.proofs.BranchLemmas.{alternate_lost, branch_built, branch_can, branch_lost, branch_refused}
+use Rattle.rc_build.proofs.BranchLemmas.{branch_refused_later, consequent_broken, consequent_list, consequent_lost}
+use Rattle.rc_build.proofs.BranchLemmas.{consequent_refused}
+use Rattle.rc_build.proofs.BuiltLemmas.{whole_list, marking_beside, marking_none}
 use Rattle.rc_build.proofs.EnclosureLemmas.{enclosure_built, enclosure_can, enclosure_refused}
 use Rattle.rc_build.proofs.IfLemmas.{alternate_absent, alternate_present, alternate_refused, if_built, if_refused}
 use Rattle.rc_build.proofs.IfLemmas.{if_elsewhere, if_refused_later, elsewhere_parts}
@@ -24,7 +28,7 @@ use Rattle.rc_build.proofs.ListLemmas.{used_longer}
 use Rattle.rc_build.proofs.JumpLemmas.{builds_end}
 use Rattle.rc_build.proofs.MarksLemmas.{room}
 use Rattle.rc_build.proofs.StatementLemmas.{setting_left, falls_badly, at_part_site}
-use Rattle.rc_build.proofs.WalkLemmas.{at_first_part, none_used, at_part}
+use Rattle.rc_build.proofs.WalkLemmas.{at_arm, at_first_part, none_used, at_part}
 use Rattle.rc_build.proofs.builder.Builder.+builder.Goals as goal
 
 -- the loop over the blocks of a list
@@ -94,6 +98,15 @@ pub build_terminal-returns-in-Return : goal.build_terminal-returns-in-Return
 build_terminal-returns-in-Return t c =
     builds_terminal (terminals.Return c.in-Return.value c.in-Return.id) _ c.in-Return.is c.build_return.ensures
 
+pub build_terminal-returns-in-Throw : goal.build_terminal-returns-in-Throw
+build_terminal-returns-in-Throw t c =
+    builds_terminal (terminals.Throw c.in-Throw.value c.in-Throw.id) _ c.in-Throw.is c.build_throw.ensures
+
+pub build_terminal-returns-in-Branch : goal.build_terminal-returns-in-Branch
+build_terminal-returns-in-Branch t c =
+    builds_terminal (terminals.Branch c.in-Branch.test c.in-Branch.consequent c.in-Branch.alternate c.in-Branch.id) _
+    c.in-Branch.is c.build_branch.ensures
+
 pub build_terminal-returns-in-Goto : goal.build_terminal-returns-in-Goto
 build_terminal-returns-in-Goto t c =
     builds_terminal (terminals.Goto c.in-Goto.block c.in-Goto.variant c.in-Goto.id) _ c.in-Goto.is c.build_goto.ensures
@@ -127,8 +140,8 @@ build_terminal-returns-in-Unreachable t c =
 
 -- a part
 
-pub build_part-build_list-requires : goal.build_part-build_list-requires
-build_part-build_list-requires t c =
+pub build_part-build_apart-requires : goal.build_part-build_apart-requires
+build_part-build_apart-requires t c =
     let builder = c.args.self.now in (
       omega arith,
       subst (λ (z : Site). CanBuildList builder.hir.now builder.marks c.enter.new.self z.block) (sym c.inside.ensures)
@@ -136,26 +149,134 @@ build_part-build_list-requires t c =
           c.requires),
     )
 
-pub build_part-returns-in_err-build_list : goal.build_part-returns-in_err-build_list
-build_part-returns-in_err-build_list t c =
+pub build_part-returns-in_err-list : goal.build_part-returns-in_err-list
+build_part-returns-in_err-list t c =
     let old = c.args.self.now in
-    passes_on c.from_residual-in_err-build_list.ensures.1 refl c.in_err-build_list.ensures
+    passes_on c.from_residual-in_err-list.ensures.1 refl c.in_err-list.ensures
     (at_part_site (λ z k. Refused z.hir (Spells z (FromBlock k)) old.marks.used) (record old { frames = c.enter.new.self })
     old.frames c.args.opened c.args.frame c.args.part c.args.site c.inside.result c.inside.ensures c.in_ok-enter.ensures.ok)
 
 pub build_part-returns : goal.build_part-returns
 build_part-returns t c =
     let old = c.args.self.now in
-    let started = record old { frames = c.enter.new.self; out = c.take-outer.new.self } in
-    let list = c.in_ok-build_list.ensures in
-    is_built c.replace.result
-    (whole_list (at_part_site (λ z k. BuiltPrefix z (FromBlock k) Nothing (progress_of started)
-    (progress_of c.build_list.new.self)) started old.frames c.args.opened c.args.frame c.args.part c.args.site
-    c.inside.result c.inside.ensures c.in_ok-enter.ensures.ok list.ok) c.take-outer.ensures.left c.replace.ensures.value
-    (c.replace.ensures.after ∙ c.take-outer.ensures.list))
-    (setting_left old started c.build_list.new.self c.args.site c.inside.result c.leave.new.self list.frames refl refl
+    let started = record old { frames = c.enter.new.self } in
+    let list = c.in_ok-list.ensures in
+    is_built c.in_ok-list.list
+    (at_part_site (λ z k. BuiltList z k c.in_ok-list.list (progress_of started) (progress_of c.build_apart.new.self))
+    started old.frames c.args.opened c.args.frame c.args.part c.args.site c.inside.result c.inside.ensures
+    c.in_ok-enter.ensures.ok list.ok)
+    (setting_left old started c.build_apart.new.self c.args.site c.inside.result c.leave.new.self list.frames refl refl
     (c.leave.ensures c.args.frame old.frames (ap (λ (z : Setting). z.context.frames) list.frames
     ∙ c.in_ok-enter.ensures.ok)))
+
+-- a list apart from the statements in front of it
+
+pub build_apart-build_list-requires : goal.build_apart-build_list-requires
+build_apart-build_list-requires t c = (omega arith, c.requires)
+
+pub build_apart-returns-in_err-build_list : goal.build_apart-returns-in_err-build_list
+build_apart-returns-in_err-build_list t c =
+    passes_on c.from_residual.ensures.1 refl c.in_err-build_list.ensures (λ none. none)
+
+pub build_apart-returns : goal.build_apart-returns
+build_apart-returns t c =
+    let list = c.in_ok-build_list.ensures in
+    is_built c.replace.result
+    (whole_list list.ok c.take-outer.ensures.left c.replace.ensures.value
+    (c.replace.ensures.after ∙ c.take-outer.ensures.list)) list.frames
+
+-- a branch in a list
+
+pub build_branch-returns-then-is_jump_target : goal.build_branch-returns-then-is_jump_target
+build_branch-returns-then-is_jump_target t c = λ span.
+    let old = c.args.self.now in
+    let target = sym c.is_jump_target.ensures ∙ c.if-is_jump_target.true in
+    breaks_rule c.args.site.block BreakTarget c.malformed.ensures
+    (branch_lost {s = setting_of old c.args.site} old.marks.used target) (alternate_lost c.requires.1 target)
+
+pub build_branch-build_consequent-requires : goal.build_branch-build_consequent-requires
+build_branch-build_consequent-requires t c =
+    (omega arith, (c.args.test, c.args.alternate, c.requires.0, c.requires.1))
+
+pub build_branch-returns-in_err-part : goal.build_branch-returns-in_err-part
+build_branch-returns-in_err-part t c = λ span.
+    passes_on c.from_residual.ensures.1 refl c.in_err-part.ensures (branch_refused c.args.self.now.marks.used)
+
+pub build_branch-build_apart-requires : goal.build_branch-build_apart-requires
+build_branch-build_apart-requires t c =
+    let old = c.args.self.now in
+    let part = c.in_ok-part.ensures in
+    let mid = c.build_consequent.new.self in (
+      omega (
+        arith,
+        same_blocks old mid c.args.site part.frames,
+        used_longer part.ok.marking,
+      ),
+      subst (λ (z : Site). CanBuildList mid.hir.now mid.marks mid.frames z.block) (sym c.at.ensures)
+          (subst (λ (z : Setting). CanBuildList z.hir mid.marks z.context.frames c.args.alternate) (sym part.frames)
+          (at_arm old.hir.now c.requires.1 (marking_beside old.hir.now part.ok.marking))),
+    )
+
+pub build_branch-returns-in_err-statements : goal.build_branch-returns-in_err-statements
+build_branch-returns-in_err-statements t c = λ span.
+    let part = c.in_ok-part.ensures in
+    passes_on c.from_residual-in_err-statements.ensures.1 (ap (λ (z : Setting). z.hir) part.frames)
+    (list_at {site = c.args.site} c.args.alternate c.at.ensures c.in_err-statements.ensures)
+    (λ none. branch_refused_later part.ok (subst (λ (z : Setting). Refused z.hir (Spells z (FromBlock c.args.alternate))
+    c.build_consequent.new.self.marks.used) part.frames none))
+
+pub build_branch-returns : goal.build_branch-returns
+build_branch-returns t c = λ span.
+    let part = c.in_ok-part.ensures in
+    let other = list_at {site = c.args.site} c.args.alternate c.at.ensures c.in_ok-statements.ensures in
+    is_built None
+    (branch_built part.ok (subst (λ (z : Setting). BuiltList z c.args.alternate c.in_ok-statements.statements
+    (progress_of c.build_consequent.new.self) (progress_of c.build_apart.new.self)) part.frames other.ok)
+    c.in_ok-statement.ensures c.in_ok-push.ensures.ok) (other.frames ∙ part.frames)
+
+-- its consequent
+
+pub build_consequent-put_break-requires : goal.build_consequent-put_break-requires
+build_consequent-put_break-requires t c =
+    let can = c.requires.3 in (
+      terminals.Branch c.requires.0 c.args.consequent c.requires.1 c.args.id c.requires.2,
+      branch_can can (sym c.is_jump_target.ensures ∙ c.if-is_jump_target.true),
+    )
+
+pub build_consequent-returns-in_err-put_break : goal.build_consequent-returns-in_err-put_break
+build_consequent-returns-in_err-put_break t c =
+    let target = sym c.is_jump_target.ensures ∙ c.if-is_jump_target.true in
+    passes_on c.from_residual.ensures.1 refl c.in_err-put_break.ensures
+    (consequent_lost {s = setting_of c.args.self.now c.args.site} c.args.consequent c.args.id c.args.self.now.marks.used target)
+
+pub build_consequent-returns-then-is_jump_target : goal.build_consequent-returns-then-is_jump_target
+build_consequent-returns-then-is_jump_target t c =
+    let old = c.args.self.now in
+    let target = sym c.is_jump_target.ensures ∙ c.if-is_jump_target.true in
+    let broken = c.in_ok-put_break.ensures in
+    is_built c.replace.result
+    (consequent_broken {s = setting_of old c.args.site} c.args.consequent c.args.id target broken.ok.asked
+    (c.replace.ensures.value ∙ broken.ok.put ∙ ap (λ z. z ++ statements_of broken.ok.statements) c.take-outer.ensures.left)
+    broken.ok.kept c.requires.3.marked (c.replace.ensures.after ∙ c.take-outer.ensures.list)) broken.frames
+
+pub build_consequent-build_apart-requires : goal.build_consequent-build_apart-requires
+build_consequent-build_apart-requires t c =
+    let old = c.args.self.now in
+    let can = c.requires.3 in (
+      omega arith,
+      subst (λ (z : Site). CanBuildList old.hir.now old.marks old.frames z.block) (sym c.at.ensures)
+          (at_arm old.hir.now can (marking_none old.hir.now
+          (c.args.consequent ∷ c.requires.1 ∷ []) old.marks can.marked)),
+    )
+
+pub build_consequent-returns : goal.build_consequent-returns
+build_consequent-returns t c =
+    let old = c.args.self.now in
+    let apart = sym c.is_jump_target.ensures ∙ c.if-is_jump_target.false in
+    builds_at c.args.consequent (λ list b. consequent_list c.args.consequent c.args.id b)
+    (consequent_refused {s = setting_of old c.args.site} c.args.consequent c.args.id old.marks.used apart)
+    (subst (λ (z : Site). BuildsList old c.build_apart.new.self z z.block c.build_apart.result) c.at.ensures
+    c.build_apart.ensures)
 
 -- a statement with one part
 

@@ -30,6 +30,15 @@ decreases-build_enclosure l = unused l.self.now + 7
 abbrev pub decreases-build_part : goal.decreases-build_part
 decreases-build_part l = unused l.self.now + 5
 
+abbrev pub decreases-build_apart : goal.decreases-build_apart
+decreases-build_apart l = unused l.self.now + 4
+
+abbrev pub decreases-build_branch : goal.decreases-build_branch
+decreases-build_branch l = unused l.self.now + 7
+
+abbrev pub decreases-build_consequent : goal.decreases-build_consequent
+decreases-build_consequent l = unused l.self.now + 6
+
 abbrev pub invariant-build_list-list : goal.invariant-build_list-list
 invariant-build_list-list l = ListSoFar l.fn.self l.self l.site l.at
 

@@ -9,3 +9,8 @@ pub returns-in-Break : goal.returns-in-Break
 returns-in-Break c = subst (λ v. (span : Option Span) → BuildsTask c.args.self.now c.build_break.new.self c.args.site
     (FromTerminal (terminals.Goto c.args.target v c.args.id span)) left c.build_break.result) (sym c.in-Break.is)
     c.build_break.ensures
+
+pub returns-in-Continue : goal.returns-in-Continue
+returns-in-Continue c = subst (λ v. (span : Option Span) → BuildsTask c.args.self.now c.build_continue.new.self
+    c.args.site (FromTerminal (terminals.Goto c.args.target v c.args.id span)) left c.build_continue.result)
+    (sym c.in-Continue.is) c.build_continue.ensures

@@ -6,7 +6,7 @@ use Rattle.std.proofs.lemmas.List.{length-map, length-reverse, reverse-reverse}
 use Rattle.rc_names.specs.Numbers.{same_id}
 use Rattle.rc_runs.specs.Frames.{break_block, resolve_break, resolve_at}
 use Rattle.rc_build.specs.inside.Depths.{break_depth, loop_depth, frame_of}
-use Rattle.rc_build.proofs.DepthsLemmas.{frame_at, frame_at-get, frame_there, resolved_nowhere, resolve_break-found}
+use Rattle.rc_build.proofs.DepthsLemmas.{frame_at, frame_at-get, frame_there, resolve_break-nowhere, resolve_break-found}
 use Rattle.rc_build.proofs.frames.stack.FrameStack.resolve_break.Goals as goal
 
 pub returns-then-depth-eq0 : goal.returns-then-depth-eq0
@@ -14,7 +14,7 @@ returns-then-depth-eq0 c =
     let frames = map frame_of (reverse c.self.inside.entries) in
     let none : break_depth frames c.args.key ≡ 0 = sym (c.self.invariant.of_breaks c.args.key) ∙ sym c.at-depth.ensures
     ∙ c.if-depth-eq0.true in
-    sym (resolved_nowhere frames true false c.args.key none) ∙ ap (λ fs. resolve_break fs c.args.key) c.self.view_is
+    sym (resolve_break-nowhere frames c.args.key none) ∙ ap (λ fs. resolve_break fs c.args.key) c.self.view_is
 
 pub returns-in-Some : goal.returns-in-Some
 returns-in-Some c =
