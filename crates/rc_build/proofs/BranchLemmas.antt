@@ -1,5 +1,5 @@
 -- What a branch in a list is: its consequent, which may be a break, and its alternate.
-use Rattle.std.proofs.Common.{◌≡◌, Bool, true, false, List, [], ◌∷◌, ◌++◌, Option, Some, None, refl, sym, ap, ◌∙◌}
+use Rattle.std.proofs.Common.{◌≡◌, true, false, List, [], ◌∷◌, ◌++◌, Option, Some, None, refl, sym, ap, ◌∙◌}
 use Rattle.std.proofs.Common.{subst, arith, inl, inr}
 use Rattle.rc_names.specs.Numbers.{BlockId, EvaluationOrder}
 use Rattle.rc_names.specs.declared.span.Span.{Span}

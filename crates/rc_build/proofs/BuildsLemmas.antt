@@ -1,5 +1,5 @@
 -- What a function of the builder ensures where a fault ends it, and where it goes on with another one.
-use Rattle.std.proofs.Common.{◌≡◌, List, Result, Ok, Err, Option, Some, IfOk, IfErr, IsErrAnd, refl, sym, ap, ◌∙◌, subst}
+use Rattle.std.proofs.Common.{◌≡◌, List, Result, Ok, Err, Option, IfOk, IfErr, IsErrAnd, sym, ap, ◌∙◌, subst}
 use Rattle.std.proofs.lemmas.Result.{err_from_is_err_and}
 use Rattle.rc_names.specs.Numbers.{BlockId}
 use Rattle.rc_names.specs.declared.span.Span.{Span}
@@ -11,7 +11,7 @@ use Rattle.rc_build.specs.declared.builder.Site.{Site}
 use Rattle.rc_build.specs.RuleFacts.{FaultFact, RuleFact}
 use Rattle.rc_build.specs.inside.Setting.{Setting, setting_of, site_at}
 use Rattle.rc_build.specs.inside.Task.{FromTerminal, Spells, Task, left, progress_of}
-use Rattle.rc_build.specs.inside.Built.{Builds, BuildsList, BuildsTask, BuiltPrefix, Refused, IfMalformed}
+use Rattle.rc_build.specs.inside.Built.{Builds, BuildsList, BuildsTask, BuiltPrefix, Refused}
 use Rattle.rc_build.proofs.BuiltLemmas.{prefix_then, prefix_refused}
 
 -- the fault that a `?` passes on is that of its call

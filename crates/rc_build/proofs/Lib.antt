@@ -14,5 +14,8 @@ mod StatementLemmas
 mod EnclosureLemmas
 mod IfLemmas
 mod BranchLemmas
+mod SwitchLemmas
+mod SwitchStatementLemmas
+mod CaseListLemmas
 mod BuildLemmas
 mod BuildCausesLemmas

@@ -1,5 +1,5 @@
 -- The loop over the blocks of a list: how far it has come, and what its ends give.
-use Rattle.std.proofs.Common.{◌≡◌, ◌-◌, ◌+◌, List, Option, Some, None, refl, sym, ap, ◌∙◌, subst, arith, length}
+use Rattle.std.proofs.Common.{◌≡◌, ◌+◌, List, Option, Some, None, refl, sym, ap, ◌∙◌, subst, arith, length}
 use Rattle.std.proofs.Common.{length-append}
 use Rattle.rc_names.specs.Numbers.{BlockId}
 use Rattle.rc_hir.specs.Model.{HirFunction}

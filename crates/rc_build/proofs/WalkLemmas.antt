@@ -1,6 +1,6 @@
 -- Where the walk can go: from a block to its terminal, to the next block of its list, and into the parts of its
 -- statement, inside a frame of each of the five kinds.
-use Rattle.std.proofs.Common.{◌≡◌, ◌≤◌, Bool, true, false, List, [], ◌∷◌, ◌++◌, Option, Some, None, refl, sym, subst, arith, inl, inr}
+use Rattle.std.proofs.Common.{◌≡◌, ◌≤◌, true, false, List, [], ◌∷◌, ◌++◌, Option, Some, None, refl, sym, subst, arith, inl, inr}
 use Rattle.std.specs.Prelude.{◌⊎◌}
 use Rattle.rc_names.specs.Numbers.{BlockId, is_among, times}
 use Rattle.rc_hir.specs.Model.{Terminal, BasicBlock, HirFunction}
@@ -31,7 +31,7 @@ used_alone marks block u key h = among_same marks.used block key u (alone_same b
 
 module _ (hir : HirFunction) where
   -- what was used is used
-  used_more : {before after : List BlockId} {old new : Marks} {blocks : List BlockId}
+  pub used_more : {before after : List BlockId} {old new : Marks} {blocks : List BlockId}
       → MarksBlocks hir before after old new blocks → (key : BlockId) → IsUsed old key → IsUsed new key
   used_more {old = old} {blocks = blocks} m key h =
       subst (λ z. is_among z key ≡ true) (sym m.used) (among_front old.used blocks key h)

@@ -9,6 +9,7 @@ use Rattle.rc_hir.specs.declared.terminal.Terminal.TheVariants as terminals
 abbrev pub is_built : Terminal → Bool
 is_built (terminals.If test consequent alternate fallthrough id span) = true
 is_built (terminals.Branch test consequent alternate id span) = true
+is_built (terminals.Switch test cases fallthrough id span) = true
 is_built (terminals.Throw value id span) = true
 is_built (terminals.Return value id span) = true
 is_built (terminals.Unreachable id span) = true

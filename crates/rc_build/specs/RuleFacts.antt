@@ -17,6 +17,7 @@ use Rattle.rc_runs.specs.GraphRun.{Edge}
 use Rattle.rc_hir.specs.Successors.{case_blocks}
 use Rattle.rc_build.specs.References.{references, framed_blocks, fallthrough_of, scope_fallthrough, cases_of}
 use Rattle.rc_runs.specs.Spelled.{scope_named}
+use Rattle.rc_runs.specs.SwitchCases.{has_one_default, tests_past}
 use Rattle.rc_build.specs.BuiltForms.{is_built}
 
 -- the block under a key, of which P holds
@@ -92,6 +93,12 @@ pub record FallsBadly (hir : HirFunction) (b : BlockId) (terminal : Terminal) : 
   pub falls : fallthrough_of terminal ≡ Some fallthrough
   pub bad : IsFramedApart hir b fallthrough ⊎ (ends_unreachable hir fallthrough ≡ true)
 
+-- the terminal is a `Switch` with two defaults, or with a tested case whose block is the fallthrough
+abbrev pub HasOddCases : Terminal → Type 0
+HasOddCases (terminals.Switch test cases fallthrough id span) =
+    (has_one_default cases ≡ false) ⊎ (tests_past fallthrough cases ≡ true)
+HasOddCases _ = ⊥
+
 -- the terminal is a `Goto` of variant `Continue`
 abbrev pub is_continue : Terminal → Bool
 is_continue (terminals.Goto target variants.Continue id span) = true
@@ -106,6 +113,7 @@ RuleFact hir rules.UnsetId key = BlockIs hir key
 RuleFact hir rules.Twice key = BlockIs hir key (λ block. 2 ≤ times_referenced hir key)
 RuleFact hir rules.BreakTarget key = BlockIs hir key (λ block. IsLostJump hir key block.terminal)
 RuleFact hir rules.ContinueTarget key = BlockIs hir key (λ block. is_continue block.terminal ≡ true)
+RuleFact hir rules.SwitchCase key = BlockIs hir key (λ block. HasOddCases block.terminal)
 RuleFact hir rules.CaseLabel key =
     BlockIs hir key (λ block. (target : BlockId) × Jumps block.terminal target × IsCaseBlock hir target)
 RuleFact hir rules.ScopeBreak key =

@@ -7,3 +7,4 @@ pub mod Setting
 pub mod Task
 pub mod Built
 pub mod Enclosures
+pub mod Switches

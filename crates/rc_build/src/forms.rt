@@ -13,6 +13,7 @@ fn is_built(terminal: &Terminal) -> bool
     match terminal {
         Terminal::If { .. }
         | Terminal::Branch { .. }
+        | Terminal::Switch { .. }
         | Terminal::Throw { .. }
         | Terminal::Return { .. }
         | Terminal::Unreachable { .. }
@@ -27,7 +28,6 @@ fn is_built(terminal: &Terminal) -> bool
         | Terminal::Ternary { .. }
         | Terminal::Optional { .. }
         | Terminal::Sequence { .. }
-        | Terminal::Switch { .. }
         | Terminal::DoWhile { .. }
         | Terminal::While { .. }
         | Terminal::For { .. }

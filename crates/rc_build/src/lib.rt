@@ -18,6 +18,7 @@ mod jumps;
 mod lists;
 mod reactive_function;
 mod rows;
+mod switches;
 mod unreachable;
 
 pub use reactive_function::build_reactive_function;

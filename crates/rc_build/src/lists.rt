@@ -76,6 +76,13 @@ impl<'g> Builder<'g> {
                 id,
                 ..
             } => self.build_branch(site, *test, *consequent, *alternate, *id),
+            Terminal::Switch {
+                test,
+                cases,
+                fallthrough,
+                id,
+                ..
+            } => self.build_switch(site, *test, cases, *fallthrough, *id),
             Terminal::Label {
                 block,
                 fallthrough,
@@ -111,7 +118,6 @@ impl<'g> Builder<'g> {
             | Terminal::Ternary { .. }
             | Terminal::Optional { .. }
             | Terminal::Sequence { .. }
-            | Terminal::Switch { .. }
             | Terminal::DoWhile { .. }
             | Terminal::While { .. }
             | Terminal::For { .. }

@@ -1,6 +1,6 @@
 //! The frames around a list, in which a block is found without a look through the others.
 
-ghost use Rattle.std.specs.Prelude.{◌≡◌, [], ◌∷◌, Some, List as Items, OnOk, OnErr};
+ghost use Rattle.std.specs.Prelude.{◌≡◌, [], ◌∷◌, Some, List as Items, OnOk, OnErr, drop};
 ghost use Rattle.rc_names.specs.Numbers.{BlockId};
 ghost use Rattle.rc_build.specs.inside.Depths as depths;
 ghost use Rattle.rc_runs.specs.Frames as spec;
@@ -86,6 +86,15 @@ impl FrameStack {
             .set(Some(entry.frame.break_block()), entry.outer_break);
         self.continues
             .set(entry.frame.continue_block(), entry.outer_continue);
+    }
+
+    /// Takes that many of the innermost frames off.
+    pub fn pop_many(&mut self, count: usize)
+        ensures { self.new ≡ drop count self.old }
+    {
+        for _ in 0..count {
+            self.pop();
+        }
     }
 
     /// Puts the frame of a part inside the others, where the statement's fallthrough is opened. The only error is out

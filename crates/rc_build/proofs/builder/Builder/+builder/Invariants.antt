@@ -3,6 +3,7 @@
 use Rattle.std.proofs.Common.{ℕ, ◌+◌, ◌-◌, ◌*◌, length}
 use Rattle.rc_build.specs.declared.builder.Builder.{Builder}
 use Rattle.rc_build.specs.inside.Built.{ListSoFar}
+use Rattle.rc_build.specs.inside.Switches.{CasesSoFar}
 use Rattle.rc_build.proofs.builder.Builder.+builder.Given as goal
 
 -- ten for each block that isn't used
@@ -32,6 +33,21 @@ decreases-build_part l = unused l.self.now + 5
 
 abbrev pub decreases-build_apart : goal.decreases-build_apart
 decreases-build_apart l = unused l.self.now + 4
+
+abbrev pub decreases-build_switch : goal.decreases-build_switch
+decreases-build_switch l = unused l.self.now + 7
+
+abbrev pub decreases-build_cases_inside : goal.decreases-build_cases_inside
+decreases-build_cases_inside l = unused l.self.now + 6
+
+abbrev pub decreases-build_cases : goal.decreases-build_cases
+decreases-build_cases l = unused l.self.now + 5
+
+abbrev pub invariant-build_cases-cases : goal.invariant-build_cases-cases
+invariant-build_cases-cases l = CasesSoFar l.fn.self l.self l.fn.site l.fn.kept l.waiting l.parts l.next
+
+abbrev pub decreases-build_cases-cases : goal.decreases-build_cases-cases
+decreases-build_cases-cases l = length l.waiting
 
 abbrev pub decreases-build_branch : goal.decreases-build_branch
 decreases-build_branch l = unused l.self.now + 7

@@ -1,0 +1,232 @@
+//! Switches: their cases are built from the last to the first, each inside the frames of those after it.
+
+ghost use Rattle.std.specs.Prelude.{◌≡◌, ◌&&◌, ◌||◌, Option, IfOk, is_some, not};
+ghost use Rattle.std.specs.List.{list_any};
+ghost use Rattle.rc_names.specs.declared.span.Span.{Span};
+ghost use Rattle.rc_hir.specs.Successors as successors;
+ghost use Rattle.rc_hir.specs.declared.terminal.Terminal.TheVariants as terminals;
+ghost use Rattle.rc_tree.specs.declared.terminal.ReactiveTerminal.TheVariants as tree;
+ghost use Rattle.rc_runs.specs.SwitchCases as spec;
+ghost use Rattle.rc_runs.specs.Frames.{is_jump_target};
+ghost use Rattle.rc_runs.specs.Grammar as grammar;
+ghost use Rattle.rc_build.specs.inside.CanBuild.{CanBuildTerminal};
+ghost use Rattle.rc_build.specs.inside.Depths.{frames_inside};
+ghost use Rattle.rc_build.specs.inside.Setting.{part_setting, setting_of};
+ghost use Rattle.rc_build.specs.inside.Setting as settings;
+ghost use Rattle.rc_build.specs.inside.Switches.{BuildsCases, CanBuildCases};
+ghost use Rattle.rc_build.specs.inside.Switches as switches;
+ghost use Rattle.rc_build.specs.inside.Task.{FromTerminal, left};
+ghost use Rattle.rc_build.specs.inside.Built.{BuildsTask};
+
+use crate::builder::{Builder, Site, falls_to, label_at, malformed, terminal_statement};
+use rc_hir::{Case, Fault, Place, Rule};
+use rc_names::{BlockId, EvaluationOrder, List};
+use rc_runs::Frame;
+use rc_tree::{
+    ReactiveBlock, ReactiveLabel, ReactiveStatement, ReactiveSwitchCase, ReactiveTerminal,
+};
+use std::alloc::{AllocError, Global};
+
+impl<'g> Builder<'g> {
+    /// Builds a switch, where a default that leads straight to a fallthrough which a jump can name gives no case;
+    /// returns where the list goes on.
+    ///
+    /// - `Malformed` with `SwitchCase`: two cases are defaults, or a case with a test leads straight to the
+    ///   fallthrough.
+    /// - `Malformed` with `FallsElsewhere`: no default is left, and leaving the switch leads elsewhere.
+    #[cycle(builder)]
+    pub fn build_switch(
+        &mut self,
+        site: Site,
+        test: Place,
+        cases: &List<Case>,
+        fallthrough: BlockId,
+        id: EvaluationOrder,
+    ) -> Result<Option<BlockId>, Fault>
+        requires { (span : Option Span) × CanBuildTerminal self.old.hir.now self.old.marks self.old.frames site.block
+            (terminals.Switch test cases.now fallthrough id span) }
+        ensures { (span : Option Span) → BuildsTask self.old self.new site
+            (FromTerminal (terminals.Switch test cases.now fallthrough id span)) left result }
+    {
+        if has_odd_cases(cases, fallthrough) {
+            return Err(malformed(site.block, Rule::SwitchCase));
+        }
+        let opened = self.open_reachable(fallthrough);
+        let is_target = self.is_target_inside(fallthrough, opened);
+        let kept = kept_cases(self.alloc, cases, fallthrough, is_target)?;
+        if leaves_elsewhere(&kept, fallthrough, opened, site.next) {
+            return Err(malformed(site.block, Rule::FallsElsewhere));
+        }
+        let frame = Frame::Switch { block: fallthrough };
+        let parts = self.build_cases_inside(site, kept, frame, opened)?;
+        let statement = switch_statement(self.alloc, test, parts, id, label_at(opened))?;
+        self.out.push(statement)?;
+        Ok(opened)
+    }
+
+    /// Whether a jump in the cases of a switch can name its fallthrough.
+    fn is_target_inside(&self, fallthrough: BlockId, opened: Option<BlockId>) -> bool
+        ensures { result ≡ (is_some opened || is_jump_target self.now.frames fallthrough) }
+    {
+        opened.is_some() || self.frames.is_jump_target(fallthrough)
+    }
+
+    /// Builds the cases of a switch inside its frame, where its fallthrough is opened.
+    #[cycle(builder)]
+    fn build_cases_inside(
+        &mut self,
+        site: Site,
+        kept: List<Case>,
+        frame: Frame,
+        opened: Option<BlockId>,
+    ) -> Result<List<ReactiveSwitchCase>, Fault>
+        requires { CanBuildCases self.old.hir.now self.old.marks (frames_inside opened frame self.old.frames) kept }
+        ensures { BuildsCases self.old self.new site (part_setting opened frame (setting_of self.old site)) kept result }
+    {
+        self.frames.enter(frame, opened)?;
+        let parts = self.build_cases(site.inside(site.block, frame, opened), kept)?;
+        self.frames.leave(opened);
+        Ok(parts)
+    }
+
+    /// Builds cases from the last to the first. Each falls into the one after it, whose frame is around it.
+    #[cycle(builder)]
+    fn build_cases(
+        &mut self,
+        site: Site,
+        kept: List<Case>,
+    ) -> Result<List<ReactiveSwitchCase>, Fault>
+        requires { CanBuildCases self.old.hir.now self.old.marks self.old.frames kept }
+        ensures { BuildsCases self.old self.new site (setting_of self.old site) kept result }
+    {
+        let mut waiting = kept;
+        let mut next = site.next;
+        let mut parts = List::new(self.alloc);
+        'cases: while let Some(case) = waiting.pop() {
+            let here = Site {
+                block: case.block,
+                next,
+            };
+            let statements = self.build_apart(here)?;
+            self.frames.push(Frame::Case { block: case.block })?;
+            parts.push(switch_case(case, statements))?;
+            next = Some(case.block);
+        }
+        self.frames.pop_many(parts.len());
+        parts.reverse();
+        Ok(parts)
+    }
+}
+
+/// Whether no switch may have the cases: two are defaults, or one with a test leads straight to the fallthrough.
+fn has_odd_cases(cases: &List<Case>, fallthrough: BlockId) -> bool
+    ensures { result ≡ (not (spec.has_one_default cases.now) || spec.tests_past fallthrough cases.now) }
+{
+    !has_one_default(cases) || tests_past(cases, fallthrough)
+}
+
+/// Whether a switch has no default among the kept cases, and leaving it leads elsewhere than to its fallthrough.
+fn leaves_elsewhere(
+    kept: &List<Case>,
+    fallthrough: BlockId,
+    opened: Option<BlockId>,
+    next: Option<BlockId>,
+) -> bool
+    ensures { result ≡ not (list_any successors.is_default kept.now || grammar.falls_to (is_some opened) fallthrough next) }
+{
+    !(has_default(kept) || falls_to(opened, fallthrough, next))
+}
+
+/// Whether at most one case is a default.
+fn has_one_default(cases: &List<Case>) -> bool
+    ensures { result ≡ spec.has_one_default cases.now }
+{
+    let mut found = false;
+    for case in cases.as_slice() {
+        if repeats_default(*case, found) {
+            return false;
+        }
+        found = finds_default(*case, found);
+    }
+    true
+}
+
+/// Whether the case is a default, and one is found already.
+fn repeats_default(case: Case, found: bool) -> bool
+    ensures { result ≡ (successors.is_default case && found) }
+{
+    case.test.is_none() && found
+}
+
+/// Whether the case is a default, or one is found already.
+fn finds_default(case: Case, found: bool) -> bool
+    ensures { result ≡ (found || successors.is_default case) }
+{
+    found || case.test.is_none()
+}
+
+/// Whether a case with a test leads straight to the fallthrough.
+fn tests_past(cases: &List<Case>, fallthrough: BlockId) -> bool
+    ensures { result ≡ spec.tests_past fallthrough cases.now }
+{
+    cases
+        .as_slice()
+        .iter()
+        .any(|case| case.test.is_some() && case.block == fallthrough)
+}
+
+/// Whether one of the cases is a default.
+fn has_default(cases: &List<Case>) -> bool
+    ensures { result ≡ list_any successors.is_default cases.now }
+{
+    cases.as_slice().iter().any(|case| case.test.is_none())
+}
+
+/// The cases that are kept. The only error is out of memory.
+fn kept_cases(
+    alloc: Global,
+    cases: &List<Case>,
+    fallthrough: BlockId,
+    is_target: bool,
+) -> Result<List<Case>, AllocError>
+    ensures { IfOk result (λ kept. kept ≡ spec.kept_cases is_target fallthrough cases.now) }
+{
+    let mut kept = List::new(alloc);
+    for case in cases.as_slice() {
+        if is_kept(*case, fallthrough, is_target) {
+            kept.push(*case)?;
+        }
+    }
+    Ok(kept)
+}
+
+/// Whether a case is kept: it isn't a default that leads straight to a fallthrough which a jump can name.
+fn is_kept(case: Case, fallthrough: BlockId, is_target: bool) -> bool
+    ensures { result ≡ spec.is_kept is_target fallthrough case }
+{
+    !(case.test.is_none() && case.block == fallthrough && is_target)
+}
+
+/// The case of the tree for a case of the graph.
+fn switch_case(case: Case, statements: List<ReactiveStatement>) -> ReactiveSwitchCase
+    ensures { result ≡ switches.switch_case case.test statements }
+{
+    ReactiveSwitchCase {
+        test: case.test,
+        block: Some(ReactiveBlock { statements }),
+    }
+}
+
+/// The statement of a switch. The only error is out of memory.
+fn switch_statement(
+    alloc: Global,
+    test: Place,
+    cases: List<ReactiveSwitchCase>,
+    id: EvaluationOrder,
+    label: Option<ReactiveLabel>,
+) -> Result<ReactiveStatement, AllocError>
+    ensures { IfOk result (λ statement. statement ≡ settings.terminal_statement (tree.Switch test cases id) label) }
+{
+    let terminal = ReactiveTerminal::Switch { test, cases, id };
+    terminal_statement(alloc, terminal, label)
+}
