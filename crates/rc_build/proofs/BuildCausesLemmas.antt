@@ -1,6 +1,6 @@
 -- Causes exclude a graph that can be built and spells a function, and what the walk refuses of it has a cause.
 use Rattle.std.proofs.Common.{◌≡◌, ℕ, zero, suc, if◌then◌else◌, ◌<◌, ◌≤◌, ◌⊎◌, inl, inr, Bool, true, false}
-use Rattle.std.proofs.Common.{not, List, [], ◌∷◌, ◌++◌, length, get_or, Some, None, refl, ap, eqb-true, arith}
+use Rattle.std.proofs.Common.{not, List, [], ◌∷◌, ◌++◌, length, get_or, Option, Some, None, refl, ap, eqb-true, arith}
 use Rattle.std.proofs.Common.{slice_get}
 use Rattle.std.proofs.lemmas.Bool.{or_cases}
 use Rattle.std.proofs.lemmas.Map.Views.{Contains-from_lookup}
@@ -22,6 +22,7 @@ use Rattle.rc_runs.proofs.NamesOutsideLemmas.{no_name_outside}
 use Rattle.rc_build.specs.BuiltForms.{is_built, first_unbuilt}
 use Rattle.rc_build.specs.BuildCauses.{CanBeBuilt, IsBuildCause, SpellsNone}
 use Rattle.rc_build.specs.RuleFacts.{BlockIs, LacksRow, FaultFact}
+use Rattle.rc_build.specs.inside.Built.{refusal}
 
 module _ (hir : HirFunction) (env : Environment) where
   -- the number is in its table, where the function's rows count
@@ -94,7 +95,7 @@ module _ (hir : HirFunction) (env : Environment) (can : CanBeBuilt hir env) wher
       ≡ None = ap (option_map (λ entry. entry.0)) can.forms in let no : ⊥ = cc in no)
   only_memory func spelled (faults.Malformed block rule) cause = absurd (cause.1 func spelled)
   only_memory func spelled faults.NoMemory cause = refl
-  only_memory func spelled (faults.Todo block) cause = absurd cause
+  only_memory func spelled (faults.Todo block) cause = absurd (cause.1 func spelled)
   only_memory func spelled (faults.EarlyReturnSet scope) cause = absurd cause
   only_memory func spelled (faults.ScopeCompleted id scope) cause = absurd cause
   only_memory func spelled (faults.Uninitialised declaration) cause = absurd cause
@@ -105,9 +106,9 @@ module _ (hir : HirFunction) (env : Environment) (can : CanBeBuilt hir env) wher
 
   -- what the walk refuses of a graph that can be built has a cause
   pub cause_of : (fault : Fault) → FaultFact hir fault →
-      ((block : BlockId) (rule : Rule) → fault ≡ faults.Malformed block rule → SpellsNone hir env)
+      ((block : BlockId) (rule : Option Rule) → fault ≡ refusal block rule → SpellsNone hir env)
       → IsBuildCause hir env fault
-  cause_of (faults.Malformed block rule) fact none = (can, none block rule refl, fact)
+  cause_of (faults.Malformed block rule) fact none = (can, none block (Some rule) refl, fact)
   cause_of (faults.BadName table_names.Instructions index) fact none =
       absurd (no_row_lacks hir env can.names.graph fact.1.0 index fact.0 fact.1.1)
   cause_of (faults.NotBuilt key) fact none =
@@ -120,7 +121,7 @@ module _ (hir : HirFunction) (env : Environment) (can : CanBeBuilt hir env) wher
   cause_of (faults.BadName table_names.Scopes index) fact none = absurd fact
   cause_of (faults.BadName table_names.Functions index) fact none = absurd fact
   cause_of (faults.BadName table_names.Shapes index) fact none = absurd fact
-  cause_of (faults.Todo block) fact none = absurd fact
+  cause_of (faults.Todo block) fact none = (can, none block None refl, fact)
   cause_of (faults.EarlyReturnSet scope) fact none = absurd fact
   cause_of (faults.ScopeCompleted id scope) fact none = absurd fact
   cause_of (faults.Uninitialised declaration) fact none = absurd fact

@@ -1,5 +1,5 @@
 -- What a function of the builder ensures where a fault ends it, and where it goes on with another one.
-use Rattle.std.proofs.Common.{◌≡◌, List, Result, Ok, Err, Option, IfOk, IfErr, IsErrAnd, sym, ap, ◌∙◌, subst}
+use Rattle.std.proofs.Common.{◌≡◌, List, Result, Ok, Err, Option, Some, None, IfOk, IfErr, IsErrAnd, refl, sym, ap, ◌∙◌, subst}
 use Rattle.std.proofs.lemmas.Result.{err_from_is_err_and}
 use Rattle.rc_names.specs.Numbers.{BlockId}
 use Rattle.rc_names.specs.declared.span.Span.{Span}
@@ -11,7 +11,7 @@ use Rattle.rc_build.specs.declared.builder.Site.{Site}
 use Rattle.rc_build.specs.RuleFacts.{FaultFact, RuleFact}
 use Rattle.rc_build.specs.inside.Setting.{Setting, setting_of, site_at}
 use Rattle.rc_build.specs.inside.Task.{FromTerminal, Spells, Task, left, progress_of}
-use Rattle.rc_build.specs.inside.Built.{Builds, BuildsList, BuildsTask, BuiltPrefix, Refused}
+use Rattle.rc_build.specs.inside.Built.{Builds, BuildsList, BuildsTask, BuiltPrefix, Refused, refusal}
 use Rattle.rc_build.proofs.BuiltLemmas.{prefix_then, prefix_refused}
 
 -- the fault that a `?` passes on is that of its call
@@ -44,22 +44,27 @@ breaks_rule {old = old} block rule is none fact = record {
 -- a `?` passes on the fault of a call that builds nothing
 pub fails : {A : Type 0} {old new : Builder} {site : Site} {Built : A → Type 0} {N : Type 0} {fault : Fault}
     {result : Result A Fault} → IsErrAnd result (λ passed. passed ≡ fault) → FaultFact old.hir.now fault
-    → ((block : BlockId) (rule : Rule) → fault ≡ faults.Malformed block rule → N)
+    → ((block : BlockId) (rule : Option Rule) → fault ≡ refusal block rule → N)
     → Builds old new site Built N result
 fails {old = old} {site = site} {Built = Built} {N = N} {fault = fault} {result = result} passed fact refuses =
     let p = err_from_is_err_and result passed in
     rw (p.1, p.2) (record {
       ok = tt;
-      refused = λ named rule e. refuses named rule (let same : fault ≡ faults.Malformed named rule = cc in same);
+      refused = λ named rule e. refuses named rule (let same : fault ≡ refusal named rule = cc in same);
       facts = fact;
       frames = tt;
     })
 
--- out of memory, which names no rule
+-- want of memory refuses nothing
+no_refusal : (block : BlockId) (rule : Option Rule) → ◌≡◌ {A = Fault} faults.NoMemory (refusal block rule) → ⊥
+no_refusal block None e = let bad : ⊥ = cc in bad
+no_refusal block (Some rule) e = let bad : ⊥ = cc in bad
+
+-- out of memory
 pub out_of_memory : {A : Type 0} {old new : Builder} {site : Site} {Built : A → Type 0} {N : Type 0}
     {result : Result A Fault} → IsErrAnd result (λ passed. passed ≡ faults.NoMemory)
     → Builds old new site Built N result
-out_of_memory passed = fails passed tt (λ named rule e. absurd (let bad : ⊥ = cc in bad))
+out_of_memory passed = fails passed tt (λ named rule e. absurd (no_refusal named rule e))
 
 -- a `?` passes on the fault of a function that builds from the same graph
 pub passes_on : {A B : Type 0} {old now later new : Builder} {site there : Site} {Built : A → Type 0}

@@ -1,6 +1,10 @@
 mod DepthsLemmas
 mod SuccessorsLemmas
 mod RowsLemmas
+mod ValueRowsLemmas
+mod ValueLemmas
+mod ValueBuiltLemmas
+mod ShownLemmas
 mod MarksLemmas
 mod UsableLemmas
 mod OwnersLemmas

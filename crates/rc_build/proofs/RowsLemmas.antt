@@ -33,14 +33,14 @@ module _ (all : List Instruction) where
       go (Some row) p None q h = let bad : ⊥ = cc in absurd bad
       go (Some row) p (Some rest) q h = record { row = row; rest = rest; first = p; later = q; whole = cc }
 
-  both_rows : (number : InstructionId) (numbers : List InstructionId) (row : Instruction) (rest : List Instruction) →
+  pub both_rows : (number : InstructionId) (numbers : List InstructionId) (row : Instruction) (rest : List Instruction) →
       slice_get all number.0 ≡ Some row → rows_of all numbers ≡ Some rest
       → rows_of all (number ∷ numbers) ≡ Some (row ∷ rest)
   both_rows number numbers row rest p q = ap (λ a. option_and_then
       (λ r. option_map (λ rs. r ∷ rs) (rows_of all numbers)) a) p ∙ ap (λ b. option_map (λ rs. row ∷ rs) b) q
 
   -- one more number
-  rows_push : (numbers : List InstructionId) (number : InstructionId) (rows : List Instruction) (row : Instruction) →
+  pub rows_push : (numbers : List InstructionId) (number : InstructionId) (rows : List Instruction) (row : Instruction) →
       rows_of all numbers ≡ Some rows → slice_get all number.0 ≡ Some row
       → rows_of all (numbers ++ number ∷ []) ≡ Some (rows ++ row ∷ [])
   rows_push [] number rows row e f = both_rows number [] row [] f refl
@@ -80,7 +80,7 @@ module _ (all : List Instruction) where
           or_left _ _ (ap (λ (z : Instruction). is_unset z.id) (sym r) ∙ u)
       go k false q h later = or_right _ _ (later h)
 
-none_more : (rows : List Instruction) (row : Instruction) → list_any (λ other. is_unset other.id) rows ≡ false
+pub none_more : (rows : List Instruction) (row : Instruction) → list_any (λ other. is_unset other.id) rows ≡ false
     → is_unset row.id ≡ false →
     list_any (λ other. is_unset other.id) (rows ++ row ∷ []) ≡ false
 none_more rows row a b = list_any-append (λ (other : Instruction). is_unset other.id) rows (row ∷ [])

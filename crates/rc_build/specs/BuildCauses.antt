@@ -6,7 +6,7 @@ use Rattle.rc_hir.specs.Names.{NamesInTables, NamesOutside}
 use Rattle.rc_tree.specs.Model.{ReactiveFunction}
 use Rattle.rc_runs.specs.Spelled.{Spells}
 use Rattle.rc_build.specs.BuiltForms.{AreBuilt, IsFirstUnbuilt}
-use Rattle.rc_build.specs.RuleFacts.{RuleFact}
+use Rattle.rc_build.specs.RuleFacts.{IsLabeledValue, RuleFact}
 
 -- the graph spells no function
 abbrev pub SpellsNone : HirFunction → Environment → Type 0
@@ -23,8 +23,8 @@ IsBuildCause hir env (faults.BadName table index) = NamesOutside hir env (faults
 IsBuildCause hir env (faults.NotBuilt block) = NamesInTables hir env × IsFirstUnbuilt hir block
 IsBuildCause hir env (faults.Malformed block rule) =
     CanBeBuilt hir env × SpellsNone hir env × RuleFact hir rule block
+IsBuildCause hir env (faults.Todo block) = CanBeBuilt hir env × SpellsNone hir env × IsLabeledValue hir block
 IsBuildCause hir env faults.NoMemory = ⊤
-IsBuildCause hir env (faults.Todo block) = ⊥
 IsBuildCause hir env (faults.EarlyReturnSet scope) = ⊥
 IsBuildCause hir env (faults.ScopeCompleted id scope) = ⊥
 IsBuildCause hir env (faults.Uninitialised declaration) = ⊥

@@ -77,6 +77,25 @@ tested_blocks (terminals.ForOf init test loop_block fallthrough id span) = init 
 tested_blocks (terminals.ForIn init loop_block fallthrough id span) = init ∷ []
 tested_blocks _ = []
 
+-- the blocks to which a terminal refers as to values: by a field `test`, `init` or `update`, as the block of a `Sequence`,
+-- as the fallthrough of a terminal that is a value, as an arm of a `Branch`, or as a continuation
+abbrev pub value_references : Terminal → List BlockId
+value_references (terminals.Branch test consequent alternate id span) = consequent ∷ alternate ∷ []
+value_references (terminals.Logical operator test fallthrough id span) = test ∷ fallthrough ∷ []
+value_references (terminals.Ternary test fallthrough id span) = test ∷ fallthrough ∷ []
+value_references (terminals.Optional optional test fallthrough id span) = test ∷ fallthrough ∷ []
+value_references (terminals.Sequence block fallthrough id span) = block ∷ fallthrough ∷ []
+value_references (terminals.MaybeThrow continuation handler id span) = continuation ∷ []
+value_references terminal = tested_blocks terminal
+
+-- the fallthrough of a terminal that is a value
+abbrev pub value_fallthrough : Terminal → Option BlockId
+value_fallthrough (terminals.Logical operator test fallthrough id span) = Some fallthrough
+value_fallthrough (terminals.Ternary test fallthrough id span) = Some fallthrough
+value_fallthrough (terminals.Optional optional test fallthrough id span) = Some fallthrough
+value_fallthrough (terminals.Sequence block fallthrough id span) = Some fallthrough
+value_fallthrough _ = None
+
 -- the blocks that a terminal frames: by a field `test`, `init`, `update` or `fallthrough`, or as a case's
 -- block
 abbrev pub framed_blocks : Terminal → List BlockId

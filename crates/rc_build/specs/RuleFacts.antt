@@ -1,5 +1,6 @@
 -- What holds of the block that a fault names, one equation a rule.
-use Rattle.std.specs.Prelude.{◌≡◌, ◌≤◌, ◌⊎◌, ℕ, Bool, true, false, List, Option, Some, None, nat_eq, slice_get}
+use Rattle.std.specs.Prelude.{◌≡◌, ◌≤◌, ◌⊎◌, ℕ, Bool, true, false, List, [], Option, Some, None, nat_eq}
+use Rattle.std.specs.Prelude.{slice_get}
 use Rattle.std.specs.List.{list_any}
 use Rattle.rc_names.specs.Numbers.{BlockId, InstructionId, EvaluationOrder, ScopeId, same_id, is_among, times}
 use Rattle.rc_names.specs.declared.span.Span.{Span}
@@ -12,10 +13,12 @@ use Rattle.rc_hir.specs.declared.terminal.GotoVariant.TheVariants as variants
 use Rattle.rc_hir.specs.declared.terminal.Terminal.TheVariants as terminals
 use Rattle.rc_runs.specs.Event.{Event}
 use Rattle.rc_runs.specs.Silent.{is_unset}
+use Rattle.rc_runs.specs.LastRow.{ends_value}
 use Rattle.rc_runs.specs.Graph.{basic_block, ends_unreachable}
 use Rattle.rc_runs.specs.GraphRun.{Edge}
 use Rattle.rc_hir.specs.Successors.{case_blocks}
 use Rattle.rc_build.specs.References.{references, framed_blocks, fallthrough_of, scope_fallthrough, cases_of}
+use Rattle.rc_build.specs.References.{value_references, value_fallthrough}
 use Rattle.rc_runs.specs.Spelled.{scope_named}
 use Rattle.rc_runs.specs.SwitchCases.{has_one_default, tests_past}
 use Rattle.rc_build.specs.BuiltForms.{is_built}
@@ -104,6 +107,49 @@ abbrev pub is_continue : Terminal → Bool
 is_continue (terminals.Goto target variants.Continue id span) = true
 is_continue _ = false
 
+-- a block of the graph refers to the block as to a value
+abbrev pub IsValueReferenced : HirFunction → BlockId → Type 0
+IsValueReferenced hir key = (owner : BlockId)
+    × BlockIs hir owner (λ block. is_among (value_references block.terminal) key ≡ true)
+
+-- the block is the fallthrough of a terminal that is a value
+abbrev pub IsValueFallthrough : HirFunction → BlockId → Type 0
+IsValueFallthrough hir key = (owner : BlockId)
+    × BlockIs hir owner (λ block. value_fallthrough block.terminal ≡ Some key)
+
+-- a block of which P holds, and to which a block of the graph refers as to a value
+pub record ValueBlockIs (hir : HirFunction) (key : BlockId) (P : BasicBlock → Type 0) : Type 0 where
+  pub referenced : IsValueReferenced hir key
+  pub here : BlockIs hir key P
+
+abbrev pub is_branch : Terminal → Bool
+is_branch (terminals.Branch test consequent alternate id span) = true
+is_branch _ = false
+
+abbrev pub is_goto : Terminal → Bool
+is_goto (terminals.Goto block variant id span) = true
+is_goto _ = false
+
+abbrev pub is_label : Terminal → Bool
+is_label (terminals.Label block fallthrough id span) = true
+is_label _ = false
+
+-- the block ends in a `Label`, and a block of the graph refers to it as to a value
+abbrev pub IsLabeledValue : HirFunction → BlockId → Type 0
+IsLabeledValue hir key = ValueBlockIs hir key (λ block. is_label block.terminal ≡ true)
+
+-- a block of a value may end in the terminal, also where the value goes on behind it, or is refused for its `Label`
+abbrev pub is_in_values : Terminal → Bool
+is_in_values (terminals.Branch test consequent alternate id span) = true
+is_in_values (terminals.Goto block variant id span) = true
+is_in_values (terminals.Label block fallthrough id span) = true
+is_in_values (terminals.Logical operator test fallthrough id span) = true
+is_in_values (terminals.Ternary test fallthrough id span) = true
+is_in_values (terminals.Optional optional test fallthrough id span) = true
+is_in_values (terminals.Sequence block fallthrough id span) = true
+is_in_values (terminals.MaybeThrow continuation handler id span) = true
+is_in_values _ = false
+
 -- the fact that a rule's fault states of its block; of the rules without a line no fault comes
 abbrev pub RuleFact : HirFunction → Rule → BlockId → Type 0
 RuleFact hir rules.NoBlock key = (basic_block hir key ≡ None) × (1 ≤ times_referenced hir key)
@@ -121,6 +167,12 @@ RuleFact hir rules.ScopeBreak key =
 RuleFact hir rules.Dead key = BlockIs hir key (λ block. HasUnreachableSuccessor hir block.terminal)
 RuleFact hir rules.ScopeTwice key = BlockIs hir key (λ block. SharesScope hir key block.terminal)
 RuleFact hir rules.FallsElsewhere key = BlockIs hir key (λ block. FallsBadly hir key block.terminal)
+RuleFact hir rules.EmptyValue key =
+    ValueBlockIs hir key (λ block. (block.instructions ≡ []) × (is_goto block.terminal ≡ true))
+RuleFact hir rules.NotValue key = ValueBlockIs hir key (λ block. is_in_values block.terminal ≡ false)
+RuleFact hir rules.ValueEnd key =
+    ValueBlockIs hir key (λ block. (ends_value block.terminal ≡ true) ⊎ IsValueFallthrough hir key)
+RuleFact hir rules.Tested key = ValueBlockIs hir key (λ block. is_branch block.terminal ≡ true)
 RuleFact hir _ key = ⊥
 
 -- the block names a row that isn't there
@@ -130,6 +182,7 @@ LacksRow hir index block = list_any (λ number. nat_eq index number.0) block.ins
 -- the fact that a fault of the builder states; of the faults without a line none comes from it
 abbrev pub FaultFact : HirFunction → Fault → Type 0
 FaultFact hir (faults.Malformed block rule) = RuleFact hir rule block
+FaultFact hir (faults.Todo block) = IsLabeledValue hir block
 FaultFact hir (faults.BadName table_names.Instructions index) =
     (slice_get hir.instructions index ≡ None) × ((key : BlockId) × BlockIs hir key (LacksRow hir index))
 FaultFact hir (faults.NotBuilt key) = BlockIs hir key (λ block. is_built block.terminal ≡ false)

@@ -8,3 +8,4 @@ pub mod Task
 pub mod Built
 pub mod Enclosures
 pub mod Switches
+pub mod Values

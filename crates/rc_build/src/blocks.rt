@@ -52,7 +52,7 @@ impl<'g> Builder<'g> {
 }
 
 /// The block under a key: `NoBlock` where there is none, `KeyDiffers` where it has another number.
-fn find_block(hir: &HirFunction, key: BlockId) -> Result<&BasicBlock, Fault>
+pub fn find_block(hir: &HirFunction, key: BlockId) -> Result<&BasicBlock, Fault>
     requires { 1 ≤ times_referenced hir.now key }
     ensures found { IfOk result (λ block. basic_block hir.now key ≡ Some block.now) }
     ensures own { IfOk result (λ block. same_id block.now.id key ≡ true) }

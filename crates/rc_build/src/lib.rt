@@ -11,6 +11,7 @@ mod blocks;
 mod branches;
 mod builder;
 mod enclosures;
+mod flatten;
 mod forms;
 mod frames;
 mod header;
@@ -20,5 +21,7 @@ mod reactive_function;
 mod rows;
 mod switches;
 mod unreachable;
+mod value_rows;
+mod values;
 
 pub use reactive_function::build_reactive_function;

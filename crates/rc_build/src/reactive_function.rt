@@ -9,7 +9,7 @@ ghost use Rattle.rc_runs.specs.Event.{Event, End};
 ghost use Rattle.rc_runs.specs.GraphRun.{IsGraphRun};
 ghost use Rattle.rc_runs.specs.Spelled.{Spells};
 ghost use Rattle.rc_build.specs.BuildCauses.{CanBeBuilt, IsBuildCause};
-ghost use Rattle.rc_build.specs.inside.Built.{IfMalformed};
+ghost use Rattle.rc_build.specs.inside.Built.{IfRefused};
 ghost use Rattle.rc_build.specs.RuleFacts.{FaultFact};
 
 use crate::builder::{Builder, Site};
@@ -76,7 +76,7 @@ fn accept(hir: &HirFunction, env: &Environment) -> Result<(), Fault>
 /// - `NoMemory`: out of memory.
 fn build(alloc: Global, hir: &HirFunction, env: &Environment) -> Result<ReactiveFunction, Fault>
     ensures ok { IfOk result (λ func. Spells hir.now env.now func) }
-    ensures refused { IfMalformed result ((func : ReactiveFunction) → Spells hir.now env.now func → ⊥) }
+    ensures refused { IfRefused result ((func : ReactiveFunction) → Spells hir.now env.now func → ⊥) }
     ensures facts { IfErr result (FaultFact hir.now) }
 {
     let entry = Site {

@@ -6,7 +6,7 @@ ghost use Rattle.rc_hir.specs.declared.fault.Fault.TheVariants as faults;
 ghost use Rattle.rc_hir.specs.declared.fault.TableName.TheVariants as table_names;
 ghost use Rattle.rc_runs.specs.Graph.{basic_block};
 ghost use Rattle.rc_build.specs.RuleFacts.{FaultFact};
-ghost use Rattle.rc_build.specs.inside.Built.{IfMalformed};
+ghost use Rattle.rc_build.specs.inside.Built.{IfRefused};
 ghost use Rattle.rc_build.specs.inside.Rows.{BuiltRows, HasIds, row_statement_of};
 
 use crate::builder::malformed;
@@ -28,7 +28,7 @@ pub fn put_rows(
 ) -> Result<(), Fault>
     requires { basic_block hir.now key ≡ Some block.now }
     ensures ok { IfOk result (λ _. BuiltRows hir.now block.now out.old out.new) }
-    ensures refused { IfMalformed result (HasIds hir.now block.now → ⊥) }
+    ensures refused { IfRefused result (HasIds hir.now block.now → ⊥) }
     ensures facts { IfErr result (FaultFact hir.now) }
 {
     for number in block.instructions.as_slice() {
@@ -46,7 +46,7 @@ pub fn put_rows(
 }
 
 /// The row of a number; `BadName` where there is none.
-fn find_row(hir: &HirFunction, number: InstructionId) -> Result<&Instruction, Fault>
+pub fn find_row(hir: &HirFunction, number: InstructionId) -> Result<&Instruction, Fault>
     ensures ok { IfOk result (λ row. slice_get hir.now.instructions number.0 ≡ Some row.now) }
     ensures err { IfErr result (λ fault. (fault ≡ faults.BadName table_names.Instructions number.0)
         × (slice_get hir.now.instructions number.0 ≡ None)) }

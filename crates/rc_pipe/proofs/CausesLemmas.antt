@@ -30,7 +30,7 @@ module _ (hir : HirFunction) (env : Environment) (accepted : IsAccepted hir env)
       ≡ None = ap (option_map (λ entry. entry.0)) answer.forms in let no : ⊥ = cc in no)
   only_memory func answer (faults.Malformed block rule) cause = absurd (cause.2 func answer.spelled)
   only_memory func answer faults.NoMemory cause = refl
-  only_memory func answer (faults.Todo block) cause = absurd cause
+  only_memory func answer (faults.Todo block) cause = absurd (cause.2 func answer.spelled)
   only_memory func answer (faults.ScopeCompleted id scope) cause =
       let one : cause.2.0 ≡ func = spells_one_function cause.2.1 answer.spelled in
       let last : EndsOutside env func.body id scope = subst (λ f. EndsOutside env f.body id scope) one cause.2.2 in
@@ -46,7 +46,7 @@ module _ (hir : HirFunction) (env : Environment) (accepted : IsAccepted hir env)
   build_cause (faults.NotBuilt block) cause = (accepted, cause.1)
   build_cause (faults.Malformed block rule) cause = (accepted, cause.0.forms, cause.1, cause.2)
   build_cause faults.NoMemory cause = tt
-  build_cause (faults.Todo block) cause = absurd cause
+  build_cause (faults.Todo block) cause = (accepted, cause.0.forms, cause.1, cause.2)
   build_cause (faults.EarlyReturnSet scope) cause = absurd cause
   build_cause (faults.ScopeCompleted id scope) cause = absurd cause
   build_cause (faults.Uninitialised declaration) cause = absurd cause

@@ -13,7 +13,7 @@ use Rattle.rc_runs.specs.BodyRun.{IsBodyRun}
 use Rattle.rc_runs.specs.EarlyReturns.{first_early_return, NoEarlyReturnSet}
 use Rattle.rc_build.specs.BuildCauses.{SpellsNone}
 use Rattle.rc_build.specs.BuiltForms.{AreBuilt, IsFirstUnbuilt}
-use Rattle.rc_build.specs.RuleFacts.{RuleFact}
+use Rattle.rc_build.specs.RuleFacts.{IsLabeledValue, RuleFact}
 use Rattle.rc_pipe.specs.Causes.{HasRoom}
 use Rattle.rc_pipe.specs.Fates.{AreFates, AreKeptExactly}
 use Rattle.rc_pipe.specs.Passes.{AreInside, EndsOutside, IsPruned, state}
@@ -66,12 +66,13 @@ IsCause hir env faults.NoIds = NamesInTables hir env × NoEarlyReturnSet env × 
 IsCause hir env (faults.NotBuilt block) = IsAccepted hir env × IsFirstUnbuilt hir block
 IsCause hir env (faults.Malformed block rule) =
     IsAccepted hir env × AreBuilt hir × SpellsNone hir env × RuleFact hir rule block
+IsCause hir env (faults.Todo block) =
+    IsAccepted hir env × AreBuilt hir × SpellsNone hir env × IsLabeledValue hir block
 IsCause hir env (faults.ScopeCompleted id scope) =
     IsAccepted hir env × AreBuilt hir
     × ((func : ReactiveFunction) × Spells hir env func × EndsOutside env func.body id scope)
 IsCause hir env faults.NoMemory = ⊤
 -- faults that no graph gives
-IsCause hir env (faults.Todo block) = ⊥
 IsCause hir env (faults.Uninitialised declaration) = ⊥
 IsCause hir env (faults.NoScopeNode scope) = ⊥
 IsCause hir env (faults.BadTarget target) = ⊥

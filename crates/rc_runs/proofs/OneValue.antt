@@ -41,7 +41,7 @@ block_end env row last =
     record { answer = last_answer env row.lvalue row.value; id = row.id; last = last; left_open = None }
 
 module _ {hir : HirFunction} {env : Environment} where
-  one_value : {key : BlockId} {context : ValueContext} {v w : Value} {e f : ValueEnd} {a b : List BlockId}
+  pub one_value : {key : BlockId} {context : ValueContext} {v w : Value} {e f : ValueEnd} {a b : List BlockId}
       → SpellsValue hir env key context v e a → SpellsValue hir env key context w f b → SameValue v e a w f b
   one_value (named_test {block = block} {test = test} {consequent = c} {alternate = a} {id = id} {span = s} found empty
       ends) (named_test {block = other} {test = test'} {consequent = c'} {alternate = a'} {id = id'} {span = s'} found'

@@ -1,5 +1,5 @@
 -- What the functions of the builder ensure.
-use Rattle.std.specs.Prelude.{◌≡◌, ◌<◌, List, [], ◌∷◌, ◌++◌, Option, Some, Result, Err, IfOk, IfErr, length}
+use Rattle.std.specs.Prelude.{◌≡◌, ◌<◌, List, [], ◌∷◌, ◌++◌, Option, Some, None, Result, Err, IfOk, IfErr, length}
 use Rattle.rc_names.specs.Numbers.{BlockId, EvaluationOrder}
 use Rattle.rc_hir.specs.Model.{Fault, Rule, Terminal, HirFunction}
 use Rattle.rc_hir.specs.declared.fault.Fault.TheVariants as faults
@@ -66,15 +66,20 @@ pub record PutsBreak (old new : Builder) (target : BlockId) (id : EvaluationOrde
 abbrev pub Refused : {A : Type 0} → HirFunction → (A → List BlockId → Type 0) → List BlockId → Type 0
 Refused {A} hir S used = (value : A) (blocks : List BlockId) → S value blocks → AreSound hir (used ++ blocks) → ⊥
 
--- where the fault names a rule, P holds
-abbrev pub IfMalformed : {A : Type 0} → Result A Fault → Type 0 → Type 0
-IfMalformed result P = (block : BlockId) (rule : Rule) → result ≡ Err (faults.Malformed block rule) → P
+-- the fault of a block that no tree may use: it breaks a rule, or ends in a `Label` where a value must be
+abbrev pub refusal : BlockId → Option Rule → Fault
+refusal block (Some rule) = faults.Malformed block rule
+refusal block None = faults.Todo block
+
+-- where the fault refuses the graph, P holds
+abbrev pub IfRefused : {A : Type 0} → Result A Fault → Type 0 → Type 0
+IfRefused result P = (block : BlockId) (rule : Option Rule) → result ≡ Err (refusal block rule) → P
 
 -- what each function ensures that builds a part of a tree at a site
 pub record Builds {A : Type 0} (old new : Builder) (site : Site) (Built : A → Type 0) (NoTree : Type 0)
     (result : Result A Fault) : Type 0 where
   pub ok : IfOk result Built
-  pub refused : IfMalformed result NoTree
+  pub refused : IfRefused result NoTree
   pub facts : IfErr result (FaultFact old.hir.now)
   -- the graph, the environment and the frames are the same as before
   pub frames : IfOk result (λ _. setting_of new site ≡ setting_of old site)
