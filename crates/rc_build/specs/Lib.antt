@@ -2,4 +2,5 @@ pub mod BuiltForms
 pub mod References
 pub mod RuleFacts
 pub mod BuildCauses
+pub mod GivenTree
 pub mod inside

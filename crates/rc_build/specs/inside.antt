@@ -9,3 +9,4 @@ pub mod Built
 pub mod Enclosures
 pub mod Switches
 pub mod Values
+pub mod Answered

@@ -14,6 +14,7 @@ mod enclosures;
 mod flatten;
 mod forms;
 mod frames;
+mod given_tree;
 mod header;
 mod jumps;
 mod lists;
@@ -24,4 +25,5 @@ mod unreachable;
 mod value_rows;
 mod values;
 
+pub use given_tree::{Broken, spells};
 pub use reactive_function::build_reactive_function;
