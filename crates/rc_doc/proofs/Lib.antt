@@ -6,3 +6,4 @@ mod NoFloats
 mod PartsReadBack
 pub mod ReadsBack
 mod ShownLists
+pub mod MisreadLemmas

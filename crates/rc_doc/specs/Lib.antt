@@ -8,6 +8,7 @@ pub mod Terminals
 pub mod Graph
 pub mod Environment
 pub mod Document
+pub mod Misread
 pub mod Showing
 pub mod ShownParts
 pub mod ShownKinds

@@ -4,11 +4,15 @@
 mod document;
 mod fields;
 mod known;
+mod misread;
 mod read;
 mod refusal;
 mod show;
 
 pub use document::{Doc, read_doc, read_instruction_value};
+pub use misread::form::{Asked, Form};
+pub use misread::words::misread_words;
+pub use misread::{Misread, Step, find_misread};
 pub use read::place::read_place;
 pub use show::instruction::value_json;
 pub use show::place::{is_short, place_json};
