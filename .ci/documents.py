@@ -1,0 +1,59 @@
+"""Writes large documents into a folder, each with the text that it prints: usage documents.py FOLDER.
+
+They are made here and not stored. The text is made from the rules of the printed lines (docs/RULES.md).
+"""
+import json, sys
+
+OTHER = {"types": ["Other"], "config": {}}
+HEAD = "function null hint {} generator false async false\nparam 0\nbody\n"
+
+
+def identifiers(count):
+    return [{"declaration_id": index, "type_": 0} for index in range(count)]
+
+
+def straight(value, count, **header):
+    """A function of one block that returns an identifier."""
+    block = {"id": 0, "terminal": {"k": "Return", "value": value, "id": 1}}
+    hir = {"params": [{"k": "Place", "v": 0}], "body": {"entry": 0, "blocks": [block]}, **header}
+    return {"hir": hir, "env": {**OTHER, "identifiers": identifiers(count), "next_block": 1}}
+
+
+def text():
+    hint = "x" * 100_000
+    return straight(0, 1, name_hint=hint), HEAD.format(f'"{hint}"') + "  return 0 id 1\nfates\n"
+
+
+def many_identifiers():
+    return straight(69_999, 70_000), HEAD.format("null") + "  return 69999 id 1\nfates\n"
+
+
+def levels(depth=500):
+    """`If`s in one another: block N is that of level N, and 2 * depth - N the block behind it."""
+    blocks, lines, ends = [], [], []
+    for level in range(depth):
+        behind, number, indent = 2 * depth - level, level + 1, "  " + "    " * level
+        blocks.append({"id": level, "terminal": {"k": "If", "test": 0, "consequent": level + 1, "alternate": behind,
+                                                 "fallthrough": behind, "id": number}})
+        lines += [f"{indent}if 0 id {number} as bb{behind} implicit", f"{indent}  then"]
+        if level:
+            blocks.append({"id": behind, "terminal": {"k": "Goto", "variant": "Break", "block": behind + 1,
+                                                      "id": depth + 1 + level}})
+            ends.append(f"{indent}break bb{behind + 1} implicit id {depth + 1 + level}")
+    blocks.append({"id": depth, "terminal": {"k": "Goto", "variant": "Break", "block": depth + 1,
+                                             "id": 2 * depth + 1}})
+    blocks.append({"id": 2 * depth, "terminal": {"k": "Return", "value": 0, "id": 2 * depth + 2}})
+    lines.append("  " + "    " * depth + f"break bb{depth + 1} implicit id {2 * depth + 1}")
+    lines += reversed(ends)
+    document = straight(0, 1)
+    document["hir"]["body"]["blocks"] = blocks
+    document["env"]["next_block"] = 2 * depth + 1
+    return document, HEAD.format("null") + "\n".join(lines) + f"\n  return 0 id {2 * depth + 2}\nfates\n"
+
+
+for name, make in ("text", text), ("levels", levels), ("identifiers", many_identifiers):
+    document, printed = make()
+    with open(f"{sys.argv[1]}/{name}.json", "w") as file:
+        json.dump(document, file)
+    with open(f"{sys.argv[1]}/{name}.txt", "w") as file:
+        file.write(printed)
