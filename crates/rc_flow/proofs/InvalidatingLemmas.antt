@@ -1,0 +1,396 @@
+-- The two sets that grow over the steps are those of the chains, and the answers are those for each scope block.
+use Rattle.std.proofs.Common.{◌≡◌, ◌∙◌, ◌<◌, ◌≤◌, ◌+◌, ◌⊎◌, ◌↔◌, ℕ, zero, suc, Bool, true, false, ◌||◌, List, []}
+use Rattle.std.proofs.Common.{◌∷◌, ◌++◌, inl, inr, Option, None, Some, map, length, slice_get, refl, sym, ap, subst}
+use Rattle.std.proofs.Common.{if◌then◌else◌, true≢false, arith, add-zero, append_assoc, append-nil}
+use Rattle.std.specs.List.{list_any}
+use Rattle.std.proofs.lemmas.Bool.{cases_lt, or_cases, or_left, or_right}
+use Rattle.indexmap.specs.IndexSet.{insert_key}
+use Rattle.rc_hir.specs.Model.{DeclarationEntry, Environment, ReactiveScope, ReactiveScopeDependency}
+use Rattle.rc_names.specs.Numbers.{IdentifierId, ScopeId, is_among, same_id}
+use Rattle.rc_names.proofs.NumbersLemmas.{same_id-eq}
+use Rattle.rc_flow.specs.declared.invalidating.marks.Marks.{Marks}
+use Rattle.rc_flow.specs.declared.value_step.ValueStep.{ValueStep}
+use Rattle.rc_flow.specs.declared.value_step.ValueStep.TheVariants.{Makes, Copies, Ends}
+use Rattle.rc_flow.specs.Reached.{dependencies_if, outputs_if}
+use Rattle.rc_flow.specs.Unmemoized.{AreAnswers, no_more, makes, copies, ends, HasUnmemoized, IsAlwaysNew, made, copied}
+use Rattle.rc_flow.specs.Unmemoized.{IsUnmemoized, outside, passed_on, dropped, dependencies_of, outputs_of}
+use Rattle.rc_flow.specs.inside.Invalidating.{after_step, after_steps, answers_of, depends_on, ended}
+use Rattle.rc_flow.specs.inside.Invalidating.{ended_if, no_marks}
+use Rattle.rc_flow.specs.inside.Invalidating.{with_copy, with_declared, with_if_among, with_name, with_reassigned}
+use Rattle.rc_flow.proofs.SetLemmas.{Names, In, among_some, in_itself, insert_cases, insert_new, insert_old, some_among}
+
+-- a name that is copied
+module _ (from to : IdentifierId) (set : Names) where
+  pub copy_cases : (n : IdentifierId) → In n (with_copy from to set) → In n set ⊎ (In from set × (n ≡ to))
+  copy_cases n = by (is_among set from) refl
+    where
+      by : (b : Bool) → is_among set from ≡ b → In n (if b then with_name to set else set)
+          → In n set ⊎ (In from set × (n ≡ to))
+      by true e h = elim (insert_cases set to n h) [ inl o ↦ inl o | inr is ↦ inr (e, is) ]
+      by false e h = inl h
+
+  pub copy_old : (n : IdentifierId) → In n set → In n (with_copy from to set)
+  copy_old n h = by (is_among set from)
+    where
+      by : (b : Bool) → In n (if b then with_name to set else set)
+      by true = insert_old set to n h
+      by false = h
+
+  pub copy_new : In from set → In to (with_copy from to set)
+  copy_new h = by (is_among set from) h
+    where
+      by : (b : Bool) → b ≡ true → In to (if b then with_name to set else set)
+      by true e = insert_new set to
+      by false e = absurd (true≢false (sym e))
+
+-- a name that is put into the set if it is among others
+module _ (others : Names) (x : IdentifierId) (set : Names) where
+  one_cases : (n : IdentifierId) → In n (with_if_among others x set) → In n set ⊎ ((n ≡ x) × In n others)
+  one_cases n = by (is_among others x) refl
+    where
+      by : (b : Bool) → is_among others x ≡ b → In n (if b then with_name x set else set)
+          → In n set ⊎ ((n ≡ x) × In n others)
+      by true e h = elim (insert_cases set x n h) [
+        | inl o ↦ inl o
+        | inr is ↦ inr (is, subst (λ y. In y others) (sym is) e)
+      ]
+      by false e h = inl h
+
+  one_old : (n : IdentifierId) → In n set → In n (with_if_among others x set)
+  one_old n h = by (is_among others x)
+    where
+      by : (b : Bool) → In n (if b then with_name x set else set)
+      by true = insert_old set x n h
+      by false = h
+
+  one_new : In x others → In x (with_if_among others x set)
+  one_new h = by (is_among others x) h
+    where
+      by : (b : Bool) → b ≡ true → In x (if b then with_name x set else set)
+      by true e = insert_new set x
+      by false e = absurd (true≢false (sym e))
+
+-- many names
+among_cases : (others names set : Names) (n : IdentifierId) → In n (with_reassigned others names set)
+    → In n set ⊎ (In n names × In n others)
+among_cases others [] set n h = inl h
+among_cases others (x ∷ xs) set n h = elim (among_cases others xs (with_if_among others x set) n h) [
+  | inl k ↦ elim (one_cases others x set n k) [
+    | inl o ↦ inl o
+    | inr p ↦ inr
+        (or_left (same_id n x) (is_among xs n) (subst (λ y. same_id n y ≡ true) p.0 (in_itself n)), p.1)
+  ]
+  | inr p ↦ inr (or_right (same_id n x) (is_among xs n) p.0, p.1)
+]
+
+among_old : (others names set : Names) (n : IdentifierId) → In n set → In n (with_reassigned others names set)
+among_old others [] set n h = h
+among_old others (x ∷ xs) set n h = among_old others xs (with_if_among others x set) n (one_old others x set n h)
+
+among_new : (others names set : Names) (n : IdentifierId) → In n names → In n others
+    → In n (with_reassigned others names set)
+among_new others [] set n h k = absurd (true≢false (sym h))
+among_new others (x ∷ xs) set n h k = elim (or_cases (same_id n x) (is_among xs n) h) [
+  | inl e ↦
+      let is : n ≡ x = same_id-eq n x e in
+      among_old others xs (with_if_among others x set) n
+      (subst (λ y. In y (with_if_among others x set)) (sym is) (one_new others x set (subst (λ y. In y others) is k)))
+  | inr m ↦ among_new others xs (with_if_among others x set) n m k
+]
+
+declared_names : (others : Names) (all : List DeclarationEntry) (set : Names) → with_declared others all set
+    ≡ with_reassigned others (map (λ (e : DeclarationEntry). e.value.identifier) all) set
+declared_names others [] set = refl
+declared_names others (x ∷ xs) set = declared_names others xs _
+
+reassigned-append : (others names more set : Names) → with_reassigned others (names ++ more) set
+    ≡ with_reassigned others more (with_reassigned others names set)
+reassigned-append others [] more set = refl
+reassigned-append others (x ∷ xs) more set = reassigned-append others xs more _
+
+outputs_in : (scope : ReactiveScope) (others set : Names)
+    → with_reassigned others scope.reassignments (with_declared others scope.declarations set)
+    ≡ with_reassigned others (outputs_if (Some scope)) set
+outputs_in scope others set =
+    ap (with_reassigned others scope.reassignments) (declared_names others scope.declarations set)
+    ∙ sym (reassigned-append others (map (λ (e : DeclarationEntry). e.value.identifier) scope.declarations)
+    scope.reassignments set)
+
+any_of : (set : Names) (all : List ReactiveScopeDependency)
+    → list_any (λ (d : ReactiveScopeDependency). is_among set d.identifier) all
+    ≡ list_any (is_among set) (map (λ (d : ReactiveScopeDependency). d.identifier) all)
+any_of set [] = refl
+any_of set (x ∷ xs) = ap (λ b. is_among set x.identifier || b) (any_of set xs)
+
+-- the end of a scope block
+
+-- the answer for a scope that was looked up
+abbrev answer_for : Option ReactiveScope → Names → Bool
+answer_for None set = false
+answer_for (Some scope) set = depends_on scope set
+
+answer_cases : (o : Option ReactiveScope) (set : Names) → answer_for o set ≡ true
+    → (a : IdentifierId) × In a (dependencies_if o) × In a set
+answer_cases None set h = absurd (true≢false (sym h))
+answer_cases (Some scope) set h =
+    some_among set (dependencies_if (Some scope)) (sym (any_of set scope.dependencies) ∙ h)
+
+answer_new : (o : Option ReactiveScope) (set : Names) (a : IdentifierId) → In a (dependencies_if o) → In a set
+    → answer_for o set ≡ true
+answer_new None set a h k = absurd (true≢false (sym h))
+answer_new (Some scope) set a h k =
+    any_of set scope.dependencies ∙ among_some set (dependencies_if (Some scope)) a h k
+
+ended_always : (o : Option ReactiveScope) (s : Marks) → (ended o s).always ≡ s.always
+ended_always None s = refl
+ended_always (Some scope) s = by (depends_on scope s.unmemoized)
+  where
+    by : (b : Bool) → (ended_if b scope s).always ≡ s.always
+    by true = refl
+    by false = refl
+
+ended_dropped : (o : Option ReactiveScope) (s : Marks)
+    → (ended o s).dropped ≡ s.dropped ++ answer_for o s.unmemoized ∷ []
+ended_dropped None s = refl
+ended_dropped (Some scope) s = by (depends_on scope s.unmemoized)
+  where
+    by : (b : Bool) → (ended_if b scope s).dropped ≡ s.dropped ++ b ∷ []
+    by true = refl
+    by false = refl
+
+-- an output that is always new comes in where a dependency is in the set
+abbrev FromEnd : Option ReactiveScope → Marks → IdentifierId → Type 0
+FromEnd o s n =
+    (a : IdentifierId) × In a (dependencies_if o) × In a s.unmemoized × In n (outputs_if o) × In n s.always
+
+ended_cases : (o : Option ReactiveScope) (s : Marks) (n : IdentifierId) → In n (ended o s).unmemoized
+    → In n s.unmemoized ⊎ FromEnd o s n
+ended_cases None s n h = inl h
+ended_cases (Some scope) s n h = by (depends_on scope s.unmemoized) refl h
+  where
+    by : (b : Bool) → depends_on scope s.unmemoized ≡ b → In n (ended_if b scope s).unmemoized
+        → In n s.unmemoized ⊎ FromEnd (Some scope) s n
+    by true e k =
+        let there = subst (In n) (outputs_in scope s.always s.unmemoized) k in
+        elim (among_cases s.always (outputs_if (Some scope)) s.unmemoized n there) [
+          | inl o ↦ inl o
+          | inr p ↦ let it = answer_cases (Some scope) s.unmemoized e in inr (it.0, it.1, it.2, p.0, p.1)
+        ]
+    by false e k = inl k
+
+ended_old : (o : Option ReactiveScope) (s : Marks) (n : IdentifierId) → In n s.unmemoized
+    → In n (ended o s).unmemoized
+ended_old None s n h = h
+ended_old (Some scope) s n h = by (depends_on scope s.unmemoized)
+  where
+    by : (b : Bool) → In n (ended_if b scope s).unmemoized
+    by true = subst (In n) (sym (outputs_in scope s.always s.unmemoized))
+        (among_old s.always (outputs_if (Some scope)) s.unmemoized n h)
+    by false = h
+
+ended_new : (o : Option ReactiveScope) (s : Marks) (n : IdentifierId) → FromEnd o s n → In n (ended o s).unmemoized
+ended_new None s n f = absurd (true≢false (sym f.1))
+ended_new (Some scope) s n f =
+    by (depends_on scope s.unmemoized) (answer_new (Some scope) s.unmemoized f.0 f.1 f.2)
+  where
+    by : (b : Bool) → b ≡ true → In n (ended_if b scope s).unmemoized
+    by true e = subst (In n) (sym (outputs_in scope s.always s.unmemoized))
+        (among_new s.always (outputs_if (Some scope)) s.unmemoized n f.3 f.4)
+    by false e = absurd (true≢false (sym e))
+
+some_same : {A : Type 0} {x y : A} → Some x ≡ Some y → x ≡ y
+some_same e = cc
+
+module _ (env : Environment) where
+  abbrev next : ValueStep → Marks → Marks
+  next = after_step env
+
+  always_old : (step : ValueStep) (s : Marks) (n : IdentifierId) → In n s.always → In n (next step s).always
+  always_old (Makes name in_scope) s n h = insert_old s.always name n h
+  always_old (Copies from to) s n h = copy_old from to s.always n h
+  always_old (Ends scope) s n h = subst (In n) (sym (ended_always (slice_get env.scopes scope.0) s)) h
+
+  unmemoized_old : (step : ValueStep) (s : Marks) (n : IdentifierId) → In n s.unmemoized
+      → In n (next step s).unmemoized
+  unmemoized_old (Makes name true) s n h = h
+  unmemoized_old (Makes name false) s n h = insert_old s.unmemoized name n h
+  unmemoized_old (Copies from to) s n h = copy_old from to s.unmemoized n h
+  unmemoized_old (Ends scope) s n h = ended_old (slice_get env.scopes scope.0) s n h
+
+  module _ (steps : List ValueStep) where
+    abbrev Always : ℕ → IdentifierId → Type 0
+    Always = IsAlwaysNew steps
+
+    abbrev Unmemoized : ℕ → IdentifierId → Type 0
+    Unmemoized = IsUnmemoized env steps
+
+    always_later : {k n : ℕ} {name : IdentifierId} → Always k name → k ≤ n → Always n name
+    always_later (made at below) le = made at (omega arith)
+    always_later (copied at below r) le = copied at (omega arith) r
+
+    unmemoized_later : {k n : ℕ} {name : IdentifierId} → Unmemoized k name → k ≤ n → Unmemoized n name
+    unmemoized_later (outside at below) le = outside at (omega arith)
+    unmemoized_later (passed_on at below r) le = passed_on at (omega arith) r
+    unmemoized_later (dropped at below d u o a) le = dropped at (omega arith) d u o a
+
+    pub record Fits (k : ℕ) (s : Marks) : Type 0 where
+      pub always : (n : IdentifierId) → In n s.always ↔ Always k n
+      pub unmemoized : (n : IdentifierId) → In n s.unmemoized ↔ Unmemoized k n
+
+    always_now : (k : ℕ) (step : ValueStep) (s : Marks) (n : IdentifierId) → slice_get steps k ≡ Some step → Fits k s
+        → In n (next step s).always → Always (k + 1) n
+    always_now k (Makes name in_scope) s n at fits h = elim (insert_cases s.always name n h) [
+      | inl o ↦ always_later ((fits.always n).0 o) (omega arith)
+      | inr e ↦ subst (Always (k + 1)) (sym e) (made at (omega arith))
+    ]
+    always_now k (Copies from to) s n at fits h = elim (copy_cases from to s.always n h) [
+      | inl o ↦ always_later ((fits.always n).0 o) (omega arith)
+      | inr p ↦ subst (Always (k + 1)) (sym p.1) (copied at (omega arith) ((fits.always from).0 p.0))
+    ]
+    always_now k (Ends scope) s n at fits h =
+        always_later ((fits.always n).0 (subst (In n) (ended_always (slice_get env.scopes scope.0) s) h)) (omega arith)
+
+    unmemoized_now : (k : ℕ) (step : ValueStep) (s : Marks) (n : IdentifierId) → slice_get steps k ≡ Some step
+        → Fits k s → In n (next step s).unmemoized → Unmemoized (k + 1) n
+    unmemoized_now k (Makes name true) s n at fits h = unmemoized_later ((fits.unmemoized n).0 h) (omega arith)
+    unmemoized_now k (Makes name false) s n at fits h = elim (insert_cases s.unmemoized name n h) [
+      | inl o ↦ unmemoized_later ((fits.unmemoized n).0 o) (omega arith)
+      | inr e ↦ subst (Unmemoized (k + 1)) (sym e) (outside at (omega arith))
+    ]
+    unmemoized_now k (Copies from to) s n at fits h = elim (copy_cases from to s.unmemoized n h) [
+      | inl o ↦ unmemoized_later ((fits.unmemoized n).0 o) (omega arith)
+      | inr p ↦ subst (Unmemoized (k + 1)) (sym p.1) (passed_on at (omega arith) ((fits.unmemoized from).0 p.0))
+    ]
+    unmemoized_now k (Ends scope) s n at fits h = elim (ended_cases (slice_get env.scopes scope.0) s n h) [
+      | inl o ↦ unmemoized_later ((fits.unmemoized n).0 o) (omega arith)
+      | inr f ↦ dropped at (omega arith) f.1 ((fits.unmemoized f.0).0 f.2) f.3 ((fits.always n).0 f.4)
+    ]
+
+    same_step : {p k : ℕ} {x y : ValueStep} → p ≡ k → slice_get steps p ≡ Some x → slice_get steps k ≡ Some y → x ≡ y
+    same_step e f g = some_same (sym f ∙ ap (slice_get steps) e ∙ g)
+
+    now_always : (k j : ℕ) (step : ValueStep) (s : Marks) (n : IdentifierId) → slice_get steps k ≡ Some step
+        → Fits k s → j ≡ k + 1 → Always j n → In n (next step s).always
+    now_always k j step s n at fits is (made {earlier = p} {in_scope = b} f below) = go (cases_lt p k)
+      where
+        go : (p < k) ⊎ (k ≤ p) → In n (next step s).always
+        go (inl lt) = always_old step s n ((fits.always n).1 (made f lt))
+        go (inr ge) =
+            let here : p ≡ k = omega arith in
+            subst (λ x. In n (next x s).always) (same_step here f at) (insert_new s.always n)
+    now_always k j step s n at fits is (copied {earlier = p} {from = from} f below r) = go (cases_lt p k)
+      where
+        go : (p < k) ⊎ (k ≤ p) → In n (next step s).always
+        go (inl lt) = always_old step s n ((fits.always n).1 (copied f lt r))
+        go (inr ge) =
+            let here : p ≡ k = omega arith in
+            subst (λ x. In n (next x s).always) (same_step here f at)
+            (copy_new from n s.always ((fits.always from).1 (subst (λ q. Always q from) here r)))
+
+    now_unmemoized : (k j : ℕ) (step : ValueStep) (s : Marks) (n : IdentifierId) → slice_get steps k ≡ Some step
+        → Fits k s → j ≡ k + 1 → Unmemoized j n → In n (next step s).unmemoized
+    now_unmemoized k j step s n at fits is (outside {earlier = p} f below) = go (cases_lt p k)
+      where
+        go : (p < k) ⊎ (k ≤ p) → In n (next step s).unmemoized
+        go (inl lt) = unmemoized_old step s n ((fits.unmemoized n).1 (outside f lt))
+        go (inr ge) =
+            let here : p ≡ k = omega arith in
+            subst (λ x. In n (next x s).unmemoized) (same_step here f at) (insert_new s.unmemoized n)
+    now_unmemoized k j step s n at fits is (passed_on {earlier = p} {from = from} f below r) = go (cases_lt p k)
+      where
+        go : (p < k) ⊎ (k ≤ p) → In n (next step s).unmemoized
+        go (inl lt) = unmemoized_old step s n ((fits.unmemoized n).1 (passed_on f lt r))
+        go (inr ge) =
+            let here : p ≡ k = omega arith in
+            subst (λ x. In n (next x s).unmemoized) (same_step here f at)
+            (copy_new from n s.unmemoized ((fits.unmemoized from).1 (subst (λ q. Unmemoized q from) here r)))
+    now_unmemoized k j step s n at fits is
+        (dropped {earlier = p} {scope = scope} {cause = a} f below d u o always) = go (cases_lt p k)
+      where
+        go : (p < k) ⊎ (k ≤ p) → In n (next step s).unmemoized
+        go (inl lt) = unmemoized_old step s n ((fits.unmemoized n).1 (dropped f lt d u o always))
+        go (inr ge) =
+            let here : p ≡ k = omega arith in
+            subst (λ x. In n (next x s).unmemoized) (same_step here f at)
+            (ended_new (slice_get env.scopes scope.0) s n (
+              a,
+              d,
+              (fits.unmemoized a).1 (subst (λ q. Unmemoized q a) here u),
+              o,
+              (fits.always n).1 (subst (λ q. Always q n) here always),
+            ))
+
+    fits_next : (k : ℕ) (step : ValueStep) (s : Marks) → slice_get steps k ≡ Some step → Fits k s
+        → Fits (k + 1) (next step s)
+    fits_next k step s at fits = record {
+      always = λ n. (always_now k step s n at fits, now_always k (k + 1) step s n at fits refl);
+      unmemoized = λ n. (unmemoized_now k step s n at fits, now_unmemoized k (k + 1) step s n at fits refl);
+    }
+
+    fits_start : Fits 0 no_marks
+    fits_start = record {
+      always = λ n. ((λ h. absurd (true≢false (sym h))), (λ r. absurd (none_always n r)));
+      unmemoized = λ n. ((λ h. absurd (true≢false (sym h))), (λ r. absurd (none_unmemoized n r)));
+    }
+      where
+        none_always : (n : IdentifierId) → Always 0 n → ⊥
+        none_always n (made at below) = omega arith
+        none_always n (copied at below r) = omega arith
+
+        none_unmemoized : (n : IdentifierId) → Unmemoized 0 n → ⊥
+        none_unmemoized n (outside at below) = omega arith
+        none_unmemoized n (passed_on at below r) = omega arith
+        none_unmemoized n (dropped at below d u o a) = omega arith
+
+    -- the rest of the steps stands from that place on
+    abbrev StandsAt : ℕ → List ValueStep → Type 0
+    StandsAt k rest = (j : ℕ) → slice_get steps (k + j) ≡ slice_get rest j
+
+    first_at : (k : ℕ) (x : ValueStep) (xs : List ValueStep) → StandsAt k (x ∷ xs) → slice_get steps k ≡ Some x
+    first_at k x xs stands = ap (slice_get steps) (sym (add-zero k)) ∙ stands 0
+
+    rest_at : (k : ℕ) (x : ValueStep) (xs : List ValueStep) → StandsAt k (x ∷ xs) → StandsAt (k + 1) xs
+    rest_at k x xs stands j =
+        (let place : k + 1 + j ≡ k + suc j = omega arith in ap (slice_get steps) place) ∙ stands (suc j)
+
+    -- the answers that the rest adds
+    record Adds (k : ℕ) (rest : List ValueStep) (s : Marks) : Type 0 where
+      pub answers : List Bool
+      pub behind : (after_steps env rest s).dropped ≡ s.dropped ++ answers
+      pub right : AreAnswers env steps k rest answers
+
+    adds : (k : ℕ) (rest : List ValueStep) (s : Marks) → StandsAt k rest → Fits k s → Adds k rest s
+    adds k [] s stands fits = record { answers = []; behind = sym (append-nil s.dropped); right = no_more }
+    adds k (Makes name in_scope ∷ xs) s stands fits =
+        let step = Makes name in_scope in
+        let it = adds (k + 1) xs (next step s) (rest_at k step xs stands)
+        (fits_next k step s (first_at k step xs stands) fits) in
+        record { answers = it.answers; behind = it.behind; right = makes it.right }
+    adds k (Copies from to ∷ xs) s stands fits =
+        let step = Copies from to in
+        let it = adds (k + 1) xs (next step s) (rest_at k step xs stands)
+        (fits_next k step s (first_at k step xs stands) fits) in
+        record { answers = it.answers; behind = it.behind; right = copies it.right }
+    adds k (Ends scope ∷ xs) s stands fits =
+        let step = Ends scope in
+        let o = slice_get env.scopes scope.0 in
+        let answer = answer_for o s.unmemoized in
+        let it = adds (k + 1) xs (next step s) (rest_at k step xs stands)
+        (fits_next k step s (first_at k step xs stands) fits) in
+        record {
+          answers = answer ∷ it.answers;
+          behind = it.behind ∙ ap (λ all. all ++ it.answers) (ended_dropped o s)
+              ∙ append_assoc s.dropped (answer ∷ []) it.answers;
+          right = ends (
+            (λ h. let a = answer_cases o s.unmemoized h in
+                record { cause = a.0; among = a.1; unmemoized = (fits.unmemoized a.0).0 a.2 }),
+            (λ h. answer_new o s.unmemoized h.cause h.among ((fits.unmemoized h.cause).1 h.unmemoized)),
+          )
+              it.right;
+        }
+
+    -- the answers of all the steps
+    pub answers_right : AreAnswers env steps 0 steps (answers_of env steps)
+    answers_right =
+        let it = adds 0 steps no_marks (λ j. (let e : 0 + j ≡ j = omega arith in ap (slice_get steps) e)) fits_start in
+        subst (AreAnswers env steps 0 steps) (sym it.behind) it.right

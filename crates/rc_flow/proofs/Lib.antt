@@ -1,0 +1,13 @@
+mod ListLemmas
+mod SetLemmas
+mod SpreadLemmas
+mod PositionLemmas
+mod FlowsLemmas
+mod ValuesLemmas
+mod ValueStepsLemmas
+mod InvalidatingLemmas
+mod DroppingLemmas
+mod RecordedFaults
+mod ReactiveNamesLemmas
+mod KnownLemmas
+mod PrunedLemmas

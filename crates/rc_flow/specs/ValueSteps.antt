@@ -1,0 +1,74 @@
+-- What the statements of a tree say of values that are new each time that they are made: where such a value is made,
+-- where a name gets the value of another, and where a scope block ends.
+--
+-- Rows inside values aren't statements.
+use Rattle.std.specs.Prelude.{Bool, true, false, List, [], ◌∷◌, ◌++◌, Option, None, Some}
+use Rattle.rc_hir.specs.Model.{InstructionValue, Place}
+use Rattle.rc_hir.specs.declared.instruction.InstructionValue.TheVariants as kinds
+use Rattle.rc_tree.specs.Collected.{Contributions, collected}
+use Rattle.rc_tree.specs.Joining.{Joining, from_around, lists}
+use Rattle.rc_tree.specs.Model.{ReactiveBlock, ReactiveInstruction, ReactiveValue}
+use Rattle.rc_tree.specs.declared.value.ReactiveValue.TheVariants as reactive_values
+use Rattle.rc_flow.specs.declared.value_step.ValueStep.{ValueStep}
+use Rattle.rc_flow.specs.declared.value_step.ValueStep.TheVariants.{Makes, Copies, Ends}
+
+-- the target gets a new value, if there is one
+abbrev pub made : Bool → Option Place → Option ValueStep
+made in_scope None = None
+made in_scope (Some target) = Some (Makes target.identifier in_scope)
+
+-- the target gets the value of a place, if there is one
+abbrev pub copied : Place → Option Place → Option ValueStep
+copied from None = None
+copied from (Some target) = Some (Copies from.identifier target.identifier)
+
+-- the step of an instruction with its row's target
+abbrev pub step_of_instruction : Bool → Option Place → InstructionValue → Option ValueStep
+step_of_instruction in_scope target (kinds.ArrayExpression elements span) = made in_scope target
+step_of_instruction in_scope target (kinds.ObjectExpression properties span) = made in_scope target
+step_of_instruction in_scope target (kinds.JsxExpression tag props children span) = made in_scope target
+step_of_instruction in_scope target (kinds.JsxFragment children span) = made in_scope target
+step_of_instruction in_scope target (kinds.NewExpression callee args span) = made in_scope target
+step_of_instruction in_scope target (kinds.StoreLocal lvalue value span) =
+    Some (Copies value.identifier lvalue.place.identifier)
+step_of_instruction in_scope target (kinds.LoadLocal place span) = copied place target
+step_of_instruction in_scope target _ = None
+
+-- the same for a row's value, which is an expression for many rows
+abbrev pub step_of : Bool → Option Place → ReactiveValue → Option ValueStep
+step_of in_scope target (reactive_values.Instruction x) = step_of_instruction in_scope target x
+step_of in_scope target _ = None
+
+-- the step as a list
+abbrev pub listed : Option ValueStep → List ValueStep
+listed None = []
+listed (Some step) = step ∷ []
+
+-- the steps of a part, by whether a scope block is around it
+abbrev pub Steps : Type 0
+Steps = Bool → List ValueStep
+
+abbrev pub steps_of_row : ReactiveInstruction → Steps
+steps_of_row row in_scope = listed (step_of in_scope row.lvalue row.value)
+
+-- statements that follow each other have the same scope blocks around
+abbrev pub steps_joining : Joining Steps
+steps_joining = from_around lists
+
+-- a scope block is around its inside, and ends behind it; a pruned one isn't a scope block
+abbrev pub value_step_parts : Contributions Steps
+value_step_parts = record {
+  joining = steps_joining;
+  row = steps_of_row;
+  value = λ id x in_scope. [];
+  place = λ id x in_scope. [];
+  returned = λ id x in_scope. [];
+  jump = λ target in_scope. [];
+  label = λ label in_scope. [];
+  scope = λ scope inside in_scope. inside true ++ Ends scope ∷ [];
+  pruned_scope = λ scope inside. inside;
+}
+
+-- the steps of a whole body, around which no scope block is
+abbrev pub value_steps_in : ReactiveBlock → List ValueStep
+value_steps_in body = collected value_step_parts body false

@@ -1,0 +1,6 @@
+-- What private functions say of each other.
+pub mod Spread
+pub mod Gathered
+pub mod Pruned
+pub mod Invalidating
+pub mod DroppingSteps

@@ -1,0 +1,80 @@
+-- The set of reactive names as it grows over the steps, and its sizes where scope blocks end.
+use Rattle.std.specs.Prelude.{ℕ, Bool, true, List, [], ◌∷◌, Option, None, Some, length, take}
+use Rattle.std.specs.Prelude.{slice_get, if◌then◌else◌}
+use Rattle.std.specs.List.{list_any}
+use Rattle.std.specs.Map.{lookup}
+use Rattle.indexmap.specs.IndexMap.{insert_entry}
+use Rattle.indexmap.specs.IndexSet.{insert_key}
+use Rattle.rc_hir.specs.Model.{DeclarationEntry, Environment, ReactiveScope, ReactiveScopeDependency}
+use Rattle.rc_names.specs.Numbers.{IdentifierId, ScopeId, is_among, same_id}
+use Rattle.rc_flow.specs.declared.spread.Spread.{Spread}
+use Rattle.rc_flow.specs.declared.step.Step.{Step}
+use Rattle.rc_flow.specs.declared.step.Step.TheVariants.{Marks, Carries, Ends}
+
+abbrev pub Names : Type 0
+Names = List IdentifierId
+
+abbrev pub nothing : Spread
+nothing = record { names = []; ends = [] }
+
+-- the set with more names
+abbrev pub with_all : Names → Names → Names
+with_all [] set = set
+with_all (name ∷ names) set = with_all names (insert_key same_id set name)
+
+-- the set with the names of declarations
+abbrev pub with_declared : List DeclarationEntry → Names → Names
+with_declared [] set = set
+with_declared (entry ∷ entries) set = with_declared entries (insert_key same_id set entry.value.identifier)
+
+-- the set with the outputs of a scope
+abbrev pub with_outputs : ReactiveScope → Names → Names
+with_outputs scope set = with_all scope.reassignments (with_declared scope.declarations set)
+
+-- the dependency's name is in the set
+abbrev pub is_of : Names → ReactiveScopeDependency → Bool
+is_of set dependency = is_among set dependency.identifier
+
+-- the state with another set
+abbrev pub with_names : Spread → Names → Spread
+with_names s names = record { names = names; ends = s.ends }
+
+-- behind a row
+abbrev pub carried : Names → Names → Spread → Spread
+carried from to s = if list_any (is_among s.names) from then with_names s (with_all to s.names) else s
+
+-- the size is noted where a block of the scope first ends
+abbrev pub noted_if : Option ℕ → ScopeId → Spread → Spread
+noted_if (Some size) scope s = s
+noted_if None scope s = record { names = s.names; ends = insert_entry same_id s.ends scope (length s.names) }
+
+abbrev pub noted : ScopeId → Spread → Spread
+noted scope s = noted_if (lookup (same_id scope) s.ends) scope s
+
+-- behind the end of a block of a scope that was looked up
+abbrev pub ended : Option ReactiveScope → Spread → Spread
+ended None s = s
+ended (Some scope) s =
+    if list_any (is_of s.names) scope.dependencies then with_names s (with_outputs scope s.names) else s
+
+abbrev pub after_end : Environment → ScopeId → Spread → Spread
+after_end env scope s = ended (slice_get env.scopes scope.0) (noted scope s)
+
+-- behind one step, and behind all
+abbrev pub after_step : Environment → Step → Spread → Spread
+after_step env (Marks name) s = with_names s (insert_key same_id s.names name)
+after_step env (Carries from to) s = carried from to s
+after_step env (Ends scope) s = after_end env scope s
+
+abbrev pub after_steps : Environment → List Step → Spread → Spread
+after_steps env [] s = s
+after_steps env (step ∷ steps) s = after_steps env steps (after_step env step s)
+
+-- the name is among the first of the set, as many as that; without a number, it is so of itself
+abbrev pub is_early : Names → IdentifierId → Option ℕ → Bool
+is_early set name None = true
+is_early set name (Some size) = is_among (take size set) name
+
+-- the dependency stays: it was reactive where a block of its scope first ended, if one did
+abbrev pub stays : Spread → ScopeId → ReactiveScopeDependency → Bool
+stays s scope dependency = is_early s.names dependency.identifier (lookup (same_id scope) s.ends)

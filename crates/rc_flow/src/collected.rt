@@ -1,0 +1,63 @@
+//! The names that are reactive from the start.
+//!
+//! After oxc's prune_non_reactive_dependencies, whose first part it is.
+
+ghost use Rattle.std.specs.Prelude.{◌≡◌, ◌⊎◌, IfErr, IfOk};
+ghost use Rattle.rc_hir.specs.Fault.{IsExpected};
+ghost use Rattle.rc_flow.specs.Collected.{recorded_steps};
+ghost use Rattle.rc_flow.specs.ReactiveNames.{AreCollected};
+ghost use Rattle.rc_flow.specs.inside.Gathered.{spread_over};
+ghost use Rattle.rc_hir.specs.declared.fault.Fault.TheVariants as faults;
+ghost use Rattle.rc_tree.specs.TreeNames.{TreeInTables, TreeNamesOutside};
+
+use crate::recorder::Recorder;
+use crate::spread::Spread;
+use crate::step::Step;
+use rc_hir::{Environment, Fault};
+use rc_names::{IdentifierId, KeySet, List};
+use rc_tree::{ReactiveFunction, visit_reactive_function};
+use std::alloc::Global;
+
+/// The names that are marked reactive where the body reads or writes them, and the keys of the declarations of its
+/// pruned scope blocks.
+///
+/// The key of a primitive value is left out, and that of a ref is collected where the ref was so before.
+///
+/// `BadName` comes where the operands of a value can't be read, and names the value's function, which is outside its
+/// table. `NoMemory` means out of memory, and is the only fault where every number is in its table.
+pub fn collect_reactive_identifiers(
+    alloc: Global,
+    func: &ReactiveFunction,
+    env: &Environment,
+) -> Result<KeySet<IdentifierId>, Fault>
+    ensures ok { IfOk result (λ names. AreCollected env.now func.now.body names) }
+    ensures named { IfErr result (λ fault. (fault ≡ faults.NoMemory) ⊎ TreeNamesOutside func.now env.now fault) }
+    ensures sound { TreeInTables func.now env.now → IfErr result (λ fault. fault ≡ faults.NoMemory) }
+{
+    let spread = collected(alloc, func, env)?;
+    let Spread { names, ends: _ } = spread;
+    Ok(names)
+}
+
+/// The set of the collected names, behind the whole read walk.
+pub(crate) fn collected(
+    alloc: Global,
+    func: &ReactiveFunction,
+    env: &Environment,
+) -> Result<Spread, Fault>
+    ensures { IsExpected (spread_over func.now.body env.now) result }
+{
+    let steps = recorded(alloc, func, env)?;
+    let mut spread = Spread::new(alloc);
+    spread.take(env, steps.as_slice())?;
+    Ok(spread)
+}
+
+/// The steps by which names are collected.
+fn recorded(alloc: Global, func: &ReactiveFunction, env: &Environment) -> Result<List<Step>, Fault>
+    ensures { IsExpected (recorded_steps env.now func.now.body) result }
+{
+    let mut steps = List::new(alloc);
+    visit_reactive_function(alloc, func, &Recorder { alloc, env }, &mut steps)?;
+    Ok(steps)
+}
