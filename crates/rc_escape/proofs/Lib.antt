@@ -1,4 +1,3 @@
-pub mod LevelLaws
 pub mod ListLemmas
 pub mod PlaceLemmas
 pub mod FrameLemmas

@@ -6,8 +6,8 @@ use Rattle.std.specs.Prelude.{filter, flat_map, nat_lt, slice_get, MatchOption}
 use Rattle.std.proofs.lemmas.Option.{slice_get_cases, slice_get_past}
 use borrow.Author.Tests.{ltb-true, ltb-false}
 use Rattle.rc_names.specs.Numbers.{DeclarationId, ScopeId}
-use Rattle.rc_escape.specs.declared.record.MemoNode.{MemoNode}
-use Rattle.rc_escape.specs.declared.record.MemoRecord.{MemoRecord}
+use Rattle.rc_memo.specs.declared.record.MemoNode.{MemoNode}
+use Rattle.rc_memo.specs.declared.record.MemoRecord.{MemoRecord}
 use Rattle.rc_escape.specs.inside.LowestScope.{lacks, lower, lowest_of}
 use Rattle.rc_escape.specs.MemoSet.{IsLowest, scopes_without_record}
 use Rattle.rc_escape.proofs.ListLemmas.{Contains-cases, Contains-first, Contains-later, drop-at, drop-past}

@@ -4,10 +4,10 @@ use Rattle.std.proofs.Common.{refl, subst, sym}
 use Rattle.std.specs.Prelude.{◌||◌}
 use Rattle.rc_names.specs.Numbers.{DeclarationId, ScopeId, same_id}
 use Rattle.rc_names.proofs.NumbersLemmas.{same_id-eq}
-use Rattle.rc_escape.specs.declared.level.MemoizationLevel.{MemoizationLevel}
-use Rattle.rc_escape.specs.declared.level.MemoizationLevel.TheVariants.{Memoized, Conditional, Unmemoized, Never}
-use Rattle.rc_escape.specs.declared.record.MemoNode.{MemoNode}
-use Rattle.rc_escape.specs.declared.record.MemoRecord.{MemoRecord}
+use Rattle.rc_memo.specs.declared.level.MemoizationLevel.{MemoizationLevel}
+use Rattle.rc_memo.specs.declared.level.MemoizationLevel.TheVariants.{Memoized, Conditional, Unmemoized, Never}
+use Rattle.rc_memo.specs.declared.record.MemoNode.{MemoNode}
+use Rattle.rc_memo.specs.declared.record.MemoRecord.{MemoRecord}
 use Rattle.rc_escape.specs.MemoWalk.{memoizes, node_of, nothing_met, Progress, with_memoized}
 use Rattle.rc_escape.specs.MemoWalk.{VisitsName, absent, again, first_time, VisitsNames, no_names, next_name}
 use Rattle.rc_escape.specs.MemoWalk.{DecidesNode, passes, memoizes_it}

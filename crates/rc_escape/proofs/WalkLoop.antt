@@ -1,7 +1,7 @@
 -- The loop over the stack of frames.
 use Rattle.std.proofs.Common.{◌≡◌, ◌+◌, ◌<◌, ◌++◌, Bool, List, [], ◌∷◌, arith, refl, reverse, subst, sym}
 use Rattle.rc_escape.specs.MemoWalk.{Progress}
-use Rattle.rc_escape.specs.declared.record.MemoRecord.{MemoRecord}
+use Rattle.rc_memo.specs.declared.record.MemoRecord.{MemoRecord}
 use Rattle.rc_escape.specs.declared.walk_state.WalkState.{WalkState}
 use Rattle.rc_escape.specs.declared.walk_state.VisitFrame.{VisitFrame}
 use Rattle.rc_escape.specs.inside.WalkFrames.{Continues, Finishes, ResumesFrame, steps_left, with_answer, work}

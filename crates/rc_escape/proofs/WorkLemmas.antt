@@ -6,8 +6,8 @@ use Rattle.std.specs.Prelude.{map, option_map, slice_get, slice_set, sum_by}
 use Rattle.std.proofs.lemmas.List.Sums.{sum_by-append}
 use Rattle.std.proofs.lemmas.Option.{slice_get_within, slice_get-map}
 use Rattle.rc_names.specs.Numbers.{DeclarationId, ScopeId}
-use Rattle.rc_escape.specs.declared.record.MemoNode.{MemoNode}
-use Rattle.rc_escape.specs.declared.record.MemoRecord.{MemoRecord}
+use Rattle.rc_memo.specs.declared.record.MemoNode.{MemoNode}
+use Rattle.rc_memo.specs.declared.record.MemoRecord.{MemoRecord}
 use Rattle.rc_escape.specs.declared.walk_state.WalkState.{WalkState}
 use Rattle.rc_escape.specs.declared.walk_state.VisitFrame.{VisitFrame}
 use Rattle.rc_escape.specs.declared.walk_state.VisitFrame.TheVariants.{Escaping, Dependencies, Scopes}

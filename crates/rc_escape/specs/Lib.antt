@@ -1,5 +1,4 @@
--- Read in this order: the levels, the walk over a record, the sets between which its result lies, the memoized names.
-pub mod Level
+-- Read in this order: the walk over a record, the sets between which its result lies, the memoized names.
 pub mod MemoWalk
 pub mod MemoBounds
 pub mod MemoSet

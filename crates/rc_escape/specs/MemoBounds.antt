@@ -1,9 +1,9 @@
 -- The least and the greatest set of memoized names, between which the names lie that the walk memoizes.
 use Rattle.std.specs.Prelude.{◌≡◌, List, Some, Contains}
 use Rattle.rc_names.specs.Numbers.{DeclarationId, ScopeId}
-use Rattle.rc_escape.specs.declared.level.MemoizationLevel.TheVariants.{Memoized, Conditional, Unmemoized}
-use Rattle.rc_escape.specs.declared.record.MemoNode.{MemoNode}
-use Rattle.rc_escape.specs.declared.record.MemoRecord.{MemoRecord}
+use Rattle.rc_memo.specs.declared.level.MemoizationLevel.TheVariants.{Memoized, Conditional, Unmemoized}
+use Rattle.rc_memo.specs.declared.record.MemoNode.{MemoNode}
+use Rattle.rc_memo.specs.declared.record.MemoRecord.{MemoRecord}
 use Rattle.rc_escape.specs.MemoWalk.{node_of, dependencies_of}
 
 -- an escaping name reaches the name through recorded dependencies

@@ -2,10 +2,10 @@
 use Rattle.std.specs.Prelude.{◌≡◌, ◌||◌, Bool, true, false, List, [], ◌∷◌, Option, None, Some}
 use Rattle.std.specs.Map.{lookup}
 use Rattle.rc_names.specs.Numbers.{DeclarationId, ScopeId, same_id}
-use Rattle.rc_escape.specs.declared.level.MemoizationLevel.{MemoizationLevel}
-use Rattle.rc_escape.specs.declared.level.MemoizationLevel.TheVariants.{Memoized, Conditional, Unmemoized, Never}
-use Rattle.rc_escape.specs.declared.record.MemoNode.{MemoNode}
-use Rattle.rc_escape.specs.declared.record.MemoRecord.{MemoRecord}
+use Rattle.rc_memo.specs.declared.level.MemoizationLevel.{MemoizationLevel}
+use Rattle.rc_memo.specs.declared.level.MemoizationLevel.TheVariants.{Memoized, Conditional, Unmemoized, Never}
+use Rattle.rc_memo.specs.declared.record.MemoNode.{MemoNode}
+use Rattle.rc_memo.specs.declared.record.MemoRecord.{MemoRecord}
 
 -- the node of a name
 abbrev pub node_of : MemoRecord → DeclarationId → Option MemoNode

@@ -8,13 +8,10 @@
 #![tactic(auto)]
 
 mod bit_row;
-mod level;
 mod memo_walk;
 mod memoized_names;
 mod missing_scopes;
-mod record;
 mod walk_state;
 
-pub use level::{MemoizationLevel, join_aliases};
 pub use memoized_names::memoized;
-pub use record::{DeclSet, MemoNode, MemoRecord};
+pub use rc_memo::{DeclSet, MemoNode, MemoRecord, MemoizationLevel, join_aliases};

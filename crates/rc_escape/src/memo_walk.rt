@@ -90,18 +90,16 @@ fn name_at(names: &List<DeclarationId>, place: usize) -> Option<(DeclarationId, 
     }
 }
 
-impl MemoizationLevel {
-    /// Returns whether a node of this level is memoized by a visit that is forced or not, where one of its dependencies
-    /// is memoized or none is.
-    fn memoizes(self, forced: bool, needs_one: bool) -> bool
-        ensures { result ≡ memoizes self forced needs_one }
-    {
-        match self {
-            MemoizationLevel::Memoized => true,
-            MemoizationLevel::Conditional => needs_one || forced,
-            MemoizationLevel::Unmemoized => forced,
-            MemoizationLevel::Never => false,
-        }
+/// Returns whether a node of a level is memoized by a visit that is forced or not, where one of its dependencies is
+/// memoized or none is.
+fn is_memoized(level: MemoizationLevel, forced: bool, needs_one: bool) -> bool
+    ensures { result ≡ memoizes level forced needs_one }
+{
+    match level {
+        MemoizationLevel::Memoized => true,
+        MemoizationLevel::Conditional => needs_one || forced,
+        MemoizationLevel::Unmemoized => forced,
+        MemoizationLevel::Never => false,
     }
 }
 
@@ -312,7 +310,7 @@ impl WalkState {
                     self.visit(rec, stack, needed, false)
                 }
                 None => {
-                    let memoized = node.level.memoizes(forced, answered);
+                    let memoized = is_memoized(node.level, forced, answered);
                     self.decide(rec, stack, name, place, node, memoized)
                 }
             },

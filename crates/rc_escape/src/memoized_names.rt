@@ -8,7 +8,7 @@ ghost use Rattle.rc_names.specs.Numbers as numbers;
 ghost use Rattle.rc_escape.specs.MemoBounds.{HasLeastSet, IsWithinGreatestSet};
 ghost use Rattle.rc_escape.specs.MemoSet.{HasMemoized, IsMemoSet, IsNoScopeNode, IsWalked, scopes_without_record};
 ghost use Rattle.rc_escape.specs.inside.WalkFrames.{is_set, progress};
-ghost use Rattle.rc_escape.specs.declared.record.MemoNode.{MemoNode as Node};
+ghost use Rattle.rc_memo.specs.declared.record.MemoNode.{MemoNode as Node};
 
 use crate::memo_walk::is_true;
 use crate::missing_scopes::lowest_missing;

@@ -4,7 +4,7 @@ ghost use Rattle.std.specs.Prelude.{◌≡◌, [], None, Some, filter, slice_get
 ghost use Rattle.rc_names.specs.Numbers.{DeclarationId, ScopeId as Scope};
 ghost use Rattle.rc_escape.specs.inside.LowestScope.{lacks, lower, lowest_of};
 ghost use Rattle.rc_escape.specs.MemoSet.{IsLowest, scopes_without_record};
-ghost use Rattle.rc_escape.specs.declared.record.MemoNode.{MemoNode as Node};
+ghost use Rattle.rc_memo.specs.declared.record.MemoNode.{MemoNode as Node};
 
 use crate::MemoRecord;
 use rc_names::{KeySet, ScopeId};

@@ -1,7 +1,7 @@
 -- The lowest of some scopes, found one by one.
 use Rattle.std.specs.Prelude.{List, [], ◌∷◌, Option, None, Some, Bool, nat_lt, is_none, if◌then◌else◌}
 use Rattle.rc_names.specs.Numbers.{ScopeId}
-use Rattle.rc_escape.specs.declared.record.MemoRecord.{MemoRecord}
+use Rattle.rc_memo.specs.declared.record.MemoRecord.{MemoRecord}
 use Rattle.rc_escape.specs.MemoWalk.{dependencies_of}
 
 -- whether a scope has no record

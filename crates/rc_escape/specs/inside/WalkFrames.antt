@@ -5,8 +5,8 @@ use Rattle.std.specs.Prelude.{map, position, slice_get, sum_by, unwrap_or, if◌
 use Rattle.std.specs.List.{IsDistinct}
 use Rattle.std.specs.Map.{keys_of}
 use Rattle.rc_names.specs.Numbers.{DeclarationId, ScopeId, same_id}
-use Rattle.rc_escape.specs.declared.record.MemoNode.{MemoNode}
-use Rattle.rc_escape.specs.declared.record.MemoRecord.{MemoRecord}
+use Rattle.rc_memo.specs.declared.record.MemoNode.{MemoNode}
+use Rattle.rc_memo.specs.declared.record.MemoRecord.{MemoRecord}
 use Rattle.rc_escape.specs.declared.walk_state.WalkState.{WalkState}
 use Rattle.rc_escape.specs.declared.walk_state.VisitFrame.{VisitFrame}
 use Rattle.rc_escape.specs.declared.walk_state.VisitFrame.TheVariants.{Escaping, Dependencies, Scopes}

@@ -1,8 +1,8 @@
 //! How much a name asks to be memoized.
 
 ghost use Rattle.std.specs.Prelude.{◌≡◌};
-ghost use Rattle.rc_escape.specs.Level as spec;
-ghost use Rattle.rc_escape.specs.declared.level.MemoizationLevel.TheVariants as levels;
+ghost use Rattle.rc_memo.specs.Level as spec;
+ghost use Rattle.rc_memo.specs.declared.level.MemoizationLevel.TheVariants as levels;
 
 /// How much a name asks to be memoized, from the strongest level to the weakest.
 #[derive(Clone, Copy, Debug, PartialEq, Eq)]

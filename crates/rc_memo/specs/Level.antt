@@ -1,7 +1,7 @@
 -- The levels of memoization, in their order.
 use Rattle.std.specs.Prelude.{ℕ, nat_lt, if◌then◌else◌}
-use Rattle.rc_escape.specs.declared.level.MemoizationLevel.{MemoizationLevel}
-use Rattle.rc_escape.specs.declared.level.MemoizationLevel.TheVariants.{Memoized, Conditional, Unmemoized, Never}
+use Rattle.rc_memo.specs.declared.level.MemoizationLevel.{MemoizationLevel}
+use Rattle.rc_memo.specs.declared.level.MemoizationLevel.TheVariants.{Memoized, Conditional, Unmemoized, Never}
 
 -- the place of a level in the order from the strongest to the weakest
 abbrev pub rank : MemoizationLevel → ℕ

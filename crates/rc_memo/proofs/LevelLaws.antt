@@ -1,8 +1,8 @@
 -- The stronger of two levels is a join: commutative, associative and idempotent, and `Never` is its unit.
 use Rattle.std.proofs.Common.{◌≡◌, refl, subst, sym, arith}
-use Rattle.rc_escape.specs.Level.{stronger}
-use Rattle.rc_escape.specs.declared.level.MemoizationLevel.{MemoizationLevel}
-use Rattle.rc_escape.specs.declared.level.MemoizationLevel.TheVariants.{Memoized, Conditional, Unmemoized, Never}
+use Rattle.rc_memo.specs.Level.{stronger}
+use Rattle.rc_memo.specs.declared.level.MemoizationLevel.{MemoizationLevel}
+use Rattle.rc_memo.specs.declared.level.MemoizationLevel.TheVariants.{Memoized, Conditional, Unmemoized, Never}
 
 pub stronger_commutes : (a b : MemoizationLevel) → stronger a b ≡ stronger b a
 stronger_commutes Memoized Memoized = refl

@@ -1,0 +1,10 @@
+pub mod LevelLaws
+pub mod DistinctLemmas
+pub mod NodesLemmas
+pub mod EntryLemmas
+pub mod AddingLemmas
+pub mod LoadsLemmas
+pub mod EventsLemmas
+pub mod RowEventsLemmas
+pub mod TreeEventsLemmas
+pub mod GrowingLemmas

@@ -1,0 +1,190 @@
+-- What each form of value brings, and the steps in which its parts are added.
+use Rattle.std.proofs.Common.{◌≡◌, ◌∙◌, Bool, List, [], ◌∷◌, ◌++◌, ap, append-nil, append_assoc, map, refl, subst, sym}
+use Rattle.std.specs.List.{flat_map}
+use Rattle.rc_hir.specs.Model.{Environment, InstructionValue, LogicalOperator, Place}
+use Rattle.rc_names.specs.Numbers.{EvaluationOrder}
+use Rattle.rc_tree.specs.Model.{ReactiveInstruction}
+use Rattle.rc_tree.specs.declared.value.ReactiveValue.{ReactiveValue, map-ReactiveValue, roll-ReactiveValue}
+use Rattle.rc_tree.specs.declared.value.ReactiveValue.TheFolds.{para-roll-ReactiveInstruction, para-roll-ReactiveValue}
+use Rattle.rc_tree.specs.declared.value.ReactiveValue.TheOpen as value
+use Rattle.rc_tree.specs.declared.value.ReactiveValue.TheVariants as reactive_values
+use Rattle.rc_memo.specs.RowEvents.{ValueParts, both_parts, instruction_of, own_events, parts_of, recorded_operands}
+use Rattle.rc_memo.specs.RowEvents.{row_events, row_step, value_step}
+use Rattle.rc_memo.specs.declared.event.MemoEvent.{MemoEvent}
+use Rattle.rc_memo.specs.inside.RowsAdded.{AddsParts, AddsWalked}
+
+module _ (env : Environment) where
+  -- a value brings the step of its form
+  opened : (x : value.ReactiveValue-F ReactiveValue ReactiveInstruction)
+      → parts_of env (roll-ReactiveValue x)
+      ≡ value_step env (map-ReactiveValue ReactiveValue ReactiveInstruction (ReactiveValue × ValueParts)
+      (ReactiveInstruction × List MemoEvent) (λ y. (y, parts_of env y)) (λ y. (y, row_events env y)) x)
+  unfolding parts_of row_events
+  opened x = para-roll-ReactiveValue ValueParts (List MemoEvent) (value_step env) (row_step env) x
+
+  parts-Instruction : (x : InstructionValue) → parts_of env (reactive_values.Instruction x)
+      ≡ record { places = recorded_operands env x; rows = []; walked = [] }
+  parts-Instruction x = ap (parts_of env) (sym (reactive_values.rolls-Instruction x)) ∙ opened (value.Instruction x)
+
+  parts-Logical : (operator : LogicalOperator) (x y : ReactiveValue)
+      → parts_of env (reactive_values.LogicalExpression operator x y) ≡ both_parts (parts_of env x) (parts_of env y)
+  parts-Logical operator x y = ap (parts_of env) (sym (reactive_values.rolls-LogicalExpression operator x y))
+      ∙ opened (value.LogicalExpression operator x y)
+
+  parts-Conditional : (test x y : ReactiveValue)
+      → parts_of env (reactive_values.ConditionalExpression test x y)
+      ≡ record (both_parts (parts_of env x) (parts_of env y))
+      { walked = (parts_of env test).walked ++ ((parts_of env x).walked ++ (parts_of env y).walked) }
+  parts-Conditional test x y = ap (parts_of env) (sym (reactive_values.rolls-ConditionalExpression test x y))
+      ∙ opened (value.ConditionalExpression test x y)
+
+  flat-map : (rows : List ReactiveInstruction)
+      → flat_map (λ (row : ReactiveInstruction × List MemoEvent). row.1) (map (λ y. (y, row_events env y)) rows)
+      ≡ flat_map (row_events env) rows
+  flat-map [] = refl
+  flat-map (row ∷ rows) = ap (λ w. row_events env row ++ w) (flat-map rows)
+
+  parts-Sequence : (rows : List ReactiveInstruction) (id : EvaluationOrder) (x : ReactiveValue)
+      → parts_of env (reactive_values.SequenceExpression rows id x) ≡ record {
+        places = (parts_of env x).places;
+        rows = flat_map (row_events env) rows ++ (parts_of env x).rows;
+        walked = flat_map (row_events env) rows ++ (parts_of env x).walked;
+      }
+  parts-Sequence rows id x = ap (parts_of env) (sym (reactive_values.rolls-SequenceExpression rows id x))
+      ∙ opened (value.SequenceExpression rows id x)
+      ∙ ap (λ before. record {
+        places = (parts_of env x).places;
+        rows = before ++ (parts_of env x).rows;
+        walked = before ++ (parts_of env x).walked;
+      }) (flat-map rows)
+
+  parts-Optional : (x : ReactiveValue) (optional : Bool)
+      → parts_of env (reactive_values.OptionalExpression x optional) ≡ parts_of env x
+  parts-Optional x optional = ap (parts_of env) (sym (reactive_values.rolls-OptionalExpression x optional))
+      ∙ opened (value.OptionalExpression x optional)
+
+  row_events-parts : (x : ReactiveInstruction) → row_events env x
+      ≡ (parts_of env x.value).rows
+      ++ own_events env x.id x.lvalue (instruction_of x.value) (parts_of env x.value).places
+  unfolding parts_of row_events
+  row_events-parts x = para-roll-ReactiveInstruction ValueParts (List MemoEvent) (value_step env) (row_step env)
+      (record { id = x.id; lvalue = x.lvalue; value = x.value; span = x.span })
+
+  -- what is added in two steps
+  joined : {X : Type 0} (old mid new a b whole : List X) → mid ≡ old ++ a → new ≡ mid ++ b → whole ≡ a ++ b
+      → new ≡ old ++ whole
+  joined old mid new a b whole first second is =
+      second ∙ ap (λ w. w ++ b) first ∙ append_assoc old a b ∙ ap (λ w. old ++ w) (sym is)
+
+  pub as_part : {x y : ReactiveValue} {old new : List MemoEvent} {places more : List Place} → x ≡ y
+      → AddsParts env x old new places more → AddsParts env y old new places more
+  as_part {old = old} {new = new} {places = places} {more = more} is added =
+      subst (λ w. AddsParts env w old new places more) is added
+
+  pub as_walked : {x y : ReactiveValue} {old new : List MemoEvent} → x ≡ y → AddsWalked env x old new
+      → AddsWalked env y old new
+  as_walked {old = old} {new = new} is added = subst (λ w. AddsWalked env w old new) is added
+
+  -- each form is added by its parts
+
+  pub adds-Instruction : (value' : ReactiveValue) (x : InstructionValue) (events : List MemoEvent)
+      (places more : List Place) → value' ≡ reactive_values.Instruction x
+      → more ≡ places ++ recorded_operands env x → AddsParts env value' events events places more
+  adds-Instruction value' x events places more is added = record {
+    events = sym (append-nil events) ∙ ap (λ w. events ++ w.rows) (sym (ap (parts_of env) is ∙ parts-Instruction x));
+    operands = added ∙ ap (λ w. places ++ w.places) (sym (ap (parts_of env) is ∙ parts-Instruction x));
+  }
+
+  pub adds-Logical : (value' : ReactiveValue) (operator : LogicalOperator) (x y : ReactiveValue)
+      (old mid new : List MemoEvent) (places some more : List Place)
+      → value' ≡ reactive_values.LogicalExpression operator x y → AddsParts env x old mid places some
+      → AddsParts env y mid new some more → AddsParts env value' old new places more
+  adds-Logical value' operator x y old mid new places some more is first second =
+      let e = ap (parts_of env) is ∙ parts-Logical operator x y in
+      record {
+        events = joined old mid new _ _ _ first.events second.events (ap (λ w. w.rows) e);
+        operands = joined places some more _ _ _ first.operands second.operands (ap (λ w. w.places) e);
+      }
+
+  pub adds-Conditional : (value' test x y : ReactiveValue) (old mid new : List MemoEvent)
+      (places some more : List Place)
+      → value' ≡ reactive_values.ConditionalExpression test x y → AddsParts env x old mid places some
+      → AddsParts env y mid new some more → AddsParts env value' old new places more
+  adds-Conditional value' test x y old mid new places some more is first second =
+      let e = ap (parts_of env) is ∙ parts-Conditional test x y in
+      record {
+        events = joined old mid new _ _ _ first.events second.events (ap (λ w. w.rows) e);
+        operands = joined places some more _ _ _ first.operands second.operands (ap (λ w. w.places) e);
+      }
+
+  pub adds-Sequence : (value' : ReactiveValue) (rows : List ReactiveInstruction) (id : EvaluationOrder)
+      (x : ReactiveValue) (old mid new : List MemoEvent) (places more : List Place)
+      → value' ≡ reactive_values.SequenceExpression rows id x → mid ≡ old ++ flat_map (row_events env) rows
+      → AddsParts env x mid new places more → AddsParts env value' old new places more
+  adds-Sequence value' rows id x old mid new places more is first second =
+      let e = ap (parts_of env) is ∙ parts-Sequence rows id x in
+      record {
+        events = joined old mid new _ _ _ first second.events (ap (λ w. w.rows) e);
+        operands = second.operands ∙ ap (λ w. places ++ w.places) (sym e);
+      }
+
+  pub adds-Optional : (value' x : ReactiveValue) (optional : Bool) (old new : List MemoEvent)
+      (places more : List Place) → value' ≡ reactive_values.OptionalExpression x optional
+      → AddsParts env x old new places more → AddsParts env value' old new places more
+  adds-Optional value' x optional old new places more is added =
+      let e = ap (parts_of env) is ∙ parts-Optional x optional in
+      record {
+        events = added.events ∙ ap (λ w. old ++ w.rows) (sym e);
+        operands = added.operands ∙ ap (λ w. places ++ w.places) (sym e);
+      }
+
+  pub adds_row : (x : ReactiveInstruction) (old mid new : List MemoEvent) (none places : List Place) → none ≡ []
+      → AddsParts env x.value old mid none places
+      → new ≡ mid ++ own_events env x.id x.lvalue (instruction_of x.value) places → new ≡ old ++ row_events env x
+  adds_row x old mid new none places empty first second =
+      let all : places ≡ (parts_of env x.value).places =
+      first.operands ∙ ap (λ w. w ++ (parts_of env x.value).places) empty in
+      joined old mid new (parts_of env x.value).rows _ (row_events env x) first.events
+      (second ∙ ap (λ w. mid ++ own_events env x.id x.lvalue (instruction_of x.value) w) all) (row_events-parts x)
+
+  -- the same in a terminal
+
+  pub walks-Instruction : (value' : ReactiveValue) (x : InstructionValue) (events : List MemoEvent)
+      → value' ≡ reactive_values.Instruction x → AddsWalked env value' events events
+  walks-Instruction value' x events is = record {
+    events = sym (append-nil events) ∙ ap (λ w. events ++ w.walked) (sym (ap (parts_of env) is ∙ parts-Instruction x));
+  }
+
+  pub walks-Logical : (value' : ReactiveValue) (operator : LogicalOperator) (x y : ReactiveValue)
+      (old mid new : List MemoEvent) → value' ≡ reactive_values.LogicalExpression operator x y
+      → AddsWalked env x old mid → AddsWalked env y mid new → AddsWalked env value' old new
+  walks-Logical value' operator x y old mid new is first second = record {
+    events = joined old mid new _ _ _ first.events second.events
+        (ap (λ w. w.walked) (ap (parts_of env) is ∙ parts-Logical operator x y));
+  }
+
+  pub walks-Conditional : (value' test x y : ReactiveValue) (old one two new : List MemoEvent)
+      → value' ≡ reactive_values.ConditionalExpression test x y → AddsWalked env test old one
+      → AddsWalked env x one two → AddsWalked env y two new → AddsWalked env value' old new
+  walks-Conditional value' test x y old one two new is first second third = record {
+    events = joined old one new _ _ _ first.events (joined one two new _ _ _ second.events third.events refl)
+        (ap (λ w. w.walked) (ap (parts_of env) is ∙ parts-Conditional test x y));
+  }
+
+  pub walks-Sequence : (value' : ReactiveValue) (rows : List ReactiveInstruction) (id : EvaluationOrder)
+      (x : ReactiveValue) (old mid new : List MemoEvent)
+      → value' ≡ reactive_values.SequenceExpression rows id x → mid ≡ old ++ flat_map (row_events env) rows
+      → AddsWalked env x mid new → AddsWalked env value' old new
+  walks-Sequence value' rows id x old mid new is first second = record {
+    events = joined old mid new _ _ _ first second.events
+        (ap (λ w. w.walked) (ap (parts_of env) is ∙ parts-Sequence rows id x));
+  }
+
+  pub walks-Optional : (value' x : ReactiveValue) (optional : Bool) (old new : List MemoEvent)
+      → value' ≡ reactive_values.OptionalExpression x optional → AddsWalked env x old new
+      → AddsWalked env value' old new
+  walks-Optional value' x optional old new is added = record {
+    events = added.events ∙ ap (λ w. old ++ w.walked) (sym (ap (parts_of env) is ∙ parts-Optional x optional));
+  }
+
+pub ruleset quiet_values = walks-Instruction

@@ -1,0 +1,16 @@
+use Rattle.rc_memo.proofs.AddingLemmas.{adds_more, adds_stopped}
+use Rattle.rc_memo.specs.Events.{mention_facts}
+use Rattle.rc_memo.specs.inside.Gathering.{resolved}
+use Rattle.rc_memo.proofs.nodes.add_mentions.Goals as goal
+
+pub loop-mention-preserved : goal.loop-mention-preserved
+loop-mention-preserved c =
+    adds_more (mention_facts (resolved c.args.definitions.now)) c.as_slice-mention-items.result.now c.loop-mention.mention-index _
+    c.in-Ok.field-0 c.args.nodes.now c.loop-mention.nodes c.add_mention.new.nodes c.loop-mention-test.true c.loop-mention.invariant
+    c.in-Ok.ensures
+
+pub returns-in-Err : goal.returns-in-Err
+returns-in-Err c =
+    adds_stopped (mention_facts (resolved c.args.definitions.now)) _ c.as_slice-mention-items.result.now c.loop-mention.mention-index _
+    c.in-Err.fault c.args.nodes.now c.loop-mention.nodes c.add_mention.new.nodes c.as_slice-mention-items.ensures
+    c.loop-mention-test.true c.loop-mention.invariant c.in-Err.ensures

@@ -1,0 +1,9 @@
+use Rattle.std.proofs.Common.{Ok, take}
+use Rattle.std.specs.List.{flat_map}
+use Rattle.rc_memo.specs.Events.{operand_facts}
+use Rattle.rc_memo.specs.inside.Gathering.{Adds, resolved}
+use Rattle.rc_memo.proofs.nodes.add_operands.Given as goal
+
+abbrev pub invariant-loop-operand : goal.invariant-loop-operand
+invariant-loop-operand l =
+    Adds (flat_map (operand_facts (resolved l.definitions) l.name) (take l.operand-index l.operand-items)) l.fn.nodes (Ok tt) l.nodes

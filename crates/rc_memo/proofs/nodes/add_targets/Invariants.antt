@@ -1,0 +1,9 @@
+use Rattle.std.proofs.Common.{Ok, take}
+use Rattle.std.specs.List.{flat_map}
+use Rattle.rc_memo.specs.Events.{target_facts}
+use Rattle.rc_memo.specs.inside.Gathering.{Adds, resolved}
+use Rattle.rc_memo.proofs.nodes.add_targets.Given as goal
+
+abbrev pub invariant-loop-target : goal.invariant-loop-target
+invariant-loop-target l =
+    Adds (flat_map (target_facts (resolved l.definitions) l.operands) (take l.target-index l.target-items)) l.fn.nodes (Ok tt) l.nodes

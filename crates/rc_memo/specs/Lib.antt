@@ -1,0 +1,10 @@
+-- Read in this order: the levels, the memo table, what rows and trees tell, the facts of that and the nodes that they
+-- give, and the record.
+pub mod Level
+pub mod Table
+pub mod RowEvents
+pub mod TreeEvents
+pub mod Facts
+pub mod Events
+pub mod Record
+pub mod inside

@@ -1,0 +1,4 @@
+-- Definitions that only contracts of private functions cite.
+pub mod Gathering
+pub mod RowsAdded
+pub mod Growing

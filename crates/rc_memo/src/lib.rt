@@ -1,0 +1,21 @@
+//! The memo record of a function: how much each name asks to be memoized, on which names it depends, and which scopes
+//! compute it.
+//!
+//! The rows of a tree are read by the memo table, which says of each kind of instruction what it asks of its places.
+//! What they tell is then put together, name by name.
+//!
+//! After oxc's prune_non_escaping_scopes.
+#![tactic(auto)]
+
+mod collecting;
+mod event;
+mod level;
+mod nodes;
+mod record;
+mod rows;
+mod table;
+mod tree;
+
+pub use collecting::collect;
+pub use level::{MemoizationLevel, join_aliases};
+pub use record::{DeclSet, MemoNode, MemoRecord};
