@@ -1,25 +1,38 @@
 //! `rc tree`: reads a document from standard input, and prints its tree or the reason why its graph is refused.
+//!
+//! It is the whole of this crate's public surface: the words `tree`, standard input, standard output, standard error
+//! and the exit status. What it calls is public in `rc_program`.
 #![tactic(auto)]
 
-use rc_program::{Status, StdSink, StdSource, program, words};
+use rc_program::{Note, Status, StdSink, StdSource, program, words};
 use std::process::ExitCode;
 use std::{env, io};
 
-/// Runs the program over the real devices, says in one line what was wrong, if anything was, and ends with the status.
+/// Runs the program over the real devices, says what was wrong, if anything was, and ends with the status.
 fn main(rt: HostRuntime) -> ExitCode {
+    let mut note = None;
     let status = match words(rt.alloc(), env::args(&rt)) {
         Ok(words) => {
             let mut source = StdSource::new(rt.reader());
             let mut sink = StdSink::new(io::writer(&rt));
-            program(rt.alloc(), &words, &mut source, &mut sink)
+            program(rt.alloc(), &words, &mut source, &mut sink, &mut note)
         }
         Err(stop) => Status::from(Err(stop)),
     };
-    // If standard error fails too, the status still tells the result.
-    if let Some(stop) = status.reason() {
-        let _ = eprintln!(rt; "{stop}");
-    } else if status == Status::Refused {
-        let _ = eprintln!(rt; "the document's graph is refused");
-    }
+    say(&rt, status, &note);
     ExitCode::from(status.code())
+}
+
+/// Says on standard error what was wrong. If that fails too, the status still tells the result.
+fn say(rt: &HostRuntime, status: Status, note: &Note) {
+    let note = match note {
+        Some(note) => note.as_str(),
+        None => "no memory to say where",
+    };
+    let _ = match (status, status.reason()) {
+        (Status::NotJson | Status::NotDoc, Some(stop)) => eprintln!(rt; "rc: {stop}: {note}"),
+        (_, Some(stop)) => eprintln!(rt; "rc: {stop}"),
+        (Status::Refused, None) => eprintln!(rt; "rc: the document's graph is refused: {note}"),
+        (_, None) => Ok(()),
+    };
 }

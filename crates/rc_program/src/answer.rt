@@ -3,6 +3,7 @@
 ghost use Rattle.std.specs.Prelude.{◌≡◌, ◌↔◌, IsTrue, MatchResult};
 ghost use Rattle.rc_program.specs.Status.{IsTextFor};
 
+use crate::note::{Note, note_fault};
 use crate::printing::{fault_line, lines};
 use crate::status::Status;
 use crate::stop::Stop;
@@ -19,9 +20,9 @@ pub struct Answer {
     pub status: Status,
 }
 
-/// Returns the lines of the document's tree, or the line of the fault with which its graph is refused. Fails only when
-/// out of memory.
-pub fn answer_for(alloc: Global, doc: Doc) -> Result<Answer, Stop>
+/// Returns the lines of the document's tree, or the line of the fault with which its graph is refused, which it notes.
+/// Fails only when out of memory.
+pub fn answer_for(alloc: Global, doc: Doc, note: &mut Note) -> Result<Answer, Stop>
     ensures { MatchResult result (λ answer. IsTextFor doc answer.status answer.text) (λ stop. stop ≡ Stop.NoMemory) }
 {
     let Doc { hir, mut env } = doc;
@@ -34,6 +35,7 @@ pub fn answer_for(alloc: Global, doc: Doc) -> Result<Answer, Stop>
             if is_want_of_memory(&fault) {
                 return Err(Stop::NoMemory);
             }
+            note_fault(alloc, note, &hir, &fault);
             Ok(Answer {
                 text: fault_line(alloc, &fault)?,
                 status: Status::Refused,

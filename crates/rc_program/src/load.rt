@@ -6,6 +6,7 @@ ghost use Rattle.rc_program.specs.Device.{HasRisen, most_bytes};
 ghost use Rattle.rc_program.specs.Status.{IsJson, IsJsonOfDoc, IsLoadOrStop, IsReadOrStop, IsStopFor};
 
 use crate::device::Source;
+use crate::note::{Note, note_no_doc, note_no_json};
 use crate::stop::Stop;
 use rc_doc::{Doc, read_doc};
 use serde_json::Value;
@@ -18,14 +19,15 @@ const MAX_BYTES: usize = 16_777_216;
 const BUFFER_BYTES: usize = 4096;
 
 /// Returns the document that a source gives. Stops with `ReadFault` if a call of the source fails, `TooLarge` if there
-/// are too many bytes, `NotJson` or `NotDoc` if they are no JSON or no document, and `NoMemory` when out of memory.
-pub fn load<S: Source>(alloc: Global, source: &mut S) -> Result<Doc, Stop>
+/// are too many bytes, `NotJson` or `NotDoc` if they are no JSON or no document, which it notes, and `NoMemory` when out
+/// of memory.
+pub fn load<S: Source>(alloc: Global, source: &mut S, note: &mut Note) -> Result<Doc, Stop>
     ensures outcome { IsLoadOrStop (S.left source.old) (S.left source.new) result }
     ensures later { S.faults source.old ≤ S.faults source.new }
     ensures cause { IsErrOf result Stop.ReadFault → HasRisen (S.faults source.old) (S.faults source.new) }
 {
     let bytes = read_to_end(alloc, source)?;
-    document(alloc, bytes)
+    document(alloc, bytes, note)
 }
 
 /// The bytes of a source, up to its end. It stops as soon as there are more than a document may have.
@@ -50,25 +52,31 @@ fn read_to_end<S: Source>(alloc: Global, source: &mut S) -> Result<Vec<u8>, Stop
 }
 
 /// The document of which the bytes are JSON.
-fn document(alloc: Global, bytes: Vec<u8>) -> Result<Doc, Stop>
+fn document(alloc: Global, bytes: Vec<u8>, note: &mut Note) -> Result<Doc, Stop>
     requires { length bytes.items ≤ most_bytes }
     ensures { MatchResult result (IsJsonOfDoc bytes.items) (IsStopFor bytes.items) }
 {
-    let value = parse(alloc, bytes)?;
+    let value = parse(alloc, bytes, note)?;
     match read_doc(alloc, &value)? {
         Some(doc) => Ok(doc),
-        None => Err(Stop::NotDoc),
+        None => {
+            note_no_doc(alloc, note, &value);
+            Err(Stop::NotDoc)
+        }
     }
 }
 
 /// The value of which the bytes are JSON.
-fn parse(alloc: Global, bytes: Vec<u8>) -> Result<Value, Stop>
+fn parse(alloc: Global, bytes: Vec<u8>, note: &mut Note) -> Result<Value, Stop>
     requires { length bytes.items ≤ most_bytes }
     ensures { MatchResult result (λ value. IsJson bytes.items (view value)) (IsStopFor bytes.items) }
 {
     match Value::from_slice(alloc, bytes.as_slice()) {
         Ok(value) => Ok(value),
         Err(error) if error.is_memory() => Err(Stop::NoMemory),
-        Err(_) => Err(Stop::NotJson),
+        Err(error) => {
+            note_no_json(alloc, note, &error);
+            Err(Stop::NotJson)
+        }
     }
 }

@@ -5,6 +5,7 @@ mod fault;
 mod function;
 mod page;
 mod place;
+mod sentence;
 mod statement;
 mod terminal;
 mod text;
@@ -12,3 +13,4 @@ mod value;
 
 pub use fault::fault_line;
 pub use function::lines;
+pub use sentence::fault_sentence;

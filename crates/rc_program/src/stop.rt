@@ -10,7 +10,7 @@ use thiserror::Error;
 #[derive(Clone, Copy, Debug, PartialEq, Eq, Error)]
 pub enum Stop {
     /// The words aren't the one word `tree`.
-    #[error("usage: rc tree")]
+    #[error("usage: rc tree < DOCUMENT\nrc: the document is read from standard input; no word names it")]
     Usage,
     /// The bytes are no JSON.
     #[error("standard input is not JSON")]

@@ -10,6 +10,7 @@ use crate::answer::answer_for;
 use crate::command_line::{Words, is_tree};
 use crate::device::{Sink, Source};
 use crate::load::load;
+use crate::note::Note;
 use crate::status::Status;
 use crate::stop::Stop;
 use crate::write::write_lines;
@@ -18,12 +19,14 @@ use std::alloc::Global;
 /// Reads a document from the source, if the words are the one word `tree`. Writes the lines of its tree to the sink,
 /// or the line of the fault with which its graph is refused, and returns the status.
 ///
-/// The bytes are read to their end before they are parsed, and the text is made whole before any of it is written.
+/// The bytes are read to their end before they are parsed, and the text is made whole before any of it is written. With
+/// the statuses `NotJson`, `NotDoc` and `Refused` the note says why, where memory allows.
 pub fn program<S: Source, K: Sink>(
     alloc: Global,
     words: &Words,
     source: &mut S,
     sink: &mut K,
+    note: &mut Note,
 ) -> Status
     // Each status gives these facts.
     ensures outcome { IsOutcome words.now (S.left source.old) (S.left source.new)
@@ -45,7 +48,7 @@ pub fn program<S: Source, K: Sink>(
         → ¬ HasRisen (S.faults source.old) (S.faults source.new) → ¬ HasRisen (K.faults sink.old) (K.faults sink.new)
         → (result ≡ Status.Done) ⊎ (result ≡ Status.NoMemory) }
 {
-    Status::from(run(alloc, words, source, sink))
+    Status::from(run(alloc, words, source, sink, note))
 }
 
 /// The steps of the program, each of which may stop it.
@@ -54,6 +57,7 @@ fn run<S: Source, K: Sink>(
     words: &Words,
     source: &mut S,
     sink: &mut K,
+    note: &mut Note,
 ) -> Result<Status, Stop>
     ensures outcome { IsOutcome words.now (S.left source.old) (S.left source.new)
         (K.written sink.old) (K.written sink.new) (status_from result) }
@@ -63,8 +67,8 @@ fn run<S: Source, K: Sink>(
     if !is_tree(words) {
         return Err(Stop::Usage);
     }
-    let doc = load(alloc, source)?;
-    let answer = answer_for(alloc, doc)?;
+    let doc = load(alloc, source, note)?;
+    let answer = answer_for(alloc, doc, note)?;
     match write_lines(sink, &answer.text) {
         Ok(()) => Ok(answer.status),
         Err(_) => Err(Stop::WriteFault),

@@ -6,6 +6,7 @@ mod broken_graphs;
 mod built_in_code;
 mod devices;
 mod graphs;
+mod library;
 mod lines;
 mod names;
 mod refusals;
@@ -59,7 +60,7 @@ pub fn tree_from(
 ) -> Result<(Status, MemorySink), AllocError> {
     let words = words(alloc, &["tree"])?;
     let mut sink = MemorySink::new(alloc, 1000, 10, List::new(alloc))?;
-    let status = program(alloc, &words, &mut source, &mut sink);
+    let status = program(alloc, &words, &mut source, &mut sink, &mut None);
     Ok((status, sink))
 }
 

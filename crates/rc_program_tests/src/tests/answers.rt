@@ -41,7 +41,7 @@ fn is_usage_error(alloc: Global, line: &[&str]) -> Result<bool, AllocError> {
     let bytes = list(alloc, DOCUMENT.as_bytes())?;
     let mut source = MemorySource::new(bytes, List::new(alloc));
     let mut sink = MemorySink::new(alloc, 1000, 10, List::new(alloc))?;
-    let status = program(alloc, &words, &mut source, &mut sink);
+    let status = program(alloc, &words, &mut source, &mut sink, &mut None);
     Ok(status == Status::Usage && sink.bytes().is_empty())
 }
 
@@ -78,7 +78,11 @@ fn each_status_has_its_number_and_says_what_was_wrong(rt: HostRuntime) -> Result
     let alloc = rt.alloc();
     let statuses = [
         (Status::Done, 0, ""),
-        (Status::Usage, 2, "usage: rc tree"),
+        (
+            Status::Usage,
+            2,
+            "usage: rc tree < DOCUMENT\nrc: the document is read from standard input; no word names it",
+        ),
         (Status::NotJson, 3, "standard input is not JSON"),
         (Status::NotDoc, 4, "standard input is no document"),
         (Status::Refused, 5, ""),

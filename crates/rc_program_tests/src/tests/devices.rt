@@ -48,7 +48,7 @@ fn source(alloc: Global) -> Result<MemorySource, AllocError> {
 fn holds(alloc: Global, room: usize, failing: &[u64], written: &[u8]) -> Result<bool, AllocError> {
     let words = words(alloc, &["tree"])?;
     let mut sink = MemorySink::new(alloc, room, 10, list(alloc, failing)?)?;
-    let status = program(alloc, &words, &mut source(alloc)?, &mut sink);
+    let status = program(alloc, &words, &mut source(alloc)?, &mut sink, &mut None);
     Ok(status == Status::WriteFault && sink.bytes() == written)
 }
 
@@ -97,7 +97,7 @@ fn is_answered_over<S: Source>(
 ) -> Result<bool, AllocError> {
     let words = words(alloc, &["tree"])?;
     let mut sink = MemorySink::new(alloc, 1000, 10, List::new(alloc))?;
-    let status = program(alloc, &words, source, &mut sink);
+    let status = program(alloc, &words, source, &mut sink, &mut None);
     Ok(status == due && sink.bytes() == text.as_bytes())
 }
 
@@ -154,7 +154,7 @@ fn a_reader_of_std_is_a_source(rt: HostRuntime) -> Result<(), Fail> {
 /// The status with which the program ends over a sink.
 fn status_over<K: Sink>(alloc: Global, sink: &mut K) -> Result<Status, AllocError> {
     let words = words(alloc, &["tree"])?;
-    Ok(program(alloc, &words, &mut source(alloc)?, sink))
+    Ok(program(alloc, &words, &mut source(alloc)?, sink, &mut None))
 }
 
 /// Whether a whole text is written to a list of bytes.

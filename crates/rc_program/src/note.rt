@@ -1,0 +1,38 @@
+//! What standard error says beyond the status: where bytes are no document, or why a graph is refused. A note that finds
+//! no memory is left out.
+
+use crate::printing::fault_sentence;
+use rc_doc::misread_words;
+use rc_hir::{Fault, HirFunction};
+use rc_names::Text;
+use serde_json::Value;
+use std::alloc::{AllocError, Global};
+
+/// A note, if there is one.
+pub type Note = Option<Text>;
+
+/// Notes the line and the column at which bytes are no JSON, and what is wrong there.
+pub fn note_no_json(alloc: Global, note: &mut Note, error: &serde_json::Error) {
+    if let Ok(text) = error_text(alloc, error) {
+        *note = Some(text);
+    }
+}
+
+/// Notes the part of a value that isn't read, and what was expected.
+pub fn note_no_doc(alloc: Global, note: &mut Note, value: &Value) {
+    if let Ok(words) = misread_words(alloc, value) {
+        *note = words;
+    }
+}
+
+/// Notes why a graph is refused.
+pub fn note_fault(alloc: Global, note: &mut Note, hir: &HirFunction, fault: &Fault) {
+    if let Ok(text) = fault_sentence(alloc, hir, fault) {
+        *note = Some(text);
+    }
+}
+
+/// The text of an error of the JSON library.
+fn error_text(alloc: Global, error: &serde_json::Error) -> Result<Text, AllocError> {
+    Ok(Text::from(format!(in alloc; "{error}")?))
+}

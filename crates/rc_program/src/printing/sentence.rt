@@ -1,0 +1,127 @@
+//! The sentence that says why a graph is refused, for standard error.
+
+use crate::printing::page::Page;
+use rc_hir::{Fault, HirFunction, Rule, TableName, Terminal};
+use rc_names::{BlockId, Text};
+use std::alloc::{AllocError, Global};
+
+/// Returns a fault in one plain sentence, and the page on which it is explained. Fails only when out of memory.
+pub fn fault_sentence(alloc: Global, hir: &HirFunction, fault: &Fault) -> Result<Text, AllocError> {
+    let mut page = Page::new(alloc);
+    match *fault {
+        Fault::Malformed { block, rule } => {
+            write_about(&mut page, "block ", block.0, rule_sentence(rule))?;
+        }
+        Fault::NotBuilt { block } => write_unbuilt(&mut page, hir, block)?,
+        Fault::BadName { table, index } => {
+            let front = table_sentence(table);
+            write_about(&mut page, front, index, ", which is not there")?;
+        }
+        Fault::EarlyReturnSet { scope } => {
+            let back = " answers for a `Return` already";
+            write_about(&mut page, "scope ", scope.0, back)?;
+        }
+        Fault::ScopeCompleted { id, scope } => {
+            let back = " stands outside the blocks of its scope, ";
+            write_about(&mut page, "an operand visited at ", id.0, back)?;
+            page.number(scope.0)?;
+        }
+        Fault::NoIds => page.push("a key isn't below `next_block`, or new numbers have no room")?,
+        Fault::Todo { .. }
+        | Fault::Uninitialised { .. }
+        | Fault::NoScopeNode { .. }
+        | Fault::NoMemory
+        | Fault::BadTarget { .. }
+        | Fault::FunctionCycle { .. } => page.push("a pass refuses it")?,
+    }
+    page.push("; see docs/FAULTS.md")?;
+    Ok(page.finish())
+}
+
+/// A number between two texts.
+fn write_about(page: &mut Page, front: &str, number: u32, back: &str) -> Result<(), AllocError> {
+    page.push(front)?;
+    page.number(number)?;
+    page.push(back)
+}
+
+/// A block whose terminal isn't built yet.
+fn write_unbuilt(page: &mut Page, hir: &HirFunction, block: BlockId) -> Result<(), AllocError> {
+    write_about(page, "block ", block.0, " ends in ")?;
+    page.push(match hir.body.blocks.get(block) {
+        Some(block) => terminal_name(&block.terminal),
+        None => "a terminal",
+    })?;
+    page.push(", which is not built yet")
+}
+
+/// What holds of the block that breaks a rule, behind its number.
+fn rule_sentence(rule: Rule) -> &'static str {
+    match rule {
+        Rule::NoBlock => " is named by a terminal or the entry, and isn't there",
+        Rule::KeyDiffers => " has another id than its key",
+        Rule::UnsetId => " has a row or a terminal with the id 0, which means unset",
+        Rule::Twice => " is named at least twice",
+        Rule::BreakTarget => " breaks to a block that no statement around it lets it name",
+        Rule::ContinueTarget => " continues to a block with which no loop around it begins a turn",
+        Rule::CaseLabel => " jumps to the block of a case",
+        Rule::ScopeBreak => " breaks to the fallthrough of a scope",
+        Rule::GotoTry => " has a `Goto` of variant `Try` to a block that falling off doesn't reach",
+        Rule::LoopLive => " begins a loop that can't have its fallthrough or its continue block",
+        Rule::SwitchCase =>
+            " has a switch with two defaults, or with a tested case whose block is the fallthrough",
+        Rule::EmptyValue => " must give a value and has no row",
+        Rule::ValueEnd => " ends a value otherwise than the parts around the value ask",
+        Rule::NotValue => " must give a value, and none can end in its terminal",
+        Rule::Tested => " tests another declaration than that of the value",
+        Rule::LoudArm => " begins an arm that must be silent and isn't",
+        Rule::ShortArm => " has another alternate than the test of the outer optional",
+        Rule::Handler => " has a `MaybeThrow` with another handler than the current one",
+        Rule::ThrowInTry => " ends in `Throw` inside the block of a `Try`",
+        Rule::Dead => " leads to a block that ends in `Unreachable`",
+        Rule::ScopeTwice => " opens a scope that another block opens too",
+        Rule::FallsElsewhere =>
+            " has a fallthrough that another block frames, or that ends in `Unreachable`",
+        Rule::OtherTree => " is the entry of a graph that spells another tree than the one given",
+    }
+}
+
+/// What names a number outside its table.
+fn table_sentence(table: TableName) -> &'static str {
+    match table {
+        TableName::Identifiers => "the document names identifier ",
+        TableName::Declarations => "the document names declaration ",
+        TableName::Types => "the document names type ",
+        TableName::Scopes => "the document names scope ",
+        TableName::Functions => "the document names function ",
+        TableName::Instructions => "the document names instruction ",
+        TableName::Shapes => "the document names shape ",
+    }
+}
+
+/// The name of a terminal, as documents have it.
+fn terminal_name(terminal: &Terminal) -> &'static str {
+    match terminal {
+        Terminal::If { .. } => "If",
+        Terminal::Branch { .. } => "Branch",
+        Terminal::Logical { .. } => "Logical",
+        Terminal::Ternary { .. } => "Ternary",
+        Terminal::Optional { .. } => "Optional",
+        Terminal::Sequence { .. } => "Sequence",
+        Terminal::Throw { .. } => "Throw",
+        Terminal::Return { .. } => "Return",
+        Terminal::Goto { .. } => "Goto",
+        Terminal::Switch { .. } => "Switch",
+        Terminal::DoWhile { .. } => "DoWhile",
+        Terminal::While { .. } => "While",
+        Terminal::For { .. } => "For",
+        Terminal::ForOf { .. } => "ForOf",
+        Terminal::ForIn { .. } => "ForIn",
+        Terminal::Label { .. } => "Label",
+        Terminal::Unreachable { .. } => "Unreachable",
+        Terminal::MaybeThrow { .. } => "MaybeThrow",
+        Terminal::Scope { .. } => "Scope",
+        Terminal::PrunedScope { .. } => "PrunedScope",
+        Terminal::Try { .. } => "Try",
+    }
+}
