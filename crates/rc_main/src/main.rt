@@ -19,20 +19,28 @@ fn main(rt: HostRuntime) -> ExitCode {
         }
         Err(stop) => Status::from(Err(stop)),
     };
-    say(&rt, status, &note);
+    // If standard error fails too, the status still tells the result.
+    let _ = say(&rt, status, &note);
     ExitCode::from(status.code())
 }
 
-/// Says on standard error what was wrong. If that fails too, the status still tells the result.
-fn say(rt: &HostRuntime, status: Status, note: &Note) {
+/// Says on standard error what was wrong, and where or why, if memory was left to note it.
+fn say(rt: &HostRuntime, status: Status, note: &Note) -> io::Result<()> {
     let note = match note {
         Some(note) => note.as_str(),
         None => "no memory to say where",
     };
-    let _ = match (status, status.reason()) {
-        (Status::NotJson | Status::NotDoc, Some(stop)) => eprintln!(rt; "rc: {stop}: {note}"),
-        (_, Some(stop)) => eprintln!(rt; "rc: {stop}"),
-        (Status::Refused, None) => eprintln!(rt; "rc: the document's graph is refused: {note}"),
-        (_, None) => Ok(()),
+    let Some(stop) = status.reason() else {
+        return match status {
+            Status::Refused => eprintln!(rt; "rc: the document's graph is refused: {note}"),
+            _ => Ok(()),
+        };
     };
+    match status {
+        Status::NotJson | Status::NotDoc => {
+            eprint!(rt; "rc: {stop}: ")?;
+            eprintln!(rt; "{note}")
+        }
+        _ => eprintln!(rt; "rc: {stop}"),
+    }
 }

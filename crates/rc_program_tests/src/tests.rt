@@ -10,6 +10,7 @@ mod library;
 mod lines;
 mod names;
 mod refusals;
+mod switches;
 
 use rc_names::{List, Text};
 use rc_program::{MemorySink, MemorySource, Status, Words, program};
