@@ -21,5 +21,8 @@ mod BranchLemmas
 mod SwitchLemmas
 mod SwitchStatementLemmas
 mod CaseListLemmas
+mod LoopKindLemmas
+mod LoopLemmas
+mod LoopStatementLemmas
 mod BuildLemmas
 mod BuildCausesLemmas

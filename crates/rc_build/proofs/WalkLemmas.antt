@@ -26,7 +26,7 @@ pub none_used : (marks : Marks) → AreUsed marks []
 none_used marks key h = let bad : ⊥ = cc in absurd bad
 
 -- one block is to be used before those of a case or a loop
-used_alone : (marks : Marks) (block : BlockId) → IsUsed marks block → AreUsed marks (block ∷ [])
+pub used_alone : (marks : Marks) (block : BlockId) → IsUsed marks block → AreUsed marks (block ∷ [])
 used_alone marks block u key h = among_same marks.used block key u (alone_same block key h)
 
 module _ (hir : HirFunction) where
@@ -62,7 +62,7 @@ module _ (hir : HirFunction) where
   }
 
   -- a list can be built inside one more frame of a used block, where what is to be used before is
-  framed_list : {marks : Marks} {frames : List Frame} {key part : BlockId} {terminal : Terminal} (frame : Frame)
+  pub framed_list : {marks : Marks} {frames : List Frame} {key part : BlockId} {terminal : Terminal} (frame : Frame)
       → IsUsed marks key → BlockIs hir key (λ block. block.terminal ≡ terminal) → IsFrameOf terminal frame
       → AreUsed marks (used_at frame) → AreReferenced hir marks.used (part ∷ pending_blocks (frame ∷ frames))
       → CanBuildList hir marks frames part → CanBuildList hir marks (frame ∷ frames) part

@@ -10,6 +10,11 @@ abbrev pub is_built : Terminal → Bool
 is_built (terminals.If test consequent alternate fallthrough id span) = true
 is_built (terminals.Branch test consequent alternate id span) = true
 is_built (terminals.Switch test cases fallthrough id span) = true
+is_built (terminals.DoWhile loop_block test fallthrough id span) = true
+is_built (terminals.While test loop_block fallthrough id span) = true
+is_built (terminals.For init test update loop_block fallthrough id span) = true
+is_built (terminals.ForOf init test loop_block fallthrough id span) = true
+is_built (terminals.ForIn init loop_block fallthrough id span) = true
 is_built (terminals.Throw value id span) = true
 is_built (terminals.Return value id span) = true
 is_built (terminals.Unreachable id span) = true

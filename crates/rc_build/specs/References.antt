@@ -1,9 +1,10 @@
 -- Which blocks the terminals of a graph refer to, and by which kinds of fields.
-use Rattle.std.specs.Prelude.{List, [], ◌∷◌, ◌++◌, Option, Some, None}
+use Rattle.std.specs.Prelude.{Bool, true, false, List, [], ◌∷◌, ◌++◌, Option, Some, None}
 use Rattle.std.specs.List.{flat_map}
 use Rattle.std.specs.Option.{option_to_list}
 use Rattle.rc_names.specs.Numbers.{BlockId}
 use Rattle.rc_hir.specs.Successors.{case_blocks}
+use Rattle.rc_runs.specs.LoopParts.{first_of}
 use Rattle.rc_hir.specs.Model.{Case, Terminal, HirFunction}
 use Rattle.rc_hir.specs.declared.terminal.Terminal.TheVariants as terminals
 
@@ -101,6 +102,20 @@ value_fallthrough _ = None
 abbrev pub framed_blocks : Terminal → List BlockId
 framed_blocks terminal = tested_blocks terminal ++ option_to_list (fallthrough_of terminal)
     ++ case_blocks (cases_of terminal)
+
+-- the block with which the turns of a loop begin, to which a continue goes
+abbrev pub turn_block : Terminal → Option BlockId
+turn_block (terminals.DoWhile loop_block test fallthrough id span) = Some test
+turn_block (terminals.While test loop_block fallthrough id span) = Some test
+turn_block (terminals.For init test update loop_block fallthrough id span) = Some (first_of update test)
+turn_block (terminals.ForOf init test loop_block fallthrough id span) = Some init
+turn_block (terminals.ForIn init loop_block fallthrough id span) = Some init
+turn_block _ = None
+
+-- the terminal is a `While`
+abbrev pub is_while : Terminal → Bool
+is_while (terminals.While test loop_block fallthrough id span) = true
+is_while _ = false
 
 -- the references of a graph: its entry, and each block field of each terminal
 abbrev pub references : HirFunction → List BlockId

@@ -18,7 +18,7 @@ use Rattle.rc_runs.specs.Graph.{basic_block, ends_unreachable}
 use Rattle.rc_runs.specs.GraphRun.{Edge}
 use Rattle.rc_hir.specs.Successors.{case_blocks}
 use Rattle.rc_build.specs.References.{references, framed_blocks, fallthrough_of, scope_fallthrough, cases_of}
-use Rattle.rc_build.specs.References.{value_references, value_fallthrough}
+use Rattle.rc_build.specs.References.{value_references, value_fallthrough, turn_block, is_while}
 use Rattle.rc_runs.specs.Spelled.{scope_named}
 use Rattle.rc_runs.specs.SwitchCases.{has_one_default, tests_past}
 use Rattle.rc_build.specs.BuiltForms.{is_built}
@@ -96,6 +96,16 @@ pub record FallsBadly (hir : HirFunction) (b : BlockId) (terminal : Terminal) : 
   pub falls : fallthrough_of terminal ≡ Some fallthrough
   pub bad : IsFramedApart hir b fallthrough ⊎ (ends_unreachable hir fallthrough ≡ true)
 
+-- the loop's fallthrough or the block with which its turns begin is framed apart from block b, or these two are one
+-- block, or the loop is a `While` whose fallthrough ends in `Unreachable`
+pub record LoopsBadly (hir : HirFunction) (b : BlockId) (terminal : Terminal) : Type 0 where
+  pub fallthrough : BlockId
+  pub start : BlockId
+  pub falls : fallthrough_of terminal ≡ Some fallthrough
+  pub starts : turn_block terminal ≡ Some start
+  pub bad : IsFramedApart hir b fallthrough ⊎ (IsFramedApart hir b start ⊎ ((same_id fallthrough start ≡ true)
+      ⊎ ((is_while terminal ≡ true) × (ends_unreachable hir fallthrough ≡ true))))
+
 -- the terminal is a `Switch` with two defaults, or with a tested case whose block is the fallthrough
 abbrev pub HasOddCases : Terminal → Type 0
 HasOddCases (terminals.Switch test cases fallthrough id span) =
@@ -159,6 +169,7 @@ RuleFact hir rules.UnsetId key = BlockIs hir key
 RuleFact hir rules.Twice key = BlockIs hir key (λ block. 2 ≤ times_referenced hir key)
 RuleFact hir rules.BreakTarget key = BlockIs hir key (λ block. IsLostJump hir key block.terminal)
 RuleFact hir rules.ContinueTarget key = BlockIs hir key (λ block. is_continue block.terminal ≡ true)
+RuleFact hir rules.LoopLive key = BlockIs hir key (λ block. LoopsBadly hir key block.terminal)
 RuleFact hir rules.SwitchCase key = BlockIs hir key (λ block. HasOddCases block.terminal)
 RuleFact hir rules.CaseLabel key =
     BlockIs hir key (λ block. (target : BlockId) × Jumps block.terminal target × IsCaseBlock hir target)

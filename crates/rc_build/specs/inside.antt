@@ -10,3 +10,4 @@ pub mod Enclosures
 pub mod Switches
 pub mod Values
 pub mod Answered
+pub mod Loops

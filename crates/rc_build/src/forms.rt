@@ -14,6 +14,11 @@ fn is_built(terminal: &Terminal) -> bool
         Terminal::If { .. }
         | Terminal::Branch { .. }
         | Terminal::Switch { .. }
+        | Terminal::DoWhile { .. }
+        | Terminal::While { .. }
+        | Terminal::For { .. }
+        | Terminal::ForOf { .. }
+        | Terminal::ForIn { .. }
         | Terminal::Throw { .. }
         | Terminal::Return { .. }
         | Terminal::Unreachable { .. }
@@ -28,11 +33,6 @@ fn is_built(terminal: &Terminal) -> bool
         | Terminal::Ternary { .. }
         | Terminal::Optional { .. }
         | Terminal::Sequence { .. }
-        | Terminal::DoWhile { .. }
-        | Terminal::While { .. }
-        | Terminal::For { .. }
-        | Terminal::ForOf { .. }
-        | Terminal::ForIn { .. }
         | Terminal::MaybeThrow { .. }
         | Terminal::Try { .. } => false,
     }

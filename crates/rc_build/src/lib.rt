@@ -18,6 +18,7 @@ mod given_tree;
 mod header;
 mod jumps;
 mod lists;
+mod loops;
 mod reactive_function;
 mod rows;
 mod switches;

@@ -9,6 +9,7 @@ ghost use Rattle.rc_build.specs.inside.Built.{Builds, BuildsList, BuildsTask, Bu
 
 use crate::builder::{Builder, Site};
 use crate::enclosures::Enclosure;
+use crate::loops::loop_of;
 use rc_hir::{Fault, Terminal};
 use rc_names::{BlockId, List};
 use rc_runs::Frame;
@@ -114,17 +115,20 @@ impl<'g> Builder<'g> {
                 let enclosure = Enclosure::PrunedScope { scope: *scope };
                 self.build_enclosure(site, enclosure, *block, *fallthrough, *id)
             }
-            Terminal::Logical { .. }
-            | Terminal::Ternary { .. }
-            | Terminal::Optional { .. }
-            | Terminal::Sequence { .. }
-            | Terminal::DoWhile { .. }
+            Terminal::DoWhile { .. }
             | Terminal::While { .. }
             | Terminal::For { .. }
             | Terminal::ForOf { .. }
             | Terminal::ForIn { .. }
+            | Terminal::Logical { .. }
+            | Terminal::Ternary { .. }
+            | Terminal::Optional { .. }
+            | Terminal::Sequence { .. }
             | Terminal::MaybeThrow { .. }
-            | Terminal::Try { .. } => Err(Fault::NotBuilt { block: site.block }),
+            | Terminal::Try { .. } => match loop_of(terminal) {
+                Some(found) => self.build_loop(site, found),
+                None => Err(Fault::NotBuilt { block: site.block }),
+            },
         }
     }
 

@@ -49,6 +49,12 @@ invariant-build_cases-cases l = CasesSoFar l.fn.self l.self l.fn.site l.fn.kept 
 abbrev pub decreases-build_cases-cases : goal.decreases-build_cases-cases
 decreases-build_cases-cases l = length l.waiting
 
+abbrev pub decreases-build_loop : goal.decreases-build_loop
+decreases-build_loop l = unused l.self.now + 7
+
+abbrev pub decreases-build_turns : goal.decreases-build_turns
+decreases-build_turns l = unused l.self.now + 6
+
 abbrev pub decreases-build_branch : goal.decreases-build_branch
 decreases-build_branch l = unused l.self.now + 7
 

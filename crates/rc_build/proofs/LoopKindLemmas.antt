@@ -1,0 +1,99 @@
+-- What the five kinds of loops have in common: their fallthrough, where their turns begin, their values and blocks.
+use Rattle.std.proofs.Common.{◌≡◌, ◌≤◌, true, List, [], ◌∷◌, ◌++◌, Option, Some, None, refl, sym, subst, arith}
+use Rattle.std.specs.Option.{option_to_list}
+use Rattle.std.proofs.lemmas.Bool.{or_left, or_right}
+use Rattle.rc_names.specs.Numbers.{BlockId, is_among, same_id, times}
+use Rattle.rc_names.proofs.NumbersLemmas.{ids_equivalence}
+use Rattle.rc_runs.specs.LoopParts.{first_of}
+use Rattle.rc_build.specs.declared.loops.LoopKind.{LoopKind}
+use Rattle.rc_build.specs.declared.loops.LoopKind.TheVariants as kinds
+use Rattle.rc_build.specs.declared.loops.LoopTerminal.{LoopTerminal}
+use Rattle.rc_build.specs.References.{fallthrough_of, is_while, referenced_blocks, tested_blocks, turn_block, value_references}
+use Rattle.rc_build.specs.inside.Loops.{before_of, init_of, is_while_kind, terminal_with}
+
+-- a block is the first of these, or one of those behind it
+pub among_first : (key : BlockId) (later : List BlockId) → is_among (key ∷ later) key ≡ true
+among_first key later = or_left (same_id key key) (is_among later key) (ids_equivalence.refl key)
+
+pub among_next : (first key : BlockId) (later : List BlockId) → is_among later key ≡ true
+    → is_among (first ∷ later) key ≡ true
+among_next first key later h = or_right (same_id key first) (is_among later key) h
+
+module _ (t : LoopTerminal) where
+  pub falls_with : (kind : LoopKind) → fallthrough_of (terminal_with kind t) ≡ Some t.fallthrough
+  falls_with kinds.While = refl
+  falls_with kinds.DoWhile = refl
+  falls_with (kinds.For init update) = refl
+  falls_with (kinds.ForOf init) = refl
+  falls_with kinds.ForIn = refl
+
+  pub starts_with : (kind : LoopKind) → turn_block (terminal_with kind t) ≡ Some (first_of (before_of kind) t.test)
+  starts_with kinds.While = refl
+  starts_with kinds.DoWhile = refl
+  starts_with (kinds.For init update) = refl
+  starts_with (kinds.ForOf init) = refl
+  starts_with kinds.ForIn = refl
+
+  pub while_with : (kind : LoopKind) → is_while_kind kind ≡ true → is_while (terminal_with kind t) ≡ true
+  while_with kinds.While e = refl
+  while_with kinds.DoWhile e = e
+  while_with (kinds.For init update) e = e
+  while_with (kinds.ForOf init) e = e
+  while_with kinds.ForIn e = e
+
+  -- a loop refers to its values by fields for values
+  pub valued_with : (kind : LoopKind) (key : BlockId) → is_among (tested_blocks (terminal_with kind t)) key ≡ true
+      → is_among (value_references (terminal_with kind t)) key ≡ true
+  valued_with kinds.While key h = h
+  valued_with kinds.DoWhile key h = h
+  valued_with (kinds.For init update) key h = h
+  valued_with (kinds.ForOf init) key h = h
+  valued_with kinds.ForIn key h = h
+
+  pub tests_test : (kind : LoopKind) → is_among (tested_blocks (terminal_with kind t)) t.test ≡ true
+  tests_test kinds.While = among_first t.test []
+  tests_test kinds.DoWhile = among_first t.test []
+  tests_test (kinds.For init update) =
+      among_next init t.test (t.test ∷ option_to_list update) (among_first t.test (option_to_list update))
+  tests_test (kinds.ForOf init) = among_next init t.test (t.test ∷ []) (among_first t.test [])
+  tests_test kinds.ForIn = among_first t.test []
+
+  pub tests_before : (kind : LoopKind) (key : BlockId) → before_of kind ≡ Some key
+      → is_among (tested_blocks (terminal_with kind t)) key ≡ true
+  tests_before kinds.While key e = let bad : ⊥ = cc in absurd bad
+  tests_before kinds.DoWhile key e = let bad : ⊥ = cc in absurd bad
+  tests_before (kinds.For init update) key e =
+      subst (λ z. is_among (init ∷ t.test ∷ option_to_list z) key ≡ true) (sym e)
+      (among_next init key (t.test ∷ key ∷ []) (among_next t.test key (key ∷ []) (among_first key [])))
+  tests_before (kinds.ForOf init) key e =
+      subst (λ z. is_among (option_to_list z ++ t.test ∷ []) key ≡ true) (sym e) (among_first key (t.test ∷ []))
+  tests_before kinds.ForIn key e = let bad : ⊥ = cc in absurd bad
+
+  pub tests_init : (kind : LoopKind) (key : BlockId) → init_of kind ≡ Some key
+      → is_among (tested_blocks (terminal_with kind t)) key ≡ true
+  tests_init kinds.While key e = let bad : ⊥ = cc in absurd bad
+  tests_init kinds.DoWhile key e = let bad : ⊥ = cc in absurd bad
+  tests_init (kinds.For init update) key e =
+      subst (λ z. is_among (option_to_list z ++ t.test ∷ option_to_list update) key ≡ true) (sym e)
+      (among_first key (t.test ∷ option_to_list update))
+  tests_init (kinds.ForOf init) key e = let bad : ⊥ = cc in absurd bad
+  tests_init kinds.ForIn key e = let bad : ⊥ = cc in absurd bad
+
+  pub tests_start : (kind : LoopKind) → is_among (tested_blocks (terminal_with kind t)) (first_of (before_of kind) t.test) ≡ true
+  tests_start kind = go (before_of kind) refl
+    where
+      go : (at : Option BlockId) → before_of kind ≡ at
+          → is_among (tested_blocks (terminal_with kind t)) (first_of at t.test) ≡ true
+      go None e = tests_test kind
+      go (Some key) e = tests_before kind key e
+
+  -- a loop refers to its init, and then to its turns
+  pub parts_le : (kind : LoopKind) (key : BlockId)
+      → times key (option_to_list (init_of kind)
+      ++ ((t.test ∷ option_to_list (before_of kind)) ++ t.body ∷ t.fallthrough ∷ []))
+      ≤ times key (referenced_blocks (terminal_with kind t))
+  parts_le kinds.While key = omega arith
+  parts_le kinds.DoWhile key = omega arith
+  parts_le (kinds.For init update) key = omega arith
+  parts_le (kinds.ForOf init) key = omega arith
+  parts_le kinds.ForIn key = omega arith

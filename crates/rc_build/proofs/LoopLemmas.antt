@@ -1,0 +1,307 @@
+-- The turns of a loop: when their values and their body can be built, and what these give together.
+use Rattle.std.proofs.Common.{◌≡◌, ◌≤◌, Bool, true, false, List, [], ◌∷◌, ◌++◌, Option, Some, None, Result, refl, sym, ap, ◌∙◌}
+use Rattle.std.proofs.Common.{subst, arith}
+use Rattle.std.specs.Prelude.{option_map}
+use Rattle.std.specs.Option.{option_to_list}
+use Rattle.rc_names.specs.Numbers.{BlockId, is_among, times}
+use Rattle.rc_hir.specs.Model.{Fault, Terminal, HirFunction, Environment}
+use Rattle.rc_tree.specs.Model.{ReactiveStatement, ReactiveValue}
+use Rattle.rc_runs.specs.declared.frames.Frame.{Frame}
+use Rattle.rc_runs.specs.Frames.{is_jump_target}
+use Rattle.rc_runs.specs.ListContext.{ListContext, ValueContext, value_context}
+use Rattle.rc_runs.specs.LoopParts.{LoopBlocks, first_of, loop_frame, turn_start}
+use Rattle.rc_runs.specs.PlainTree.{Value}
+use Rattle.rc_runs.specs.TreeOf.{value_of}
+use Rattle.rc_runs.specs.Grammar.{SpellsBefore, no_value, some_value, turns}
+use Rattle.rc_runs.specs.ValueGrammar.{SpellsGoing, SpellsTest, SpellsValue, ValueEnd, named_test, last_block}
+use Rattle.rc_runs.proofs.OneTree.{one_before}
+use Rattle.rc_runs.proofs.OneValue.{one_test}
+use Rattle.rc_build.specs.declared.builder.Builder.{Builder}
+use Rattle.rc_build.specs.declared.builder.Marks.{Marks}
+use Rattle.rc_build.specs.declared.builder.Site.{Site}
+use Rattle.rc_build.specs.declared.loops.LoopTerminal.{LoopTerminal}
+use Rattle.rc_build.specs.References.{referenced_blocks, value_references}
+use Rattle.rc_build.specs.RuleFacts.{BlockIs}
+use Rattle.rc_build.specs.inside.CanBuild.{AreMarked, AreReferenced, CanBuildList, CanBuildTerminal, IsUsed, IsUsedApart}
+use Rattle.rc_build.specs.inside.CanBuild.{pending_blocks}
+use Rattle.rc_build.specs.inside.Loops.{BuildsBefore, CanBuildBefore, CanBuildTurns, SpellsTurnsOf, TurnsBuilt, before_of, blocks_of, init_of}
+use Rattle.rc_build.specs.inside.Loops.{is_flat, terminal_of, value_blocks}
+use Rattle.rc_build.specs.inside.Marks.{MarksBlocks}
+use Rattle.rc_build.specs.inside.Setting.{Setting, part_setting}
+use Rattle.rc_build.specs.inside.Task.{FromBlock, Progress, Spells, progress_of}
+use Rattle.rc_build.specs.inside.Built.{Builds, BuiltList, BuiltPart, Refused}
+use Rattle.rc_build.specs.inside.Values.{CanBuildValue}
+use Rattle.rc_build.proofs.BuiltLemmas.{marking_beside, marking_none, marking_then, refused_back, refused_front}
+use Rattle.rc_build.proofs.LoopKindLemmas.{among_first, falls_with, parts_le, tests_before, tests_init, tests_start, tests_test}
+use Rattle.rc_build.proofs.LoopKindLemmas.{valued_with}
+use Rattle.rc_build.proofs.MarksLemmas.{among_back, among_front, referenced_fewer, times_append}
+use Rattle.rc_build.proofs.OwnersLemmas.{owned_weaker}
+use Rattle.rc_build.proofs.WalkLemmas.{framed_list, none_used, used_alone, used_more}
+
+module _ {hir : HirFunction} where
+  -- a value of a terminal can be built while its block is pending
+  pub value_can : {marks : Marks} {owner : BlockId} {terminal : Terminal} (key : BlockId) (pending : List BlockId)
+      → AreMarked hir marks → AreReferenced hir marks.used pending
+      → ((other : BlockId) → times other (key ∷ []) ≤ times other pending)
+      → BlockIs hir owner (λ block. block.terminal ≡ terminal) → is_among (value_references terminal) key ≡ true
+      → CanBuildValue hir marks key
+  value_can {marks} {owner} key pending marked references fewer here valued = record {
+    can = record {
+      marked = marked;
+      referenced = referenced_fewer hir marks.used (key ∷ []) pending fewer references;
+      used_before = none_used marks;
+      owned = tt;
+    };
+    referenced = (
+      owner,
+      record {
+        block = here.block;
+        found = here.found;
+        holds = subst (λ z. is_among (value_references z) key ≡ true) (sym here.holds) valued;
+      },
+    );
+  }
+
+  module _ (t : LoopTerminal) {frames : List Frame} where
+    -- the init of a loop can be built
+    pub init_can : {marks : Marks} {key : BlockId} → CanBuildTerminal hir marks frames key (terminal_of t)
+        → CanBuildBefore hir marks (init_of t.kind)
+    init_can can = record {
+      marked = can.marked;
+      value = λ init e. value_can init (referenced_blocks (terminal_of t) ++ pending_blocks frames) can.marked
+          can.referenced (λ other. omega (
+            arith,
+            parts_le t t.kind other,
+            ap (λ z. times other (option_to_list z)) e,
+            times_append other (option_to_list (init_of t.kind)) (value_blocks t ++ t.body ∷ t.fallthrough ∷ []),
+            times_append other (referenced_blocks (terminal_of t)) (pending_blocks frames),
+          )) can.here (valued_with t t.kind init (tests_init t t.kind init e));
+    }
+
+    -- its turns can be built, once its init is marked
+    pub turns_can : {old new : Marks} {key : BlockId} {blocks : List BlockId}
+        → CanBuildTerminal hir old frames key (terminal_of t)
+        → MarksBlocks hir (option_to_list (init_of t.kind)) [] old new blocks
+        → is_jump_target frames t.fallthrough ≡ false → is_jump_target frames (turn_start (blocks_of t)) ≡ false
+        → CanBuildTurns hir new frames t
+    turns_can {old} {new} {key} can m falls starts = record {
+      marked = m.marked;
+      referenced = m.referenced (turn_blocks ++ pending_blocks frames)
+          (referenced_fewer hir old.used (option_to_list (init_of t.kind) ++ (turn_blocks ++ pending_blocks frames))
+          (referenced_blocks (terminal_of t) ++ pending_blocks frames) (λ other. omega (
+            arith,
+            parts_le t t.kind other,
+            times_append other (option_to_list (init_of t.kind)) (turn_blocks ++ pending_blocks frames),
+            times_append other (option_to_list (init_of t.kind)) turn_blocks,
+            times_append other turn_blocks (pending_blocks frames),
+            times_append other (referenced_blocks (terminal_of t)) (pending_blocks frames),
+          )) can.referenced);
+      used_before = λ other h. used_more hir m other (can.used_before other h);
+      owned = owned_weaker hir (IsUsedApart old key) (IsUsed new) frames (λ other h. used_more hir m other h.0) can.owned;
+      owner = key;
+      used = used_more hir m key can.used;
+      here = can.here;
+      falls_apart = falls;
+      starts_apart = starts;
+    }
+      where
+        turn_blocks : List BlockId
+        turn_blocks = value_blocks t ++ t.body ∷ t.fallthrough ∷ []
+
+    module _ {old : Marks} (can : CanBuildTurns hir old frames t) where
+      -- the test of a turn can be built
+      pub test_can : CanBuildValue hir old t.test
+      test_can = value_can t.test ((value_blocks t ++ t.body ∷ t.fallthrough ∷ []) ++ pending_blocks frames) can.marked
+          can.referenced (λ other. omega (
+            arith,
+            times_append other (t.test ∷ [])
+                ((option_to_list (before_of t.kind) ++ t.body ∷ t.fallthrough ∷ []) ++ pending_blocks frames),
+          )) can.here (valued_with t t.kind t.test (tests_test t t.kind))
+
+      -- what stands before the test can be built, once that is marked
+      pub before_can : {new : Marks} {blocks : List BlockId} → MarksBlocks hir (t.test ∷ []) [] old new blocks
+          → CanBuildBefore hir new (before_of t.kind)
+      before_can m = record {
+        marked = m.marked;
+        value = λ before e. value_can before ((option_to_list (before_of t.kind) ++ t.body ∷ t.fallthrough ∷ []) ++ pending_blocks frames) m.marked
+            (m.referenced ((option_to_list (before_of t.kind) ++ t.body ∷ t.fallthrough ∷ []) ++ pending_blocks frames) can.referenced) (λ other. omega (
+              arith,
+              ap (λ z. times other (option_to_list z)) e,
+              times_append other (option_to_list (before_of t.kind)) (t.body ∷ t.fallthrough ∷ []),
+              times_append other (option_to_list (before_of t.kind) ++ t.body ∷ t.fallthrough ∷ []) (pending_blocks frames),
+            )) can.here (valued_with t t.kind before (tests_before t t.kind before e));
+      }
+
+      -- the body can be built inside the loop's frame, once the values are marked
+      pub body_can : {new : Marks} {blocks : List BlockId} → MarksBlocks hir (value_blocks t) [] old new blocks
+          → IsUsed new (turn_start (blocks_of t)) → CanBuildList hir new (loop_frame (blocks_of t) ∷ frames) t.body
+      body_can {new} m u =
+          framed_list hir (loop_frame (blocks_of t)) (used_more hir m can.owner can.used) can.here
+          (falls_with t t.kind, tests_start t t.kind) (used_alone new (turn_start (blocks_of t)) u) left (record {
+            marked = m.marked;
+            referenced = referenced_fewer hir new.used (t.body ∷ pending_blocks frames)
+                (t.body ∷ t.fallthrough ∷ pending_blocks frames) (λ other. omega arith) left;
+            used_before = λ other h. used_more hir m other (can.used_before other h);
+            owned = owned_weaker hir (IsUsed old) (IsUsed new) frames (used_more hir m) can.owned;
+          })
+        where
+          left : AreReferenced hir new.used (t.body ∷ t.fallthrough ∷ pending_blocks frames)
+          left = m.referenced (t.body ∷ t.fallthrough ∷ pending_blocks frames)
+              (referenced_fewer hir old.used (value_blocks t ++ t.body ∷ t.fallthrough ∷ pending_blocks frames)
+              ((value_blocks t ++ t.body ∷ t.fallthrough ∷ []) ++ pending_blocks frames) (λ other. omega (
+                arith,
+                times_append other (value_blocks t) (t.body ∷ t.fallthrough ∷ pending_blocks frames),
+                times_append other (value_blocks t) (t.body ∷ t.fallthrough ∷ []),
+                times_append other (value_blocks t ++ t.body ∷ t.fallthrough ∷ []) (pending_blocks frames),
+              )) can.referenced)
+
+-- a value that is refused is refused before a test
+refused_there : {hir : HirFunction} {env : Environment} {blocks : LoopBlocks} {context : ListContext} {key : BlockId}
+    (used : List BlockId) → Refused hir (SpellsGoing hir env blocks.flat key (value_context blocks.span context) blocks.test) used
+    → Refused hir (SpellsBefore hir env blocks context (Some key)) used
+refused_there used none whole newly (some_value {value = value} d) sound = none value newly d sound
+
+-- the value before a test: none, or the one from the block on
+module _ {hir : HirFunction} {env : Environment} {blocks : LoopBlocks} {context : ListContext} {at : Option BlockId} where
+  pub before_none : {old : Progress} → at ≡ None → AreMarked hir old.marks
+      → BuiltPart (option_map value_of) (SpellsBefore hir env blocks context at) hir (option_to_list at) None old old
+  before_none {old} e m = record {
+    value = None;
+    newly = [];
+    is = refl;
+    spelled = subst (λ z. SpellsBefore hir env blocks context z None []) (sym e) no_value;
+    marking = subst (λ z. MarksBlocks hir (option_to_list z) [] old.marks old.marks []) (sym e)
+        (marking_none hir [] old.marks m);
+    kept = refl;
+  }
+
+  module _ {key : BlockId} where
+    pub before_some : {built : ReactiveValue} {old new : Progress} → at ≡ Some key
+        → BuiltPart value_of (SpellsGoing hir env blocks.flat key (value_context blocks.span context) blocks.test) hir
+        (key ∷ []) built old new
+        → BuiltPart (option_map value_of) (SpellsBefore hir env blocks context at) hir (option_to_list at) (Some built)
+        old new
+    before_some {old = old} {new = new} e b = record {
+      value = Some b.value;
+      newly = b.newly;
+      is = ap Some b.is;
+      spelled = subst (λ z. SpellsBefore hir env blocks context z (Some b.value) b.newly) (sym e) (some_value b.spelled);
+      marking = subst (λ z. MarksBlocks hir (option_to_list z) [] old.marks new.marks b.newly) (sym e) b.marking;
+      kept = b.kept;
+    }
+
+    pub before_refused : (used : List BlockId) → at ≡ Some key
+        → Refused hir (SpellsGoing hir env blocks.flat key (value_context blocks.span context) blocks.test) used
+        → Refused hir (SpellsBefore hir env blocks context at) used
+    before_refused used e none =
+        subst (λ z. Refused hir (SpellsBefore hir env blocks context z) used) (sym e) (refused_there used none)
+
+-- what is built before a test, where the same is said in other words
+pub before_at : (t : LoopTerminal) {old new : Builder} {a b : Option BlockId} {flat other : Bool}
+    {result : Result (Option ReactiveValue) Fault} → a ≡ b → flat ≡ other → BuildsBefore old new t flat a result
+    → BuildsBefore old new t other b result
+before_at t {old} {new} {a} {b} {flat} {other} {result} e f built =
+    subst (λ z. BuildsBefore old new t z b result) f (subst (λ z. BuildsBefore old new t flat z result) e built)
+
+-- what `build_test` ensures of a loop's test, flattened or not
+abbrev pub BuildsTest : Builder → Builder → LoopTerminal → Bool → Result ReactiveValue Fault → Type 0
+BuildsTest old new t flat result = (site : Site) (context : ListContext) → Builds old new site
+    (λ built. BuiltPart value_of (SpellsTest old.hir.now old.env.now flat t.test (value_context t.span context) t.body
+    t.fallthrough) old.hir.now (t.test ∷ []) built (progress_of old) (progress_of new))
+    (Refused old.hir.now (SpellsTest old.hir.now old.env.now flat t.test (value_context t.span context) t.body
+    t.fallthrough) old.marks.used) result
+
+pub test_at : (t : LoopTerminal) {old new : Builder} {flat other : Bool} {result : Result ReactiveValue Fault}
+    → flat ≡ other → BuildsTest old new t flat result → BuildsTest old new t other result
+test_at t {old} {new} {result = result} f built = subst (λ z. BuildsTest old new t z result) f built
+
+-- a value uses its first block
+value_used : {hir : HirFunction} {env : Environment} {key : BlockId} {context : ValueContext} {value : Value}
+    {end : ValueEnd} {used : List BlockId} → SpellsValue hir env key context value end used → is_among used key ≡ true
+value_used (named_test {key = key} u r b) = among_first key []
+value_used (last_block {key = key} rows row u e r) = among_first key []
+
+module _ (s : Setting) (t : LoopTerminal) where
+  -- what the setting asks for as the loop's test, and before it
+  abbrev pub SpellsLoopTest : Value → List BlockId → Type 0
+  SpellsLoopTest value used =
+      SpellsTest s.hir s.env (is_flat t.kind) t.test (value_context t.span s.context) t.body t.fallthrough value used
+
+  abbrev pub SpellsLoopBefore : Option Value → List BlockId → Type 0
+  SpellsLoopBefore value used = SpellsBefore s.hir s.env (blocks_of t) s.context (before_of t.kind) value used
+
+  -- what is built before the test in the same setting
+  pub before_built : {before : Option ReactiveValue} {old new : Progress} (later : Setting) → later ≡ s
+      → BuiltPart (option_map value_of)
+      (SpellsBefore later.hir later.env (blocks_of t) later.context (before_of t.kind)) later.hir
+      (option_to_list (before_of t.kind)) before old new
+      → BuiltPart (option_map value_of) SpellsLoopBefore s.hir (option_to_list (before_of t.kind)) before old new
+  before_built {before} {old} {new} later same built = subst (λ (z : Setting). BuiltPart (option_map value_of)
+      (SpellsBefore z.hir z.env (blocks_of t) z.context (before_of t.kind)) z.hir (option_to_list (before_of t.kind))
+      before old new) same built
+
+  -- the block with which the turns begin is used by their values
+  pub start_used : {test : Value} {front : List BlockId} (at : Option BlockId) {before : Option Value}
+      {back : List BlockId} → SpellsLoopTest test front → SpellsBefore s.hir s.env (blocks_of t) s.context at before back
+      → is_among (front ++ back) (first_of at t.test) ≡ true
+  start_used {front = front} None {back = back} d no_value = among_front front [] t.test (value_used d.spelled)
+  start_used {front = front} (Some key) {back = back} d (some_value e) =
+      among_back front back key (value_used e.spelled)
+
+  module _ {test : ReactiveValue} {old first : Progress}
+      (f : BuiltPart value_of SpellsLoopTest s.hir (t.test ∷ []) test old first) where
+    module _ {before : Option ReactiveValue} {second : Progress}
+        (b : BuiltPart (option_map value_of) SpellsLoopBefore s.hir (option_to_list (before_of t.kind)) before first
+        second) where
+      -- the values of a turn are marked
+      pub values_marked : MarksBlocks s.hir (value_blocks t) [] old.marks second.marks (f.newly ++ b.newly)
+      values_marked = marking_then s.hir (marking_beside s.hir f.marking) b.marking
+
+      pub start_marked : IsUsed second.marks (turn_start (blocks_of t))
+      start_marked = subst (λ z. is_among z (turn_start (blocks_of t)) ≡ true) (sym values_marked.used)
+          (among_back old.marks.used (f.newly ++ b.newly) (turn_start (blocks_of t))
+          (start_used (before_of t.kind) f.spelled b.spelled))
+
+      -- the turns are built where their parts are
+      pub turns_built : {body : List ReactiveStatement} {last : Progress}
+          → is_jump_target s.context.frames t.fallthrough ≡ false
+          → is_jump_target s.context.frames (turn_start (blocks_of t)) ≡ false
+          → BuiltList (part_setting (Some t.fallthrough) (loop_frame (blocks_of t)) s) t.body body second last
+          → TurnsBuilt s t (record { before = before; test = test; body = body }) old last
+      turns_built {body} falls starts d = record {
+        value = record { before = b.value; test = f.value; body = d.value };
+        newly = f.newly ++ (b.newly ++ d.newly);
+        is = cc (b.is, f.is, d.is);
+        spelled = turns falls starts f.spelled b.spelled d.spelled refl;
+        marking = marking_then s.hir (marking_beside s.hir f.marking)
+            (marking_then s.hir (marking_beside s.hir b.marking) d.marking);
+        kept = d.kept ∙ b.kept ∙ f.kept;
+      }
+
+      -- turns whose body is refused behind their values are refused
+      pub turns_refused_body :
+          Refused s.hir (Spells (part_setting (Some t.fallthrough) (loop_frame (blocks_of t)) s) (FromBlock t.body))
+          second.marks.used
+          → Refused s.hir (SpellsTurnsOf s t) old.marks.used
+      turns_refused_body none parts blocks
+          (turns {test_used = front} {before_used = middle} {body_used = back} x y td bd ld w) sound =
+          none parts.body back ld (refused_back s.hir first.marks.used b.newly back
+          (refused_back s.hir old.marks.used f.newly (middle ++ back) sound
+          (w ∙ ap (λ z. z ++ (middle ++ back)) (one_test td f.spelled).1) f.marking.used)
+          (ap (λ z. z ++ back) (one_before bd b.spelled).1) b.marking.used)
+
+    -- so are turns whose value before the test is refused behind it
+    pub turns_refused_before : Refused s.hir SpellsLoopBefore first.marks.used
+        → Refused s.hir (SpellsTurnsOf s t) old.marks.used
+    turns_refused_before none parts blocks
+        (turns {test_used = front} {before_used = middle} {body_used = back} x y td bd ld w) sound =
+        none parts.before middle bd (refused_front s.hir first.marks.used middle back
+        (refused_back s.hir old.marks.used f.newly (middle ++ back) sound
+        (w ∙ ap (λ z. z ++ (middle ++ back)) (one_test td f.spelled).1) f.marking.used) refl)
+
+  -- and turns whose test is refused
+  pub turns_refused_test : (used : List BlockId) → Refused s.hir SpellsLoopTest used
+      → Refused s.hir (SpellsTurnsOf s t) used
+  turns_refused_test used none parts blocks
+      (turns {test_used = front} {before_used = middle} {body_used = back} x y td bd ld w) sound =
+      none parts.test front td (refused_front s.hir used front (middle ++ back) sound w)

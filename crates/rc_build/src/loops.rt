@@ -1,0 +1,336 @@
+//! Loops: the values of their turns are built first, and then the body inside the loop's frame.
+//!
+//! No jump in a value can name the loop, so that its values stand outside of the frame.
+//!
+//! After the loops of oxc's build_reactive_function.
+
+ghost use Rattle.std.specs.Prelude.{◌≡◌, ◌&&◌, ◌||◌, Some, IsSome};
+ghost use Rattle.rc_runs.specs.Frames.{is_jump_target};
+ghost use Rattle.rc_runs.specs.Graph.{ends_unreachable};
+ghost use Rattle.rc_runs.specs.LoopParts.{loop_frame, turn_start};
+ghost use Rattle.rc_build.specs.inside.Loops as spec;
+ghost use Rattle.rc_build.specs.inside.Setting.{setting_of};
+ghost use Rattle.rc_build.specs.inside.Task.{FromTerminal, left, progress_of};
+ghost use Rattle.rc_build.specs.inside.CanBuild.{CanBuildTerminal};
+ghost use Rattle.rc_build.specs.inside.Built.{Builds, BuildsTask, Refused};
+
+use crate::builder::{Builder, Site, label_at, malformed, terminal_statement};
+use crate::unreachable::ends_unreachable;
+use crate::values::Showing;
+use rc_hir::{Fault, Rule, Terminal};
+use rc_names::{BlockId, Boxed, EvaluationOrder, List, Span};
+use rc_runs::Frame;
+use rc_tree::{ReactiveBlock, ReactiveStatement, ReactiveTerminal, ReactiveValue};
+
+/// A loop of the graph.
+#[derive(Clone, Copy)]
+pub struct LoopTerminal {
+    pub kind: LoopKind,
+    /// The block of its test; in a `for..in` that of its init, which is tested.
+    pub test: BlockId,
+    pub body: BlockId,
+    pub fallthrough: BlockId,
+    pub id: EvaluationOrder,
+    pub span: Option<Span>,
+}
+
+#[derive(Clone, Copy)]
+pub enum LoopKind {
+    While,
+    DoWhile,
+    For {
+        init: BlockId,
+        update: Option<BlockId>,
+    },
+    ForOf {
+        init: BlockId,
+    },
+    ForIn,
+}
+
+/// What is built of a loop's turns.
+#[derive(Drop)]
+pub struct BuiltTurns {
+    before: Option<Boxed<ReactiveValue>>,
+    test: Boxed<ReactiveValue>,
+    body: List<ReactiveStatement>,
+}
+
+impl LoopKind {
+    /// The loop of this kind with these parts.
+    fn looping(
+        self,
+        test: BlockId,
+        body: BlockId,
+        fallthrough: BlockId,
+        id: EvaluationOrder,
+        span: Option<Span>,
+    ) -> LoopTerminal
+        ensures { result ≡ spec.loop_with self test body fallthrough id span }
+    {
+        LoopTerminal {
+            kind: self,
+            test,
+            body,
+            fallthrough,
+            id,
+            span,
+        }
+    }
+}
+
+impl LoopTerminal {
+    /// The block of the value that runs once, before all turns.
+    fn init(self) -> Option<BlockId>
+        ensures { result ≡ spec.init_of self.kind }
+    {
+        match self.kind {
+            LoopKind::For { init, .. } => Some(init),
+            LoopKind::While | LoopKind::DoWhile | LoopKind::ForOf { .. } | LoopKind::ForIn => None,
+        }
+    }
+
+    /// The block of the value with which each turn begins, before its test.
+    fn before(self) -> Option<BlockId>
+        ensures { result ≡ spec.before_of self.kind }
+    {
+        match self.kind {
+            LoopKind::For { update, .. } => update,
+            LoopKind::ForOf { init } => Some(init),
+            LoopKind::While | LoopKind::DoWhile | LoopKind::ForIn => None,
+        }
+    }
+
+    /// Whether the values of its turns are flattened.
+    fn is_flat(self) -> bool
+        ensures { result ≡ spec.is_flat self.kind }
+    {
+        match self.kind {
+            LoopKind::ForOf { .. } | LoopKind::ForIn => true,
+            LoopKind::While | LoopKind::DoWhile | LoopKind::For { .. } => false,
+        }
+    }
+
+    /// Whether it is a while, whose fallthrough mustn't end in `Unreachable`.
+    fn is_while(self) -> bool
+        ensures { result ≡ spec.is_while_kind self.kind }
+    {
+        match self.kind {
+            LoopKind::While => true,
+            LoopKind::DoWhile | LoopKind::For { .. } | LoopKind::ForOf { .. } | LoopKind::ForIn => {
+                false
+            }
+        }
+    }
+
+    /// The block with which each turn begins, to which a continue goes.
+    fn start(self) -> BlockId
+        ensures { result ≡ turn_start (spec.blocks_of self) }
+    {
+        match self.before() {
+            Some(before) => before,
+            None => self.test,
+        }
+    }
+
+    /// The frame of its body.
+    fn frame(self) -> Frame
+        ensures { result ≡ loop_frame (spec.blocks_of self) }
+    {
+        Frame::Loop {
+            block: self.fallthrough,
+            continue_block: self.start(),
+        }
+    }
+}
+
+impl<'g> Builder<'g> {
+    /// Builds a loop; returns where the list goes on.
+    ///
+    /// - `Malformed` with `LoopLive`: a jump can name its fallthrough already, or the block with which its turns begin,
+    ///   or it is a while whose fallthrough ends in `Unreachable`.
+    /// - `Malformed`, `Todo`, `BadName`: as for its values and its body.
+    #[cycle(builder)]
+    pub fn build_loop(
+        &mut self,
+        site: Site,
+        terminal: LoopTerminal,
+    ) -> Result<Option<BlockId>, Fault>
+        requires { CanBuildTerminal self.old.hir.now self.old.marks self.old.frames site.block (spec.terminal_of terminal) }
+        ensures { BuildsTask self.old self.new site (FromTerminal (spec.terminal_of terminal)) left result }
+    {
+        if self.is_live(terminal) {
+            return Err(malformed(site.block, Rule::LoopLive));
+        }
+        let init = self.build_before(terminal, terminal.init(), true)?;
+        let turns = self.build_turns(site, terminal)?;
+        let tree = loop_tree(terminal, init, turns);
+        let label = label_at(Some(terminal.fallthrough));
+        let statement = terminal_statement(self.alloc, tree, label)?;
+        self.out.push(statement)?;
+        Ok(Some(terminal.fallthrough))
+    }
+
+    /// Builds the turns of a loop: its test, what stands before it, and then the body inside the loop's frame.
+    #[cycle(builder)]
+    fn build_turns(&mut self, site: Site, terminal: LoopTerminal) -> Result<BuiltTurns, Fault>
+        requires { spec.CanBuildTurns self.old.hir.now self.old.marks self.old.frames terminal }
+        ensures { Builds self.old self.new site
+            (λ built. spec.TurnsBuilt (setting_of self.old site) terminal built (progress_of self.old)
+            (progress_of self.new))
+            (Refused self.old.hir.now (spec.SpellsTurnsOf (setting_of self.old site) terminal) self.old.marks.used)
+            result }
+    {
+        let showing = Showing {
+            flat: terminal.is_flat(),
+            span: terminal.span,
+        };
+        let test = self.build_test(terminal.test, terminal.body, terminal.fallthrough, showing)?;
+        let before = self.build_before(terminal, terminal.before(), showing.flat)?;
+        let opened = Some(terminal.fallthrough);
+        let body = self.build_part(site, terminal.body, terminal.frame(), opened)?;
+        Ok(BuiltTurns { before, test, body })
+    }
+
+    /// Builds the value that goes on at a loop's test, where there is one.
+    fn build_before(
+        &mut self,
+        terminal: LoopTerminal,
+        key: Option<BlockId>,
+        flat: bool,
+    ) -> Result<Option<Boxed<ReactiveValue>>, Fault>
+        requires { spec.CanBuildBefore self.old.hir.now self.old.marks key }
+        ensures { spec.BuildsBefore self.old self.new terminal flat key result }
+    {
+        let Some(key) = key else { return Ok(None) };
+        let showing = Showing {
+            flat,
+            span: terminal.span,
+        };
+        Ok(Some(self.build_going(key, terminal.test, showing)?))
+    }
+
+    /// Whether a jump can name the fallthrough of a loop already, or the block with which its turns begin, or it is a
+    /// while whose fallthrough ends in `Unreachable`.
+    fn is_live(&self, terminal: LoopTerminal) -> bool
+        ensures { result ≡ (is_jump_target self.now.frames terminal.fallthrough
+            || (is_jump_target self.now.frames (turn_start (spec.blocks_of terminal))
+            || (spec.is_while_kind terminal.kind && ends_unreachable self.now.hir.now terminal.fallthrough))) }
+    {
+        self.frames.is_jump_target(terminal.fallthrough)
+            || self.frames.is_jump_target(terminal.start())
+            || terminal.is_while() && ends_unreachable(self.hir, terminal.fallthrough)
+    }
+}
+
+/// The loop of a terminal, if it is one.
+pub fn loop_of(terminal: &Terminal) -> Option<LoopTerminal>
+    ensures { result ≡ spec.loop_of terminal.now }
+{
+    match terminal {
+        Terminal::While {
+            test,
+            loop_block,
+            fallthrough,
+            id,
+            span,
+        } => Some(LoopKind::While.looping(*test, *loop_block, *fallthrough, *id, *span)),
+        Terminal::DoWhile {
+            loop_block,
+            test,
+            fallthrough,
+            id,
+            span,
+        } => Some(LoopKind::DoWhile.looping(*test, *loop_block, *fallthrough, *id, *span)),
+        _ => for_of(terminal),
+    }
+}
+
+/// The loop of a terminal, if it is one of the three that have an init.
+fn for_of(terminal: &Terminal) -> Option<LoopTerminal>
+    ensures { result ≡ spec.for_of terminal.now }
+{
+    match terminal {
+        Terminal::For {
+            init,
+            test,
+            update,
+            loop_block,
+            fallthrough,
+            id,
+            span,
+        } => {
+            let kind = LoopKind::For {
+                init: *init,
+                update: *update,
+            };
+            Some(kind.looping(*test, *loop_block, *fallthrough, *id, *span))
+        }
+        Terminal::ForOf {
+            init,
+            test,
+            loop_block,
+            fallthrough,
+            id,
+            span,
+        } => {
+            let kind = LoopKind::ForOf { init: *init };
+            Some(kind.looping(*test, *loop_block, *fallthrough, *id, *span))
+        }
+        Terminal::ForIn {
+            init,
+            loop_block,
+            fallthrough,
+            id,
+            span,
+        } => Some(LoopKind::ForIn.looping(*init, *loop_block, *fallthrough, *id, *span)),
+        _ => None,
+    }
+}
+
+/// The tree of a loop whose parts are built.
+fn loop_tree(
+    terminal: LoopTerminal,
+    init: Option<Boxed<ReactiveValue>>,
+    turns: BuiltTurns,
+) -> ReactiveTerminal
+    requires { IsSome (spec.tree_of terminal init turns) }
+    ensures { spec.tree_of terminal init turns ≡ Some result }
+{
+    let LoopTerminal { kind, id, span, .. } = terminal;
+    let BuiltTurns { before, test, body } = turns;
+    let test = test.into_inner();
+    let loop_block = ReactiveBlock { statements: body };
+    match kind {
+        LoopKind::While => ReactiveTerminal::While {
+            test,
+            loop_block,
+            id,
+        },
+        LoopKind::DoWhile => ReactiveTerminal::DoWhile {
+            loop_block,
+            test,
+            id,
+        },
+        LoopKind::For { .. } => ReactiveTerminal::For {
+            init: init.unwrap().into_inner(),
+            test,
+            update: before.map(|value| value.into_inner()),
+            loop_block,
+            id,
+        },
+        LoopKind::ForOf { .. } => ReactiveTerminal::ForOf {
+            init: before.unwrap().into_inner(),
+            test,
+            loop_block,
+            span,
+            id,
+        },
+        LoopKind::ForIn => ReactiveTerminal::ForIn {
+            init: test,
+            loop_block,
+            span,
+            id,
+        },
+    }
+}
