@@ -8,6 +8,7 @@ mod devices;
 mod graphs;
 mod library;
 mod lines;
+mod loops;
 mod names;
 mod refusals;
 mod switches;

@@ -27,8 +27,11 @@ pub fn fault_sentence(alloc: Global, hir: &HirFunction, fault: &Fault) -> Result
             page.number(scope.0)?;
         }
         Fault::NoIds => page.push("a key isn't below `next_block`, or new numbers have no room")?,
-        Fault::Todo { .. }
-        | Fault::Uninitialised { .. }
+        Fault::Todo { block } => {
+            let back = " must give a value and ends in `Label`";
+            write_about(&mut page, "block ", block.0, back)?;
+        }
+        Fault::Uninitialised { .. }
         | Fault::NoScopeNode { .. }
         | Fault::NoMemory
         | Fault::BadTarget { .. }
