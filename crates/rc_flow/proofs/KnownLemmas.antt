@@ -2,12 +2,12 @@
 use Rattle.std.proofs.Common.{◌≡◌, ◌+◌, ℕ, suc, Bool, true, false, List, [], ◌∷◌, ◌++◌, All, length, if◌then◌else◌}
 use Rattle.std.proofs.Common.{sym, ap, subst, refl, flat_map, filter, get_or}
 use Rattle.std.proofs.lemmas.List.Elements.{All-append}
-use Rattle.rc_hir.specs.EnvironmentNames.{declaration_names, dependency_names, early_return_names, identifier_names}
-use Rattle.rc_hir.specs.EnvironmentNames.{scope_names, type_names}
+use Rattle.rc_hir.specs.EnvironmentNames.{declaration_names, dependency_names, early_return_names, environment_names}
+use Rattle.rc_hir.specs.EnvironmentNames.{identifier_names, scope_names, type_names}
 use Rattle.rc_hir.specs.GraphNames.{function_names}
-use Rattle.rc_hir.specs.Names.{IsInTable, lengths}
+use Rattle.rc_hir.specs.Names.{FunctionInTables, IsInTable, NamesInTables, lengths}
 use Rattle.rc_hir.specs.PartNames.{Name, identifier_name, names_if, parameter_names, scope_name}
-use Rattle.rc_hir.specs.Model.{Environment, Lengths, ReactiveScope, ReactiveScopeDependency}
+use Rattle.rc_hir.specs.Model.{Environment, HirFunction, Lengths, ReactiveScope, ReactiveScopeDependency}
 use Rattle.rc_names.specs.Numbers.{to_id}
 use Rattle.rc_runs.proofs.AllLemmas.{All-left, All-right}
 use Rattle.rc_tree.specs.TreeNames.{TreeInTables, names_in}
@@ -82,23 +82,36 @@ module _ (env : Environment) (s : Spread) where
       → All (IsInTable (lengths after rows)) names
   moved rows names = subst (λ (tables : Lengths). All (IsInTable tables) names) (same_lengths rows)
 
-  pub pruned_known : (func : ReactiveFunction) → TreeInTables func env → TreeInTables func after
-  pruned_known func known =
+  environment_known : All (IsInTable (lengths env 0)) (environment_names env)
+      → All (IsInTable (lengths after 0)) (environment_names after)
+  environment_known known =
       let P = IsInTable (lengths env 0) in
       let first = flat_map identifier_names env.identifiers in
       let second = flat_map type_names env.types in
       let scopes = flat_map scope_names env.scopes in
       let left = flat_map scope_names (pruned_from s 0 env.scopes) in
-      let back = All-right P first (second ++ scopes) known.environment in
-      record {
-        params = moved 0 (flat_map parameter_names func.params) known.params;
-        body = moved 0 (names_in func.body) known.body;
-        functions = λ k function below.
-            moved (length (get_or env.functions k function).instructions)
-            (function_names (get_or env.functions k function))
-            (known.functions k function below);
-        environment = moved 0 (first ++ (second ++ left))
-            (All-append P first (second ++ left) (All-left P first (second ++ scopes) known.environment)
-            (All-append P second left (All-left P second scopes back)
-            (scopes_all P s 0 env.scopes (All-right P second scopes back))));
-      }
+      let back = All-right P first (second ++ scopes) known in
+      moved 0 (first ++ (second ++ left))
+      (All-append P first (second ++ left) (All-left P first (second ++ scopes) known)
+      (All-append P second left (All-left P second scopes back)
+      (scopes_all P s 0 env.scopes (All-right P second scopes back))))
+
+  functions_known : All (FunctionInTables env) env.functions → All (FunctionInTables after) env.functions
+  functions_known known = λ k function below.
+      moved (length (get_or env.functions k function).instructions)
+      (function_names (get_or env.functions k function)) (known k function below)
+
+  pub names_known : (hir : HirFunction) → NamesInTables hir env → NamesInTables hir after
+  names_known hir known = record {
+    graph = moved (length hir.instructions) (function_names hir) known.graph;
+    functions = functions_known known.functions;
+    environment = environment_known known.environment;
+  }
+
+  pub pruned_known : (func : ReactiveFunction) → TreeInTables func env → TreeInTables func after
+  pruned_known func known = record {
+    params = moved 0 (flat_map parameter_names func.params) known.params;
+    body = moved 0 (names_in func.body) known.body;
+    functions = functions_known known.functions;
+    environment = environment_known known.environment;
+  }

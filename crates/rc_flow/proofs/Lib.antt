@@ -6,6 +6,8 @@ mod FlowsLemmas
 mod ValuesLemmas
 mod ValueStepsLemmas
 mod InvalidatingLemmas
+mod StayingBlocks
+mod LeftScopes
 mod DroppingLemmas
 mod RecordedFaults
 mod ReactiveNamesLemmas

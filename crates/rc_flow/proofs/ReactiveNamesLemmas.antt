@@ -4,14 +4,15 @@ use Rattle.std.proofs.Common.{Result, Ok, Err, IfErr, true, length, slice_get, r
 use Rattle.std.proofs.lemmas.Option.{slice_get_past}
 use Rattle.std.proofs.lemmas.Bool.{cases_lt}
 use Rattle.std.proofs.lemmas.Result.{IfErr-weaker}
-use Rattle.rc_hir.specs.Model.{Environment, Fault, ReactiveScope, ReactiveScopeDependency}
+use Rattle.rc_hir.specs.Model.{Environment, Fault, HirFunction, ReactiveScope, ReactiveScopeDependency}
+use Rattle.rc_hir.specs.Names.{NamesInTables}
 use Rattle.rc_hir.specs.declared.fault.Fault.TheVariants.{NoMemory}
 use Rattle.rc_names.specs.Numbers.{IdentifierId, ScopeId, is_among, to_id}
 use Rattle.rc_tree.proofs.StepLemmas.{Err-injective, Ok-injective, not_err}
 use Rattle.rc_tree.specs.Step.{bind}
 use Rattle.rc_tree.specs.TreeNames.{TreeInTables, TreeNamesOutside}
 use Rattle.rc_tree.specs.Model.{ReactiveBlock, ReactiveFunction}
-use Rattle.rc_flow.proofs.KnownLemmas.{pruned_known}
+use Rattle.rc_flow.proofs.KnownLemmas.{names_known, pruned_known}
 use Rattle.rc_flow.proofs.RecordedFaults.{no_name_outside, recorded_named}
 use Rattle.rc_flow.proofs.SpreadLemmas.{good_all, steps-append}
 use Rattle.rc_flow.specs.Collected.{recorded_steps}
@@ -107,6 +108,17 @@ module _ (env : Environment) (body : ReactiveBlock) where
           subst (λ left. TreeInTables func (record env { scopes = left })) (Ok-injective _ scopes e)
           (pruned_known env (after_steps env (flows_in env body) s) func known)
       by (Err fault) e func known = absurd (not_err scopes fault (sym e))
+
+  pub scopes_names_known : (scopes : List ReactiveScope) → scopes_after body env ≡ Ok scopes → (hir : HirFunction)
+      → NamesInTables hir env → NamesInTables hir (record env { scopes = scopes })
+  scopes_names_known scopes = by (spread_over body env)
+    where
+      by : (r : Result Spread Fault) → bind r flowed ≡ Ok scopes → (hir : HirFunction)
+          → NamesInTables hir env → NamesInTables hir (record env { scopes = scopes })
+      by (Ok s) e hir known =
+          subst (λ left. NamesInTables hir (record env { scopes = left })) (Ok-injective _ scopes e)
+          (names_known env (after_steps env (flows_in env body) s) hir known)
+      by (Err fault) e hir known = absurd (not_err scopes fault (sym e))
 
   -- the only faults are those of the collecting steps
   set_fault : (fault : Fault) → spread_over body env ≡ Err fault → recorded_steps env body ≡ Err fault

@@ -1,13 +1,18 @@
--- A tree in which each scope block that depends on an unmemoized value is a pruned one.
+-- A tree in which each scope block that depends on an unmemoized value is a pruned one, and which scopes keep a block.
 --
 -- Blocks are rebuilt by one answer for each scope block, in the order in which they end.
-use Rattle.std.specs.Prelude.{◌≡◌, Bool, true, false, List, [], ◌∷◌, Ok, drop, if◌then◌else◌}
+use Rattle.std.specs.Prelude.{◌≡◌, ◌⊎◌, ℕ, Bool, true, false, List, [], ◌∷◌, ◌++◌, Some, Ok, Contains, drop}
+use Rattle.std.specs.Prelude.{slice_get, if◌then◌else◌}
 use Rattle.rc_hir.specs.Model.{Environment}
+use Rattle.rc_names.specs.Numbers.{ScopeId}
+use Rattle.rc_tree.specs.Collected.{Contributions, collected}
+use Rattle.rc_tree.specs.Joining.{lists}
 use Rattle.rc_tree.specs.Rebuilt.{Rules, rebuilt_block}
 use Rattle.rc_tree.specs.Model.{PrunedReactiveScopeBlock, ReactiveScopeBlock, ReactiveBlock, ReactiveStatement}
 use Rattle.rc_tree.specs.declared.statement.ReactiveStatement.TheVariants as reactive
-use Rattle.rc_flow.specs.Unmemoized.{AreAnswers}
+use Rattle.rc_flow.specs.Unmemoized.{AreAnswers, HasUnmemoized}
 use Rattle.rc_flow.specs.ValueSteps.{value_steps_in}
+use Rattle.rc_flow.specs.declared.value_step.ValueStep.TheVariants.{Ends}
 
 -- the same block as a pruned one
 abbrev pub as_pruned : ReactiveScopeBlock → PrunedReactiveScopeBlock
@@ -43,3 +48,34 @@ pub record IsWithoutInvalidating (env : Environment) (before after : ReactiveBlo
   pub answers : List Bool
   pub right : AreAnswers env (value_steps_in before) 0 (value_steps_in before) answers
   pub rebuilt : IsRebuiltBy answers before after
+
+-- a scope block ends behind those in it; a pruned one isn't a scope block
+abbrev pub ended_parts : Contributions (List ScopeId)
+ended_parts = record {
+  joining = lists;
+  row = λ x. [];
+  value = λ id x. [];
+  place = λ id x. [];
+  returned = λ id x. [];
+  jump = λ target. [];
+  label = λ label. [];
+  scope = λ scope inside. inside ++ scope ∷ [];
+  pruned_scope = λ scope inside. inside;
+}
+
+-- the scopes of the scope blocks, in the order in which they end
+abbrev pub ended_in : ReactiveBlock → List ScopeId
+ended_in = collected ended_parts
+
+-- the scope has a scope block, and depends on an unmemoized value wherever one ends
+pub record IsInvalidating (env : Environment) (body : ReactiveBlock) (scope : ScopeId) : Type 0 where
+  pub has_block : Contains (ended_in body) scope
+  pub unmemoized : (place : ℕ) → slice_get (value_steps_in body) place ≡ Some (Ends scope)
+      → HasUnmemoized env (value_steps_in body) place scope
+
+-- each scope of a scope block of the first tree either has one in the second tree, or always invalidates
+pub record LeavesOthers (env : Environment) (before after : ReactiveBlock) : Type 0 where
+  pub each : (scope : ScopeId) → Contains (ended_in before) scope
+      → Contains (ended_in after) scope ⊎ IsInvalidating env before scope
+  pub left : (scope : ScopeId) → Contains (ended_in after) scope
+      → Contains (ended_in before) scope × ¬ IsInvalidating env before scope

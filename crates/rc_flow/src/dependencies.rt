@@ -5,6 +5,8 @@
 ghost use Rattle.std.specs.Prelude.{◌≡◌, ◌⊎◌, IfErr, IfOk, OnErr, OnOk};
 ghost use Rattle.std.specs.List.{filter};
 ghost use Rattle.rc_hir.specs.Fault.{IsExpected};
+ghost use Rattle.rc_hir.specs.Model.{HirFunction};
+ghost use Rattle.rc_hir.specs.Names.{NamesInTables};
 ghost use Rattle.rc_hir.specs.declared.fault.Fault.TheVariants as faults;
 ghost use Rattle.rc_tree.specs.TreeNames.{TreeInTables, TreeNamesOutside};
 ghost use Rattle.rc_flow.specs.ReactiveNames.{HasReactiveDependencies};
@@ -25,7 +27,8 @@ use std::alloc::{AllocError, Global};
 /// a fault the environment is as before.
 ///
 /// `BadName` comes where the operands of a value can't be read, and names the value's function, which is outside its
-/// table. `NoMemory` means out of memory, and is the only fault where every number is in its table.
+/// table. `NoMemory` means out of memory, and is the only fault where every number is in its table. Whatever comes,
+/// numbers that were in their tables still are.
 pub fn prune_non_reactive_dependencies(
     alloc: Global,
     func: &mut ReactiveFunction,
@@ -34,6 +37,7 @@ pub fn prune_non_reactive_dependencies(
     ensures ok { OnOk result (HasReactiveDependencies func.old.body env.old env.new) }
     ensures tree { func.new ≡ func.old }
     ensures known { OnOk result (TreeInTables func.old env.old → TreeInTables func.new env.new) }
+    ensures known_names { (hir : HirFunction) → NamesInTables hir env.old → NamesInTables hir env.new }
 
     ensures refused { OnErr result (env.new ≡ env.old) }
     ensures named { IfErr result (λ fault. (fault ≡ faults.NoMemory) ⊎ TreeNamesOutside func.old env.old fault) }

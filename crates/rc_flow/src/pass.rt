@@ -6,7 +6,7 @@ ghost use Rattle.std.specs.Prelude.{◌≡◌, IfErr, OnOk};
 ghost use Rattle.rc_hir.specs.declared.fault.Fault.TheVariants as faults;
 ghost use Rattle.rc_runs.specs.Erase.{erased};
 ghost use Rattle.rc_tree.specs.TreeNames.{TreeInTables, names_in};
-ghost use Rattle.rc_flow.specs.AlwaysInvalidating.{as_pruned, IsWithoutInvalidating};
+ghost use Rattle.rc_flow.specs.AlwaysInvalidating.{as_pruned, IsWithoutInvalidating, LeavesOthers};
 ghost use Rattle.rc_flow.specs.inside.DroppingSteps as steps;
 
 use crate::invalidating::dropped_blocks;
@@ -29,6 +29,7 @@ pub fn prune_always_invalidating_scopes(
     env: &Environment,
 ) -> Result<(), Fault>
     ensures ok { OnOk result (IsWithoutInvalidating env.now func.old.body func.new.body) }
+    ensures left { OnOk result (LeavesOthers env.now func.old.body func.new.body) }
     ensures header { func.new ≡ record func.old { body = func.new.body } }
     ensures kept_names { OnOk result (names_in func.new.body ≡ names_in func.old.body) }
     ensures kept_erased { OnOk result (erased func.new ≡ erased func.old) }

@@ -1,7 +1,7 @@
 -- Fates that are listed from an ordered set of scopes.
 use Rattle.std.proofs.Common.{◌≡◌, ◌∙◌, ◌↔◌, ℕ, zero, suc, List, [], ◌∷◌, ◌++◌, append_assoc, map, get_or, ap, subst}
 use Rattle.std.proofs.Common.{refl, sym}
-use Rattle.std.proofs.Common.{arith, IsTrue, IfOk, Result, Ok, Err, All, Contains}
+use Rattle.std.proofs.Common.{arith, true, false, IsTrue, IfOk, Result, Ok, Err, All, Contains}
 use Rattle.std.proofs.lemmas.List.{map-append}
 use Rattle.std.proofs.lemmas.List.Elements.{All-append}
 use Rattle.std.specs.declared.alloc.AllocError.{AllocError}
@@ -60,29 +60,35 @@ set_has scopes set made scope =
     let own = among_numbers scopes scope in
     (λ h. own.0 (there.0 (here.1 (kept.0 h))), λ h. kept.1 (here.0 (there.1 (own.1 h))))
 
--- the fate of a scope doesn't depend on the order of the scopes by which it is judged
-fate_by_same : (left other : List ScopeId) → ((scope : ScopeId) → Contains left scope ↔ Contains other scope)
-    → (scope : ScopeId) (fate : Fate) → IsListedFate left scope fate → IsListedFate other scope fate
-fate_by_same left other same scope Kept is = (same scope).0 is
-fate_by_same left other same scope Unused is = λ there. is ((same scope).1 there)
-fate_by_same left other same scope NotEscaping is = is
-fate_by_same left other same scope (MergedInto into) is = is
-fate_by_same left other same scope (DissolvedInto into) is = is
-fate_by_same left other same scope AlwaysInvalidating is = is
+-- both lists have the same scopes
+abbrev SameScopes : List ScopeId → List ScopeId → Type 0
+SameScopes one other = (scope : ScopeId) → Contains one scope ↔ Contains other scope
 
--- the fates of sorted scopes, each by the scopes that remain, are the listed fates of these scopes
-pub fates_told : (scopes : List ScopeId) (body : ReactiveBlock) (ordered left : List ScopeId)
-    → IsStrictlyIncreasing (map (λ scope. scope.0) ordered)
-    → ((scope : ScopeId) → Contains ordered scope ↔ Contains scopes scope)
-    → ((scope : ScopeId) → Contains left scope ↔ Contains (scopes_in body) scope)
-    → (fates : List ScopeFate) → listed_scopes fates ≡ ordered → All (HasListedFate left) fates
-    → AreListedFates scopes body fates
-fates_told scopes body ordered left rising same same_left fates listed told = record {
+-- the fate of a scope doesn't depend on the order of the scopes by which it is judged
+fate_by_same : (used left used1 left1 : List ScopeId) → SameScopes used used1 → SameScopes left left1
+    → (scope : ScopeId) (fate : Fate) → IsListedFate used left scope fate → IsListedFate used1 left1 scope fate
+fate_by_same used left used1 left1 same_used same scope Kept is = (same scope).0 is
+fate_by_same used left used1 left1 same_used same scope Unused is =
+    (λ there. is.0 ((same_used scope).1 there), λ there. is.1 ((same scope).1 there))
+fate_by_same used left used1 left1 same_used same scope AlwaysInvalidating is =
+    ((same_used scope).0 is.0, λ there. is.1 ((same scope).1 there))
+fate_by_same used left used1 left1 same_used same scope NotEscaping is = is
+fate_by_same used left used1 left1 same_used same scope (MergedInto into) is = is
+fate_by_same used left used1 left1 same_used same scope (DissolvedInto into) is = is
+
+-- the fates of sorted scopes, each by the scopes that are used and those that remain, are the listed fates
+pub fates_told : (scopes used : List ScopeId) (body : ReactiveBlock) (ordered known left : List ScopeId)
+    → IsStrictlyIncreasing (map (λ scope. scope.0) ordered) → SameScopes ordered scopes → SameScopes known used
+    → SameScopes left (scopes_in body)
+    → (fates : List ScopeFate) → listed_scopes fates ≡ ordered → All (HasListedFate known left) fates
+    → AreListedFates scopes used body fates
+fates_told scopes used body ordered known left rising same same_used same_left fates listed told = record {
   rising = rw listed rising;
   listed = λ scope. rw listed (same scope);
   told = λ place other below.
       let entry = get_or fates place other in
-      fate_by_same left (scopes_in body) same_left entry.scope entry.fate (told place other below);
+      fate_by_same known left used (scopes_in body) same_used same_left entry.scope entry.fate
+      (told place other below);
 }
 
 -- `contains` is true of a set exactly if the set has the scope's number
@@ -93,31 +99,38 @@ set_contains set scope =
     let kept = among_scopes set.keys scope in
     (λ h. kept.1 (here.0 h), λ h. here.1 (kept.0 h))
 
+-- and the set lacks the scope where it is false
+pub set_lacks : (set : BTreeSet ℕ) (scope : ScopeId) → contains nat_cmp set scope.0 ≡ false
+    → Contains (scopes_of set.keys) scope → ⊥
+set_lacks set scope lacks there =
+    let has : contains nat_cmp set scope.0 ≡ true = (set_contains set scope).1 there in
+    let bad : ⊥ = cc in bad
+
 -- a further entry lists its scope, with its fate
-pub fates_more : (left : List ScopeId) (fates : List ScopeFate) (entry : ScopeFate) (scope : ScopeId)
-    (rest keys : List ScopeId) → entry.scope ≡ scope → HasListedFate left entry
-    → (listed_scopes fates ++ scope ∷ rest ≡ keys) × All (HasListedFate left) fates
-    → (listed_scopes (fates ++ entry ∷ []) ++ rest ≡ keys) × All (HasListedFate left) (fates ++ entry ∷ [])
-fates_more left fates entry scope rest keys same has given =
+pub fates_more : (used left : List ScopeId) (fates : List ScopeFate) (entry : ScopeFate) (scope : ScopeId)
+    (rest keys : List ScopeId) → entry.scope ≡ scope → HasListedFate used left entry
+    → (listed_scopes fates ++ scope ∷ rest ≡ keys) × All (HasListedFate used left) fates
+    → (listed_scopes (fates ++ entry ∷ []) ++ rest ≡ keys) × All (HasListedFate used left) (fates ++ entry ∷ [])
+fates_more used left fates entry scope rest keys same has given =
     let list = ap (λ l. l ++ rest) (map-append (λ e. e.scope) fates (entry ∷ []))
     ∙ append_assoc (listed_scopes fates) (entry.scope ∷ []) rest in (
       list ∙ ap (λ s. listed_scopes fates ++ s ∷ rest) same
           ∙ given.0,
-      All-append (HasListedFate left) fates (entry ∷ []) given.1 alone,
+      All-append (HasListedFate used left) fates (entry ∷ []) given.1 alone,
     )
   where
-    alone : All (HasListedFate left) (entry ∷ [])
+    alone : All (HasListedFate used left) (entry ∷ [])
     alone zero other below = has
     alone (suc place) other below = absurd (let no : ⊥ = omega (arith, below) in no)
 
 -- the same for the result of a call, whatever the order in which the body's scopes were found
-pub fates_answered : (scopes : List ScopeId) (body : ReactiveBlock) (found ordered left : List ScopeId)
+pub fates_answered : (scopes used : List ScopeId) (body : ReactiveBlock) (found ordered known left : List ScopeId)
     → found ≡ scopes_in body → IsStrictlyIncreasing (map (λ scope. scope.0) ordered)
-    → ((scope : ScopeId) → Contains ordered scope ↔ Contains scopes scope)
-    → ((scope : ScopeId) → Contains left scope ↔ Contains found scope)
+    → SameScopes ordered scopes → SameScopes known used → SameScopes left found
     → (result : Result (List ScopeFate) AllocError) → IfOk result (λ fates. listed_scopes fates ≡ ordered)
-    → IfOk result (All (HasListedFate left)) → IfOk result (AreListedFates scopes body)
-fates_answered scopes body found ordered left all rising same same_left (Ok fates) listed told =
-    fates_told scopes body ordered left rising same (λ scope. subst (λ list. Contains left scope ↔ Contains list scope)
-    all (same_left scope)) fates listed told
-fates_answered scopes body found ordered left all rising same same_left (Err error) listed told = tt
+    → IfOk result (All (HasListedFate known left)) → IfOk result (AreListedFates scopes used body)
+fates_answered scopes used body found ordered known left all rising same same_used same_left (Ok fates) listed told =
+    fates_told scopes used body ordered known left rising same same_used
+    (subst (λ list. SameScopes left list) all same_left) fates listed told
+fates_answered scopes used body found ordered known left all rising same same_used same_left (Err error) listed told =
+    tt

@@ -10,6 +10,7 @@ use Rattle.rc_pipe.specs.declared.fates.Fate.TheVariants.{AlwaysInvalidating}
 use Rattle.rc_pipe.specs.declared.fates.ScopeFate.{ScopeFate}
 use Rattle.rc_checks.specs.ScopeBlocks.{ScopeBlock, scope_blocks, scopes_in}
 use Rattle.rc_checks.specs.UnusedScopes.{stays}
+use Rattle.rc_flow.specs.AlwaysInvalidating.{IsInvalidating}
 use Rattle.rc_pipe.specs.Passes.{PassState, IsPruned}
 
 -- the listed scopes, in the order of the list
@@ -24,15 +25,19 @@ pub record IsUnused (received : PassState) (scope : ScopeId) : Type 0 where
   pub is_of : block.scope ≡ scope
   pub gives_nothing : stays received.env block ≡ false
 
+-- the scope always invalidates: its block depends on a value that is new in every render and that no scope keeps
+abbrev pub DoesInvalidate : PassState → ScopeId → Type 0
+DoesInvalidate received scope = IsInvalidating received.env received.func.body scope
+
 module _ {spelled pruned : PassState} (passes : IsPruned spelled pruned) where
-  -- the rule of each fate; no pass gives the other fates yet
+  -- the rule of each fate; no pass gives `NotEscaping`, `MergedInto` or `DissolvedInto` yet
   abbrev pub IsFate : ScopeId → Fate → Type 0
-  IsFate scope Unused = IsUnused passes.labeled scope
-  IsFate scope Kept = ¬ IsUnused passes.labeled scope
+  IsFate scope Unused = IsUnused passes.reactive scope
+  IsFate scope AlwaysInvalidating = ¬ IsUnused passes.reactive scope × DoesInvalidate passes.used scope
+  IsFate scope Kept = ¬ IsUnused passes.reactive scope × ¬ DoesInvalidate passes.used scope
   IsFate scope NotEscaping = ⊥
   IsFate scope (MergedInto head) = ⊥
   IsFate scope (DissolvedInto parent) = ⊥
-  IsFate scope AlwaysInvalidating = ⊥
 
   -- each scope of the spelled tree is listed once, in ascending order, with its fate
   pub record AreFates (fates : List ScopeFate) : Type 0 where

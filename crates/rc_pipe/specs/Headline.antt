@@ -51,8 +51,10 @@ pub record IsAnswer (hir : HirFunction) (env answered : Environment) (pruned : P
   pub fates : AreFates passes pruned.fates
   -- a scope of the spelled tree has a scope block in the answered one exactly if its fate is kept
   pub kept : AreKeptExactly pruned.func.body pruned.fates
-  -- the scope blocks of the answered body are those of the spelled tree that stay, in the same order
-  pub left : scopes_in pruned.func.body ≡ map (λ block. block.scope) (staying_blocks env spelled.body)
+  -- the scope blocks of the answered body, and those that always invalidate, are those of the spelled tree that give
+  -- something, in the same order
+  pub used : scopes_in passes.used.func.body
+      ≡ map (λ block. block.scope) (staying_blocks passes.reactive.env spelled.body)
   -- every number of the answered function and of the answered environment is in its table
   pub known : TreeInTables pruned.func answered
 

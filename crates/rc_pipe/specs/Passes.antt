@@ -9,6 +9,8 @@ use Rattle.rc_checks.specs.Membership.{IsInside, IsLastOutside}
 use Rattle.rc_checks.specs.ScopeBlocks.{scope_blocks, scopes_in}
 use Rattle.rc_checks.specs.UnusedScopes.{IsWithoutUnusedScopes}
 use Rattle.rc_checks.specs.Membership.Visits.{visits_of}
+use Rattle.rc_flow.specs.AlwaysInvalidating.{IsWithoutInvalidating}
+use Rattle.rc_flow.specs.ReactiveNames.{HasReactiveDependencies}
 
 -- a function with its environment, between two passes
 pub record PassState : Type 0 where
@@ -31,6 +33,18 @@ pub record AfterUnusedScopes (before after : PassState) : Type 0 where
   pub header : after.func ≡ record before.func { body = after.func.body }
   pub kept_environment : after.env ≡ before.env
 
+-- dependency pruning: each scope kept exactly the dependencies whose names are reactive, and the function stays
+pub record AfterDependencies (before after : PassState) : Type 0 where
+  pub scopes : HasReactiveDependencies before.func.body before.env after.env
+  pub kept_function : after.func ≡ before.func
+
+-- pruning of what always invalidates: the function lost the blocks that depend on an unmemoized value, and the
+-- environment stays
+pub record AfterInvalidating (before after : PassState) : Type 0 where
+  pub scopes : IsWithoutInvalidating before.env before.func.body after.func.body
+  pub header : after.func ≡ record before.func { body = after.func.body }
+  pub kept_environment : after.env ≡ before.env
+
 -- no operand of the body is outside the blocks of its scope
 abbrev pub AreInside : Environment → ReactiveBlock → Type 0
 AreInside env body = All (IsInside env (scopes_in body)) (visits_of env.functions body)
@@ -44,7 +58,11 @@ pub record IsPruned (spelled pruned : PassState) : Type 0 where
   pub labeled : PassState
   pub labels : AfterLabels spelled labeled
   pub inside : AreInside spelled.env spelled.func.body
-  pub scopes : AfterUnusedScopes labeled pruned
+  pub reactive : PassState
+  pub dependencies : AfterDependencies labeled reactive
+  pub used : PassState
+  pub scopes : AfterUnusedScopes reactive used
+  pub invalidating : AfterInvalidating used pruned
 
 -- The passes may refuse, with this fault, a function that the graph spells and whose numbers are in their tables.
 abbrev pub IsPassFault : PassState → Fault → Type 0

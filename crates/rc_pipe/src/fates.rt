@@ -40,19 +40,21 @@ pub struct ScopeFate {
     pub fate: Fate,
 }
 
-/// The fates of these scopes, which are those of the spelled tree, by the scope blocks that remain in the body. Fails
-/// only when out of memory.
+/// The fates of these scopes, which are those of the spelled tree, by the scopes that are used and by the scope blocks
+/// that remain in the body. Fails only when out of memory.
 pub(crate) fn fates_of(
     alloc: Global,
     scopes: &[ScopeId],
+    used: &[ScopeId],
     body: &ReactiveBlock,
 ) -> Result<List<ScopeFate>, AllocError>
-    ensures { IfOk result (AreListedFates scopes.now body.now) }
+    ensures { IfOk result (AreListedFates scopes.now used.now body.now) }
 {
     let scopes = in_order(alloc, scopes)?;
+    let used = in_order(alloc, used)?;
     let left = scopes_in(alloc, body)?;
     let left = in_order(alloc, left.as_slice())?;
-    all_fates(alloc, &scopes, &left)
+    all_fates(alloc, &scopes, &used, &left)
 }
 
 /// The numbers of the scopes, each once and in order. Fails only when out of memory.
@@ -75,25 +77,28 @@ fn collected(alloc: Global, scopes: &[ScopeId]) -> Result<BTreeSet<u32>, AllocEr
 fn all_fates(
     alloc: Global,
     numbers: &BTreeSet<u32>,
+    used: &BTreeSet<u32>,
     left: &BTreeSet<u32>,
 ) -> Result<List<ScopeFate>, AllocError>
     ensures listed { IfOk result (λ fates. listed_scopes fates ≡ scopes_of numbers.now.keys) }
-    ensures told { IfOk result (All (HasListedFate (scopes_of left.now.keys))) }
+    ensures told { IfOk result (All (HasListedFate (scopes_of used.now.keys) (scopes_of left.now.keys))) }
 {
     let mut fates = List::new(alloc);
     for number in numbers {
-        fates.push(fate_of(ScopeId::new(*number), left))?;
+        fates.push(fate_of(ScopeId::new(*number), used, left))?;
     }
     Ok(fates)
 }
 
-/// A scope with its fate, which is kept if the scope's number is among those that remain.
-fn fate_of(scope: ScopeId, left: &BTreeSet<u32>) -> ScopeFate
+/// A scope with its fate, by the scopes that are used and those that remain.
+fn fate_of(scope: ScopeId, used: &BTreeSet<u32>, left: &BTreeSet<u32>) -> ScopeFate
     ensures scope { result.scope ≡ scope }
-    ensures told { HasListedFate (scopes_of left.now.keys) result }
+    ensures told { HasListedFate (scopes_of used.now.keys) (scopes_of left.now.keys) result }
 {
     let fate = if left.contains(&scope.0) {
         Fate::Kept
+    } else if used.contains(&scope.0) {
+        Fate::AlwaysInvalidating
     } else {
         Fate::Unused
     };

@@ -4,6 +4,7 @@
 //! is this project's.
 
 ghost use Rattle.std.specs.Prelude.{◌≡◌, ◌≢◌, ◌⊎◌, IfOk, IfErr, OnOk, IsOk, Err};
+ghost use Rattle.rc_hir.specs.Names.{NamesInTables};
 ghost use Rattle.rc_tree.specs.Model.{ReactiveFunction};
 ghost use Rattle.rc_pipe.specs.Headline.{HasAnswer, IsAccepted, IsAnswer, IsCause};
 
@@ -24,8 +25,9 @@ pub struct Pruned {
     pub fates: List<ScopeFate>,
 }
 
-/// Builds the one tree that a graph spells, prunes its unused labels and unused scopes, and returns it with the fate
-/// of each scope of the spelled tree.
+/// Builds the one tree that a graph spells and prunes it: its unused labels, the dependencies of its scopes that aren't
+/// reactive, its unused scopes, and those that always invalidate. Returns it with the fate of each scope of the spelled
+/// tree. The environment gets the dependencies that stay.
 ///
 /// Returns the first of these faults that has its cause:
 ///
@@ -36,7 +38,8 @@ pub struct Pruned {
 /// - `Malformed`: the graph spells no tree; the fault names a block and a rule whose fact holds of it;
 /// - `ScopeCompleted`: an operand is outside the blocks of its scope; the fault names the last one.
 ///
-/// Returns `NoMemory` whenever it runs out of memory. The environment stays as it is.
+/// Returns `NoMemory` whenever it runs out of memory. After any other fault the environment is as before, and after
+/// `NoMemory` every number that was in its table still is.
 pub fn build_and_prune(
     alloc: Global,
     hir: &HirFunction,
@@ -44,7 +47,8 @@ pub fn build_and_prune(
 ) -> Result<Pruned, Fault>
     ensures ok { IfOk result (IsAnswer hir.now env.old env.new) }
     ensures refused { IfErr result (IsCause hir.now env.old) }
-    ensures kept_environment { env.new ≡ env.old }
+    ensures kept_environment { IfErr result (λ fault. (fault ≡ Fault.NoMemory) ⊎ (env.new ≡ env.old)) }
+    ensures known_names { NamesInTables hir.now env.old → NamesInTables hir.now env.new }
 
     // A graph that is accepted and has an answer gets it, unless memory runs out.
     ensures complete { (func : ReactiveFunction) → IsAccepted hir.now env.old → HasAnswer hir.now env.old func
@@ -52,9 +56,9 @@ pub fn build_and_prune(
 {
     accept(hir, env)?;
     let mut func = build_reactive_function(alloc, hir, env)?;
-    let scopes = scopes_in(alloc, &func.body)?;
-    prune(alloc, &mut func, env)?;
-    let fates = fates_of(alloc, scopes.as_slice(), &func.body)?;
+    let spelled = scopes_in(alloc, &func.body)?;
+    let used = prune(alloc, &mut func, env)?;
+    let fates = fates_of(alloc, spelled.as_slice(), used.as_slice(), &func.body)?;
     Ok(Pruned { func, fates })
 }
 

@@ -5,6 +5,7 @@ mod bad_input;
 mod broken_graphs;
 mod built_in_code;
 mod devices;
+mod flow;
 mod graphs;
 mod library;
 mod lines;

@@ -1,6 +1,7 @@
 use Rattle.std.proofs.Common.{◌∙◌, ap, Err}
 use Rattle.std.proofs.lemmas.Result.{err_from_is_err_and}
-use Rattle.rc_flow.proofs.ReactiveNamesLemmas.{refused_sound, scopes_known, scopes_refused, scopes_right}
+use Rattle.rc_flow.proofs.ReactiveNamesLemmas.{refused_sound, scopes_known, scopes_names_known}
+use Rattle.rc_flow.proofs.ReactiveNamesLemmas.{scopes_refused, scopes_right}
 use Rattle.rc_flow.proofs.dependencies.prune_non_reactive_dependencies.Goals as goal
 
 pub returns-in_err-scopes-clause-named : goal.returns-in_err-scopes-clause-named
@@ -20,3 +21,7 @@ returns-clause-ok c =
 pub returns-clause-known : goal.returns-clause-known
 returns-clause-known c = λ known.
     scopes_known c.args.env.now c.args.func.now.body c.in_ok-scopes.scopes c.in_ok-scopes.ensures c.args.func.now known
+
+pub returns-clause-known_names : goal.returns-clause-known_names
+returns-clause-known_names c =
+    scopes_names_known c.args.env.now c.args.func.now.body c.in_ok-scopes.scopes c.in_ok-scopes.ensures

@@ -13,6 +13,6 @@ loop-number-preserved c =
     let whole = subst (λ left. listed_scopes fates ++ scopes_of left ≡ scopes_of numbers) c.in-Some.ensures.steps
     c.loop-number.invariant.0 in
     rw c.in_ok-push.ensures.ok
-    (fates_more (scopes_of c.args.left.now.keys) fates c.fate_of.result (to_id c.in-Some.number.now)
+    (fates_more (scopes_of c.args.used.now.keys) (scopes_of c.args.left.now.keys) fates c.fate_of.result (to_id c.in-Some.number.now)
     (scopes_of c.next.new.self) (scopes_of numbers) (c.fate_of.ensures.scope ∙ ap to_id c.new.ensures)
     c.fate_of.ensures.told (whole, c.loop-number.invariant.1))

@@ -1,13 +1,19 @@
-use Rattle.std.proofs.Common.{◌≡◌, true, false, sym, ◌∙◌}
-use Rattle.rc_pipe.proofs.FatesLemmas.{set_contains}
+use Rattle.std.proofs.Common.{sym, ◌∙◌}
+use Rattle.rc_pipe.proofs.FatesLemmas.{set_contains, set_lacks}
 use Rattle.rc_pipe.proofs.fates.fate_of.Goals as goal
 
 pub returns-then-contains-clause-told : goal.returns-then-contains-clause-told
 returns-then-contains-clause-told c =
     (set_contains c.args.left.now c.args.scope).0 (sym c.contains.ensures ∙ c.if-contains.true)
 
-pub returns-else-contains-clause-told : goal.returns-else-contains-clause-told
-returns-else-contains-clause-told c = λ there.
-    let has : true ≡ false = sym ((set_contains c.args.left.now c.args.scope).1 there) ∙ sym c.contains.ensures
-    ∙ c.if-contains.false
-    in cc has
+pub returns-then-contains-2-clause-told : goal.returns-then-contains-2-clause-told
+returns-then-contains-2-clause-told c = (
+  (set_contains c.args.used.now c.args.scope).0 (sym c.contains-else-contains.ensures ∙ c.if-contains-2.true),
+  set_lacks c.args.left.now c.args.scope (sym c.contains.ensures ∙ c.if-contains.false),
+)
+
+pub returns-else-contains-2-clause-told : goal.returns-else-contains-2-clause-told
+returns-else-contains-2-clause-told c = (
+  set_lacks c.args.used.now c.args.scope (sym c.contains-else-contains.ensures ∙ c.if-contains-2.false),
+  set_lacks c.args.left.now c.args.scope (sym c.contains.ensures ∙ c.if-contains.false),
+)

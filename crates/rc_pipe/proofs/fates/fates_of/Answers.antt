@@ -8,9 +8,10 @@ use Rattle.rc_pipe.proofs.fates.fates_of.Goals as goal
 pub returns : goal.returns
 returns c =
     let ordered = c.in_ok-scopes in
+    let used = c.in_ok-used in
     let left = c.in_ok-left-2 in
     let all : c.as_slice.result.now ≡ scopes_in c.args.body.now = search rules in
-    fates_answered c.args.scopes.now c.args.body.now c.as_slice.result.now (scopes_of ordered.scopes.keys)
-    (scopes_of left.left.keys) all
-    ordered.ensures.rising ordered.ensures.same left.ensures.same
+    fates_answered c.args.scopes.now c.args.used.now c.args.body.now c.as_slice.result.now
+    (scopes_of ordered.scopes.keys) (scopes_of used.used.keys) (scopes_of left.left.keys) all
+    ordered.ensures.rising ordered.ensures.same used.ensures.same left.ensures.same
     c.all_fates.result c.all_fates.ensures.listed c.all_fates.ensures.told

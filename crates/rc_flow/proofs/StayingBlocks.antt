@@ -1,0 +1,414 @@
+-- The scope blocks that stay where others become pruned ones, by one answer for each.
+--
+-- By recursion on plain trees, since every tree is the tree of one. Each part is shown to have the scope blocks that
+-- stay by the answers in front of it, and to leave the answers behind its own.
+use Rattle.std.proofs.Common.{◌≡◌, ◌∙◌, Bool, true, false, List, [], ◌∷◌, ◌++◌, Option, None, Some, Result, Ok, Err}
+use Rattle.std.proofs.Common.{map, option_map, drop, refl, sym, ap, subst}
+use Rattle.rc_flow.specs.AlwaysInvalidating.{as_pruned, dropping_rules, ended_in, ended_parts, first_answer}
+use Rattle.rc_flow.specs.AlwaysInvalidating.{IsRebuiltBy, pruned_if}
+use Rattle.rc_hir.specs.Model.{Fault, Place}
+use Rattle.rc_names.specs.Numbers.{EvaluationOrder, ScopeId}
+use Rattle.rc_runs.proofs.EveryBlockIsPlain.{every_block_is_plain}
+use Rattle.rc_runs.specs.PlainTree.{Statements, Nil, Cons, Statement, RowStatement, TerminalStatement, ScopeStatement}
+use Rattle.rc_runs.specs.PlainTree.{PrunedScopeStatement, TreeTerminal, Break, Continue, Return, Throw, Switch, DoWhile}
+use Rattle.rc_runs.specs.PlainTree.{While, For, ForOf, ForIn, If, Label, Try, Alternate, Absent, Present, Cases}
+use Rattle.rc_runs.specs.PlainTree.{NoCases, Case}
+use Rattle.rc_runs.specs.TreeOf.{alternate_of, block_of, cases_of, statement_of, statements_of, terminal_of, value_of}
+use Rattle.rc_tree.proofs.CollectedKeeps.{collected_list-append}
+use Rattle.rc_tree.proofs.CollectedLemmas.{collected-block, collected-case, collected-Instruction, collected-Terminal}
+use Rattle.rc_tree.proofs.CollectedLemmas.{collected-Scope, collected-PrunedScope, collected-Break, collected-Continue}
+use Rattle.rc_tree.proofs.CollectedLemmas.{collected-Return, collected-Throw, collected-Switch, collected-DoWhile}
+use Rattle.rc_tree.proofs.CollectedLemmas.{collected-While, collected-For, collected-ForOf, collected-ForIn}
+use Rattle.rc_tree.proofs.CollectedLemmas.{collected-If, collected-Label, collected-Try}
+use Rattle.rc_tree.proofs.JoiningLemmas.{lists_monoid}
+use Rattle.rc_tree.proofs.RebuiltLemmas.{if_some, rebuilt-block, rebuilt-labeled, rebuilt-scope, rebuilt-pruned_scope}
+use Rattle.rc_tree.proofs.RebuiltLemmas.{rebuilt-case, rebuilt-Instruction, rebuilt-Terminal, rebuilt-Scope}
+use Rattle.rc_tree.proofs.RebuiltLemmas.{rebuilt-PrunedScope, rebuilt-Break, rebuilt-Continue, rebuilt-Return}
+use Rattle.rc_tree.proofs.RebuiltLemmas.{rebuilt-Throw, rebuilt-Switch, rebuilt-DoWhile, rebuilt-While, rebuilt-For}
+use Rattle.rc_tree.proofs.RebuiltLemmas.{rebuilt-ForOf, rebuilt-ForIn, rebuilt-If, rebuilt-Label, rebuilt-Try}
+use Rattle.rc_tree.specs.Collected.{collected_case, collected_cases, collected_if, collected_list, collected_statement}
+use Rattle.rc_tree.specs.Collected.{collected_terminal}
+use Rattle.rc_tree.specs.Rebuilt.{Rebuilds, in_order, joined, rebuilt_block, rebuilt_case, rebuilt_statement}
+use Rattle.rc_tree.specs.Rebuilt.{rebuilt_terminal}
+use Rattle.rc_tree.specs.Step.{bind}
+use Rattle.rc_tree.specs.Model.{PrunedReactiveScopeBlock, ReactiveScopeBlock, ReactiveBlock, ReactiveInstruction}
+use Rattle.rc_tree.specs.Model.{ReactiveStatement, ReactiveTerminalStatement}
+use Rattle.rc_tree.specs.declared.statement.ReactiveStatement.TheVariants as reactive
+use Rattle.rc_tree.specs.declared.terminal.ReactiveSwitchCase.{ReactiveSwitchCase, roll-ReactiveSwitchCase}
+use Rattle.rc_tree.specs.declared.terminal.ReactiveSwitchCase.{out-roll-ReactiveSwitchCase}
+use Rattle.rc_tree.specs.declared.terminal.ReactiveTerminal.{ReactiveTerminal}
+use Rattle.rc_tree.specs.declared.terminal.ReactiveTerminal.TheVariants as tree
+
+abbrev Scopes : Type 0
+Scopes = List ScopeId
+
+abbrev Answers : Type 0
+Answers = List Bool
+
+-- the scopes of the other parts
+abbrev ended_statement : ReactiveStatement → Scopes
+ended_statement = collected_statement ended_parts
+
+abbrev ended_terminal : ReactiveTerminal → Scopes
+ended_terminal = collected_terminal ended_parts
+
+abbrev ended_list : List ReactiveStatement → Scopes
+ended_list = collected_list ended_parts
+
+abbrev ended_if : Option ReactiveBlock → Scopes
+ended_if = collected_if ended_parts
+
+abbrev ended_case : EvaluationOrder → ReactiveSwitchCase → Scopes
+ended_case id x = collected_case ended_parts x id
+
+abbrev ended_cases : EvaluationOrder → List ReactiveSwitchCase → Scopes
+ended_cases = collected_cases ended_parts
+
+-- a list with one scope more, unless its block is dropped
+abbrev pub with_left : Bool → ScopeId → Scopes → Scopes
+with_left true scope rest = rest
+with_left false scope rest = scope ∷ rest
+
+-- the scopes whose blocks stay by the answers, and the answers behind theirs
+abbrev pub staying : Scopes → Answers → Scopes
+staying [] answers = []
+staying (scope ∷ scopes) answers = with_left (first_answer answers) scope (staying scopes (drop 1 answers))
+
+abbrev behind : Scopes → Answers → Answers
+behind [] answers = answers
+behind (scope ∷ scopes) answers = behind scopes (drop 1 answers)
+
+behind-append : (xs ys : Scopes) (answers : Answers) → behind (xs ++ ys) answers ≡ behind ys (behind xs answers)
+behind-append [] ys answers = refl
+behind-append (x ∷ xs) ys answers = behind-append xs ys (drop 1 answers)
+
+with_left-append : (dropped : Bool) (scope : ScopeId) (xs ys : Scopes)
+    → with_left dropped scope (xs ++ ys) ≡ with_left dropped scope xs ++ ys
+with_left-append true scope xs ys = refl
+with_left-append false scope xs ys = refl
+
+staying-append : (xs ys : Scopes) (answers : Answers)
+    → staying (xs ++ ys) answers ≡ staying xs answers ++ staying ys (behind xs answers)
+staying-append [] ys answers = refl
+staying-append (x ∷ xs) ys answers =
+    ap (with_left (first_answer answers) x) (staying-append xs ys (drop 1 answers))
+    ∙ with_left-append (first_answer answers) x (staying xs (drop 1 answers)) (staying ys (behind xs (drop 1 answers)))
+
+-- of a part that held `before` and is rebuilt by answers: the answers behind it, and what it holds
+unfoldable Stays : {X : Type 0} → (X → Scopes) → Scopes → Answers → Result (Answers × X) Fault → Type 0
+Stays holds before answers (Ok r) = (r.0 ≡ behind before answers) × (holds r.1 ≡ staying before answers)
+Stays holds before answers (Err fault) = Unit {0}
+
+module _ {X Y : Type 0} (holds : X → Scopes) (holds1 : Y → Scopes) where
+  -- a part that is made of one part
+  made : (make : X → Y) → ((x : X) → holds1 (make x) ≡ holds x)
+      → (before : Scopes) (answers : Answers) (first : Result (Answers × X) Fault)
+      → Stays holds before answers first → Stays holds1 before answers (bind first (λ a. Ok (a.0, make a.1)))
+  unfolding Stays
+  made make same before answers (Ok a) h = (h.0, same a.1 ∙ h.1)
+  made make same before answers (Err fault) h = tt
+
+  -- a part that is made of two
+  made_of_two : {Z : Type 0} (holds2 : Z → Scopes) (make : X → Y → Z)
+      → ((x : X) (y : Y) → holds2 (make x y) ≡ holds x ++ holds1 y)
+      → (b c : Scopes) (answers : Answers) (first : Result (Answers × X) Fault) (second : Rebuilds Answers Y)
+      → Stays holds b answers first → ((s : Answers) → Stays holds1 c s (second s))
+      → Stays holds2 (b ++ c) answers (bind first (λ a. bind (second a.0) (λ d. Ok (d.0, make a.1 d.1))))
+  unfolding Stays
+  made_of_two holds2 make same b c answers (Err fault) second h k = tt
+  made_of_two {Z} holds2 make same b c answers (Ok a) second h k = by (second a.0) (k a.0)
+    where
+      by : (e : Result (Answers × Y) Fault) → Stays holds1 c a.0 e → Stays holds2 (b ++ c) answers
+          (bind {A = Answers × Y} {B = Answers × Z} e (λ d. Ok (d.0, make a.1 d.1)))
+      by (Err fault) j = tt
+      by (Ok d) j = (
+        j.0 ∙ ap (behind c) h.0 ∙ sym (behind-append b c answers),
+        same a.1 d.1 ∙ (λ i. h.1 i ++ j.1 i) ∙ ap (λ s. staying b answers ++ staying c s) h.0
+            ∙ sym (staying-append b c answers),
+      )
+
+-- a part without scope blocks, which stays as it is
+as_it_is : {X : Type 0} (holds : X → Scopes) (before : Scopes) (answers : Answers) (x : X) → holds x ≡ before
+    → before ≡ [] → Stays holds before answers (Ok (answers, x))
+unfolding Stays
+as_it_is holds before answers x e none =
+    (sym (ap (λ b. behind b answers) none), e ∙ none ∙ sym (ap (λ b. staying b answers) none))
+
+-- the claim for each part
+abbrev BlockStays : ReactiveBlock → Type 0
+BlockStays x = (answers : Answers) → Stays ended_in (ended_in x) answers (rebuilt_block dropping_rules x answers)
+
+abbrev StatementStays : ReactiveStatement → Type 0
+StatementStays x =
+    (answers : Answers) → Stays ended_list (ended_statement x) answers (rebuilt_statement dropping_rules x answers)
+
+abbrev ListStays : List ReactiveStatement → Type 0
+ListStays xs = (answers : Answers)
+    → Stays ended_list (ended_list xs) answers (joined (map (rebuilt_statement dropping_rules) xs) answers)
+
+abbrev TerminalStays : ReactiveTerminal → Type 0
+TerminalStays x =
+    (answers : Answers) → Stays ended_terminal (ended_terminal x) answers (rebuilt_terminal dropping_rules x answers)
+
+-- a terminal without blocks
+without_parts : (x : ReactiveTerminal) → ((s : Answers) → rebuilt_terminal dropping_rules x s ≡ Ok (s, x))
+    → ended_terminal x ≡ [] → TerminalStays x
+without_parts x eq none answers =
+    subst (λ e. Stays ended_terminal (ended_terminal x) answers e) (sym (eq answers))
+    (as_it_is ended_terminal (ended_terminal x) answers x refl none)
+
+-- a terminal with one part, and with two
+with_part : {X : Type 0} (holds : X → Scopes) (x : X) (rebuilt : X → Rebuilds Answers X)
+    → ((s : Answers) → Stays holds (holds x) s (rebuilt x s)) → (make : X → ReactiveTerminal)
+    → ((s : Answers) → rebuilt_terminal dropping_rules (make x) s ≡ bind (rebuilt x s) (λ a. Ok (a.0, make a.1)))
+    → ((x : X) → ended_terminal (make x) ≡ holds x) → TerminalStays (make x)
+with_part holds x rebuilt known make eq same s =
+    subst (λ e. Stays ended_terminal (ended_terminal (make x)) s e) (sym (eq s))
+    (subst (λ it. Stays ended_terminal it s (bind (rebuilt x s) (λ a. Ok (a.0, make a.1)))) (sym (same x))
+    (made holds ended_terminal make same (holds x) s (rebuilt x s) (known s)))
+
+with_two_parts : {X Y : Type 0} (holds : X → Scopes) (holds1 : Y → Scopes) (x : X) (y : Y)
+    (rebuilt : X → Rebuilds Answers X) (rebuilt1 : Y → Rebuilds Answers Y)
+    → ((s : Answers) → Stays holds (holds x) s (rebuilt x s))
+    → ((s : Answers) → Stays holds1 (holds1 y) s (rebuilt1 y s)) → (make : X → Y → ReactiveTerminal)
+    → ((s : Answers) → rebuilt_terminal dropping_rules (make x y) s
+    ≡ bind (rebuilt x s) (λ a. bind (rebuilt1 y a.0) (λ b. Ok (b.0, make a.1 b.1))))
+    → ((x : X) (y : Y) → ended_terminal (make x y) ≡ holds x ++ holds1 y) → TerminalStays (make x y)
+with_two_parts holds holds1 x y rebuilt rebuilt1 known known1 make eq same s =
+    subst (λ e. Stays ended_terminal (ended_terminal (make x y)) s e) (sym (eq s))
+    (subst (λ it. Stays ended_terminal it s
+    (bind (rebuilt x s) (λ a. bind (rebuilt1 y a.0) (λ b. Ok (b.0, make a.1 b.1))))) (sym (same x y))
+    (made_of_two holds holds1 ended_terminal make same (holds x) (holds1 y) s (rebuilt x s) (rebuilt1 y)
+    (known s) known1))
+
+-- a scope block that is judged when its inside is rebuilt
+module _ (id : ScopeId) where
+  abbrev block_with : ReactiveBlock → ReactiveScopeBlock
+  block_with inside = record { scope = id; instructions = inside }
+
+  ended_by : (dropped : Bool) (inside : ReactiveBlock)
+      → ended_list (pruned_if dropped (block_with inside) ∷ []) ≡ ended_in inside ++ with_left dropped id []
+  ended_by true inside =
+      lists_monoid.behind (ended_statement (reactive.PrunedScope (as_pruned (block_with inside))))
+      ∙ collected-PrunedScope ended_parts (as_pruned (block_with inside)) ∙ sym (lists_monoid.behind (ended_in inside))
+  ended_by false inside =
+      lists_monoid.behind (ended_statement (reactive.Scope (block_with inside)))
+      ∙ collected-Scope ended_parts (block_with inside)
+
+  -- the block, from the answers behind its inside
+  abbrev judged : Answers × ReactiveBlock → Answers × List ReactiveStatement
+  judged a = (drop 1 a.0, pruned_if (first_answer a.0) (block_with a.1) ∷ [])
+
+  scope_stays : (before : Scopes) (answers : Answers) (e : Result (Answers × ReactiveBlock) Fault) → Stays ended_in before answers e
+      → Stays ended_list (before ++ id ∷ []) answers (bind e (λ a. Ok (judged a)))
+  unfolding Stays
+  scope_stays before answers (Err fault) h = tt
+  scope_stays before answers (Ok a) h = (
+    ap (drop 1) h.0 ∙ sym (behind-append before (id ∷ []) answers),
+    ended_by (first_answer a.0) a.1
+        ∙ (λ i. h.1 i ++ with_left (first_answer (h.0 i)) id [])
+        ∙ sym (staying-append before (id ∷ []) answers),
+  )
+
+  after_scope : (answers : Answers) (e : Result (Answers × ReactiveBlock) Fault)
+      → bind (bind {A = Answers × ReactiveBlock} {B = Answers × ReactiveScopeBlock} e
+      (λ a. Ok (a.0, block_with a.1))) (λ a. dropping_rules.scope answers a.1 a.0)
+      ≡ bind e (λ a. Ok (judged a))
+  after_scope answers (Err fault) = refl
+  after_scope answers (Ok a) = refl
+
+  after_pruned_scope : (e : Result (Answers × ReactiveBlock) Fault)
+      → bind (bind {A = Answers × ReactiveBlock} {B = Answers × PrunedReactiveScopeBlock} e
+      (λ a. Ok (a.0, record { scope = id; instructions = a.1 }))) (λ a. dropping_rules.pruned_scope a.1 a.0)
+      ≡ bind e (λ a. Ok (a.0, reactive.PrunedScope (record { scope = id; instructions = a.1 }) ∷ []))
+  after_pruned_scope (Err fault) = refl
+  after_pruned_scope (Ok a) = refl
+
+abbrev labeled : ReactiveTerminalStatement → ReactiveTerminal → ReactiveTerminalStatement
+labeled x terminal = record { terminal = terminal; label = x.label }
+
+after_terminal : (x : ReactiveTerminalStatement) (e : Result (Answers × ReactiveTerminal) Fault)
+    → bind (bind {A = Answers × ReactiveTerminal} {B = Answers × ReactiveTerminalStatement} e
+    (λ a. Ok (a.0, labeled x a.1))) (λ a. dropping_rules.terminal a.1 a.0)
+    ≡ bind e (λ a. Ok (a.0, reactive.Terminal (labeled x a.1) ∷ []))
+after_terminal x (Err fault) = refl
+after_terminal x (Ok a) = refl
+
+-- the block of such statements
+block_stays : (xs : List ReactiveStatement) → ListStays xs → BlockStays (record { statements = xs })
+block_stays xs known answers =
+    subst (λ it. Stays ended_in it answers (rebuilt_block dropping_rules (record { statements = xs }) answers))
+    (sym (collected-block ended_parts (record { statements = xs })))
+    (subst (λ e. Stays ended_in (ended_list xs) answers e)
+    (sym (rebuilt-block dropping_rules (record { statements = xs }) answers))
+    (made ended_list ended_in (λ statements. record { statements = statements })
+    (λ statements. collected-block ended_parts (record { statements = statements }))
+    (ended_list xs) answers (joined (map (rebuilt_statement dropping_rules) xs) answers) (known answers)))
+
+-- a case of a switch, by its block
+module _ (test : Option Place) (x : Option ReactiveBlock) where
+  abbrev case_of : ReactiveSwitchCase
+  case_of = roll-ReactiveSwitchCase (record { test = test; block = x })
+
+  case_stays : ((answers : Answers) → Stays ended_if (ended_if x) answers (if_some (rebuilt_block dropping_rules) x answers))
+      → (id : EvaluationOrder) (answers : Answers)
+      → Stays (ended_case id) (ended_case id case_of) answers (rebuilt_case dropping_rules case_of answers)
+  case_stays known id answers =
+      subst (λ it. Stays (ended_case id) it answers (rebuilt_case dropping_rules case_of answers))
+      (sym (collected-case ended_parts test x id))
+      (subst (λ e. Stays (ended_case id) (ended_if x) answers e)
+      (sym (rebuilt-case dropping_rules case_of answers
+      ∙ ap (λ c. bind (if_some (rebuilt_block dropping_rules) c.block answers)
+      (λ a. Ok (a.0, roll-ReactiveSwitchCase (record { test = c.test; block = a.1 }))))
+      (out-roll-ReactiveSwitchCase (record { test = test; block = x }))))
+      (made ended_if (ended_case id) (λ b. roll-ReactiveSwitchCase (record { test = test; block = b }))
+      (λ b. collected-case ended_parts test b id)
+      (ended_if x) answers (if_some (rebuilt_block dropping_rules) x answers) (known answers)))
+
+mutual
+  list_stays : (p : Statements) → ListStays (statements_of p)
+  list_stays Nil answers = as_it_is ended_list [] answers [] refl refl
+  list_stays (Cons x rest) answers = made_of_two ended_list ended_list ended_list (λ ys zs. ys ++ zs)
+      (collected_list-append ended_parts lists_monoid)
+      (ended_statement (statement_of x)) (ended_list (statements_of rest)) answers
+      (rebuilt_statement dropping_rules (statement_of x) answers)
+      (joined (map (rebuilt_statement dropping_rules) (statements_of rest))) (statement_stays x answers) (list_stays rest)
+
+  statement_stays : (x : Statement) → StatementStays (statement_of x)
+  statement_stays (RowStatement id target value span) answers =
+      let x : ReactiveInstruction = record { id = id; lvalue = target; value = value_of value; span = span } in
+      subst (λ e. Stays ended_list (ended_statement (reactive.Instruction x)) answers e)
+      (sym (rebuilt-Instruction dropping_rules x answers))
+      (as_it_is ended_list (ended_statement (reactive.Instruction x)) answers (reactive.Instruction x ∷ [])
+      (lists_monoid.behind (ended_statement (reactive.Instruction x)))
+      (collected-Instruction ended_parts x))
+  statement_stays (TerminalStatement terminal own) answers =
+      let x : ReactiveTerminalStatement = record { terminal = terminal_of terminal; label = own } in
+      subst (λ it. Stays ended_list it answers (rebuilt_statement dropping_rules (reactive.Terminal x) answers))
+      (sym (collected-Terminal ended_parts x))
+      (subst (λ e. Stays ended_list (ended_terminal x.terminal) answers e)
+      (sym (rebuilt-Terminal dropping_rules x answers ∙ ap (λ e. bind e (λ a. dropping_rules.terminal a.1 a.0))
+      (rebuilt-labeled dropping_rules x answers) ∙ after_terminal x (rebuilt_terminal dropping_rules x.terminal answers)))
+      (made ended_terminal ended_list (λ terminal. reactive.Terminal (labeled x terminal) ∷ [])
+      (λ terminal. lists_monoid.behind (ended_statement (reactive.Terminal (labeled x terminal)))
+      ∙ collected-Terminal ended_parts (labeled x terminal))
+      (ended_terminal x.terminal) answers (rebuilt_terminal dropping_rules x.terminal answers)
+      (terminal_stays terminal answers)))
+  statement_stays (ScopeStatement of body) answers =
+      let x : ReactiveScopeBlock = record { scope = of; instructions = block_of body } in
+      subst (λ it. Stays ended_list it answers (rebuilt_statement dropping_rules (reactive.Scope x) answers))
+      (sym (collected-Scope ended_parts x))
+      (subst (λ e. Stays ended_list (ended_parts.scope of (ended_in x.instructions)) answers e)
+      (sym (rebuilt-Scope dropping_rules x answers ∙ ap (λ e. bind e (λ a. dropping_rules.scope answers a.1 a.0))
+      (rebuilt-scope dropping_rules x answers)
+      ∙ after_scope of answers (rebuilt_block dropping_rules x.instructions answers)))
+      (scope_stays of (ended_in x.instructions) answers (rebuilt_block dropping_rules x.instructions answers)
+      (block_stays (statements_of body) (list_stays body) answers)))
+  statement_stays (PrunedScopeStatement of body) answers =
+      let x : PrunedReactiveScopeBlock = record { scope = of; instructions = block_of body } in
+      let pruned = λ (b : ReactiveBlock). reactive.PrunedScope (record { scope = of; instructions = b }) in
+      subst (λ it. Stays ended_list it answers (rebuilt_statement dropping_rules (reactive.PrunedScope x) answers))
+      (sym (collected-PrunedScope ended_parts x))
+      (subst (λ e. Stays ended_list (ended_in x.instructions) answers e)
+      (sym (rebuilt-PrunedScope dropping_rules x answers ∙ ap (λ e. bind e (λ a. dropping_rules.pruned_scope a.1 a.0))
+      (rebuilt-pruned_scope dropping_rules x answers)
+      ∙ after_pruned_scope of (rebuilt_block dropping_rules x.instructions answers)))
+      (made ended_in ended_list (λ b. pruned b ∷ [])
+      (λ b. lists_monoid.behind (ended_statement (pruned b))
+      ∙ collected-PrunedScope ended_parts (record { scope = of; instructions = b }))
+      (ended_in x.instructions) answers (rebuilt_block dropping_rules x.instructions answers)
+      (block_stays (statements_of body) (list_stays body) answers)))
+
+  terminal_stays : (x : TreeTerminal) → TerminalStays (terminal_of x)
+  terminal_stays (Break target kind id) =
+      without_parts (tree.Break target kind id) (rebuilt-Break dropping_rules target kind id)
+      (collected-Break ended_parts target kind id)
+  terminal_stays (Continue target kind id) =
+      without_parts (tree.Continue target kind id) (rebuilt-Continue dropping_rules target kind id)
+      (collected-Continue ended_parts target kind id)
+  terminal_stays (Return place id) =
+      without_parts (tree.Return place id)
+      (rebuilt-Return dropping_rules place id) (collected-Return ended_parts place id)
+  terminal_stays (Throw place id) =
+      without_parts (tree.Throw place id) (rebuilt-Throw dropping_rules place id)
+      (collected-Throw ended_parts place id)
+  terminal_stays (Switch test cases id) =
+      with_part (ended_cases id) (cases_of cases) (λ x. in_order (map (rebuilt_case dropping_rules) x))
+      (cases_stay id cases) (λ x. tree.Switch test x id) (rebuilt-Switch dropping_rules test (cases_of cases) id)
+      (λ x. collected-Switch ended_parts test x id)
+  terminal_stays (DoWhile body test id) =
+      with_part ended_in (block_of body) (rebuilt_block dropping_rules)
+      (block_stays (statements_of body) (list_stays body)) (λ x. tree.DoWhile x (value_of test) id)
+      (rebuilt-DoWhile dropping_rules (block_of body) (value_of test) id)
+      (λ x. collected-DoWhile ended_parts x (value_of test) id ∙ lists_monoid.behind (ended_in x))
+  terminal_stays (While test body id) =
+      with_part ended_in (block_of body) (rebuilt_block dropping_rules)
+      (block_stays (statements_of body) (list_stays body)) (λ x. tree.While (value_of test) x id)
+      (rebuilt-While dropping_rules (value_of test) (block_of body) id)
+      (λ x. collected-While ended_parts (value_of test) x id)
+  terminal_stays (For init test update body id) =
+      with_part ended_in (block_of body) (rebuilt_block dropping_rules)
+      (block_stays (statements_of body) (list_stays body))
+      (λ x. tree.For (value_of init) (value_of test) (option_map value_of update) x id)
+      (rebuilt-For dropping_rules (value_of init) (value_of test) (option_map value_of update) (block_of body) id)
+      (λ x. collected-For ended_parts (value_of init) (value_of test) (option_map value_of update) x id
+      ∙ lists_monoid.behind (ended_in x))
+  terminal_stays (ForOf init test body span id) =
+      with_part ended_in (block_of body) (rebuilt_block dropping_rules)
+      (block_stays (statements_of body) (list_stays body)) (λ x. tree.ForOf (value_of init) (value_of test) x span id)
+      (rebuilt-ForOf dropping_rules (value_of init) (value_of test) (block_of body) span id)
+      (λ x. collected-ForOf ended_parts (value_of init) (value_of test) x span id)
+  terminal_stays (ForIn init body span id) =
+      with_part ended_in (block_of body) (rebuilt_block dropping_rules)
+      (block_stays (statements_of body) (list_stays body)) (λ x. tree.ForIn (value_of init) x span id)
+      (rebuilt-ForIn dropping_rules (value_of init) (block_of body) span id)
+      (λ x. collected-ForIn ended_parts (value_of init) x span id)
+  terminal_stays (If test consequent alternate id) =
+      with_two_parts ended_in ended_if (block_of consequent) (alternate_of alternate)
+      (rebuilt_block dropping_rules) (if_some (rebuilt_block dropping_rules))
+      (block_stays (statements_of consequent) (list_stays consequent)) (alternate_stays alternate)
+      (λ x y. tree.If test x y id)
+      (rebuilt-If dropping_rules test (block_of consequent) (alternate_of alternate) id)
+      (λ x y. collected-If ended_parts test x y id)
+  terminal_stays (Label body id) =
+      with_part ended_in (block_of body) (rebuilt_block dropping_rules)
+      (block_stays (statements_of body) (list_stays body)) (λ x. tree.Label x id)
+      (rebuilt-Label dropping_rules (block_of body) id)
+      (λ x. collected-Label ended_parts x id)
+  terminal_stays (Try body binding handler id) =
+      with_two_parts ended_in ended_in (block_of body) (block_of handler)
+      (rebuilt_block dropping_rules) (rebuilt_block dropping_rules)
+      (block_stays (statements_of body) (list_stays body)) (block_stays (statements_of handler) (list_stays handler))
+      (λ x y. tree.Try x binding y id)
+      (rebuilt-Try dropping_rules (block_of body) binding (block_of handler) id)
+      (λ x y. collected-Try ended_parts x binding y id)
+
+  alternate_stays : (x : Alternate) (answers : Answers) → Stays ended_if (ended_if (alternate_of x)) answers
+      (if_some (rebuilt_block dropping_rules) (alternate_of x) answers)
+  alternate_stays Absent answers = as_it_is ended_if [] answers None refl refl
+  alternate_stays (Present body) answers =
+      made ended_in ended_if (λ y. Some y) (λ y. refl) (ended_in (block_of body)) answers
+      (rebuilt_block dropping_rules (block_of body) answers) (block_stays (statements_of body) (list_stays body) answers)
+
+  cases_stay : (id : EvaluationOrder) (xs : Cases) (answers : Answers)
+      → Stays (ended_cases id) (ended_cases id (cases_of xs)) answers
+      (in_order (map (rebuilt_case dropping_rules) (cases_of xs)) answers)
+  cases_stay id NoCases answers = as_it_is (ended_cases id) [] answers [] refl refl
+  cases_stay id (Case test body rest) answers =
+      let x = case_of test (alternate_of body) in
+      made_of_two (ended_case id) (ended_cases id) (ended_cases id) (λ y ys. y ∷ ys) (λ y ys. refl)
+      (ended_case id x) (ended_cases id (cases_of rest)) answers (rebuilt_case dropping_rules x answers)
+      (in_order (map (rebuilt_case dropping_rules) (cases_of rest)))
+      (case_stays test (alternate_of body) (alternate_stays body) id answers) (cases_stay id rest)
+
+every_block_stays : (x : ReactiveBlock) → BlockStays x
+every_block_stays x =
+    let plain = every_block_is_plain x in
+    subst BlockStays plain.1 (block_stays (statements_of plain.0) (list_stays plain.0))
+
+-- the scopes of the blocks that stay
+pub rebuilt_staying : (answers : List Bool) (before after : ReactiveBlock) → IsRebuiltBy answers before after
+    → ended_in after ≡ staying (ended_in before) answers
+unfolding Stays
+rebuilt_staying answers before after is =
+    (subst (λ e. Stays ended_in (ended_in before) answers e) is.rebuilt (every_block_stays before answers)).1

@@ -1,0 +1,129 @@
+-- A body has the same runs whatever the scopes of its environment are.
+use Rattle.std.proofs.Common.{◌≡◌, ◌∙◌, ◌↔◌, Bool, List, Option, refl, sym}
+use Rattle.rc_hir.specs.Model.{Environment, InstructionValue, Place, ReactiveScope}
+use Rattle.rc_hir.specs.declared.instruction.InstructionValue.TheVariants as kinds
+use Rattle.rc_names.specs.Numbers.{EvaluationOrder}
+use Rattle.rc_tree.specs.Model.{ReactiveFunction, ReactiveLabel}
+use Rattle.rc_runs.specs.BodyRun.{Completion, Spot, IsBodyRun, RunsAfter, RunsAlternate, RunsCases, RunsChosen, RunsList}
+use Rattle.rc_runs.specs.BodyRun.{RunsLoop, RunsStatement, absent, and_then, break_implicit, break_labeled, break_unlabeled}
+use Rattle.rc_runs.specs.BodyRun.{chosen_here, chosen_later, continue_implicit, continue_labeled, continue_unlabeled}
+use Rattle.rc_runs.specs.BodyRun.{falls_into, goes_on, in_before, in_case, in_do_while, in_for_in, in_for_of, in_init}
+use Rattle.rc_runs.specs.BodyRun.{in_label, in_pruned_scope, in_scope, in_test, in_while, leaves_case, leaves_list}
+use Rattle.rc_runs.specs.BodyRun.{leaves_loop, next_turn, no_more_cases, nothing, nothing_before, past_before, past_cases}
+use Rattle.rc_runs.specs.BodyRun.{past_init, present, returned, row, stopped, test_fails, test_holds, thrown, took_arm}
+use Rattle.rc_runs.specs.BodyRun.{took_other}
+use Rattle.rc_runs.specs.Event.{Event, End}
+use Rattle.rc_runs.specs.LoopParts.{LoopParts}
+use Rattle.rc_runs.specs.PlainTree.{Alternate, Cases, Rows, Statement, Statements, Value}
+use Rattle.rc_runs.specs.Silent.{is_silent_value}
+use Rattle.rc_runs.specs.ValueRun.{Progress, RunsRow, RunsRows, RunsValue, did_and_stopped, did_value, in_row, in_sequence}
+use Rattle.rc_runs.specs.ValueRun.{past_row, past_rows, quiet_value, set_row, unset_row, value_stopped}
+
+-- the same values are silent in both environments
+abbrev SameSilence : Environment → Environment → Type 0
+SameSilence old new = (value : InstructionValue) → is_silent_value new value ≡ is_silent_value old value
+
+module _ (old new : Environment) (same : SameSilence old new) where
+  mutual
+    value_elsewhere : {is_test : Bool} {value : Value} {events : List Event} {progress : Progress}
+        → RunsValue old is_test value events progress → RunsValue new is_test value events progress
+    value_elsewhere value_stopped = value_stopped
+    value_elsewhere (quiet_value {value = value} e) = quiet_value (same value ∙ e)
+    value_elsewhere (did_value {value = value} e) = did_value (same value ∙ e)
+    value_elsewhere (did_and_stopped {value = value} e) = did_and_stopped (same value ∙ e)
+    value_elsewhere (in_sequence r) = in_sequence (rows_elsewhere r)
+
+    rows_elsewhere : {is_test : Bool} {rows : Rows} {value : Value} {events : List Event} {progress : Progress}
+        → RunsRows old is_test rows value events progress → RunsRows new is_test rows value events progress
+    rows_elsewhere (past_rows r) = past_rows (value_elsewhere r)
+    rows_elsewhere (past_row r past rest e) = past_row (row_elsewhere r) past (rows_elsewhere rest) e
+    rows_elsewhere (in_row r) = in_row (row_elsewhere r)
+
+    row_elsewhere : {is_test : Bool} {id : EvaluationOrder} {value : Value} {events : List Event} {progress : Progress}
+        → RunsRow old is_test id value events progress → RunsRow new is_test id value events progress
+    row_elsewhere (unset_row e) = unset_row e
+    row_elsewhere (set_row e r) = set_row e (value_elsewhere r)
+
+  mutual
+    list_elsewhere : {statements : Statements} {events : List Event} {outcome : Completion}
+        → RunsList old statements events outcome → RunsList new statements events outcome
+    list_elsewhere stopped = stopped
+    list_elsewhere nothing = nothing
+    list_elsewhere (and_then first rest e) = and_then (statement_elsewhere first) (after_elsewhere rest) e
+
+    after_elsewhere : {first outcome : Completion} {statements : Statements} {events : List Event}
+        → RunsAfter old first statements events outcome → RunsAfter new first statements events outcome
+    after_elsewhere (goes_on run) = goes_on (list_elsewhere run)
+    after_elsewhere (leaves_list e) = leaves_list e
+
+    statement_elsewhere : {statement : Statement} {events : List Event} {outcome : Completion}
+        → RunsStatement old statement events outcome → RunsStatement new statement events outcome
+    statement_elsewhere (row run e) = row (row_elsewhere run) e
+    statement_elsewhere returned = returned
+    statement_elsewhere thrown = thrown
+    statement_elsewhere break_implicit = break_implicit
+    statement_elsewhere (break_labeled e) = break_labeled e
+    statement_elsewhere break_unlabeled = break_unlabeled
+    statement_elsewhere continue_implicit = continue_implicit
+    statement_elsewhere continue_labeled = continue_labeled
+    statement_elsewhere continue_unlabeled = continue_unlabeled
+    statement_elsewhere (took_arm run e) = took_arm (list_elsewhere run) e
+    statement_elsewhere (took_other run e) = took_other (alternate_elsewhere run) e
+    statement_elsewhere (in_case run e) = in_case (chosen_elsewhere run) e
+    statement_elsewhere (past_cases e) = past_cases e
+    statement_elsewhere (in_while run) = in_while (loop_elsewhere run)
+    statement_elsewhere (in_do_while run) = in_do_while (loop_elsewhere run)
+    statement_elsewhere (in_init run) = in_init (value_elsewhere run)
+    statement_elsewhere (past_init run past later e) = past_init (value_elsewhere run) past (loop_elsewhere later) e
+    statement_elsewhere (in_for_of run) = in_for_of (loop_elsewhere run)
+    statement_elsewhere (in_for_in run) = in_for_in (loop_elsewhere run)
+    statement_elsewhere (in_label run e) = in_label (list_elsewhere run) e
+    statement_elsewhere (in_scope run) = in_scope (list_elsewhere run)
+    statement_elsewhere (in_pruned_scope run) = in_pruned_scope (list_elsewhere run)
+
+    chosen_elsewhere : {chosen : Option Place} {cases : Cases} {events : List Event} {outcome : Completion}
+        → RunsChosen old chosen cases events outcome → RunsChosen new chosen cases events outcome
+    chosen_elsewhere (chosen_here run) = chosen_here (cases_elsewhere run)
+    chosen_elsewhere (chosen_later run) = chosen_later (chosen_elsewhere run)
+
+    cases_elsewhere : {cases : Cases} {events : List Event} {outcome : Completion}
+        → RunsCases old cases events outcome → RunsCases new cases events outcome
+    cases_elsewhere no_more_cases = no_more_cases
+    cases_elsewhere (falls_into run rest e) = falls_into (alternate_elsewhere run) (cases_elsewhere rest) e
+    cases_elsewhere (leaves_case run e) = leaves_case (alternate_elsewhere run) e
+
+    loop_elsewhere : {label : Option ReactiveLabel} {loop : LoopParts} {spot : Spot} {events : List Event}
+        {outcome : Completion} → RunsLoop old label loop spot events outcome → RunsLoop new label loop spot events outcome
+    loop_elsewhere (nothing_before none run) = nothing_before none (loop_elsewhere run)
+    loop_elsewhere (in_before some run) = in_before some (value_elsewhere run)
+    loop_elsewhere (past_before some run past later e) =
+        past_before some (value_elsewhere run) past (loop_elsewhere later) e
+    loop_elsewhere (in_test run) = in_test (value_elsewhere run)
+    loop_elsewhere (test_fails run past e) = test_fails (value_elsewhere run) past e
+    loop_elsewhere (test_holds run past later e) = test_holds (value_elsewhere run) past (loop_elsewhere later) e
+    loop_elsewhere (next_turn run again later e) = next_turn (list_elsewhere run) again (loop_elsewhere later) e
+    loop_elsewhere (leaves_loop run ends e) = leaves_loop (list_elsewhere run) ends e
+
+    alternate_elsewhere : {alternate : Alternate} {events : List Event} {outcome : Completion}
+        → RunsAlternate old alternate events outcome → RunsAlternate new alternate events outcome
+    alternate_elsewhere absent = absent
+    alternate_elsewhere (present run) = present (list_elsewhere run)
+
+  run_elsewhere : (func : ReactiveFunction) (events : List Event) (end : End) → IsBodyRun func old events end
+      → IsBodyRun func new events end
+  run_elsewhere func events end run =
+      record { statements = run.statements; body = run.body; run = list_elsewhere run.run }
+
+module _ (env : Environment) (scopes : List ReactiveScope) where
+  -- whether a value is silent doesn't depend on scopes
+  same_silence : SameSilence env (record env { scopes = scopes })
+  unfolding is_silent_value
+  same_silence (kinds.StoreLocal lvalue value span) = refl
+  same_silence value = refl
+
+  pub runs_with_scopes : (func : ReactiveFunction) (events : List Event) (end : End)
+      → IsBodyRun func env events end ↔ IsBodyRun func (record env { scopes = scopes }) events end
+  runs_with_scopes func events end = (
+    run_elsewhere env (record env { scopes = scopes }) same_silence func events end,
+    run_elsewhere (record env { scopes = scopes }) env (λ value. sym (same_silence value)) func events end,
+  )
