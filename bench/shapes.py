@@ -91,3 +91,66 @@ def nested_labels_behind_rows(depth):
 def nested_scopes(depth):
     """So many scopes one in the other."""
     return nested(lambda head, to, behind: scope(head, to, behind, head), depth, depth)
+
+
+def go_on(number, to):
+    """A block that begins the next turn of a loop."""
+    return block(number, "Goto", {"variant": "Continue", "block": to})
+
+
+def loop(number, test, body, behind):
+    """A `While`."""
+    return block(number, "While", {"test": test, "loop_block": body, "fallthrough": behind})
+
+
+def tested(number, to, behind):
+    """The test of a loop."""
+    return block(number, "Branch", {"test": 0, "consequent": to, "alternate": behind})
+
+
+def loops_in_a_row(count):
+    """So many `While`s one after the other, each with an empty body."""
+    blocks = []
+    for head in range(0, 3 * count, 3):
+        test, body, behind = head + 1, head + 2, head + 3
+        blocks += [loop(head, test, body, behind), tested(test, body, behind), go_on(body, test)]
+    return document([*blocks, answer(3 * count)])
+
+
+def nested_loops(depth):
+    """So many `While`s one in the other: the body of each goes on with the next one, and ends with a continue."""
+    blocks = []
+    for level in range(depth):
+        head, test, behind = 2 * level, 2 * level + 1, 2 * depth + level + 1
+        blocks += [loop(head, test, head + 2, behind), tested(test, head + 2, behind)]
+    blocks.append(go_on(2 * depth, 2 * depth - 1))
+    for level in range(depth - 1, 0, -1):
+        blocks.append(go_on(2 * depth + level + 1, 2 * level - 1))
+    return document([*blocks, answer(2 * depth + 1)])
+
+
+def switch(number, firsts, behind):
+    """A `Switch` with a case for each of these blocks."""
+    return block(number, "Switch", {"test": 0, "cases": [{"test": 0, "block": to} for to in firsts], "fallthrough": behind})
+
+
+def falling_cases(count):
+    """A `Switch` of so many cases, each of which falls into the next one."""
+    cases = [jump(case, case + 1) for case in range(1, count + 1)]
+    return document([switch(0, range(1, count + 1), count + 1), *cases, answer(count + 1)])
+
+
+def breaking_cases(count):
+    """A `Switch` of so many cases, each with a break out of it."""
+    cases = [jump(case, count + 1) for case in range(1, count + 1)]
+    return document([switch(0, range(1, count + 1), count + 1), *cases, answer(count + 1)])
+
+
+def nested_switches(depth):
+    """A loop around so many `Switch`es one in the other, whose first cases all begin the next turn."""
+    end = 2 * depth + 3
+    blocks = [loop(0, 1, 2, end), tested(1, 2, end)]
+    for level in range(depth):
+        head = 2 * level + 2
+        blocks += [switch(head, [head + 1, head + 2], 1), go_on(head + 1, 1)]
+    return document([*blocks, go_on(2 * depth + 2, 1), answer(end)])

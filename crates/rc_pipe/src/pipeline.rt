@@ -36,6 +36,7 @@ pub struct Pruned {
 /// - `NoIds`: too few numbers are left for those that early returns may need;
 /// - `NotBuilt`: a terminal isn't built yet; the fault names the first such block;
 /// - `Malformed`: the graph spells no tree; the fault names a block and a rule whose fact holds of it;
+/// - `Todo`: the graph spells no tree; the fault names a block that stands for a value and ends in a `Label`;
 /// - `ScopeCompleted`: an operand is outside the blocks of its scope; the fault names the last one.
 ///
 /// Returns `NoMemory` whenever it runs out of memory. After any other fault the environment is as before, and after

@@ -19,8 +19,8 @@ const MAX_BYTES: usize = 16_777_216;
 const BUFFER_BYTES: usize = 4096;
 
 /// Returns the document that a source gives. Stops with `ReadFault` if a call of the source fails, `TooLarge` if there
-/// are too many bytes, `NotJson` or `NotDoc` if they are no JSON or no document, which it notes, and `NoMemory` when out
-/// of memory.
+/// are too many bytes, `NotJson` or `NotDoc` if they are no JSON or no document, which it notes, and `NoMemory` when
+/// out of memory.
 pub fn load<S: Source>(alloc: Global, source: &mut S, note: &mut Note) -> Result<Doc, Stop>
     ensures outcome { IsLoadOrStop (S.left source.old) (S.left source.new) result }
     ensures later { S.faults source.old ≤ S.faults source.new }

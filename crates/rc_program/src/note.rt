@@ -1,5 +1,5 @@
-//! What standard error says beyond the status: where bytes are no document, or why a graph is refused. A note that finds
-//! no memory is left out.
+//! What standard error says beyond the status: where bytes are no document, or why a graph is refused. A note that
+//! finds no memory is left out.
 
 use crate::printing::fault_sentence;
 use rc_doc::misread_words;

@@ -3,6 +3,7 @@
 mod answers;
 mod bad_input;
 mod broken_graphs;
+mod broken_loops;
 mod built_in_code;
 mod devices;
 mod flow;

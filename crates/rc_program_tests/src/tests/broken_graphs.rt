@@ -1,7 +1,8 @@
 //! Graphs of which one number is changed: the program refuses each, or prints the tree that it spells.
 //!
 //! In the texts a mark comes before each number that is changed: `@` before a block that something names, `#` before a
-//! place in the order of evaluation, `*` before a block's key, `~` before its own number, and `%` before a scope.
+//! place in the order of evaluation, `*` before a block's key, `~` before its own number, `%` before a scope, and `!`
+//! before the variant of a jump.
 
 use super::{HEAD, is_answered, replaced, tree};
 use rc_program::Status;
@@ -9,7 +10,7 @@ use std::alloc::{AllocError, Global};
 use std::test::Fail;
 
 /// A document of two parameters, one row and three scopes; `BLOCKS` is the place for its blocks.
-const DOCUMENT: &str = r#"{"hir":{"params":[{"k":"Place","v":0},{"k":"Place","v":1}],
+pub const DOCUMENT: &str = r#"{"hir":{"params":[{"k":"Place","v":0},{"k":"Place","v":1}],
 "body":{"entry":@0,"blocks":[BLOCKS]},
 "instructions":[{"id":#2,"lvalue":2,"value":{"k":"Debugger"}}]},
 "env":{"identifiers":[{"declaration_id":0,"type_":0},{"declaration_id":1,"type_":0},{"declaration_id":2,"type_":0}],
@@ -43,8 +44,9 @@ const SCOPES: &str = r#"
 {"key":*5,"id":~5,"terminal":{"k":"Goto","variant":"Break","block":@6,"id":#7}},
 {"key":*6,"id":~6,"terminal":{"k":"Return","value":0,"id":#8}}"#;
 
-fn is_mark(byte: u8) -> bool {
-    b"@#*~%".contains(&byte)
+/// Whether the byte is a mark.
+pub fn is_mark(byte: u8) -> bool {
+    b"@#*~%!".contains(&byte)
 }
 
 /// The text without its marks, and with another digit after the `nth` mark of this kind, counted from 0.
@@ -94,7 +96,7 @@ fn spelling(
 }
 
 /// Whether these are the digits of `digits` with which, after the `nth` mark of this kind, a tree is printed.
-fn are_spelling(
+pub fn are_spelling(
     alloc: Global,
     blocks: &str,
     mark: u8,
