@@ -8,7 +8,8 @@ use Rattle.rc_runs.specs.LoopParts.{first_of}
 use Rattle.rc_build.specs.declared.loops.LoopKind.{LoopKind}
 use Rattle.rc_build.specs.declared.loops.LoopKind.TheVariants as kinds
 use Rattle.rc_build.specs.declared.loops.LoopTerminal.{LoopTerminal}
-use Rattle.rc_build.specs.References.{fallthrough_of, is_while, referenced_blocks, tested_blocks, turn_block, value_references}
+use Rattle.rc_build.specs.References.{fallthrough_of, is_while, referenced_blocks, tested_blocks, turn_block}
+use Rattle.rc_build.specs.References.{value_references}
 use Rattle.rc_build.specs.inside.Loops.{before_of, init_of, is_while_kind, terminal_with}
 
 -- a block is the first of these, or one of those behind it
@@ -79,7 +80,8 @@ module _ (t : LoopTerminal) where
   tests_init (kinds.ForOf init) key e = let bad : ⊥ = cc in absurd bad
   tests_init kinds.ForIn key e = let bad : ⊥ = cc in absurd bad
 
-  pub tests_start : (kind : LoopKind) → is_among (tested_blocks (terminal_with kind t)) (first_of (before_of kind) t.test) ≡ true
+  pub tests_start : (kind : LoopKind)
+      → is_among (tested_blocks (terminal_with kind t)) (first_of (before_of kind) t.test) ≡ true
   tests_start kind = go (before_of kind) refl
     where
       go : (at : Option BlockId) → before_of kind ≡ at

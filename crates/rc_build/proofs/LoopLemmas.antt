@@ -1,6 +1,6 @@
 -- The turns of a loop: when their values and their body can be built, and what these give together.
-use Rattle.std.proofs.Common.{◌≡◌, ◌≤◌, Bool, true, false, List, [], ◌∷◌, ◌++◌, Option, Some, None, Result, refl, sym, ap, ◌∙◌}
-use Rattle.std.proofs.Common.{subst, arith}
+use Rattle.std.proofs.Common.{◌≡◌, ◌≤◌, Bool, true, false, List, [], ◌∷◌, ◌++◌, Option, Some, None, refl, sym, ap, ◌∙◌}
+use Rattle.std.proofs.Common.{Result, Ok, subst, arith}
 use Rattle.std.specs.Prelude.{option_map}
 use Rattle.std.specs.Option.{option_to_list}
 use Rattle.rc_names.specs.Numbers.{BlockId, is_among, times}
@@ -22,17 +22,20 @@ use Rattle.rc_build.specs.declared.builder.Site.{Site}
 use Rattle.rc_build.specs.declared.loops.LoopTerminal.{LoopTerminal}
 use Rattle.rc_build.specs.References.{referenced_blocks, value_references}
 use Rattle.rc_build.specs.RuleFacts.{BlockIs}
-use Rattle.rc_build.specs.inside.CanBuild.{AreMarked, AreReferenced, CanBuildList, CanBuildTerminal, IsUsed, IsUsedApart}
+use Rattle.rc_build.specs.inside.CanBuild.{AreMarked, AreReferenced, CanBuildList, CanBuildTerminal, IsUsed}
+use Rattle.rc_build.specs.inside.CanBuild.{IsUsedApart}
 use Rattle.rc_build.specs.inside.CanBuild.{pending_blocks}
-use Rattle.rc_build.specs.inside.Loops.{BuildsBefore, CanBuildBefore, CanBuildTurns, SpellsTurnsOf, TurnsBuilt, before_of, blocks_of, init_of}
+use Rattle.rc_build.specs.inside.Loops.{BuildsBefore, CanBuildBefore, CanBuildTurns, SpellsTurnsOf, TurnsBuilt}
+use Rattle.rc_build.specs.inside.Loops.{before_of, blocks_of, init_of}
 use Rattle.rc_build.specs.inside.Loops.{is_flat, terminal_of, value_blocks}
 use Rattle.rc_build.specs.inside.Marks.{MarksBlocks}
-use Rattle.rc_build.specs.inside.Setting.{Setting, part_setting}
+use Rattle.rc_build.specs.inside.Setting.{Setting, part_setting, setting_of}
 use Rattle.rc_build.specs.inside.Task.{FromBlock, Progress, Spells, progress_of}
 use Rattle.rc_build.specs.inside.Built.{Builds, BuiltList, BuiltPart, Refused}
 use Rattle.rc_build.specs.inside.Values.{CanBuildValue}
 use Rattle.rc_build.proofs.BuiltLemmas.{marking_beside, marking_none, marking_then, refused_back, refused_front}
-use Rattle.rc_build.proofs.LoopKindLemmas.{among_first, falls_with, parts_le, tests_before, tests_init, tests_start, tests_test}
+use Rattle.rc_build.proofs.LoopKindLemmas.{among_first, falls_with, parts_le, tests_before, tests_init, tests_start}
+use Rattle.rc_build.proofs.LoopKindLemmas.{tests_test}
 use Rattle.rc_build.proofs.LoopKindLemmas.{valued_with}
 use Rattle.rc_build.proofs.MarksLemmas.{among_back, among_front, referenced_fewer, times_append}
 use Rattle.rc_build.proofs.OwnersLemmas.{owned_weaker}
@@ -123,14 +126,17 @@ module _ {hir : HirFunction} where
           → CanBuildBefore hir new (before_of t.kind)
       before_can m = record {
         marked = m.marked;
-        value = λ before e. value_can before ((option_to_list (before_of t.kind) ++ t.body ∷ t.fallthrough ∷ []) ++ pending_blocks frames) m.marked
-            (m.referenced ((option_to_list (before_of t.kind) ++ t.body ∷ t.fallthrough ∷ []) ++ pending_blocks frames) can.referenced) (λ other. omega (
+        value = λ before e. value_can before (left ++ pending_blocks frames) m.marked
+            (m.referenced (left ++ pending_blocks frames) can.referenced) (λ other. omega (
               arith,
               ap (λ z. times other (option_to_list z)) e,
               times_append other (option_to_list (before_of t.kind)) (t.body ∷ t.fallthrough ∷ []),
-              times_append other (option_to_list (before_of t.kind) ++ t.body ∷ t.fallthrough ∷ []) (pending_blocks frames),
+              times_append other left (pending_blocks frames),
             )) can.here (valued_with t t.kind before (tests_before t t.kind before e));
       }
+        where
+          left : List BlockId
+          left = option_to_list (before_of t.kind) ++ t.body ∷ t.fallthrough ∷ []
 
       -- the body can be built inside the loop's frame, once the values are marked
       pub body_can : {new : Marks} {blocks : List BlockId} → MarksBlocks hir (value_blocks t) [] old new blocks
@@ -157,7 +163,8 @@ module _ {hir : HirFunction} where
 
 -- a value that is refused is refused before a test
 refused_there : {hir : HirFunction} {env : Environment} {blocks : LoopBlocks} {context : ListContext} {key : BlockId}
-    (used : List BlockId) → Refused hir (SpellsGoing hir env blocks.flat key (value_context blocks.span context) blocks.test) used
+    (used : List BlockId)
+    → Refused hir (SpellsGoing hir env blocks.flat key (value_context blocks.span context) blocks.test) used
     → Refused hir (SpellsBefore hir env blocks context (Some key)) used
 refused_there used none whole newly (some_value {value = value} d) sound = none value newly d sound
 
@@ -231,7 +238,7 @@ module _ (s : Setting) (t : LoopTerminal) where
   SpellsLoopBefore value used = SpellsBefore s.hir s.env (blocks_of t) s.context (before_of t.kind) value used
 
   -- what is built before the test in the same setting
-  pub before_built : {before : Option ReactiveValue} {old new : Progress} (later : Setting) → later ≡ s
+  before_built : {before : Option ReactiveValue} {old new : Progress} (later : Setting) → later ≡ s
       → BuiltPart (option_map value_of)
       (SpellsBefore later.hir later.env (blocks_of t) later.context (before_of t.kind)) later.hir
       (option_to_list (before_of t.kind)) before old new
@@ -305,3 +312,34 @@ module _ (s : Setting) (t : LoopTerminal) where
   turns_refused_test used none parts blocks
       (turns {test_used = front} {before_used = middle} {body_used = back} x y td bd ld w) sound =
       none parts.test front td (refused_front s.hir used front (middle ++ back) sound w)
+
+-- what holds in the frame that is entered holds in the loop's
+pub in_frame : (P : Setting → Type 0) (t : LoopTerminal) {frame : Frame} {later s : Setting}
+    → frame ≡ loop_frame (blocks_of t) → later ≡ s → P (part_setting (Some t.fallthrough) frame later)
+    → P (part_setting (Some t.fallthrough) (loop_frame (blocks_of t)) s)
+in_frame P t {frame} {later} {s} e same holds =
+    subst (λ z. P (part_setting (Some t.fallthrough) (loop_frame (blocks_of t)) z)) same
+    (subst (λ z. P (part_setting (Some t.fallthrough) z later)) e holds)
+
+-- the values of a turn are built: its test, and what stands before it
+pub record ValuesBuilt (s : Setting) (t : LoopTerminal) (later : Setting) (test : ReactiveValue)
+    (before : Option ReactiveValue) (old second : Progress) : Type 0 where
+  pub first : Progress
+  pub tested : BuiltPart value_of (SpellsLoopTest s t) s.hir (t.test ∷ []) test old first
+  pub begun : BuiltPart (option_map value_of) (SpellsLoopBefore s t) s.hir (option_to_list (before_of t.kind)) before
+      first second
+  pub same : later ≡ s
+
+pub values_built : (t : LoopTerminal) {old mid late : Builder} (site : Site) {flat : Bool} {at : Option BlockId}
+    {test : ReactiveValue} {before : Option ReactiveValue} → flat ≡ is_flat t.kind → at ≡ before_of t.kind
+    → BuildsTest old mid t flat (Ok test) → BuildsBefore mid late t flat at (Ok before)
+    → ValuesBuilt (setting_of old site) t (setting_of late site) test before (progress_of old) (progress_of late)
+values_built t {old} {mid} {late} site f e test before =
+    let s = setting_of old site in
+    let tested = test_at t f test site s.context in
+    let begun = before_at t e f before site (setting_of mid site).context in record {
+      first = progress_of mid;
+      tested = tested.ok;
+      begun = before_built s t (setting_of mid site) tested.frames begun.ok;
+      same = begun.frames ∙ tested.frames;
+    }

@@ -1,5 +1,6 @@
 -- What a loop is: what runs before all turns, and its turns, in the statement of its kind.
-use Rattle.std.proofs.Common.{◌≡◌, Bool, true, false, List, [], ◌∷◌, ◌++◌, ◌&&◌, ◌||◌, Option, Some, None, refl, sym, ap, ◌∙◌}
+use Rattle.std.proofs.Common.{◌≡◌, Bool, true, false, List, [], ◌∷◌, ◌++◌, ◌&&◌, ◌||◌, Option, Some, None, refl, sym}
+use Rattle.std.proofs.Common.{ap, ◌∙◌}
 use Rattle.std.proofs.Common.{subst, arith, inl, inr}
 use Rattle.std.specs.Prelude.{◌⊎◌, IsSome, is_some, option_map}
 use Rattle.std.specs.Option.{option_to_list}
@@ -13,11 +14,13 @@ use Rattle.rc_runs.specs.Frames.{is_jump_target}
 use Rattle.rc_runs.specs.Graph.{ends_unreachable}
 use Rattle.rc_runs.specs.ListContext.{ListContext}
 use Rattle.rc_runs.specs.LoopParts.{LoopBlocks, LoopParts, turn_start}
-use Rattle.rc_runs.specs.PlainTree.{Value, Statements, TreeTerminal, TerminalStatement, While, DoWhile, For, ForOf, ForIn}
+use Rattle.rc_runs.specs.PlainTree.{Value, Statements, TreeTerminal, TerminalStatement, While, DoWhile, For, ForOf}
+use Rattle.rc_runs.specs.PlainTree.{ForIn}
 use Rattle.rc_runs.specs.TreeOf.{value_of, statements_of}
 use Rattle.rc_runs.specs.TreeOf as plain
 use Rattle.rc_runs.specs.Grammar.{SpellsBefore, SpellsStatement, SpellsTerminal, SpellsTurns, and_rest, label_of}
-use Rattle.rc_runs.specs.Grammar.{no_value, some_value, turns, while_loop, do_while_loop, for_loop, for_of_loop, for_in_loop}
+use Rattle.rc_runs.specs.Grammar.{no_value, some_value, turns, while_loop, do_while_loop, for_loop, for_of_loop}
+use Rattle.rc_runs.specs.Grammar.{for_in_loop}
 use Rattle.rc_runs.proofs.OneTree.{one_before}
 use Rattle.rc_build.specs.declared.builder.Marks.{Marks}
 use Rattle.rc_build.specs.declared.loops.BuiltTurns.{BuiltTurns}
@@ -27,12 +30,15 @@ use Rattle.rc_build.specs.declared.loops.LoopTerminal.{LoopTerminal}
 use Rattle.rc_build.specs.References.{fallthrough_of, is_while, turn_block}
 use Rattle.rc_build.specs.RuleFacts.{IsFramedApart, RuleFact}
 use Rattle.rc_build.specs.inside.CanBuild.{CanBuildTerminal}
-use Rattle.rc_build.specs.inside.Loops.{SpellsTurnsOf, TurnsBuilt, blocks_of, blocks_with, init_of, is_flat, is_while_kind}
-use Rattle.rc_build.specs.inside.Loops.{shown_blocks, terminal_of, terminal_with, tree_of, tree_with, turns_of, value_blocks}
+use Rattle.rc_build.specs.inside.Loops.{SpellsTurnsOf, TurnsBuilt, blocks_of, blocks_with, init_of, is_flat}
+use Rattle.rc_build.specs.inside.Loops.{is_while_kind}
+use Rattle.rc_build.specs.inside.Loops.{shown_blocks, terminal_of, terminal_with, tree_of, tree_with, turns_of}
+use Rattle.rc_build.specs.inside.Loops.{value_blocks}
 use Rattle.rc_build.specs.inside.Setting.{Setting, label_at, terminal_statement}
 use Rattle.rc_build.specs.inside.Task.{FromTerminal, Progress, Spells, left}
 use Rattle.rc_build.specs.inside.Built.{BuiltPart, BuiltPrefix, Refused}
-use Rattle.rc_build.proofs.BuiltLemmas.{marking_beside, marking_more, marking_then, refused_back, refused_front, statement_prefix}
+use Rattle.rc_build.proofs.BuiltLemmas.{marking_beside, marking_more, marking_then, refused_back, refused_front}
+use Rattle.rc_build.proofs.BuiltLemmas.{statement_prefix}
 use Rattle.rc_build.proofs.LoopKindLemmas.{falls_with, parts_le, starts_with, while_with}
 use Rattle.rc_build.proofs.MarksLemmas.{times_append}
 use Rattle.rc_build.proofs.StatementLemmas.{target_apart}
@@ -57,11 +63,24 @@ abbrev pub is_live : HirFunction → List Frame → LoopTerminal → Bool
 is_live hir frames t = is_jump_target frames t.fallthrough || (is_jump_target frames (turn_start (blocks_of t))
     || (is_while_kind t.kind && ends_unreachable hir t.fallthrough))
 
-pub not_live : (hir : HirFunction) (frames : List Frame) (t : LoopTerminal) → is_live hir frames t ≡ false
-    → (is_jump_target frames t.fallthrough ≡ false) × (is_jump_target frames (turn_start (blocks_of t)) ≡ false)
-    × (is_while_kind t.kind ≡ true → ends_unreachable hir t.fallthrough ≡ false)
-not_live hir frames t e = live_none (is_jump_target frames t.fallthrough)
+-- in which of these ways a loop is live
+abbrev LiveWays : HirFunction → List Frame → LoopTerminal → Type 0
+LiveWays hir frames t = (is_jump_target frames t.fallthrough ≡ true)
+    ⊎ ((is_jump_target frames (turn_start (blocks_of t)) ≡ true)
+    ⊎ ((is_while_kind t.kind ≡ true) × (ends_unreachable hir t.fallthrough ≡ true)))
+
+live_ways : (hir : HirFunction) (frames : List Frame) (t : LoopTerminal) → is_live hir frames t ≡ true
+    → LiveWays hir frames t
+live_ways hir frames t e = live_parts (is_jump_target frames t.fallthrough)
     (is_jump_target frames (turn_start (blocks_of t))) (is_while_kind t.kind) (ends_unreachable hir t.fallthrough) e
+
+pub not_live : (s : Setting) (t : LoopTerminal) → is_live s.hir s.context.frames t ≡ false
+    → (is_jump_target s.context.frames t.fallthrough ≡ false)
+    × (is_jump_target s.context.frames (turn_start (blocks_of t)) ≡ false)
+    × (is_while_kind t.kind ≡ true → ends_unreachable s.hir t.fallthrough ≡ false)
+not_live s t e = live_none (is_jump_target s.context.frames t.fallthrough)
+    (is_jump_target s.context.frames (turn_start (blocks_of t))) (is_while_kind t.kind)
+    (ends_unreachable s.hir t.fallthrough) e
 
 -- such a loop's block breaks the rule
 pub live_fact : {hir : HirFunction} {marks : Marks} {frames : List Frame} {key : BlockId} (t : LoopTerminal)
@@ -74,12 +93,11 @@ live_fact {hir} {frames = frames} {key = key} t can live = record {
     start = turn_start (blocks_of t);
     falls = ap fallthrough_of can.here.holds ∙ falls_with t t.kind;
     starts = ap turn_block can.here.holds ∙ starts_with t t.kind;
-    bad = go (live_parts (is_jump_target frames t.fallthrough) (is_jump_target frames (turn_start (blocks_of t))) (is_while_kind t.kind) (ends_unreachable hir t.fallthrough) live);
+    bad = go (live_ways hir frames t live);
   };
 }
   where
-    go : (is_jump_target frames t.fallthrough ≡ true) ⊎ ((is_jump_target frames (turn_start (blocks_of t)) ≡ true)
-        ⊎ ((is_while_kind t.kind ≡ true) × (ends_unreachable hir t.fallthrough ≡ true)))
+    go : LiveWays hir frames t
         → IsFramedApart hir key t.fallthrough ⊎ (IsFramedApart hir key (turn_start (blocks_of t))
         ⊎ ((same_id t.fallthrough (turn_start (blocks_of t)) ≡ true) ⊎ ((is_while can.here.block.terminal ≡ true)
         × (ends_unreachable hir t.fallthrough ≡ true))))
@@ -203,7 +221,8 @@ module _ {s : Setting} {t : LoopTerminal} where
       let v = turns_there d refl in record {
         whole = ForOf v.0 parts.test parts.body t.span t.id;
         is = ap (λ z. option_map
-            (λ value. tree.ForOf value (value_of parts.test) (record { statements = statements_of parts.body }) t.span t.id)
+            (λ value. tree.ForOf value (value_of parts.test) (record { statements = statements_of parts.body }) t.span
+            t.id)
             (option_map value_of z)) v.1;
         spelled = for_of_loop v.1 d;
       }
@@ -229,14 +248,12 @@ module _ (s : Setting) (t : LoopTerminal) where
   pub live_refused : (used : List BlockId) → is_live s.hir s.context.frames t ≡ true
       → Refused s.hir (Spells s (FromTerminal (terminal_of t))) used
   live_refused used live all blocks d sound =
-      let p = loop_parts t.kind d in go p.reached (turns_apart p.turns_spelled) (live_parts (is_jump_target s.context.frames t.fallthrough) (is_jump_target s.context.frames (turn_start (blocks_of t))) (is_while_kind t.kind) (ends_unreachable s.hir t.fallthrough) live)
+      let p = loop_parts t.kind d in go p.reached (turns_apart p.turns_spelled) (live_ways s.hir s.context.frames t live)
     where
       go : (is_while_kind t.kind ≡ true → ends_unreachable s.hir t.fallthrough ≡ false)
           → (is_jump_target s.context.frames t.fallthrough ≡ false)
           × (is_jump_target s.context.frames (turn_start (blocks_of t)) ≡ false)
-          → (is_jump_target s.context.frames t.fallthrough ≡ true)
-          ⊎ ((is_jump_target s.context.frames (turn_start (blocks_of t)) ≡ true)
-          ⊎ ((is_while_kind t.kind ≡ true) × (ends_unreachable s.hir t.fallthrough ≡ true))) → ⊥
+          → LiveWays s.hir s.context.frames t → ⊥
       go reached apart (inl h) = let e = apart.0 in let bad : ⊥ = cc in bad
       go reached apart (inr (inl h)) = let e = apart.1 in let bad : ⊥ = cc in bad
       go reached apart (inr (inr h)) =
@@ -266,7 +283,7 @@ module _ (s : Setting) (t : LoopTerminal) where
       whole_tree = loop_tree t.kind reached i.spelled b.spelled
 
       tree_is : tree_of t init built ≡ Some (plain.terminal_of whole_tree.whole)
-      tree_is = ap (λ z. tree_of t z built) i.is ∙ ap (λ z. tree_of t (option_map value_of i.value) z) b.is ∙ whole_tree.is
+      tree_is = ap (λ z. tree_of t z built) i.is ∙ ap (tree_of t (option_map value_of i.value)) b.is ∙ whole_tree.is
 
       -- the parts are there that the loop's kind has
       pub tree_there : IsSome (tree_of t init built)

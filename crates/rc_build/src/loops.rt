@@ -156,7 +156,8 @@ impl<'g> Builder<'g> {
         site: Site,
         terminal: LoopTerminal,
     ) -> Result<Option<BlockId>, Fault>
-        requires { CanBuildTerminal self.old.hir.now self.old.marks self.old.frames site.block (spec.terminal_of terminal) }
+        requires { CanBuildTerminal self.old.hir.now self.old.marks self.old.frames site.block
+            (spec.terminal_of terminal) }
         ensures { BuildsTask self.old self.new site (FromTerminal (spec.terminal_of terminal)) left result }
     {
         if self.is_live(terminal) {

@@ -59,7 +59,7 @@ pub record IsAnswer (hir : HirFunction) (env answered : Environment) (pruned : P
   pub known : TreeInTables pruned.func answered
 
 -- The cause of each fault. Except for `NoMemory`, each cause excludes the earlier ones, in the order of the faults
--- here.
+-- here; of `Malformed` and `Todo` either may come where both have theirs.
 abbrev pub IsCause : HirFunction → Environment → Fault → Type 0
 IsCause hir env (faults.BadName table index) = NamesOutside hir env (faults.BadName table index)
 IsCause hir env (faults.EarlyReturnSet scope) =

@@ -21,7 +21,8 @@ use Rattle.rc_build.specs.declared.loops.LoopKind.{LoopKind}
 use Rattle.rc_build.specs.declared.loops.LoopKind.TheVariants as kinds
 use Rattle.rc_build.specs.declared.loops.BuiltTurns.{BuiltTurns}
 use Rattle.rc_build.specs.RuleFacts.{BlockIs}
-use Rattle.rc_build.specs.inside.CanBuild.{AreMarked, AreOwned, AreReferenced, AreUsed, IsUsed, pending_blocks, used_blocks}
+use Rattle.rc_build.specs.inside.CanBuild.{AreMarked, AreOwned, AreReferenced, AreUsed, IsUsed, pending_blocks}
+use Rattle.rc_build.specs.inside.CanBuild.{used_blocks}
 use Rattle.rc_build.specs.inside.Setting.{Setting}
 use Rattle.rc_build.specs.inside.Task.{Progress, progress_of}
 use Rattle.rc_build.specs.inside.Built.{Builds, BuiltPart, Refused}

@@ -28,9 +28,9 @@ use Rattle.rc_build.proofs.IfLemmas.{if_elsewhere, if_refused_later, elsewhere_p
 use Rattle.rc_build.proofs.ListLemmas.{list_done, list_further, list_next, list_refused, list_start, same_blocks}
 use Rattle.rc_build.proofs.ListLemmas.{used_longer}
 use Rattle.rc_build.proofs.JumpLemmas.{builds_end}
-use Rattle.rc_build.proofs.LoopLemmas.{SpellsLoopBefore, before_at, before_built, before_can, body_can, init_can, start_marked, test_at}
+use Rattle.rc_build.proofs.LoopLemmas.{SpellsLoopBefore, before_at, before_can, body_can, in_frame, init_can, start_marked, test_at}
 use Rattle.rc_build.proofs.LoopLemmas.{test_can, turns_built, turns_can, turns_refused_before, turns_refused_body}
-use Rattle.rc_build.proofs.LoopLemmas.{turns_refused_test, values_marked}
+use Rattle.rc_build.proofs.LoopLemmas.{turns_refused_test, values_built, values_marked}
 use Rattle.rc_build.proofs.LoopStatementLemmas.{init_refused, live_fact, not_live, live_refused, loop_built, loop_refused}
 use Rattle.rc_build.proofs.LoopStatementLemmas.{tree_there}
 use Rattle.rc_build.proofs.MarksLemmas.{room}
@@ -323,7 +323,8 @@ build_loop-returns-then-is_live t c =
     let old = c.args.self.now in
     let live = sym c.is_live.ensures ∙ c.if-is_live.true in
     breaks_rule c.args.site.block LoopLive c.malformed.ensures
-    (live_refused (setting_of old c.args.site) c.args.terminal old.marks.used live) (live_fact c.args.terminal c.requires live)
+    (live_refused (setting_of old c.args.site) c.args.terminal old.marks.used live)
+    (live_fact c.args.terminal c.requires live)
 
 pub build_loop-build_before-requires : goal.build_loop-build_before-requires
 build_loop-build_before-requires t c =
@@ -333,15 +334,17 @@ build_loop-build_before-requires t c =
 pub build_loop-returns-in_err-init : goal.build_loop-returns-in_err-init
 build_loop-returns-in_err-init t c =
     let s = setting_of c.args.self.now c.args.site in
-    passes_on c.from_residual.ensures.1 refl (before_at c.args.terminal c.init.ensures refl c.in_err-init.ensures c.args.site s.context)
+    passes_on c.from_residual.ensures.1 refl
+    (before_at c.args.terminal c.init.ensures refl c.in_err-init.ensures c.args.site s.context)
     (init_refused s c.args.terminal c.args.self.now.marks.used)
 
 pub build_loop-build_turns-requires : goal.build_loop-build_turns-requires
 build_loop-build_turns-requires t c =
     let old = c.args.self.now in
     let mid = c.build_before.new.self in
-    let init = before_at c.args.terminal c.init.ensures refl c.in_ok-init.ensures c.args.site (setting_of old c.args.site).context in
-    let free = not_live c.args.self.now.hir.now c.args.self.now.frames c.args.terminal (sym c.is_live.ensures ∙ c.if-is_live.false) in (
+    let s = setting_of old c.args.site in
+    let init = before_at c.args.terminal c.init.ensures refl c.in_ok-init.ensures c.args.site s.context in
+    let free = not_live s c.args.terminal (sym c.is_live.ensures ∙ c.if-is_live.false) in (
       omega (arith, same_blocks old mid c.args.site init.frames, used_longer init.ok.marking),
       subst (λ (z : Setting). CanBuildTurns z.hir mid.marks z.context.frames c.args.terminal) (sym init.frames)
           (turns_can c.args.terminal c.requires init.ok.marking free.0 free.1),
@@ -360,7 +363,7 @@ pub build_loop-loop_tree-tree-requires : goal.build_loop-loop_tree-tree-requires
 build_loop-loop_tree-tree-requires t c =
     let s = setting_of c.args.self.now c.args.site in
     let init = before_at c.args.terminal c.init.ensures refl c.in_ok-init.ensures c.args.site s.context in
-    let free = not_live c.args.self.now.hir.now c.args.self.now.frames c.args.terminal (sym c.is_live.ensures ∙ c.if-is_live.false) in
+    let free = not_live s c.args.terminal (sym c.is_live.ensures ∙ c.if-is_live.false) in
     tree_there s c.args.terminal init.ok (subst (λ (z : Setting). TurnsBuilt z c.args.terminal c.in_ok-turns.turns
     (progress_of c.build_before.new.self) (progress_of c.build_turns.new.self)) init.frames c.in_ok-turns.ensures.ok)
     free.2
@@ -369,7 +372,7 @@ pub build_loop-returns : goal.build_loop-returns
 build_loop-returns t c =
     let s = setting_of c.args.self.now c.args.site in
     let init = before_at c.args.terminal c.init.ensures refl c.in_ok-init.ensures c.args.site s.context in
-    let free = not_live c.args.self.now.hir.now c.args.self.now.frames c.args.terminal (sym c.is_live.ensures ∙ c.if-is_live.false) in
+    let free = not_live s c.args.terminal (sym c.is_live.ensures ∙ c.if-is_live.false) in
     let turns = c.in_ok-turns.ensures in
     is_built (Some c.args.terminal.fallthrough)
     (loop_built s c.args.terminal init.ok (subst (λ (z : Setting). TurnsBuilt z c.args.terminal c.in_ok-turns.turns
@@ -405,67 +408,52 @@ build_turns-returns-in_err-before t c =
     let s = setting_of c.args.self.now c.args.site in
     let test = test_at c.args.terminal c.is_flat.ensures c.in_ok-test.ensures c.args.site s.context in
     passes_on c.from_residual-in_err-before.ensures.1 (ap (λ (z : Setting). z.hir) test.frames)
-    (before_at c.args.terminal c.before-2.ensures c.is_flat.ensures c.in_err-before.ensures c.args.site (setting_of mid c.args.site).context)
+    (before_at c.args.terminal c.before-2.ensures c.is_flat.ensures c.in_err-before.ensures c.args.site
+    (setting_of mid c.args.site).context)
     (λ none. turns_refused_before s c.args.terminal test.ok (subst (λ (z : Setting). Refused z.hir
     (SpellsLoopBefore z c.args.terminal) mid.marks.used) test.frames none))
 
 pub build_turns-build_part-requires : goal.build_turns-build_part-requires
 build_turns-build_part-requires t c =
     let old = c.args.self.now in
-    let mid = c.build_test.new.self in
     let late = c.build_before.new.self in
-    let s = setting_of old c.args.site in
     let loop = c.args.terminal in
-    let test = test_at loop c.is_flat.ensures c.in_ok-test.ensures c.args.site s.context in
-    let before = before_at loop c.before-2.ensures c.is_flat.ensures c.in_ok-before.ensures c.args.site (setting_of mid c.args.site).context in
-    let built = before_built s loop (setting_of mid c.args.site) test.frames before.ok in (
+    let values = values_built loop c.args.site c.is_flat.ensures c.before-2.ensures c.in_ok-test.ensures
+    c.in_ok-before.ensures in (
       omega (
         arith,
-        same_blocks old mid c.args.site test.frames,
-        same_blocks mid late c.args.site before.frames,
-        used_longer test.ok.marking,
-        used_longer before.ok.marking,
+        same_blocks old late c.args.site values.same,
+        used_longer (values_marked (setting_of old c.args.site) loop values.tested values.begun),
       ),
       subst (λ z. CanBuildList late.hir.now late.marks (frames_inside (Some loop.fallthrough) z late.frames) loop.body)
           (sym c.frame.ensures)
           (subst (λ (z : Setting). CanBuildList z.hir late.marks (loop_frame (blocks_of loop) ∷ z.context.frames) loop.body)
-          (sym (before.frames ∙ test.frames)) (body_can loop c.requires (values_marked s loop test.ok built)
-          (start_marked s loop test.ok built))),
+          (sym values.same) (body_can loop c.requires
+          (values_marked (setting_of old c.args.site) loop values.tested values.begun)
+          (start_marked (setting_of old c.args.site) loop values.tested values.begun))),
     )
 
 pub build_turns-returns-in_err-body : goal.build_turns-returns-in_err-body
 build_turns-returns-in_err-body t c =
-    let mid = c.build_test.new.self in
     let late = c.build_before.new.self in
-    let s = setting_of c.args.self.now c.args.site in
     let loop = c.args.terminal in
-    let test = test_at loop c.is_flat.ensures c.in_ok-test.ensures c.args.site s.context in
-    let before = before_at loop c.before-2.ensures c.is_flat.ensures c.in_ok-before.ensures c.args.site (setting_of mid c.args.site).context in
-    let built = before_built s loop (setting_of mid c.args.site) test.frames before.ok in
-    passes_on c.from_residual-in_err-body.ensures.1 (ap (λ (z : Setting). z.hir) (before.frames ∙ test.frames))
-    c.in_err-body.ensures (λ none. turns_refused_body s loop test.ok built
-    (subst (λ (z : Setting). Refused z.hir (Spells (part_setting (Some loop.fallthrough) (loop_frame (blocks_of loop)) z)
-    (FromBlock loop.body)) late.marks.used) (before.frames ∙ test.frames)
-    (subst (λ z. Refused late.hir.now (Spells (part_setting (Some loop.fallthrough) z (setting_of late c.args.site))
-    (FromBlock loop.body)) late.marks.used) c.frame.ensures none)))
+    let values = values_built loop c.args.site c.is_flat.ensures c.before-2.ensures c.in_ok-test.ensures
+    c.in_ok-before.ensures in
+    passes_on c.from_residual-in_err-body.ensures.1 (ap (λ (z : Setting). z.hir) values.same) c.in_err-body.ensures
+    (λ none. turns_refused_body (setting_of c.args.self.now c.args.site) loop values.tested values.begun
+    (in_frame (λ z. Refused z.hir (Spells z (FromBlock loop.body)) late.marks.used) loop c.frame.ensures values.same none))
 
 pub build_turns-returns : goal.build_turns-returns
 build_turns-returns t c =
-    let mid = c.build_test.new.self in
     let late = c.build_before.new.self in
-    let s = setting_of c.args.self.now c.args.site in
     let loop = c.args.terminal in
-    let test = test_at loop c.is_flat.ensures c.in_ok-test.ensures c.args.site s.context in
-    let before = before_at loop c.before-2.ensures c.is_flat.ensures c.in_ok-before.ensures c.args.site (setting_of mid c.args.site).context in
-    let built = before_built s loop (setting_of mid c.args.site) test.frames before.ok in
+    let values = values_built loop c.args.site c.is_flat.ensures c.before-2.ensures c.in_ok-test.ensures
+    c.in_ok-before.ensures in
     let body = c.in_ok-body.ensures in
     is_built _
-    (turns_built s loop test.ok built c.requires.falls_apart c.requires.starts_apart
-    (subst (λ (z : Setting). BuiltList (part_setting (Some loop.fallthrough) (loop_frame (blocks_of loop)) z) loop.body
-    c.in_ok-body.body (progress_of late) (progress_of c.build_part.new.self)) (before.frames ∙ test.frames)
-    (subst (λ z. BuiltList (part_setting (Some loop.fallthrough) z (setting_of late c.args.site)) loop.body
-    c.in_ok-body.body (progress_of late) (progress_of c.build_part.new.self)) c.frame.ensures body.ok)))
-    (body.frames ∙ before.frames ∙ test.frames)
+    (turns_built (setting_of c.args.self.now c.args.site) loop values.tested values.begun c.requires.falls_apart
+    c.requires.starts_apart (in_frame (λ z. BuiltList z loop.body c.in_ok-body.body (progress_of late)
+    (progress_of c.build_part.new.self)) loop c.frame.ensures values.same body.ok)) (body.frames ∙ values.same)
 
 -- a branch in a list
 
