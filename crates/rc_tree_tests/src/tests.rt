@@ -3,6 +3,7 @@
 mod copies;
 mod drops;
 mod graphs;
+mod kinds;
 mod order;
 mod parts;
 mod recorder;
