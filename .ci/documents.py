@@ -5,7 +5,7 @@ They are made here and not stored. The text is made from the rules of the printe
 import json, sys
 
 OTHER = {"types": ["Other"], "config": {}}
-HEAD = "function null hint {} generator false async false\nparam 0\nbody\n"
+HEAD = "function null hint {} generator false async false\nparam {}\nbody\n"
 
 
 def identifiers(count):
@@ -13,19 +13,19 @@ def identifiers(count):
 
 
 def straight(value, count, **header):
-    """A function of one block that returns an identifier."""
+    """A function of one block that returns its parameter, which is that identifier."""
     block = {"id": 0, "terminal": {"k": "Return", "value": value, "id": 1}}
-    hir = {"params": [{"k": "Place", "v": 0}], "body": {"entry": 0, "blocks": [block]}, **header}
+    hir = {"params": [{"k": "Place", "v": value}], "body": {"entry": 0, "blocks": [block]}, **header}
     return {"hir": hir, "env": {**OTHER, "identifiers": identifiers(count), "next_block": 1}}
 
 
 def text():
     hint = "x" * 100_000
-    return straight(0, 1, name_hint=hint), HEAD.format(f'"{hint}"') + "  return 0 id 1\nfates\n"
+    return straight(0, 1, name_hint=hint), HEAD.format(f'"{hint}"', 0) + "  return 0 id 1\nfates\n"
 
 
 def many_identifiers():
-    return straight(69_999, 70_000), HEAD.format("null") + "  return 69999 id 1\nfates\n"
+    return straight(69_999, 70_000), HEAD.format("null", 69_999) + "  return 69999 id 1\nfates\n"
 
 
 def levels(depth=500):
@@ -48,7 +48,7 @@ def levels(depth=500):
     document = straight(0, 1)
     document["hir"]["body"]["blocks"] = blocks
     document["env"]["next_block"] = 2 * depth + 1
-    return document, HEAD.format("null") + "\n".join(lines) + f"\n  return 0 id {2 * depth + 2}\nfates\n"
+    return document, HEAD.format("null", 0) + "\n".join(lines) + f"\n  return 0 id {2 * depth + 2}\nfates\n"
 
 
 for name, make in ("text", text), ("levels", levels), ("identifiers", many_identifiers):

@@ -11,6 +11,7 @@ use Rattle.rc_runs.specs.declared.frames.Frame.{Frame}
 use Rattle.rc_runs.specs.Frames.{is_jump_target, resolve_break}
 use Rattle.rc_runs.specs.PlainTree.{Statements, If, Present}
 use Rattle.rc_runs.specs.TreeOf.{statements_of}
+use Rattle.rc_runs.specs.Grammar.{value_statement}
 use Rattle.rc_runs.specs.Grammar.{SpellsList, SpellsTerminal, and_rest, branch_arms, branch_break, break_statements, from_block}
 use Rattle.rc_runs.specs.Grammar.{unlabeled}
 use Rattle.rc_runs.proofs.OneTree.{one_list}
@@ -111,7 +112,7 @@ module _ {s : Setting} {test : Place} {consequent alternate : BlockId} {id : Eva
     other_spelled = e;
     parts = refl;
   }
-  branch_parts (and_rest d r w) = elim d [ ]
+  branch_parts (and_rest (value_statement i j n a u) r w) = elim n [ ]
 
   branch_spelled : {part other : Statements} {front back : List BlockId} → SpellsConsequent s consequent id part front
       → SpellsList s.hir s.env alternate s.context other back
@@ -165,13 +166,14 @@ module _ {s : Setting} {test : Place} {consequent alternate : BlockId} {id : Eva
   branch_lost used target all blocks d sound =
       let p = branch_parts d in no_target {s = s} target p.other_spelled
 
-module _ {hir : HirFunction} {marks : Marks} {frames : List Frame} {key : BlockId} {test : Place}
+module _ {hir : HirFunction} {marks : Marks} {handler : Option BlockId} {frames : List Frame} {key : BlockId}
+    {test : Place}
     {consequent alternate : BlockId} {id : EvaluationOrder} {span : Option Span}
-    (can : CanBuildTerminal hir marks frames key (terminals.Branch test consequent alternate id span)) where
+    (can : CanBuildTerminal hir marks handler frames key (terminals.Branch test consequent alternate id span)) where
   -- a block that ends in a branch can break to a consequent that a jump can name
   pub branch_can : is_jump_target frames consequent ≡ true
       → CanBreak hir marks frames key (terminals.Branch test consequent alternate id span) consequent
-  branch_can target = record { can = can; jumps = first_arm; lost = inl (target_apart can target) }
+  branch_can target = record { handler = handler; can = can; jumps = first_arm; lost = inl (target_apart can target) }
 
   -- an alternate that a jump can name
   pub alternate_lost : is_jump_target frames alternate ≡ true

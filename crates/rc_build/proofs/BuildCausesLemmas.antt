@@ -1,26 +1,25 @@
--- Causes exclude a graph that can be built and spells a function, and what the walk refuses of it has a cause.
-use Rattle.std.proofs.Common.{◌≡◌, ℕ, zero, suc, if◌then◌else◌, ◌<◌, ◌≤◌, ◌⊎◌, inl, inr, Bool, true, false}
-use Rattle.std.proofs.Common.{not, List, [], ◌∷◌, ◌++◌, length, get_or, Option, Some, None, refl, ap, eqb-true, arith}
-use Rattle.std.proofs.Common.{slice_get}
+-- Causes exclude a graph whose numbers are in their tables and that spells a function, and what the walk refuses of it
+-- has a cause.
+use Rattle.std.proofs.Common.{◌≡◌, ℕ, ◌<◌, ◌≤◌, ◌⊎◌, inl, inr, true, List, [], ◌∷◌, ◌++◌, length, Option, Some, None}
+use Rattle.std.proofs.Common.{refl, eqb-true, arith, slice_get}
 use Rattle.std.proofs.lemmas.Bool.{or_cases}
 use Rattle.std.proofs.lemmas.Map.Views.{Contains-from_lookup}
-use Rattle.std.specs.List.{All, flat_map, list_any, find}
-use Rattle.std.specs.Prelude.{nat_eq, option_map}
+use Rattle.std.specs.List.{All, flat_map, list_any}
+use Rattle.std.specs.Prelude.{nat_eq}
 use Rattle.rc_names.specs.Numbers.{BlockId, InstructionId}
-use Rattle.rc_hir.specs.Model.{Fault, Rule, BasicBlock, HirFunction, Environment}
+use Rattle.rc_hir.specs.Model.{Fault, Rule, HirFunction, Environment}
 use Rattle.rc_hir.specs.declared.fault.Fault.TheVariants as faults
 use Rattle.rc_hir.specs.declared.fault.TableName.TheVariants as table_names
 use Rattle.rc_hir.specs.GraphNames.{Name, row_name, block_names, under_key, parameter_names}
 use Rattle.rc_hir.specs.GraphNames.{place_names, instruction_names, terminal_names}
-use Rattle.rc_hir.specs.Names.{IsInTable, lengths, FunctionInTables}
+use Rattle.rc_hir.specs.Names.{IsInTable, lengths, FunctionInTables, NamesInTables}
 use Rattle.rc_tree.specs.Model.{ReactiveFunction}
 use Rattle.rc_tree.proofs.PlaceLemmas.{past_end}
 use Rattle.rc_runs.specs.Spelled.{Spells}
 use Rattle.rc_runs.proofs.AllLemmas.{All-left, All-right, All-flat_map}
 use Rattle.rc_names.proofs.NumbersLemmas.{same_id-eq}
 use Rattle.rc_runs.proofs.NamesOutsideLemmas.{no_name_outside}
-use Rattle.rc_build.specs.BuiltForms.{is_built, first_unbuilt}
-use Rattle.rc_build.specs.BuildCauses.{CanBeBuilt, IsBuildCause, SpellsNone}
+use Rattle.rc_build.specs.BuildCauses.{IsBuildCause, SpellsNone}
 use Rattle.rc_build.specs.RuleFacts.{BlockIs, LacksRow, FaultFact}
 use Rattle.rc_build.specs.inside.Built.{refusal}
 
@@ -65,34 +64,12 @@ module _ (hir : HirFunction) (env : Environment) where
       (terminal_names at.block.terminal) here)
       (past_end hir.instructions index none) at.holds
 
--- where none of the entries is unbuilt, none is
-none_unbuilt : (entries : List (BlockId × BasicBlock)) → find (λ entry. not (is_built entry.1.terminal)) entries ≡ None
-    → (i : ℕ) (entry : BlockId × BasicBlock) → i < length entries → get_or entries i entry ≡ entry
-    → is_built entry.1.terminal ≡ false → ⊥
-none_unbuilt [] none i entry below is unbuilt = omega arith
-none_unbuilt (e ∷ es) none zero entry below is unbuilt =
-    let same : is_built e.1.terminal ≡ false = rw is unbuilt in
-    let found : find (λ entry. not (is_built entry.1.terminal)) (e ∷ es) ≡ Some e = rw same refl in
-    let no : ⊥ = cc in no
-none_unbuilt (e ∷ es) none (suc i) entry below is unbuilt =
-    split (is_built e.1.terminal) refl none (λ rest. none_unbuilt es rest i entry (omega arith) is unbuilt)
-  where
-    split : (built : Bool) → is_built e.1.terminal ≡ built
-        → (if not built then Some e else find (λ entry. not (is_built entry.1.terminal)) es) ≡ None
-        → (find (λ entry. not (is_built entry.1.terminal)) es ≡ None → ⊥) → ⊥
-    split true is none later = later none
-    split false is none later = let no : ⊥ = cc in no
-
-module _ (hir : HirFunction) (env : Environment) (can : CanBeBuilt hir env) where
-  -- a graph that can be built and spells a function is refused for want of memory alone
+module _ (hir : HirFunction) (env : Environment) (names : NamesInTables hir env) where
+  -- a graph whose numbers are in their tables and that spells a function is refused for want of memory alone
   pub only_memory : (func : ReactiveFunction) → Spells hir env func → (fault : Fault) → IsBuildCause hir env fault
       → fault ≡ faults.NoMemory
   only_memory func spelled (faults.BadName table index) cause =
-      absurd (no_name_outside hir env can.names (faults.BadName table index) cause)
-  only_memory func spelled (faults.NotBuilt block) cause =
-      absurd (let some : option_map (λ entry. entry.0) (first_unbuilt hir) ≡ Some block = cause.1 in
-      let none : option_map (λ entry. entry.0) (first_unbuilt hir)
-      ≡ None = ap (option_map (λ entry. entry.0)) can.forms in let no : ⊥ = cc in no)
+      absurd (no_name_outside hir env names (faults.BadName table index) cause)
   only_memory func spelled (faults.Malformed block rule) cause = absurd (cause.1 func spelled)
   only_memory func spelled faults.NoMemory cause = refl
   only_memory func spelled (faults.Todo block) cause = absurd (cause.1 func spelled)
@@ -104,16 +81,13 @@ module _ (hir : HirFunction) (env : Environment) (can : CanBeBuilt hir env) wher
   only_memory func spelled (faults.BadTarget target) cause = absurd cause
   only_memory func spelled (faults.FunctionCycle function) cause = absurd cause
 
-  -- what the walk refuses of a graph that can be built has a cause
+  -- what the walk refuses of such a graph has a cause
   pub cause_of : (fault : Fault) → FaultFact hir fault →
       ((block : BlockId) (rule : Option Rule) → fault ≡ refusal block rule → SpellsNone hir env)
       → IsBuildCause hir env fault
-  cause_of (faults.Malformed block rule) fact none = (can, none block (Some rule) refl, fact)
+  cause_of (faults.Malformed block rule) fact none = (names, none block (Some rule) refl, fact)
   cause_of (faults.BadName table_names.Instructions index) fact none =
-      absurd (no_row_lacks hir env can.names.graph fact.1.0 index fact.0 fact.1.1)
-  cause_of (faults.NotBuilt key) fact none =
-      let held = Contains-from_lookup same_id-eq key fact.block hir.body.blocks fact.found in
-      absurd (none_unbuilt hir.body.blocks can.forms held.0 (key, fact.block) held.1 held.2 fact.holds)
+      absurd (no_row_lacks hir env names.graph fact.1.0 index fact.0 fact.1.1)
   cause_of faults.NoMemory fact none = tt
   cause_of (faults.BadName table_names.Identifiers index) fact none = absurd fact
   cause_of (faults.BadName table_names.Declarations index) fact none = absurd fact
@@ -121,7 +95,7 @@ module _ (hir : HirFunction) (env : Environment) (can : CanBeBuilt hir env) wher
   cause_of (faults.BadName table_names.Scopes index) fact none = absurd fact
   cause_of (faults.BadName table_names.Functions index) fact none = absurd fact
   cause_of (faults.BadName table_names.Shapes index) fact none = absurd fact
-  cause_of (faults.Todo block) fact none = (can, none block None refl, fact)
+  cause_of (faults.Todo block) fact none = (names, none block None refl, fact)
   cause_of (faults.EarlyReturnSet scope) fact none = absurd fact
   cause_of (faults.ScopeCompleted id scope) fact none = absurd fact
   cause_of (faults.Uninitialised declaration) fact none = absurd fact

@@ -21,7 +21,7 @@ no_marks = record { used = []; scopes = [] }
 -- nothing stands around the entry's list
 pub at_outermost : (builder : Builder) (block : BlockId) {hir : HirFunction} {env : Environment}
     → builder.hir.now ≡ hir → builder.env.now ≡ env → builder.frames ≡ []
-    → setting_of builder (record { block = block; next = None })
+    → setting_of builder (record { block = block; next = None; handler = None })
     ≡ record { hir = hir; env = env; context = outermost }
 at_outermost builder block h e f = cc
 
@@ -38,11 +38,12 @@ entry_referenced hir key = omega arith
 
 -- nothing is used yet, and the entry is referred to
 pub at_entry : (hir : HirFunction) (marks : Marks) (frames : List Frame) → marks ≡ no_marks → frames ≡ []
-    → CanBuildList hir marks frames hir.body.entry
+    → CanBuildList hir marks None frames hir.body.entry
 at_entry hir marks frames m f =
-    subst (λ z. CanBuildList hir z frames hir.body.entry) (sym m)
-    (subst (λ z. CanBuildList hir no_marks z hir.body.entry) (sym f) (record {
+    subst (λ z. CanBuildList hir z None frames hir.body.entry) (sym m)
+    (subst (λ z. CanBuildList hir no_marks None z hir.body.entry) (sym f) (record {
       marked = nothing_marked hir;
+      handled = tt;
       referenced = entry_referenced hir;
       used_before = λ key h. absurd (let bad : ⊥ = cc in bad);
       owned = tt;

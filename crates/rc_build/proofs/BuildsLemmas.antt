@@ -1,16 +1,16 @@
 -- What a function of the builder ensures where a fault ends it, and where it goes on with another one.
-use Rattle.std.proofs.Common.{◌≡◌, List, Result, Ok, Err, Option, Some, None, IfOk, IfErr, IsErrAnd, refl, sym, ap, ◌∙◌, subst}
+use Rattle.std.proofs.Common.{◌≡◌, List, Result, Ok, Err, Option, Some, None, IfOk, IfErr, IsErrAnd, sym, ap, ◌∙◌, subst}
 use Rattle.std.proofs.lemmas.Result.{err_from_is_err_and}
 use Rattle.rc_names.specs.Numbers.{BlockId}
 use Rattle.rc_names.specs.declared.span.Span.{Span}
-use Rattle.rc_hir.specs.Model.{Terminal, Fault, Rule}
+use Rattle.rc_hir.specs.Model.{Terminal, Fault, HirFunction, Rule}
 use Rattle.rc_hir.specs.declared.fault.Fault.TheVariants as faults
 use Rattle.rc_tree.specs.Model.{ReactiveStatement}
 use Rattle.rc_build.specs.declared.builder.Builder.{Builder}
 use Rattle.rc_build.specs.declared.builder.Site.{Site}
 use Rattle.rc_build.specs.RuleFacts.{FaultFact, RuleFact}
 use Rattle.rc_build.specs.inside.Setting.{Setting, setting_of, site_at}
-use Rattle.rc_build.specs.inside.Task.{FromTerminal, Spells, Task, left, progress_of}
+use Rattle.rc_build.specs.inside.Task.{FromBlock, FromTerminal, Spells, Task, left, progress_of}
 use Rattle.rc_build.specs.inside.Built.{Builds, BuildsList, BuildsTask, BuiltPrefix, Refused, refusal}
 use Rattle.rc_build.proofs.BuiltLemmas.{prefix_then, prefix_refused}
 
@@ -75,6 +75,13 @@ passes_on {fault = fault} passed same inner refuses =
     fails passed (subst (λ z. FaultFact z fault) same inner.facts)
     (λ named rule e. refuses (inner.refused named rule (ap Err e)))
 
+-- a `?` passes on the fault of a call that builds nothing, from the same graph
+pub fails_at : {A : Type 0} {old new : Builder} {site : Site} {Built : A → Type 0} {N : Type 0} {fault : Fault}
+    {result : Result A Fault} (hir : HirFunction) → IsErrAnd result (λ passed. passed ≡ fault) → hir ≡ old.hir.now
+    → FaultFact hir fault → ((block : BlockId) (rule : Option Rule) → fault ≡ refusal block rule → N)
+    → Builds old new site Built N result
+fails_at {fault = fault} hir passed same fact refuses = fails passed (subst (λ z. FaultFact z fault) same fact) refuses
+
 -- what is built of a terminal, whatever its span
 pub builds_terminal : {old new : Builder} {site : Site} {result : Result (Option BlockId) Fault} {terminal : Terminal}
     (form : Option Span → Terminal) (span : Option Span) → terminal ≡ form span
@@ -132,3 +139,10 @@ pub list_at : {old new : Builder} {site inner : Site} (block : BlockId) {result 
     → inner ≡ site_at block site → BuildsList old new inner inner.block result → BuildsList old new site block result
 list_at {old} {new} block {result} is b =
     builds_at block (λ answer h. h) (λ none. none) (subst (λ (z : Site). BuildsList old new z z.block result) is b)
+
+-- the statements of another block in the same list
+pub block_at : {old new : Builder} {site inner : Site} {result : Result (Option BlockId) Fault} (block : BlockId)
+    → inner ≡ site_at block site → BuildsTask old new inner (FromBlock inner.block) left result
+    → BuildsTask old new site (FromBlock block) left result
+block_at {old} {new} {result = result} block is b = builds_at block (λ answer h. h) (λ none. none)
+    (subst (λ (z : Site). BuildsTask old new z (FromBlock z.block) left result) is b)

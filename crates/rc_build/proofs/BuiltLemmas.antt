@@ -13,17 +13,18 @@ use Rattle.rc_runs.specs.Graph.{usable_block}
 use Rattle.rc_runs.specs.TreeOf.{statements_of, statement_of}
 use Rattle.rc_runs.specs.Grammar.{SpellsList, SpellsTerminal, SpellsStatement, SpellsRest, rows_before, from_block, and_rest}
 use Rattle.rc_runs.specs.Grammar.{has_rest, no_rest, returns, throws, unreachable, breaks, continues, branch_arms}
-use Rattle.rc_runs.specs.Grammar.{branch_break}
+use Rattle.rc_runs.specs.Grammar.{leaves_try, may_throw_last, may_throw}
+use Rattle.rc_runs.specs.Grammar.{branch_break, value_statement}
 use Rattle.rc_runs.specs.Spelled.{AreSound}
 use Rattle.rc_build.specs.References.{referenced_blocks}
 use Rattle.rc_build.specs.inside.Rows.{row_statement_of}
 use Rattle.rc_build.specs.inside.CanBuild.{AreMarked, AreReferenced}
-use Rattle.rc_build.specs.inside.Marks.{MarksBlocks}
+use Rattle.rc_build.specs.inside.Marks.{IsUnusable, MarksBlocks}
 use Rattle.rc_build.specs.inside.Setting.{Setting, open_block}
 use Rattle.rc_build.specs.inside.Task.{join, Progress, Task, FromBlock, FromTerminal, Nothing, left, pending, Spells}
 use Rattle.rc_build.specs.inside.Built.{BuiltPrefix, BuiltList, Refused}
 use Rattle.rc_build.proofs.MarksLemmas.{front_sound, referenced_fewer, times_append}
-use Rattle.rc_build.proofs.UsableLemmas.{IsUnusable, filled}
+use Rattle.rc_build.proofs.UsableLemmas.{filled}
 use Rattle.rc_runs.proofs.OneTree.{one_terminal, one_statement, rest_at, terminal_at}
 
 -- statements behind others, and none behind them
@@ -247,13 +248,16 @@ module _ {s : Setting} where
       (all : Statements) (used : List BlockId) → SpellsTerminal s.hir s.env terminal s.context all used →
       (rest : Statements) × (later : List BlockId) × SpellsRest s.hir s.env is_open fallthrough s.context rest later
       × (used ≡ blocks ++ later)
-  after_statement d all used returns = elim d [ ]
-  after_statement d all used (throws h) = elim d [ ]
-  after_statement d all used unreachable = elim d [ ]
-  after_statement d all used (breaks e) = elim d [ ]
-  after_statement d all used (continues e) = elim d [ ]
-  after_statement d all used (branch_arms x y w) = elim d [ ]
-  after_statement d all used (branch_break l b e) = elim d [ ]
+  after_statement (value_statement i j n a u) all used returns = elim n [ ]
+  after_statement (value_statement i j n a u) all used (throws h) = elim n [ ]
+  after_statement (value_statement i j n a u) all used unreachable = elim n [ ]
+  after_statement (value_statement i j n a u) all used (breaks e) = elim n [ ]
+  after_statement (value_statement i j n a u) all used (continues e) = elim n [ ]
+  after_statement (value_statement i j n a u) all used (leaves_try e) = elim n [ ]
+  after_statement (value_statement i j n a u) all used (may_throw_last h e) = elim n [ ]
+  after_statement (value_statement i j n a u) all used (may_throw h e d) = elim n [ ]
+  after_statement (value_statement i j n a u) all used (branch_arms x y w) = elim n [ ]
+  after_statement (value_statement i j n a u) all used (branch_break l b e) = elim n [ ]
   after_statement d all used (and_rest {rest = rest} {rest_used = later} d' r w) =
       let h = one_statement d d' in
       (rest, later, rest_at (sym h.1) (sym h.0) r, w ∙ ap (λ z. z ++ later) (sym h.3))

@@ -12,6 +12,7 @@ use Rattle.rc_runs.specs.ListContext.{inside}
 use Rattle.rc_runs.specs.PlainTree.{Statements, Statement, TerminalStatement, ScopeStatement, PrunedScopeStatement}
 use Rattle.rc_runs.specs.PlainTree.{Label}
 use Rattle.rc_runs.specs.TreeOf.{statements_of, statement_of}
+use Rattle.rc_runs.specs.Grammar.{value_statement}
 use Rattle.rc_runs.specs.Grammar.{SpellsList, SpellsStatement, label_of, label_statement, scope_statement, pruned_scope_statement, and_rest}
 use Rattle.rc_build.specs.References.{referenced_blocks}
 use Rattle.rc_build.specs.inside.Marks.{MarksBlocks}
@@ -76,12 +77,19 @@ enclosure_refused {s} {at} (enclosures.PrunedScope number) part fallthrough id s
     (and_rest {part_used = front} {rest_used = back} (pruned_scope_statement {opened = p} {part = x} i d) r w) sound =
     none x front (part_at (frame_kinds.Scope fallthrough) s.context (is_some at) p
     (i ∙ sym (is_some-opened _ fallthrough o)) d) (refused_front s.hir used front back sound w)
+enclosure_refused enclosures.Label part fallthrough id span used o none all blocks
+    (and_rest (value_statement i j n a u) r w) sound = elim n [ ]
+enclosure_refused (enclosures.Scope number) part fallthrough id span used o none all blocks
+    (and_rest (value_statement i j n a u) r w) sound = elim n [ ]
+enclosure_refused (enclosures.PrunedScope number) part fallthrough id span used o none all blocks
+    (and_rest (value_statement i j n a u) r w) sound = elim n [ ]
 
 -- the part can be built
-pub enclosure_can : {hir : HirFunction} {marks : Marks} {frames : List Frame} {key : BlockId} (at : Option BlockId)
+pub enclosure_can : {hir : HirFunction} {marks : Marks} {handler : Option BlockId} {frames : List Frame}
+    {key : BlockId} (at : Option BlockId)
     (e : Enclosure) (part fallthrough : BlockId) (id : EvaluationOrder) (span : Option Span)
-    → CanBuildTerminal hir marks frames key (terminal_around e part fallthrough id span)
-    → CanBuildList hir marks (frames_inside at (frame_of e fallthrough) frames) part
+    → CanBuildTerminal hir marks handler frames key (terminal_around e part fallthrough id span)
+    → CanBuildList hir marks handler (frames_inside at (frame_of e fallthrough) frames) part
 enclosure_can {hir} {marks} at enclosures.Label part fallthrough id span can =
     at_first_part hir (frame_kinds.Statement fallthrough) at can refl (none_used marks) (λ key. omega arith)
 enclosure_can {hir} {marks} at (enclosures.Scope number) part fallthrough id span can =

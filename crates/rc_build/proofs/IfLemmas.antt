@@ -11,6 +11,7 @@ use Rattle.rc_runs.specs.declared.frames.Frame.TheVariants as frame_kinds
 use Rattle.rc_runs.specs.ListContext.{inside}
 use Rattle.rc_runs.specs.PlainTree.{Statements, TerminalStatement, If, Alternate, Absent, Present}
 use Rattle.rc_runs.specs.TreeOf.{statements_of, alternate_of}
+use Rattle.rc_runs.specs.Grammar.{value_statement}
 use Rattle.rc_runs.specs.Grammar.{SpellsList, SpellsStatement, SpellsTerminal, falls_to, label_of, opens_reachable}
 use Rattle.rc_runs.specs.Grammar.{if_only, if_else, and_rest}
 use Rattle.rc_runs.proofs.OneTree.{one_list, part_at}
@@ -97,6 +98,7 @@ module _ {s : Setting} {at : Option BlockId} {test : Place} {consequent alternat
   if_parts : {all : Statements} {used : List BlockId}
       → SpellsTerminal s.hir s.env (terminals.If test consequent alternate fallthrough id span) s.context all used
       → IfParts (inner at fallthrough s) consequent alternate fallthrough used
+  if_parts (and_rest (value_statement i j n a u) r w) = elim n [ ]
   if_parts (and_rest {part_used = front} {rest_used = back} (if_only {opened = p} {part = part} i l x y d) r w) =
       record {
         taken = part;
@@ -186,3 +188,4 @@ module _ {s : Setting} {at : Option BlockId} {test : Place} {consequent alternat
       let falls = subst (λ b. falls_to b fallthrough s.context.next ≡ true) (i ∙ sym (is_some-opened _ fallthrough opened)) y in
       let bad : ⊥ = cc in bad
   if_elsewhere used same shut all blocks (and_rest (if_else i l x d b q) r w) sound = let bad : ⊥ = cc in bad
+  if_elsewhere used same shut all blocks (and_rest (value_statement i j n a u) r w) sound = elim n [ ]

@@ -14,6 +14,7 @@ use Rattle.rc_runs.specs.declared.frames.Frame.{Frame}
 use Rattle.rc_runs.specs.Frames.{resolve_break, resolve_continue}
 use Rattle.rc_runs.specs.PlainTree.{Statements}
 use Rattle.rc_runs.specs.TreeOf.{statements_of}
+use Rattle.rc_runs.specs.Grammar.{value_statement}
 use Rattle.rc_runs.specs.Grammar.{SpellsTerminal, and_rest, break_statements, breaks, continue_statements, continues}
 use Rattle.rc_build.specs.RuleFacts.{BlockIs, IsLostJump, Jumps, RuleFact, goto_break, is_continue}
 use Rattle.rc_build.specs.inside.CanBuild.{AreMarked, CanBreak, CanBuildTerminal}
@@ -48,24 +49,24 @@ module _ {target : BlockId} {id : EvaluationOrder} {span : Option Span} where
       → break_statements (resolve_break s.context.frames target) target id ≡ None
       → Refused s.hir (Spells s (FromTerminal (terminals.Goto target variants.Break id span))) used
   break_refused used none all blocks (breaks some) sound = let bad : ⊥ = cc in bad
-  break_refused used none all blocks (and_rest d r w) sound = elim d [ ]
+  break_refused used none all blocks (and_rest (value_statement i j n a u) r w) sound = elim n [ ]
 
   -- a continue that is refused
   pub continue_refused : {s : Setting} (used : List BlockId)
       → continue_statements (resolve_continue s.context.frames target) id ≡ None
       → Refused s.hir (Spells s (FromTerminal (terminals.Goto target variants.Continue id span))) used
   continue_refused used none all blocks (continues some) sound = let bad : ⊥ = cc in bad
-  continue_refused used none all blocks (and_rest d r w) sound = elim d [ ]
+  continue_refused used none all blocks (and_rest (value_statement i j n a u) r w) sound = elim n [ ]
 
   -- a block that ends in a break can break
-  pub goto_can : {hir : HirFunction} {marks : Marks} {frames : List Frame} {key : BlockId}
-      → CanBuildTerminal hir marks frames key (terminals.Goto target variants.Break id span)
+  pub goto_can : {hir : HirFunction} {marks : Marks} {handler : Option BlockId} {frames : List Frame} {key : BlockId}
+      → CanBuildTerminal hir marks handler frames key (terminals.Goto target variants.Break id span)
       → CanBreak hir marks frames key (terminals.Goto target variants.Break id span) target
-  goto_can can = record { can = can; jumps = goto_break; lost = tt }
+  goto_can {handler = handler} can = record { handler = handler; can = can; jumps = goto_break; lost = tt }
 
   -- a block that ends in a continue
-  pub continue_at : {hir : HirFunction} {marks : Marks} {frames : List Frame} {key : BlockId}
-      → CanBuildTerminal hir marks frames key (terminals.Goto target variants.Continue id span)
+  pub continue_at : {hir : HirFunction} {marks : Marks} {handler : Option BlockId} {frames : List Frame} {key : BlockId}
+      → CanBuildTerminal hir marks handler frames key (terminals.Goto target variants.Continue id span)
       → RuleFact hir ContinueTarget key
   continue_at can = record {
     block = can.here.block;

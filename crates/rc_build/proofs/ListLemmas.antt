@@ -37,10 +37,10 @@ module _ {old now : Builder} {site : Site} where
 
   -- it can be built
   pub list_next : {at : Option BlockId} {block : BlockId} → at ≡ Some block → ListSoFar old now site at
-      → CanBuildList old.hir.now old.marks old.frames site.block
-      → CanBuildList now.hir.now now.marks now.frames block
+      → CanBuildList old.hir.now old.marks site.handler old.frames site.block
+      → CanBuildList now.hir.now now.marks site.handler now.frames block
   list_next {block = block} is so_far can =
-      subst (λ (z : Setting). CanBuildList z.hir now.marks z.context.frames block) (sym so_far.setting)
+      subst (λ (z : Setting). CanBuildList z.hir now.marks site.handler z.context.frames block) (sym so_far.setting)
       (at_next old.hir.now can (here is so_far).marking)
 
   -- it is built

@@ -13,7 +13,7 @@ use Rattle.rc_runs.specs.LoopParts.{LoopBlocks, first_of, loop_frame, turn_start
 use Rattle.rc_runs.specs.PlainTree.{Value}
 use Rattle.rc_runs.specs.TreeOf.{value_of}
 use Rattle.rc_runs.specs.Grammar.{SpellsBefore, no_value, some_value, turns}
-use Rattle.rc_runs.specs.ValueGrammar.{SpellsGoing, SpellsTest, SpellsValue, ValueEnd, named_test, last_block}
+use Rattle.rc_runs.specs.ValueGrammar.{SpellsGoing, SpellsTest, SpellsValue, ValueEnd}
 use Rattle.rc_runs.proofs.OneTree.{one_before}
 use Rattle.rc_runs.proofs.OneValue.{one_test}
 use Rattle.rc_build.specs.declared.builder.Builder.{Builder}
@@ -39,6 +39,7 @@ use Rattle.rc_build.proofs.LoopKindLemmas.{tests_test}
 use Rattle.rc_build.proofs.LoopKindLemmas.{valued_with}
 use Rattle.rc_build.proofs.MarksLemmas.{among_back, among_front, referenced_fewer, times_append}
 use Rattle.rc_build.proofs.OwnersLemmas.{owned_weaker}
+use Rattle.rc_build.proofs.ValueLemmas.{value_starts}
 use Rattle.rc_build.proofs.WalkLemmas.{framed_list, none_used, used_alone, used_more}
 
 module _ {hir : HirFunction} where
@@ -51,6 +52,7 @@ module _ {hir : HirFunction} where
   value_can {marks} {owner} key pending marked references fewer here valued = record {
     can = record {
       marked = marked;
+      handled = tt;
       referenced = referenced_fewer hir marks.used (key ∷ []) pending fewer references;
       used_before = none_used marks;
       owned = tt;
@@ -65,9 +67,9 @@ module _ {hir : HirFunction} where
     );
   }
 
-  module _ (t : LoopTerminal) {frames : List Frame} where
+  module _ (t : LoopTerminal) {handler : Option BlockId} {frames : List Frame} where
     -- the init of a loop can be built
-    pub init_can : {marks : Marks} {key : BlockId} → CanBuildTerminal hir marks frames key (terminal_of t)
+    pub init_can : {marks : Marks} {key : BlockId} → CanBuildTerminal hir marks handler frames key (terminal_of t)
         → CanBuildBefore hir marks (init_of t.kind)
     init_can can = record {
       marked = can.marked;
@@ -83,12 +85,13 @@ module _ {hir : HirFunction} where
 
     -- its turns can be built, once its init is marked
     pub turns_can : {old new : Marks} {key : BlockId} {blocks : List BlockId}
-        → CanBuildTerminal hir old frames key (terminal_of t)
+        → CanBuildTerminal hir old handler frames key (terminal_of t)
         → MarksBlocks hir (option_to_list (init_of t.kind)) [] old new blocks
         → is_jump_target frames t.fallthrough ≡ false → is_jump_target frames (turn_start (blocks_of t)) ≡ false
-        → CanBuildTurns hir new frames t
+        → CanBuildTurns hir new handler frames t
     turns_can {old} {new} {key} can m falls starts = record {
       marked = m.marked;
+      handled = can.handled;
       referenced = m.referenced (turn_blocks ++ pending_blocks frames)
           (referenced_fewer hir old.used (option_to_list (init_of t.kind) ++ (turn_blocks ++ pending_blocks frames))
           (referenced_blocks (terminal_of t) ++ pending_blocks frames) (λ other. omega (
@@ -111,7 +114,7 @@ module _ {hir : HirFunction} where
         turn_blocks : List BlockId
         turn_blocks = value_blocks t ++ t.body ∷ t.fallthrough ∷ []
 
-    module _ {old : Marks} (can : CanBuildTurns hir old frames t) where
+    module _ {old : Marks} (can : CanBuildTurns hir old handler frames t) where
       -- the test of a turn can be built
       pub test_can : CanBuildValue hir old t.test
       test_can = value_can t.test ((value_blocks t ++ t.body ∷ t.fallthrough ∷ []) ++ pending_blocks frames) can.marked
@@ -140,11 +143,13 @@ module _ {hir : HirFunction} where
 
       -- the body can be built inside the loop's frame, once the values are marked
       pub body_can : {new : Marks} {blocks : List BlockId} → MarksBlocks hir (value_blocks t) [] old new blocks
-          → IsUsed new (turn_start (blocks_of t)) → CanBuildList hir new (loop_frame (blocks_of t) ∷ frames) t.body
+          → IsUsed new (turn_start (blocks_of t)) → CanBuildList hir new handler (loop_frame (blocks_of t) ∷ frames)
+          t.body
       body_can {new} m u =
           framed_list hir (loop_frame (blocks_of t)) (used_more hir m can.owner can.used) can.here
           (falls_with t t.kind, tests_start t t.kind) (used_alone new (turn_start (blocks_of t)) u) left (record {
             marked = m.marked;
+            handled = can.handled;
             referenced = referenced_fewer hir new.used (t.body ∷ pending_blocks frames)
                 (t.body ∷ t.fallthrough ∷ pending_blocks frames) (λ other. omega arith) left;
             used_before = λ other h. used_more hir m other (can.used_before other h);
@@ -204,29 +209,31 @@ module _ {hir : HirFunction} {env : Environment} {blocks : LoopBlocks} {context 
         subst (λ z. Refused hir (SpellsBefore hir env blocks context z) used) (sym e) (refused_there used none)
 
 -- what is built before a test, where the same is said in other words
-pub before_at : (t : LoopTerminal) {old new : Builder} {a b : Option BlockId} {flat other : Bool}
-    {result : Result (Option ReactiveValue) Fault} → a ≡ b → flat ≡ other → BuildsBefore old new t flat a result
-    → BuildsBefore old new t other b result
-before_at t {old} {new} {a} {b} {flat} {other} {result} e f built =
-    subst (λ z. BuildsBefore old new t z b result) f (subst (λ z. BuildsBefore old new t flat z result) e built)
+pub before_at : (t : LoopTerminal) {old new : Builder} {site : Site} {a b : Option BlockId} {flat other : Bool}
+    {result : Result (Option ReactiveValue) Fault} → a ≡ b → flat ≡ other → BuildsBefore old new site t flat a result
+    → BuildsBefore old new site t other b result
+before_at t {old} {new} {site} {a} {b} {flat} {other} {result} e f built =
+    subst (λ z. BuildsBefore old new site t z b result) f
+    (subst (λ z. BuildsBefore old new site t flat z result) e built)
 
 -- what `build_test` ensures of a loop's test, flattened or not
-abbrev pub BuildsTest : Builder → Builder → LoopTerminal → Bool → Result ReactiveValue Fault → Type 0
-BuildsTest old new t flat result = (site : Site) (context : ListContext) → Builds old new site
-    (λ built. BuiltPart value_of (SpellsTest old.hir.now old.env.now flat t.test (value_context t.span context) t.body
+abbrev pub BuildsTest : Builder → Builder → Site → LoopTerminal → Bool → Result ReactiveValue Fault → Type 0
+BuildsTest old new site t flat result = Builds old new site
+    (λ built. BuiltPart value_of (SpellsTest old.hir.now old.env.now flat t.test (value_context t.span (setting_of old site).context) t.body
     t.fallthrough) old.hir.now (t.test ∷ []) built (progress_of old) (progress_of new))
-    (Refused old.hir.now (SpellsTest old.hir.now old.env.now flat t.test (value_context t.span context) t.body
+    (Refused old.hir.now (SpellsTest old.hir.now old.env.now flat t.test (value_context t.span (setting_of old site).context) t.body
     t.fallthrough) old.marks.used) result
 
-pub test_at : (t : LoopTerminal) {old new : Builder} {flat other : Bool} {result : Result ReactiveValue Fault}
-    → flat ≡ other → BuildsTest old new t flat result → BuildsTest old new t other result
-test_at t {old} {new} {result = result} f built = subst (λ z. BuildsTest old new t z result) f built
+pub test_at : (t : LoopTerminal) {old new : Builder} {site : Site} {flat other : Bool}
+    {result : Result ReactiveValue Fault}
+    → flat ≡ other → BuildsTest old new site t flat result → BuildsTest old new site t other result
+test_at t {old} {new} {site} {result = result} f built = subst (λ z. BuildsTest old new site t z result) f built
 
 -- a value uses its first block
 value_used : {hir : HirFunction} {env : Environment} {key : BlockId} {context : ValueContext} {value : Value}
     {end : ValueEnd} {used : List BlockId} → SpellsValue hir env key context value end used → is_among used key ≡ true
-value_used (named_test {key = key} u r b) = among_first key []
-value_used (last_block {key = key} rows row u e r) = among_first key []
+value_used {key = key} d =
+    let starts = value_starts d in subst (λ z. is_among z key ≡ true) (sym starts.1) (among_first key starts.0)
 
 module _ (s : Setting) (t : LoopTerminal) where
   -- what the setting asks for as the loop's test, and before it
@@ -332,12 +339,12 @@ pub record ValuesBuilt (s : Setting) (t : LoopTerminal) (later : Setting) (test 
 
 pub values_built : (t : LoopTerminal) {old mid late : Builder} (site : Site) {flat : Bool} {at : Option BlockId}
     {test : ReactiveValue} {before : Option ReactiveValue} → flat ≡ is_flat t.kind → at ≡ before_of t.kind
-    → BuildsTest old mid t flat (Ok test) → BuildsBefore mid late t flat at (Ok before)
+    → BuildsTest old mid site t flat (Ok test) → BuildsBefore mid late site t flat at (Ok before)
     → ValuesBuilt (setting_of old site) t (setting_of late site) test before (progress_of old) (progress_of late)
 values_built t {old} {mid} {late} site f e test before =
     let s = setting_of old site in
-    let tested = test_at t f test site s.context in
-    let begun = before_at t e f before site (setting_of mid site).context in record {
+    let tested = test_at t f test in
+    let begun = before_at t e f before in record {
       first = progress_of mid;
       tested = tested.ok;
       begun = before_built s t (setting_of mid site) tested.frames begun.ok;

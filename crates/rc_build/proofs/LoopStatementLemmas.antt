@@ -18,6 +18,7 @@ use Rattle.rc_runs.specs.PlainTree.{Value, Statements, TreeTerminal, TerminalSta
 use Rattle.rc_runs.specs.PlainTree.{ForIn}
 use Rattle.rc_runs.specs.TreeOf.{value_of, statements_of}
 use Rattle.rc_runs.specs.TreeOf as plain
+use Rattle.rc_runs.specs.Grammar.{value_statement}
 use Rattle.rc_runs.specs.Grammar.{SpellsBefore, SpellsStatement, SpellsTerminal, SpellsTurns, and_rest, label_of}
 use Rattle.rc_runs.specs.Grammar.{no_value, some_value, turns, while_loop, do_while_loop, for_loop, for_of_loop}
 use Rattle.rc_runs.specs.Grammar.{for_in_loop}
@@ -83,8 +84,10 @@ not_live s t e = live_none (is_jump_target s.context.frames t.fallthrough)
     (ends_unreachable s.hir t.fallthrough) e
 
 -- such a loop's block breaks the rule
-pub live_fact : {hir : HirFunction} {marks : Marks} {frames : List Frame} {key : BlockId} (t : LoopTerminal)
-    → CanBuildTerminal hir marks frames key (terminal_of t) → is_live hir frames t ≡ true → RuleFact hir LoopLive key
+pub live_fact : {hir : HirFunction} {marks : Marks} {handler : Option BlockId} {frames : List Frame} {key : BlockId}
+    (t : LoopTerminal)
+    → CanBuildTerminal hir marks handler frames key (terminal_of t) → is_live hir frames t ≡ true
+    → RuleFact hir LoopLive key
 live_fact {hir} {frames = frames} {key = key} t can live = record {
   block = can.here.block;
   found = can.here.found;
@@ -120,6 +123,11 @@ record IsLoopSpelled (s : Setting) (kind : LoopKind) (t : LoopTerminal) (used : 
 module _ {s : Setting} {t : LoopTerminal} where
   loop_parts : (kind : LoopKind) {all : Statements} {used : List BlockId}
       → SpellsTerminal s.hir s.env (terminal_with kind t) s.context all used → IsLoopSpelled s kind t used
+  loop_parts kinds.While (and_rest (value_statement i j n a u) r w) = elim n [ ]
+  loop_parts kinds.DoWhile (and_rest (value_statement i j n a u) r w) = elim n [ ]
+  loop_parts (kinds.For init update) (and_rest (value_statement i j n a u) r w) = elim n [ ]
+  loop_parts (kinds.ForOf init) (and_rest (value_statement i j n a u) r w) = elim n [ ]
+  loop_parts kinds.ForIn (and_rest (value_statement i j n a u) r w) = elim n [ ]
   loop_parts kinds.While (and_rest {part_used = front} {rest_used = back} (while_loop {parts = parts} e d) r w) =
       record {
         init = None;

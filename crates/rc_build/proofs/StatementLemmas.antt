@@ -54,20 +54,22 @@ label_at-opened is_open fallthrough is = subst (λ z. label_at z ≡ label_of (i
     go false = refl
 
 -- a block that a jump can name is framed apart from the block where the walk stands
-pub target_apart : {hir : HirFunction} {marks : Marks} {frames : List Frame} {key target : BlockId}
-    {terminal : Terminal} → CanBuildTerminal hir marks frames key terminal → is_jump_target frames target ≡ true
+pub target_apart : {hir : HirFunction} {marks : Marks} {handler : Option BlockId} {frames : List Frame}
+    {key target : BlockId}
+    {terminal : Terminal} → CanBuildTerminal hir marks handler frames key terminal → is_jump_target frames target ≡ true
     → IsFramedApart hir key target
-target_apart {hir} {marks} {frames} {key} {target} can live =
+target_apart {hir} {marks} {handler} {frames} {key} {target} can live =
     let o = target_framed hir (IsUsedApart marks key) frames target can.owned live in
     record { other = o.owner; apart = o.chosen.1; frames = o.frames }
 
 -- a fallthrough to which a statement doesn't fall is framed apart, or ends in `Unreachable`
-pub falls_badly : {hir : HirFunction} {marks : Marks} {frames : List Frame} {key fallthrough : BlockId}
+pub falls_badly : {hir : HirFunction} {marks : Marks} {handler : Option BlockId} {frames : List Frame}
+    {key fallthrough : BlockId}
     {terminal : Terminal} {at : Option BlockId} (next : Option BlockId)
-    → CanBuildTerminal hir marks frames key terminal → fallthrough_of terminal ≡ Some fallthrough
+    → CanBuildTerminal hir marks handler frames key terminal → fallthrough_of terminal ≡ Some fallthrough
     → at ≡ open_block (opens_reachable hir frames fallthrough) fallthrough
     → falls_to (is_some at) fallthrough next ≡ false → RuleFact hir FallsElsewhere key
-falls_badly {hir} {marks} {frames} {key} {fallthrough} {at = at} next a f o elsewhere = record {
+falls_badly {hir} {marks} {handler} {frames} {key} {fallthrough} {at = at} next a f o elsewhere = record {
   block = a.here.block;
   found = a.here.found;
   holds = record {

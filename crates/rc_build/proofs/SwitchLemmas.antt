@@ -78,10 +78,13 @@ behind {s} (case ∷ front) more (one_case {later_used = later} {part_used = par
     }
 
 -- the list of the last waiting case can be built
-pub case_can : {hir : HirFunction} {marks : Marks} {frames : List Frame} {waiting : List Case} (front : List Case)
-    (case : Case) → waiting ≡ front ++ case ∷ [] → CanBuildCases hir marks frames waiting → CanBuildList hir marks frames case.block
-case_can {hir} {marks} {frames} {waiting} front case e can = record {
+pub case_can : {hir : HirFunction} {marks : Marks} {handler : Option BlockId} {frames : List Frame}
+    {waiting : List Case} (front : List Case)
+    (case : Case) → waiting ≡ front ++ case ∷ [] → CanBuildCases hir marks handler frames waiting
+    → CanBuildList hir marks handler frames case.block
+case_can {hir} {marks} {handler} {frames} {waiting} front case e can = record {
   marked = can.marked;
+  handled = can.handled;
   referenced = referenced_fewer hir marks.used (case.block ∷ pending_blocks frames)
       (case_blocks waiting ++ pending_blocks frames)
       (λ key. omega (
@@ -97,12 +100,14 @@ case_can {hir} {marks} {frames} {waiting} front case e can = record {
 }
 
 -- once it is built and its frame is entered, the cases in front of it can be built
-cases_can : {hir : HirFunction} {old new : Marks} {frames : List Frame} {waiting front : List Case} (case : Case)
-    {blocks : List BlockId} → waiting ≡ front ++ case ∷ [] → CanBuildCases hir old frames waiting
+cases_can : {hir : HirFunction} {old new : Marks} {handler : Option BlockId} {frames : List Frame}
+    {waiting front : List Case} (case : Case)
+    {blocks : List BlockId} → waiting ≡ front ++ case ∷ [] → CanBuildCases hir old handler frames waiting
     → MarksBlocks hir (case_blocks waiting) (case_blocks front) old new blocks → IsUsed new case.block
-    → CanBuildCases hir new (frame_kinds.Case case.block ∷ frames) front
-cases_can {hir} {old} {new} {frames} {waiting} {front} case e can m here = record {
+    → CanBuildCases hir new handler (frame_kinds.Case case.block ∷ frames) front
+cases_can {hir} {old} {new} {handler} {frames} {waiting} {front} case e can m here = record {
   marked = m.marked;
+  handled = can.handled;
   referenced = m.referenced (pending_blocks frames) can.referenced;
   used_before = λ key h. before key (among_parts (case.block ∷ []) (used_blocks frames) key h);
   owned = (
@@ -159,7 +164,8 @@ popped_none waiting is none = none.0 (ap is_some is)
 
 -- the loop over the cases: nothing is built yet
 pub cases_start : (old : Builder) (site : Site) (kept : List Case) {parts : List ReactiveSwitchCase} → parts ≡ []
-    → CanBuildCases old.hir.now old.marks old.frames kept → CasesSoFar old old site kept kept parts site.next
+    → CanBuildCases old.hir.now old.marks site.handler old.frames kept
+    → CasesSoFar old old site kept kept parts site.next
 cases_start old site kept none can = record {
   later = [];
   split = sym (append-nil kept);
@@ -185,9 +191,11 @@ module _ {old now : Builder} {site : Site} {kept waiting : List Case} {parts : L
     (so_far : CasesSoFar old now site kept waiting parts next) where
   -- one case more is built
   pub cases_further : (mid : Builder) {new : Builder} {list : List ReactiveStatement} {longer : List ReactiveSwitchCase}
-      → BuiltList (setting_of now (record { block = case.block; next = next })) case.block list (progress_of now)
+      → BuiltList (setting_of now (record { block = case.block; next = next; handler = site.handler })) case.block list
+      (progress_of now)
       (progress_of mid)
-      → setting_of mid (record { block = case.block; next = next }) ≡ setting_of now (record { block = case.block; next = next })
+      → setting_of mid (record { block = case.block; next = next; handler = site.handler }) ≡ setting_of now
+      (record { block = case.block; next = next; handler = site.handler })
       → new.hir.now ≡ mid.hir.now → new.env.now ≡ mid.env.now → new.marks ≡ mid.marks → new.out ≡ mid.out
       → new.frames ≡ frame_kinds.Case case.block ∷ mid.frames → longer ≡ parts ++ switch_case case.test list ∷ []
       → CasesSoFar old new site kept front longer (Some case.block)
@@ -201,7 +209,7 @@ module _ {old now : Builder} {site : Site} {kept waiting : List Case} {parts : L
         times_push front case key,
         ap (λ (z : List Case). times key (case_blocks z)) split,
       )) (marking_beside now.hir.now step.marking) in
-      let can : CanBuildCases now.hir.now mid.marks (frame_kinds.Case case.block ∷ now.frames) front =
+      let can : CanBuildCases now.hir.now mid.marks site.handler (frame_kinds.Case case.block ∷ now.frames) front =
       cases_can case split so_far.can one (marks_own step.spelled step.marking) in
       record {
         later = case ∷ so_far.later;
@@ -216,9 +224,9 @@ module _ {old now : Builder} {site : Site} {kept waiting : List Case} {parts : L
         marking = subst (λ (z : Marks). MarksBlocks old.hir.now (case_blocks kept) (case_blocks front) old.marks z
             (so_far.newly ++ step.newly)) (sym k) (marking_then old.hir.now so_far.marking
             (subst (λ z. MarksBlocks z (case_blocks waiting) (case_blocks front) now.marks mid.marks step.newly) hir one));
-        can = subst (λ z. CanBuildCases z new.marks new.frames front) (sym (hirs ∙ sym hir))
-            (subst (λ (z : Marks). CanBuildCases now.hir.now z new.frames front) (sym k)
-            (subst (λ z. CanBuildCases now.hir.now mid.marks z front)
+        can = subst (λ z. CanBuildCases z new.marks site.handler new.frames front) (sym (hirs ∙ sym hir))
+            (subst (λ (z : Marks). CanBuildCases now.hir.now z site.handler new.frames front) (sym k)
+            (subst (λ z. CanBuildCases now.hir.now mid.marks site.handler z front)
             (sym (f ∙ ap (λ z. frame_kinds.Case case.block ∷ z) frames)) can));
         setting = after h v f ∙ ap (λ (z : Setting). record {
           hir = z.hir;
@@ -236,20 +244,21 @@ module _ {old now : Builder} {site : Site} {kept waiting : List Case} {parts : L
     where
       after : new.hir.now ≡ mid.hir.now → new.env.now ≡ mid.env.now
           → new.frames ≡ frame_kinds.Case case.block ∷ mid.frames
-          → setting_of new (record { block = site.block; next = Some case.block }) ≡ record {
+          → setting_of new (record { block = site.block; next = Some case.block; handler = site.handler }) ≡ record {
             hir = mid.hir.now;
             env = mid.env.now;
             context = record {
               next = Some case.block;
               frames = frame_kinds.Case case.block ∷ mid.frames;
-              handler = None;
+              handler = site.handler;
             };
           }
       after h v f = cc
 
   -- a case is refused
   pub cases_refused : Refused now.hir.now
-      (Spells (setting_of now (record { block = case.block; next = next })) (FromBlock case.block)) now.marks.used
+      (Spells (setting_of now (record { block = case.block; next = next; handler = site.handler }))
+      (FromBlock case.block)) now.marks.used
       → Refused old.hir.now (SpellsKept (setting_of old site) kept) old.marks.used
   cases_refused none all blocks d sound =
       go (behind front (case ∷ so_far.later) (subst (λ z. SpellsKept (setting_of old site) z all blocks)

@@ -18,6 +18,7 @@ use Rattle.rc_runs.specs.Frames.{is_jump_target}
 use Rattle.rc_runs.specs.ListContext.{inside}
 use Rattle.rc_runs.specs.TreeOf.{cases_of}
 use Rattle.rc_runs.specs.SwitchCases.{has_one_default, tests_past, kept_cases, is_kept}
+use Rattle.rc_runs.specs.Grammar.{value_statement}
 use Rattle.rc_runs.specs.Grammar.{SpellsCases, and_rest, falls_to, label_of, opens_reachable, switch_statement}
 use Rattle.rc_build.specs.declared.builder.Marks.{Marks}
 use Rattle.rc_build.specs.References as references
@@ -98,12 +99,13 @@ kept_same : (cases : List Case) (fallthrough : BlockId) (target a b : Bool) {kep
     → others ≡ kept
 kept_same cases fallthrough target a b e k other = other ∙ ap (λ z. kept_cases (z || target) fallthrough cases) e ∙ sym k
 
-module _ {hir : HirFunction} {marks : Marks} {frames : List Frame} {key : BlockId} {test : Place} {cases : List Case}
+module _ {hir : HirFunction} {marks : Marks} {handler : Option BlockId} {frames : List Frame} {key : BlockId}
+    {test : Place} {cases : List Case}
     {fallthrough : BlockId} {id : EvaluationOrder} {span : Option Span}
-    (can : CanBuildTerminal hir marks frames key (terminals.Switch test cases fallthrough id span)) where
+    (can : CanBuildTerminal hir marks handler frames key (terminals.Switch test cases fallthrough id span)) where
   -- the cases that are kept can be built inside the frame of the switch
   pub switch_can : (at : Option BlockId) (is_target : Bool)
-      → CanBuildCases hir marks (frames_inside at (frame_kinds.Switch fallthrough) frames)
+      → CanBuildCases hir marks handler (frames_inside at (frame_kinds.Switch fallthrough) frames)
       (kept_cases is_target fallthrough cases)
   switch_can at is_target = go at
     where
@@ -115,9 +117,11 @@ module _ {hir : HirFunction} {marks : Marks} {frames : List Frame} {key : BlockI
       within key h = subst (λ z. is_among (case_blocks (references.cases_of z)) key ≡ true) (sym can.here.holds)
           (among_kept is_target fallthrough key cases h)
 
-      go : (at : Option BlockId) → CanBuildCases hir marks (frames_inside at (frame_kinds.Switch fallthrough) frames) kept
+      go : (at : Option BlockId) → CanBuildCases hir marks handler
+          (frames_inside at (frame_kinds.Switch fallthrough) frames) kept
       go None = record {
         marked = can.marked;
+        handled = can.handled;
         referenced = referenced_fewer hir marks.used (case_blocks kept ++ pending_blocks frames)
             ((case_blocks cases ++ fallthrough ∷ []) ++ pending_blocks frames)
             (λ other. omega (
@@ -135,6 +139,7 @@ module _ {hir : HirFunction} {marks : Marks} {frames : List Frame} {key : BlockI
       }
       go (Some block) = record {
         marked = can.marked;
+        handled = can.handled;
         referenced = referenced_fewer hir marks.used (case_blocks kept ++ (fallthrough ∷ pending_blocks frames))
             ((case_blocks cases ++ fallthrough ∷ []) ++ pending_blocks frames)
             (λ other. omega (
@@ -178,6 +183,8 @@ module _ {s : Setting} {test : Place} {cases : List Case} {fallthrough : BlockId
       → Refused s.hir (Spells s (FromTerminal (terminals.Switch test cases fallthrough id span))) used
   odd_refused used (inl e) all blocks (and_rest (switch_statement i l one past k z d) r w) sound = let bad : ⊥ = cc in bad
   odd_refused used (inr e) all blocks (and_rest (switch_statement i l one past k z d) r w) sound = let bad : ⊥ = cc in bad
+  odd_refused used (inl e) all blocks (and_rest (value_statement i j n a u) r w) sound = elim n [ ]
+  odd_refused used (inr e) all blocks (and_rest (value_statement i j n a u) r w) sound = elim n [ ]
 
   module _ {at : Option BlockId} {kept : List Case}
       (opened : at ≡ open_block (opens_reachable s.hir s.context.frames fallthrough) fallthrough)
@@ -186,6 +193,7 @@ module _ {s : Setting} {test : Place} {cases : List Case} {fallthrough : BlockId
     pub switch_refused : (used : List BlockId)
         → Refused s.hir (SpellsKept (part_setting at (frame_kinds.Switch fallthrough) s) kept) used
         → Refused s.hir (Spells s (FromTerminal (terminals.Switch test cases fallthrough id span))) used
+    switch_refused used none all blocks (and_rest (value_statement i j n a u) r w) sound = elim n [ ]
     switch_refused used none all blocks
         (and_rest {part_used = front} {rest_used = back} (switch_statement {opened = p} {parts = parts} i l one past k z d)
         r w) sound =
@@ -200,6 +208,7 @@ module _ {s : Setting} {test : Place} {cases : List Case} {fallthrough : BlockId
     pub switch_elsewhere : (used : List BlockId)
         → (list_any is_default kept || falls_to (is_some at) fallthrough s.context.next) ≡ false
         → Refused s.hir (Spells s (FromTerminal (terminals.Switch test cases fallthrough id span))) used
+    switch_elsewhere used shut all blocks (and_rest (value_statement i j n a u) r w) sound = elim n [ ]
     switch_elsewhere used shut all blocks (and_rest (switch_statement {opened = p} i l one past k z d) r w) sound =
         let is_open = i ∙ sym (is_some-opened _ fallthrough opened) in
         let same = kept_same cases fallthrough (is_jump_target s.context.frames fallthrough) (is_some at) p is_open chosen k

@@ -22,12 +22,12 @@ use Rattle.rc_build.specs.References.{referenced_blocks}
 use Rattle.rc_build.specs.RuleFacts.{BlockIs, HasUnreachableSuccessor, SharesScope, RuleFact}
 use Rattle.rc_build.specs.inside.CanBuild.{AreMarked, AreReferenced, CanBuildList, pending_blocks, used_blocks}
 use Rattle.std.specs.Option.{option_to_list}
-use Rattle.rc_build.specs.inside.Marks.{MarksBlocks, is_fresh_scope}
+use Rattle.rc_build.specs.inside.Marks.{IsUnusable, MarksBlocks, is_fresh_scope}
 use Rattle.rc_names.proofs.NumbersLemmas.{ids_equivalence, same_id-eq}
 use Rattle.rc_build.proofs.MarksLemmas.{times_among, referenced_twice, one_more, among_push, among_front, among_back}
 use Rattle.rc_build.proofs.MarksLemmas.{referenced_push}
 use Rattle.rc_build.proofs.OwnersLemmas.{pending_or_used}
-use Rattle.rc_build.proofs.UsableLemmas.{IsUnusable, filled, found_terminal, found_block}
+use Rattle.rc_build.proofs.UsableLemmas.{filled, found_terminal, found_block}
 
 listed_option : (scope : Option ScopeId) → cons_option scope [] ≡ option_to_list scope
 listed_option None = refl
@@ -143,8 +143,8 @@ unusable_scope hir frames key marks block rows m e f n whole u l s =
         (subst (IsDistinct same_id) p s.scopes_once)
 
 -- a used block that is built again is referred to twice
-pub twice_used : (hir : HirFunction) (marks : Marks) (frames : List Frame) (key : BlockId) (block : BasicBlock)
-    → CanBuildList hir marks frames key → basic_block hir key ≡ Some block →
+pub twice_used : (hir : HirFunction) (marks : Marks) {handler : Option BlockId} (frames : List Frame) (key : BlockId)
+    (block : BasicBlock) → CanBuildList hir marks handler frames key → basic_block hir key ≡ Some block →
     is_among marks.used key ≡ true → RuleFact hir Twice key
 twice_used hir marks frames key block a e u = record {
   block = block;
@@ -154,8 +154,8 @@ twice_used hir marks frames key block a e u = record {
 }
 
 -- so is a jump target
-pub twice_target : (hir : HirFunction) (marks : Marks) (frames : List Frame) (key : BlockId) (block : BasicBlock)
-    → CanBuildList hir marks frames key → basic_block hir key ≡ Some block →
+pub twice_target : (hir : HirFunction) (marks : Marks) {handler : Option BlockId} (frames : List Frame) (key : BlockId)
+    (block : BasicBlock) → CanBuildList hir marks handler frames key → basic_block hir key ≡ Some block →
     is_jump_target frames key ≡ true → RuleFact hir Twice key
 twice_target hir marks frames key block a e l = go (pending_or_used frames key l)
   where

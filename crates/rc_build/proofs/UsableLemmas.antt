@@ -1,20 +1,15 @@
 -- The blocks that a tree may use: their parts, and when there is none.
-use Rattle.std.proofs.Common.{◌≡◌, Bool, true, false, List, [], ◌∷◌, ◌++◌, Option, Some, None, refl, sym, ap, ◌∙◌}
+use Rattle.std.proofs.Common.{◌≡◌, Bool, true, false, List, Option, Some, None, refl, sym, ap, ◌∙◌}
 use Rattle.std.specs.Prelude.{option_map, option_and_then, if◌then◌else◌}
 use Rattle.rc_names.specs.Numbers.{BlockId, same_id}
 use Rattle.rc_hir.specs.Model.{Instruction, BasicBlock, HirFunction}
 use Rattle.rc_runs.specs.Graph.{Block, basic_block, block_at, usable_block, rows_of, with_rows, with_ids}
-use Rattle.rc_runs.specs.Frames.{is_jump_target}
-use Rattle.rc_runs.specs.Spelled.{AreSound}
-use Rattle.rc_runs.specs.declared.frames.Frame.{Frame}
-use Rattle.rc_build.specs.declared.builder.Marks.{Marks}
 use Rattle.rc_runs.specs.Graph.{has_all_ids, under_own_number}
+use Rattle.rc_hir.specs.Terminal.{evaluation_order}
+use Rattle.rc_runs.specs.Silent.{is_unset}
+use Rattle.rc_runs.proofs.GraphLemmas.{usable_block-at}
+use Rattle.rc_runs.proofs.SetIds.{usable_block-set}
 use Rattle.rc_build.specs.inside.Rows.{HasIds}
-
--- no tree may use the block there
-abbrev pub IsUnusable : HirFunction → List Frame → BlockId → Marks → Type 0
-IsUnusable hir frames key marks = (block : Block) → usable_block hir key ≡ Some block →
-    is_jump_target frames key ≡ false → AreSound hir (marks.used ++ key ∷ []) → ⊥
 
 -- a basic block with these rows
 abbrev pub filled : BasicBlock → List Instruction → Block
@@ -98,3 +93,16 @@ module _ (hir : HirFunction) (key : BlockId) where
       block_at hir key ≡ Some (filled block rows)
   unfolding block_at
   found_block block rows e f = ap (option_and_then (with_rows hir)) e ∙ ap (option_map (filled block)) f
+
+  -- a block whose terminal has no id may not be used
+  pub unusable_unset : (block : BasicBlock) → basic_block hir key ≡ Some block
+      → is_unset (evaluation_order block.terminal) ≡ true → usable_block hir key ≡ None
+  unusable_unset block e unset = go (usable_block hir key) refl
+    where
+      go : (found : Option Block) → usable_block hir key ≡ found → found ≡ None
+      go None u = refl
+      go (Some whole) u =
+          let same = ap (λ t. is_unset (evaluation_order t))
+          (found_terminal block whole e (usable_block-at hir key whole u)) in
+          let set = (usable_block-set hir key whole u).terminal in
+          let bad : ⊥ = cc in absurd bad

@@ -1,30 +1,29 @@
--- What the builder ensures of a value, and of one as it stands in a loop.
-use Rattle.std.proofs.Common.{◌≡◌, false, true, List, [], ◌∷◌, ◌++◌, Option, Some, None, Result, Ok, Err, IfOk, IfErr}
-use Rattle.std.proofs.Common.{refl, sym, ap, ◌∙◌, subst, arith}
+-- What the builder ensures of a block of a value that it marks, and of the last one.
+use Rattle.std.proofs.Common.{◌≡◌, false, true, List, [], ◌∷◌, ◌++◌, Some, None, refl, sym, ap, ◌∙◌, subst}
+use Rattle.std.proofs.Common.{option_and_then}
 use Rattle.std.specs.Option.{option_to_list}
 use Rattle.std.proofs.lemmas.List.{append-nil}
-use Rattle.rc_names.specs.Numbers.{BlockId, ScopeId, is_among}
-use Rattle.rc_names.specs.declared.span.Span.{Span}
-use Rattle.rc_hir.specs.Model.{Fault, BasicBlock, Terminal, HirFunction, Environment}
+use Rattle.rc_names.specs.Numbers.{BlockId, is_among}
+use Rattle.rc_hir.specs.Model.{BasicBlock, Terminal, HirFunction, Environment}
 use Rattle.rc_hir.specs.declared.terminal.Terminal.TheVariants as terminals
 use Rattle.rc_runs.specs.Graph.{basic_block}
 use Rattle.rc_runs.specs.GraphRun.{HasNoUnreachableSuccessor}
 use Rattle.rc_runs.specs.LastRow.{ends_value}
 use Rattle.rc_runs.specs.ListContext.{ValueContext}
 use Rattle.rc_runs.specs.Spelled.{scope_named}
-use Rattle.rc_build.specs.declared.builder.Builder.{Builder}
 use Rattle.rc_build.specs.declared.builder.Marks.{Marks}
-use Rattle.rc_build.specs.declared.builder.Site.{Site}
 use Rattle.rc_build.specs.declared.values.BuiltValue.{BuiltValue}
 use Rattle.rc_build.specs.References.{referenced_blocks}
-use Rattle.rc_build.specs.RuleFacts.{BlockIs, FaultFact}
+use Rattle.rc_build.specs.inside.CanBuild.{CanBuildList}
 use Rattle.rc_build.specs.inside.Marks.{MarksBlocks, is_fresh_scope}
-use Rattle.rc_build.specs.inside.Setting.{setting_of}
-use Rattle.rc_build.specs.inside.Built.{Builds, IfRefused}
-use Rattle.rc_build.specs.inside.Values.{BuildsValue, CanBuildValue, EndsValue, HasNoValue, IsValueOf, SpellsNoValue}
-use Rattle.rc_build.proofs.MarksLemmas.{referenced_fewer, times_append}
+use Rattle.rc_build.specs.inside.Task.{Progress}
+use Rattle.rc_build.specs.inside.Throws.{may_throw, throw_at}
+use Rattle.rc_build.specs.inside.ValueKinds.{terminal_at, value_terminal}
+use Rattle.rc_build.specs.inside.Values.{CanMark, EndsValue, HasNoValue, IsValueOf, Marked, SpellsNoValue}
+use Rattle.rc_build.specs.inside.Values.{ValueBuilt, any_end}
 use Rattle.rc_build.proofs.TakenLemmas.{marked_push, marking_push}
-use Rattle.rc_build.proofs.ValueLemmas.{value_rows}
+use Rattle.rc_build.proofs.UsableLemmas.{usable_ids}
+use Rattle.rc_build.proofs.ValueLemmas.{value_block}
 
 -- a terminal that ends a value opens no scope
 ends_value-unscoped : (terminal : Terminal) → ends_value terminal ≡ true → scope_named terminal ≡ None
@@ -32,54 +31,56 @@ ends_value-unscoped (terminals.Branch test consequent alternate id span) ends = 
 ends_value-unscoped (terminals.Goto block variant id span) ends = refl
 ends_value-unscoped terminal ends = let bad : ⊥ = cc in absurd bad
 
--- a block that is marked, while no reference of its own stays pending
-marking_value : (hir : HirFunction) (old new : Marks) (key : BlockId) (block : BasicBlock)
+-- the block of a value is marked
+pub marks_block : {hir : HirFunction} {old new : Marks} {key : BlockId} {block : BasicBlock}
+    → CanMark hir old key block → is_among old.used key ≡ false → HasNoUnreachableSuccessor hir block.terminal
+    → new.used ≡ old.used ++ key ∷ [] → new.scopes ≡ old.scopes
     → MarksBlocks hir (key ∷ []) (referenced_blocks block.terminal) old new (key ∷ [])
-    → MarksBlocks hir (key ∷ []) [] old new (key ∷ [])
-marking_value hir old new key block m = record {
-  used = m.used;
-  marked = m.marked;
-  referenced = λ pending h. referenced_fewer hir new.used pending (referenced_blocks block.terminal ++ pending)
-      (λ other. omega (arith, times_append other (referenced_blocks block.terminal) pending)) (m.referenced pending h);
-}
+marks_block {hir} {old} {new} {key} {block} can fresh alive used scopes =
+    let marked = marked_push hir old new key block can.ids.rows can.can.marked fresh can.found can.ids.filled alive
+    (ap (is_fresh_scope old.scopes) can.unscoped) used
+    (scopes ∙ sym (ap (λ z. old.scopes ++ option_to_list z) can.unscoped ∙ append-nil old.scopes)) in
+    marking_push hir old new key block fresh can.found marked used
 
 nowhere : ValueContext
 nowhere = record { around = None; handler = None; is_test = false }
 
-module _ (old new : Builder) (site : Site) (key : BlockId) (block : BasicBlock)
-    (can : CanBuildValue old.hir.now old.marks key) (found : basic_block old.hir.now key ≡ Some block)
-    (fresh : is_among old.marks.used key ≡ false) (used : new.marks.used ≡ old.marks.used ++ key ∷ [])
-    (scopes : new.marks.scopes ≡ old.marks.scopes) (alive : HasNoUnreachableSuccessor old.hir.now block.terminal)
-    (ends : EndsValue block.terminal) where
-  marks_value : {built : BuiltValue} → IsValueOf old.hir.now old.env.now key block.terminal built
-      → MarksBlocks old.hir.now (key ∷ []) [] old.marks new.marks (key ∷ [])
-  marks_value is =
-      let rows = value_rows key block found (is.spelled nowhere) in
-      let unscoped = ends_value-unscoped block.terminal ends.ends in
-      let marked = marked_push old.hir.now old.marks new.marks key block rows.rows can.can.marked fresh found rows.filled
-      alive (ap (is_fresh_scope old.marks.scopes) unscoped) used
-      (scopes ∙ sym (ap (λ z. old.marks.scopes ++ option_to_list z) unscoped ∙ append-nil old.marks.scopes)) in
-      marking_value old.hir.now old.marks new.marks key block
-      (marking_push old.hir.now old.marks new.marks key block fresh found marked used)
+module _ (hir : HirFunction) (key : BlockId) {block : BasicBlock} (found : basic_block hir key ≡ Some block) where
+  -- a block that doesn't end in a value terminal
+  pub no_terminal : terminal_at hir key ≡ None → value_terminal block.terminal ≡ None
+  no_terminal none = sym (ap (option_and_then (λ (b : BasicBlock). value_terminal b.terminal)) found) ∙ none
 
-  -- a value that is made of a block that is marked is built
-  pub builds_value : (result : Result BuiltValue Fault) → setting_of new site ≡ setting_of old site → new.out ≡ old.out
-      → IfOk result (IsValueOf old.hir.now old.env.now key block.terminal)
-      → IfRefused result (SpellsNoValue old.hir.now old.env.now key) → IfErr result (FaultFact old.hir.now)
-      → Builds old new site (BuildsValue old new key) (HasNoValue old.hir.now old.env.now key old.marks.used) result
-  builds_value (Ok built) same kept ok refused facts = record {
-    ok = record {
-      value = (block.terminal, ok, record { block = block; found = found; holds = refl });
-      marking = marks_value ok;
-      kept = kept;
-    };
-    refused = λ named rule e. absurd (let bad : ⊥ = cc in bad);
-    facts = tt;
-    frames = same;
-  }
-  builds_value (Err fault) same kept ok refused facts = record {
-    ok = tt;
-    refused = λ named rule e context value end blocks d sound. refused named rule e context value end blocks d;
-    facts = facts;
-    frames = tt;
-  }
+  -- and doesn't throw
+  pub no_throw_at : throw_at hir key ≡ None → may_throw block.terminal ≡ None
+  no_throw_at none = sym (ap (option_and_then (λ (b : BasicBlock). may_throw b.terminal)) found) ∙ none
+
+  -- the block of a value that is made can be marked
+  pub end_can : {marks : Marks} {env : Environment} {built : BuiltValue} → CanBuildList hir marks None [] key → EndsValue block.terminal
+      → IsValueOf hir env key block.terminal built → CanMark hir marks key block
+  end_can can ends is =
+      let at = value_block (is.spelled nowhere) in record {
+        can = can;
+        found = found;
+        ids = usable_ids hir key block at.whole found at.usable;
+        unscoped = ends_value-unscoped block.terminal ends.ends;
+      }
+
+-- a value of one block is built, once that is marked
+pub end_built : {hir : HirFunction} {env : Environment} {key : BlockId} {terminal : Terminal} {built : BuiltValue}
+    {old new : Progress} (context : ValueContext) → IsValueOf hir env key terminal built
+    → Marked hir key terminal old new → ValueBuilt hir env key context any_end built old new
+end_built {hir} {key = key} {old = old} {new} context is m = record {
+  value = is.value;
+  end = is.end;
+  newly = key ∷ [];
+  is = is.is;
+  spelled = is.spelled context;
+  ends = tt;
+  marking = subst (λ t. MarksBlocks hir (key ∷ []) (referenced_blocks t) old.marks new.marks (key ∷ []))
+      (sym is.at_end) m.marking;
+  kept = m.kept;
+}
+
+pub none_there : {hir : HirFunction} {env : Environment} {key : BlockId} (used : List BlockId) (context : ValueContext)
+    → SpellsNoValue hir env key → HasNoValue hir env key context any_end used
+none_there used context none value end blocks d asked sound = none context value end blocks d

@@ -2,28 +2,27 @@
 use Rattle.std.proofs.Common.{◌≡◌, Bool, true, false, List, [], ◌∷◌, ◌++◌, Option, Some, None, ◌||◌, refl, sym, ap, ◌∙◌}
 use Rattle.std.proofs.Common.{ℕ, Result, Ok, Err, IfOk, ◌<◌, ◌+◌, length, take, get_or, subst, map, eq-eqb}
 use Rattle.std.proofs.lemmas.List.{map-append}
-use Rattle.std.specs.Prelude.{slice_get, if◌then◌else◌}
+use Rattle.std.specs.Prelude.{slice_get}
 use Rattle.std.specs.List.{list_any}
 use Rattle.std.proofs.lemmas.Bool.{or_parts}
 use Rattle.std.proofs.lemmas.List.Folds.{list_any_at}
 use Rattle.rc_names.specs.Numbers.{BlockId, InstructionId, EvaluationOrder, same_id, is_among}
 use Rattle.rc_names.specs.declared.span.Span.{Span}
 use Rattle.rc_names.proofs.NumbersLemmas.{same_id-eq}
-use Rattle.rc_hir.specs.Model.{Place, InstructionValue, Instruction, HirFunction}
+use Rattle.rc_hir.specs.Model.{Place, Instruction, HirFunction}
 use Rattle.rc_hir.specs.declared.fault.Fault.TheVariants as faults
-use Rattle.rc_hir.specs.declared.instruction.InstructionValue.TheVariants as kinds
-use Rattle.rc_hir.specs.declared.instruction.PrimitiveValue.TheVariants as primitives
 use Rattle.rc_hir.specs.declared.fault.TableName.TheVariants as table_names
 use Rattle.rc_tree.specs.Model.{ReactiveInstruction, ReactiveValue}
 use Rattle.rc_tree.specs.declared.value.ReactiveValue.TheVariants as reactive_values
 use Rattle.rc_runs.specs.Graph.{rows_of}
 use Rattle.rc_runs.specs.Silent.{is_unset}
-use Rattle.rc_runs.specs.PlainTree.{Base, Sequence, Rows, NoRows, Row}
+use Rattle.rc_runs.specs.PlainTree.{Value, Sequence, Rows, NoRows, Row}
 use Rattle.rc_runs.specs.TreeOf.{instructions_of, value_of}
 use Rattle.rc_runs.specs.LastRow.{rows_then, after_rows}
-use Rattle.rc_runs.specs.Flattened.{rows_join, flat_rows, final_value, loads_own, final_row, flattened}
+use Rattle.rc_runs.specs.Flattened.{rows_join}
 use Rattle.rc_build.specs.RuleFacts.{FaultFact}
-use Rattle.rc_build.specs.inside.Values.{AreListed, AreParts, HasRow, HasRows, row_of}
+use Rattle.rc_build.specs.inside.ValueTerminals.{value_behind}
+use Rattle.rc_build.specs.inside.Values.{AreListed, HasRow, HasRows, behind_rows, row_of}
 use Rattle.rc_build.proofs.RowsLemmas.{first_row, none_more, rows_more}
 
 module _ (hir : HirFunction) where
@@ -94,50 +93,6 @@ instructions_of-rows_join (Row id target value span rest) more =
     ap (λ z. record { id = id; lvalue = target; value = value_of value; span = span } ∷ z)
     (instructions_of-rows_join rest more)
 
-rows_join-none : (rows : Rows) → rows_join rows NoRows ≡ rows
-rows_join-none NoRows = refl
-rows_join-none (Row id target value span rest) = ap (λ z. Row id target value span z) (rows_join-none rest)
-
--- the rows and the final value of a value of one block
-pub flat_rows-after_rows : (rows : List Instruction) (id : EvaluationOrder) (base : InstructionValue)
-    → flat_rows (after_rows rows id (Base base)) ≡ rows_then rows NoRows
-flat_rows-after_rows [] id base = refl
-flat_rows-after_rows (row ∷ rows) id base = rows_join-none (rows_then (row ∷ rows) NoRows)
-
-pub final_value-after_rows : (rows : List Instruction) (id : EvaluationOrder) (base : InstructionValue)
-    → final_value (after_rows rows id (Base base)) ≡ Base base
-final_value-after_rows [] id base = refl
-final_value-after_rows (row ∷ rows) id base = refl
-
-module _ (answer : Place) (id : EvaluationOrder) (span : Option Span) (front : List Instruction)
-    (base : InstructionValue) where
-  -- the rows of a flattened value, with the row for its final value where there is one
-  abbrev pub flat : Rows
-  flat = rows_join (rows_then front NoRows) (final_row answer id span (Base base))
-
-  abbrev with_final : Bool → List ReactiveInstruction
-  with_final own = instructions_of
-      (rows_join (rows_then front NoRows) (if own then NoRows else Row id (Some answer) (Base base) span NoRows))
-
-  pub flat-load : loads_own answer (Base base) ≡ true → instructions_of flat ≡ map row_of front
-  flat-load own = ap with_final own ∙ ap instructions_of (rows_join-none (rows_then front NoRows))
-      ∙ instructions_of-rows_then front
-
-  pub flat-other : loads_own answer (Base base) ≡ false → instructions_of flat
-      ≡ map row_of front ++ record { id = id; lvalue = Some answer; value = value_of (Base base); span = span } ∷ []
-  flat-other other = ap with_final other
-      ∙ instructions_of-rows_join (rows_then front NoRows) (Row id (Some answer) (Base base) span NoRows)
-      ∙ ap (λ z. z ++ record { id = id; lvalue = Some answer; value = value_of (Base base); span = span } ∷ [])
-      (instructions_of-rows_then front)
-
-  pub flattened-after_rows : flattened answer id span (after_rows front id (Base base))
-      ≡ Sequence flat id (Base (kinds.Primitive primitives.Undefined span))
-  flattened-after_rows =
-      ap (λ z. Sequence (rows_join z (final_row answer id span (final_value (after_rows front id (Base base))))) id
-      (Base (kinds.Primitive primitives.Undefined span))) (flat_rows-after_rows front id base)
-      ∙ ap (λ z. Sequence (rows_join (rows_then front NoRows) (final_row answer id span z)) id
-      (Base (kinds.Primitive primitives.Undefined span))) (final_value-after_rows front id base)
-
 -- a boxed value that is this one
 pub boxed_is : {A E : Type 0} {made whole : A} (result : Result A E) → IfOk result (λ boxed. boxed ≡ made)
     → made ≡ whole → IfOk result (λ boxed. boxed ≡ whole)
@@ -145,14 +100,34 @@ boxed_is (Ok boxed) is same = is ∙ same
 boxed_is (Err error) is same = tt
 
 -- a value with rows before it is a sequence
-pub sequence_is : (rows : List ReactiveInstruction) (id : EvaluationOrder) (value : ReactiveValue)
-    (front : List Instruction) (base : InstructionValue) → AreParts front base rows value → (rows ≡ [] → ⊥)
-    → reactive_values.SequenceExpression rows id value ≡ value_of (after_rows front id (Base base))
-sequence_is rows id value [] base parts some = absurd (some parts.rows_are)
-sequence_is rows id value (row ∷ front) base parts some =
-    ap (λ z. reactive_values.SequenceExpression z id value)
-    (parts.rows_are ∙ sym (instructions_of-rows_then (row ∷ front)))
-    ∙ ap (λ z. reactive_values.SequenceExpression (instructions_of (rows_then (row ∷ front) NoRows)) id z) parts.value_is
+pub sequence_is : (rows : List ReactiveInstruction) (id : EvaluationOrder) (value : ReactiveValue) → (rows ≡ [] → ⊥)
+    → reactive_values.SequenceExpression rows id value ≡ behind_rows rows id value
+sequence_is [] id value some = absurd (some refl)
+sequence_is (row ∷ rows) id value some = refl
+
+-- rows, and a value behind them, of the graph
+pub behind_instructions : (rows : Rows) (id : EvaluationOrder) (value : Value)
+    → behind_rows (instructions_of rows) id (value_of value) ≡ value_of (value_behind rows id value)
+behind_instructions NoRows id value = refl
+behind_instructions (Row own target base span rest) id value = refl
+
+pub behind_block : (rows : List Instruction) (id : EvaluationOrder) (value : Value)
+    → value_behind (rows_then rows NoRows) id value ≡ after_rows rows id value
+behind_block [] id value = refl
+behind_block (row ∷ rows) id value = refl
+
+pub behind_made : (rows : List Instruction) (id : EvaluationOrder) (value : Value)
+    → behind_rows (map row_of rows) id (value_of value) ≡ value_of (after_rows rows id value)
+behind_made rows id value = ap (λ z. behind_rows z id (value_of value)) (sym (instructions_of-rows_then rows))
+    ∙ behind_instructions (rows_then rows NoRows) id value ∙ ap value_of (behind_block rows id value)
+
+-- rows that end in the row of a value terminal
+pub behind_row : (rows : List Instruction) (own : EvaluationOrder) (target : Option Place) (base : Value)
+    (span : Option Span) (id : EvaluationOrder) (value : Value)
+    → value_behind (rows_then rows (Row own target base span NoRows)) id value
+    ≡ Sequence (rows_then rows (Row own target base span NoRows)) id value
+behind_row [] own target base span id value = refl
+behind_row (row ∷ rows) own target base span id value = refl
 
 -- the row of a number among those of rows, by its place
 pub row_at : (hir : HirFunction) (numbers : List InstructionId) (i : ℕ) (d : InstructionId)

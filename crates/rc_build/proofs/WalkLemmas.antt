@@ -37,22 +37,27 @@ module _ (hir : HirFunction) where
       subst (λ z. is_among z key ≡ true) (sym m.used) (among_front old.used blocks key h)
 
   -- the next block of a list, once those before it are marked
-  pub at_next : {old new : Marks} {frames : List Frame} {key next : BlockId} {blocks : List BlockId}
-      → CanBuildList hir old frames key → MarksBlocks hir (key ∷ []) (next ∷ []) old new blocks → CanBuildList hir new frames next
+  pub at_next : {old new : Marks} {handler : Option BlockId} {frames : List Frame} {key next : BlockId}
+      {blocks : List BlockId}
+      → CanBuildList hir old handler frames key → MarksBlocks hir (key ∷ []) (next ∷ []) old new blocks
+      → CanBuildList hir new handler frames next
   at_next {old = old} {new = new} {frames = frames} a m = record {
     marked = m.marked;
+    handled = a.handled;
     referenced = m.referenced (pending_blocks frames) a.referenced;
     used_before = λ key h. used_more m key (a.used_before key h);
     owned = owned_weaker hir (IsUsed old) (IsUsed new) frames (used_more m) a.owned;
   }
 
   -- a block's terminal, once the block is marked
-  pub at_terminal : {old new : Marks} {frames : List Frame} {key : BlockId} {block : BasicBlock}
-      → CanBuildList hir old frames key → basic_block hir key ≡ Some block → is_among old.used key ≡ false
+  pub at_terminal : {old new : Marks} {handler : Option BlockId} {frames : List Frame} {key : BlockId}
+      {block : BasicBlock}
+      → CanBuildList hir old handler frames key → basic_block hir key ≡ Some block → is_among old.used key ≡ false
       → MarksBlocks hir (key ∷ []) (referenced_blocks block.terminal) old new (key ∷ [])
-      → CanBuildTerminal hir new frames key block.terminal
+      → CanBuildTerminal hir new handler frames key block.terminal
   at_terminal {old = old} {new = new} {frames = frames} {key = key} {block = block} a found fresh m = record {
     marked = m.marked;
+    handled = a.handled;
     used = subst (λ z. is_among z key ≡ true) (sym m.used) (among_push old.used key);
     here = record { block = block; found = found; holds = refl };
     referenced = m.referenced (pending_blocks frames) a.referenced;
@@ -62,12 +67,14 @@ module _ (hir : HirFunction) where
   }
 
   -- a list can be built inside one more frame of a used block, where what is to be used before is
-  pub framed_list : {marks : Marks} {frames : List Frame} {key part : BlockId} {terminal : Terminal} (frame : Frame)
+  pub framed_list : {marks : Marks} {handler : Option BlockId} {frames : List Frame} {key part : BlockId}
+      {terminal : Terminal} (frame : Frame)
       → IsUsed marks key → BlockIs hir key (λ block. block.terminal ≡ terminal) → IsFrameOf terminal frame
       → AreUsed marks (used_at frame) → AreReferenced hir marks.used (part ∷ pending_blocks (frame ∷ frames))
-      → CanBuildList hir marks frames part → CanBuildList hir marks (frame ∷ frames) part
+      → CanBuildList hir marks handler frames part → CanBuildList hir marks handler (frame ∷ frames) part
   framed_list {marks = marks} {frames = frames} {key = key} frame u here f w n a = record {
     marked = a.marked;
+    handled = a.handled;
     referenced = n;
     used_before = λ other h. before other (among_parts (used_at frame) (used_blocks frames) other h);
     owned = (
@@ -91,11 +98,14 @@ module _ (hir : HirFunction) where
       before other (inr h) = a.used_before other h
 
   -- a part that stands in the place of the list itself
-  pub at_arm : {old new : Marks} {frames : List Frame} {key part : BlockId} {terminal : Terminal}
-      {after blocks : List BlockId} → CanBuildTerminal hir old frames key terminal
-      → MarksBlocks hir (referenced_blocks terminal) (part ∷ after) old new blocks → CanBuildList hir new frames part
+  pub at_arm : {old new : Marks} {handler : Option BlockId} {frames : List Frame} {key part : BlockId}
+      {terminal : Terminal}
+      {after blocks : List BlockId} → CanBuildTerminal hir old handler frames key terminal
+      → MarksBlocks hir (referenced_blocks terminal) (part ∷ after) old new blocks
+      → CanBuildList hir new handler frames part
   at_arm {old = old} {new = new} {frames = frames} {key = key} {part = part} {after = after} a m = record {
     marked = m.marked;
+    handled = a.handled;
     referenced = referenced_fewer hir new.used (part ∷ pending_blocks frames) (part ∷ after ++ pending_blocks frames)
         (λ other. omega (arith, times_append other after (pending_blocks frames)))
         (m.referenced (pending_blocks frames) a.referenced);
@@ -104,41 +114,47 @@ module _ (hir : HirFunction) where
   }
 
   -- a part of a statement can be built inside its frame, of whichever kind, once what is to be used before it is
-  pub at_part : {old new : Marks} {frames : List Frame} {key part : BlockId} {terminal : Terminal}
-      {blocks : List BlockId} (frame : Frame) (at : Option BlockId) → CanBuildTerminal hir old frames key terminal
+  pub at_part : {old new : Marks} {handler : Option BlockId} {frames : List Frame} {key part : BlockId}
+      {terminal : Terminal}
+      {blocks : List BlockId} (frame : Frame) (at : Option BlockId)
+      → CanBuildTerminal hir old handler frames key terminal
       → IsFrameOf terminal frame → AreUsed new (used_at frame)
       → MarksBlocks hir (referenced_blocks terminal) (part ∷ pending_at frame) old new blocks
-      → CanBuildList hir new (frames_inside at frame frames) part
+      → CanBuildList hir new handler (frames_inside at frame frames) part
   at_part {frames = frames} {key = key} {part = part} frame None a f w m = at_arm a m
   at_part {frames = frames} {key = key} {part = part} frame (Some fallthrough) a f w m =
       framed_list frame (used_more m key a.used) a.here f w (m.referenced (pending_blocks frames) a.referenced)
       (at_arm a m)
 
   -- so can the first part of a statement
-  pub at_first_part : {marks : Marks} {frames : List Frame} {key part : BlockId} {terminal : Terminal} (frame : Frame)
-      (at : Option BlockId) → CanBuildTerminal hir marks frames key terminal → IsFrameOf terminal frame
+  pub at_first_part : {marks : Marks} {handler : Option BlockId} {frames : List Frame} {key part : BlockId}
+      {terminal : Terminal} (frame : Frame)
+      (at : Option BlockId) → CanBuildTerminal hir marks handler frames key terminal → IsFrameOf terminal frame
       → AreUsed marks (used_at frame)
       → ((other : BlockId) → times other (part ∷ pending_at frame) ≤ times other (referenced_blocks terminal))
-      → CanBuildList hir marks (frames_inside at frame frames) part
+      → CanBuildList hir marks handler (frames_inside at frame frames) part
   at_first_part {marks = marks} {terminal = terminal} frame at a f w n =
       at_part frame at a f w (marking_drop hir n (marking_none hir (referenced_blocks terminal) marks a.marked))
 
   -- and the body of a loop, once what it tests is marked
   pub at_turn : {old new : Marks} {key body fallthrough : BlockId} {terminal : Terminal} {blocks : List BlockId}
-      {frames : List Frame} (again : BlockId) → CanBuildTerminal hir old frames key terminal
+      {handler : Option BlockId} {frames : List Frame} (again : BlockId)
+      → CanBuildTerminal hir old handler frames key terminal
       → fallthrough_of terminal ≡ Some fallthrough → is_among (tested_blocks terminal) again ≡ true → IsUsed new again
       → MarksBlocks hir (tested_blocks terminal) [] old new blocks
       → ((other : BlockId) → times other (tested_blocks terminal ++ body ∷ fallthrough ∷ []) ≤ times other
       (referenced_blocks terminal))
-      → CanBuildList hir new (frame_kinds.Loop fallthrough again ∷ frames) body
+      → CanBuildList hir new handler (frame_kinds.Loop fallthrough again ∷ frames) body
   at_turn {new = new} {fallthrough = fallthrough} again a f t u m n =
       at_part (frame_kinds.Loop fallthrough again) (Some fallthrough) a (f, t) (used_alone new again u)
       (marking_more hir n (marking_beside hir m))
 
   -- and a case inside the frame of a later one, once that one's block is used
-  pub at_case : {old new : Marks} {outer frames : List Frame} {key block later : BlockId} {terminal : Terminal}
-      {before after blocks : List BlockId} → CanBuildTerminal hir old outer key terminal
+  pub at_case : {old new : Marks} {handler : Option BlockId} {outer frames : List Frame} {key block later : BlockId}
+      {terminal : Terminal}
+      {before after blocks : List BlockId} → CanBuildTerminal hir old handler outer key terminal
       → MarksBlocks hir before after old new blocks → is_among (case_blocks (cases_of terminal)) later ≡ true
-      → IsUsed new later → CanBuildList hir new frames block → CanBuildList hir new (frame_kinds.Case later ∷ frames) block
+      → IsUsed new later → CanBuildList hir new handler frames block
+      → CanBuildList hir new handler (frame_kinds.Case later ∷ frames) block
   at_case {new = new} {key = key} {later = later} a m c u inner =
       framed_list (frame_kinds.Case later) (used_more m key a.used) a.here c (used_alone new later u) inner.referenced inner

@@ -5,25 +5,18 @@ use Rattle.rc_hir.specs.declared.fault.Fault.TheVariants as faults
 use Rattle.rc_hir.specs.Names.{NamesInTables, NamesOutside}
 use Rattle.rc_tree.specs.Model.{ReactiveFunction}
 use Rattle.rc_runs.specs.Spelled.{Spells}
-use Rattle.rc_build.specs.BuiltForms.{AreBuilt, IsFirstUnbuilt}
 use Rattle.rc_build.specs.RuleFacts.{IsLabeledValue, RuleFact}
 
 -- the graph spells no function
 abbrev pub SpellsNone : HirFunction → Environment → Type 0
 SpellsNone hir env = (func : ReactiveFunction) → Spells hir env func → ⊥
 
--- the builder walks the graph: its numbers are in their tables, and its terminals are of forms that are built
-pub record CanBeBuilt (hir : HirFunction) (env : Environment) : Type 0 where
-  pub names : NamesInTables hir env
-  pub forms : AreBuilt hir
-
--- Why a fault is returned. Each cause but that of `NoMemory` asks that those above it don't hold.
+-- Why a fault is returned. Each cause but that of `NoMemory` asks that the one above it doesn't hold.
 abbrev pub IsBuildCause : HirFunction → Environment → Fault → Type 0
 IsBuildCause hir env (faults.BadName table index) = NamesOutside hir env (faults.BadName table index)
-IsBuildCause hir env (faults.NotBuilt block) = NamesInTables hir env × IsFirstUnbuilt hir block
 IsBuildCause hir env (faults.Malformed block rule) =
-    CanBeBuilt hir env × SpellsNone hir env × RuleFact hir rule block
-IsBuildCause hir env (faults.Todo block) = CanBeBuilt hir env × SpellsNone hir env × IsLabeledValue hir block
+    NamesInTables hir env × SpellsNone hir env × RuleFact hir rule block
+IsBuildCause hir env (faults.Todo block) = NamesInTables hir env × SpellsNone hir env × IsLabeledValue hir block
 IsBuildCause hir env faults.NoMemory = ⊤
 IsBuildCause hir env (faults.EarlyReturnSet scope) = ⊥
 IsBuildCause hir env (faults.ScopeCompleted id scope) = ⊥

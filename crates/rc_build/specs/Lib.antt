@@ -1,4 +1,3 @@
-pub mod BuiltForms
 pub mod References
 pub mod RuleFacts
 pub mod BuildCauses

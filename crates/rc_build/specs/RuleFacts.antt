@@ -1,5 +1,5 @@
 -- What holds of the block that a fault names, one equation a rule.
-use Rattle.std.specs.Prelude.{◌≡◌, ◌≤◌, ◌⊎◌, ℕ, Bool, true, false, List, [], Option, Some, None, nat_eq}
+use Rattle.std.specs.Prelude.{◌≡◌, ◌≤◌, ◌⊎◌, ℕ, Bool, true, false, List, [], ◌∷◌, Option, Some, None, nat_eq}
 use Rattle.std.specs.Prelude.{slice_get}
 use Rattle.std.specs.List.{list_any}
 use Rattle.rc_names.specs.Numbers.{BlockId, InstructionId, EvaluationOrder, ScopeId, same_id, is_among, times}
@@ -21,7 +21,6 @@ use Rattle.rc_build.specs.References.{references, framed_blocks, fallthrough_of,
 use Rattle.rc_build.specs.References.{value_references, value_fallthrough, turn_block, is_while}
 use Rattle.rc_runs.specs.Spelled.{scope_named}
 use Rattle.rc_runs.specs.SwitchCases.{has_one_default, tests_past}
-use Rattle.rc_build.specs.BuiltForms.{is_built}
 
 -- the block under a key, of which P holds
 pub record BlockIs (hir : HirFunction) (key : BlockId) (P : BasicBlock → Type 0) : Type 0 where
@@ -117,6 +116,28 @@ abbrev pub is_continue : Terminal → Bool
 is_continue (terminals.Goto target variants.Continue id span) = true
 is_continue _ = false
 
+-- the terminal is a `Goto` of variant `Try`
+abbrev pub is_leave : Terminal → Bool
+is_leave (terminals.Goto target variants.Try id span) = true
+is_leave _ = false
+
+-- the terminal is a `MaybeThrow` that names a handler
+abbrev pub names_handler : Terminal → Bool
+names_handler (terminals.MaybeThrow continuation (Some handler) id span) = true
+names_handler _ = false
+
+abbrev pub is_throw : Terminal → Bool
+is_throw (terminals.Throw value id span) = true
+is_throw _ = false
+
+abbrev pub is_try : Terminal → Bool
+is_try (terminals.Try block handler_binding handler fallthrough id span) = true
+is_try _ = false
+
+-- a block of the graph ends in a `Try`
+abbrev pub HasTry : HirFunction → Type 0
+HasTry hir = (owner : BlockId) × BlockIs hir owner (λ block. is_try block.terminal ≡ true)
+
 -- a block of the graph refers to the block as to a value
 abbrev pub IsValueReferenced : HirFunction → BlockId → Type 0
 IsValueReferenced hir key = (owner : BlockId)
@@ -136,6 +157,21 @@ abbrev pub is_branch : Terminal → Bool
 is_branch (terminals.Branch test consequent alternate id span) = true
 is_branch _ = false
 
+-- the blocks between which a `Branch` chooses
+abbrev pub branch_arms : Terminal → List BlockId
+branch_arms (terminals.Branch test consequent alternate id span) = consequent ∷ alternate ∷ []
+branch_arms _ = []
+
+-- the alternate of a `Branch`
+abbrev pub branch_alternate : Terminal → Option BlockId
+branch_alternate (terminals.Branch test consequent alternate id span) = Some alternate
+branch_alternate _ = None
+
+-- a `Branch` of the graph leads to the block
+abbrev pub IsBranchArm : HirFunction → BlockId → Type 0
+IsBranchArm hir key = (owner : BlockId)
+    × BlockIs hir owner (λ block. is_among (branch_arms block.terminal) key ≡ true)
+
 abbrev pub is_goto : Terminal → Bool
 is_goto (terminals.Goto block variant id span) = true
 is_goto _ = false
@@ -143,6 +179,17 @@ is_goto _ = false
 abbrev pub is_label : Terminal → Bool
 is_label (terminals.Label block fallthrough id span) = true
 is_label _ = false
+
+-- the block under the key has no rows, and goes on at another one
+abbrev pub IsEmptyGoto : HirFunction → BlockId → Type 0
+IsEmptyGoto hir key = BlockIs hir key (λ block. (block.instructions ≡ []) × (is_goto block.terminal ≡ true))
+
+-- the terminal only leads to another block: it is a `Goto`, or a `MaybeThrow` before a block without rows that ends in
+-- one
+abbrev pub OnlyGoesOn : HirFunction → Terminal → Type 0
+OnlyGoesOn hir (terminals.Goto block variant id span) = Unit {0}
+OnlyGoesOn hir (terminals.MaybeThrow continuation handler id span) = IsEmptyGoto hir continuation
+OnlyGoesOn hir _ = ⊥
 
 -- the block ends in a `Label`, and a block of the graph refers to it as to a value
 abbrev pub IsLabeledValue : HirFunction → BlockId → Type 0
@@ -160,7 +207,7 @@ is_in_values (terminals.Sequence block fallthrough id span) = true
 is_in_values (terminals.MaybeThrow continuation handler id span) = true
 is_in_values _ = false
 
--- the fact that a rule's fault states of its block; of the rules without a line no fault comes
+-- the fact that a rule's fault states of its block; of `OtherTree` no fault comes
 abbrev pub RuleFact : HirFunction → Rule → BlockId → Type 0
 RuleFact hir rules.NoBlock key = (basic_block hir key ≡ None) × (1 ≤ times_referenced hir key)
 RuleFact hir rules.KeyDiffers key = BlockIs hir key (λ block. same_id block.id key ≡ false)
@@ -169,6 +216,9 @@ RuleFact hir rules.UnsetId key = BlockIs hir key
 RuleFact hir rules.Twice key = BlockIs hir key (λ block. 2 ≤ times_referenced hir key)
 RuleFact hir rules.BreakTarget key = BlockIs hir key (λ block. IsLostJump hir key block.terminal)
 RuleFact hir rules.ContinueTarget key = BlockIs hir key (λ block. is_continue block.terminal ≡ true)
+RuleFact hir rules.GotoTry key = BlockIs hir key (λ block. is_leave block.terminal ≡ true)
+RuleFact hir rules.Handler key = BlockIs hir key (λ block. names_handler block.terminal ≡ true)
+RuleFact hir rules.ThrowInTry key = BlockIs hir key (λ block. is_throw block.terminal ≡ true) × HasTry hir
 RuleFact hir rules.LoopLive key = BlockIs hir key (λ block. LoopsBadly hir key block.terminal)
 RuleFact hir rules.SwitchCase key = BlockIs hir key (λ block. HasOddCases block.terminal)
 RuleFact hir rules.CaseLabel key =
@@ -179,11 +229,13 @@ RuleFact hir rules.Dead key = BlockIs hir key (λ block. HasUnreachableSuccessor
 RuleFact hir rules.ScopeTwice key = BlockIs hir key (λ block. SharesScope hir key block.terminal)
 RuleFact hir rules.FallsElsewhere key = BlockIs hir key (λ block. FallsBadly hir key block.terminal)
 RuleFact hir rules.EmptyValue key =
-    ValueBlockIs hir key (λ block. (block.instructions ≡ []) × (is_goto block.terminal ≡ true))
+    ValueBlockIs hir key (λ block. (block.instructions ≡ []) × OnlyGoesOn hir block.terminal)
 RuleFact hir rules.NotValue key = ValueBlockIs hir key (λ block. is_in_values block.terminal ≡ false)
 RuleFact hir rules.ValueEnd key =
     ValueBlockIs hir key (λ block. (ends_value block.terminal ≡ true) ⊎ IsValueFallthrough hir key)
 RuleFact hir rules.Tested key = ValueBlockIs hir key (λ block. is_branch block.terminal ≡ true)
+RuleFact hir rules.ShortArm key = ValueBlockIs hir key (λ block. is_branch block.terminal ≡ true)
+RuleFact hir rules.LoudArm key = IsBranchArm hir key × BlockIs hir key (λ block. Unit {0})
 RuleFact hir _ key = ⊥
 
 -- the block names a row that isn't there
@@ -196,6 +248,5 @@ FaultFact hir (faults.Malformed block rule) = RuleFact hir rule block
 FaultFact hir (faults.Todo block) = IsLabeledValue hir block
 FaultFact hir (faults.BadName table_names.Instructions index) =
     (slice_get hir.instructions index ≡ None) × ((key : BlockId) × BlockIs hir key (LacksRow hir index))
-FaultFact hir (faults.NotBuilt key) = BlockIs hir key (λ block. is_built block.terminal ≡ false)
 FaultFact hir faults.NoMemory = Unit {0}
 FaultFact hir _ = ⊥

@@ -5,9 +5,15 @@ pub mod Marks
 pub mod CanBuild
 pub mod Setting
 pub mod Task
+pub mod Throws
 pub mod Built
 pub mod Enclosures
 pub mod Switches
+pub mod ValueKinds
+pub mod ValueSteps
 pub mod Values
+pub mod ValueTerminals
+pub mod SilentArms
+pub mod Flattening
 pub mod Answered
 pub mod Loops

@@ -1,9 +1,11 @@
 //! One block: whether a tree may use it where the walk stands, its rows, and its mark.
 
-ghost use Rattle.std.specs.Prelude.{◌≡◌, ◌≤◌, ◌++◌, true, None, Some, IfOk, IfErr};
+ghost use Rattle.std.specs.Prelude.{◌≡◌, ◌≤◌, ◌++◌, true, false, None, Some, IfOk, IfErr};
 ghost use Rattle.std.specs.Option.{option_to_list};
 ghost use Rattle.rc_names.specs.Numbers.{same_id};
+ghost use Rattle.rc_hir.specs.Terminal.{evaluation_order};
 ghost use Rattle.rc_runs.specs.Graph.{basic_block, usable_block};
+ghost use Rattle.rc_runs.specs.Silent.{is_unset};
 ghost use Rattle.rc_runs.specs.Spelled as spelled;
 ghost use Rattle.rc_build.specs.RuleFacts.{FaultFact, times_referenced};
 ghost use Rattle.rc_build.specs.inside.Marks.{is_fresh_scope};
@@ -27,7 +29,7 @@ impl<'g> Builder<'g> {
     ///   block that ends in `Unreachable` (`Dead`), or opens a scope that is used already (`ScopeTwice`).
     /// - `BadName`: one of its rows isn't there.
     pub fn take_block(&mut self, site: Site) -> Result<&'g Terminal, Fault>
-        requires { CanBuildList self.old.hir.now self.old.marks self.old.frames site.block }
+        requires { CanBuildList self.old.hir.now self.old.marks site.handler self.old.frames site.block }
         ensures { Builds self.old self.new site (λ terminal. TakesBlock self.old self.new site terminal.now)
             (Refused self.old.hir.now (Spells (setting_of self.old site) (FromBlock site.block))
             self.old.marks.used) result }
@@ -64,6 +66,22 @@ pub fn find_block(hir: &HirFunction, key: BlockId) -> Result<&BasicBlock, Fault>
     };
     if block.id != key {
         return Err(malformed(key, Rule::KeyDiffers));
+    }
+    Ok(block)
+}
+
+/// The block under a key whose terminal has an id: `UnsetId` where it has none, and otherwise as for `find_block`.
+pub fn block_with_id(hir: &HirFunction, key: BlockId) -> Result<&BasicBlock, Fault>
+    requires { 1 ≤ times_referenced hir.now key }
+    ensures found { IfOk result (λ block. basic_block hir.now key ≡ Some block.now) }
+    ensures own { IfOk result (λ block. same_id block.now.id key ≡ true) }
+    ensures set { IfOk result (λ block. is_unset (evaluation_order block.now.terminal) ≡ false) }
+    ensures refused { IfErr result (λ _. usable_block hir.now key ≡ None) }
+    ensures facts { IfErr result (FaultFact hir.now) }
+{
+    let block = find_block(hir, key)?;
+    if block.terminal.evaluation_order().0 == 0 {
+        return Err(malformed(key, Rule::UnsetId));
     }
     Ok(block)
 }

@@ -35,8 +35,8 @@ impl<'g> Builder<'g> {
         fallthrough: BlockId,
         id: EvaluationOrder,
     ) -> Result<Option<BlockId>, Fault>
-        requires { (span : Option Span) × CanBuildTerminal self.old.hir.now self.old.marks self.old.frames site.block
-            (terminals.If test consequent alternate fallthrough id span) }
+        requires { (span : Option Span) × CanBuildTerminal self.old.hir.now self.old.marks site.handler self.old.frames
+            site.block (terminals.If test consequent alternate fallthrough id span) }
         ensures { (span : Option Span) → BuildsTask self.old self.new site
             (FromTerminal (terminals.If test consequent alternate fallthrough id span)) left result }
     {
@@ -65,8 +65,8 @@ impl<'g> Builder<'g> {
         alternate: BlockId,
         id: EvaluationOrder,
     ) -> Result<Option<BlockId>, Fault>
-        requires { (span : Option Span) × CanBuildTerminal self.old.hir.now self.old.marks self.old.frames site.block
-            (terminals.Branch test consequent alternate id span) }
+        requires { (span : Option Span) × CanBuildTerminal self.old.hir.now self.old.marks site.handler self.old.frames
+            site.block (terminals.Branch test consequent alternate id span) }
         ensures { (span : Option Span) → BuildsTask self.old self.new site
             (FromTerminal (terminals.Branch test consequent alternate id span)) left result }
     {
@@ -90,8 +90,8 @@ impl<'g> Builder<'g> {
         id: EvaluationOrder,
     ) -> Result<List<ReactiveStatement>, Fault>
         requires { (test : Place) × (alternate : BlockId) × (span : Option Span) ×
-            CanBuildTerminal self.old.hir.now self.old.marks self.old.frames site.block
-            (terminals.Branch test consequent alternate id span) }
+            CanBuildTerminal self.old.hir.now self.old.marks site.handler self.old.frames
+            site.block (terminals.Branch test consequent alternate id span) }
         ensures { Builds self.old self.new site
             (λ list. BuiltConsequent (setting_of self.old site) consequent id list (progress_of self.old)
             (progress_of self.new))
@@ -115,7 +115,7 @@ impl<'g> Builder<'g> {
         fallthrough: BlockId,
         opened: Option<BlockId>,
     ) -> Result<Option<ReactiveBlock>, Fault>
-        requires { CanBuildList self.old.hir.now self.old.marks
+        requires { CanBuildList self.old.hir.now self.old.marks site.handler
             (frames_inside opened (frame_kinds.Statement fallthrough) self.old.frames) alternate }
         ensures { let inside = part_setting opened (frame_kinds.Statement fallthrough) (setting_of self.old site) in
             Builds self.old self.new site

@@ -28,6 +28,8 @@ pub struct Site {
     pub block: BlockId,
     /// The block that falling off their list reaches.
     pub next: Option<BlockId>,
+    /// The block that handles what they throw.
+    pub handler: Option<BlockId>,
 }
 
 /// Builds the lists of a graph, one inside the other.
@@ -51,7 +53,22 @@ impl Site {
             Some(_) => Some(frame.fall_block()),
             None => self.next,
         };
-        Site { block: part, next }
+        Site {
+            block: part,
+            next,
+            handler: self.handler,
+        }
+    }
+
+    /// The site of what a handler protects.
+    pub fn protected_by(self, handler: BlockId) -> Site
+        ensures { result ≡ settings.site_protected handler self }
+    {
+        Site {
+            block: self.block,
+            next: self.next,
+            handler: Some(handler),
+        }
     }
 
     /// The site of another block in the same list.
@@ -61,6 +78,7 @@ impl Site {
         Site {
             block,
             next: self.next,
+            handler: self.handler,
         }
     }
 }
@@ -117,11 +135,18 @@ pub fn malformed(block: BlockId, rule: Rule) -> Fault
     Fault::Malformed { block, rule }
 }
 
+/// Whether falling off reaches the block.
+pub fn is_next(next: Option<BlockId>, block: BlockId) -> bool
+    ensures { result ≡ grammar.is_next next block }
+{
+    next == Some(block)
+}
+
 /// Whether leaving a statement leads to its fallthrough, in the tree as in the graph.
 pub fn falls_to(opened: Option<BlockId>, fallthrough: BlockId, next: Option<BlockId>) -> bool
     ensures { result ≡ grammar.falls_to (is_some opened) fallthrough next }
 {
-    opened.is_some() || next == Some(fallthrough)
+    opened.is_some() || is_next(next, fallthrough)
 }
 
 /// The label of a statement: its fallthrough where that is opened.

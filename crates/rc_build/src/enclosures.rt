@@ -80,7 +80,7 @@ impl<'g> Builder<'g> {
         fallthrough: BlockId,
         id: EvaluationOrder,
     ) -> Result<Option<BlockId>, Fault>
-        requires { (span : Option Span) × CanBuildTerminal self.old.hir.now self.old.marks
+        requires { (span : Option Span) × CanBuildTerminal self.old.hir.now self.old.marks site.handler
             self.old.frames site.block (spec.terminal_around enclosure part fallthrough id span) }
         ensures { (span : Option Span) → BuildsTask self.old self.new site
             (FromTerminal (spec.terminal_around enclosure part fallthrough id span)) left result }

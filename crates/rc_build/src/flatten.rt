@@ -2,13 +2,11 @@
 //!
 //! After the loops of oxc's build_reactive_function.
 
-ghost use Rattle.std.specs.Prelude.{◌≡◌, List as Items, IfOk};
-ghost use Rattle.rc_hir.specs.Model.{Instruction as Row, InstructionValue as Kind};
+ghost use Rattle.std.specs.Prelude.{◌≡◌, ◌++◌, IfOk};
 ghost use Rattle.rc_runs.specs.Flattened as spec;
-ghost use Rattle.rc_runs.specs.LastRow.{after_rows, rows_then};
-ghost use Rattle.rc_runs.specs.PlainTree.{Base, NoRows};
+ghost use Rattle.rc_runs.specs.PlainTree.{Base, Value};
 ghost use Rattle.rc_runs.specs.TreeOf.{instructions_of, value_of};
-ghost use Rattle.rc_build.specs.inside.Values.{AreParts};
+ghost use Rattle.rc_build.specs.inside.Flattening.{IsOpened};
 
 use crate::value_rows::base_value;
 use rc_hir::{InstructionValue, Place, PrimitiveValue};
@@ -16,19 +14,19 @@ use rc_names::{Boxed, EvaluationOrder, List, Span};
 use rc_tree::{ReactiveInstruction, ReactiveValue};
 use std::alloc::{AllocError, Global};
 
-/// The flattened sequence of rows and the value behind them, in a loop with that span. The only error is out of memory.
+/// The value flattened, in a loop with that span. The only error is out of memory.
 pub fn flattened(
     alloc: Global,
-    rows: List<ReactiveInstruction>,
     value: Boxed<ReactiveValue>,
     answer: Place,
     id: EvaluationOrder,
     span: Option<Span>,
 ) -> Result<Boxed<ReactiveValue>, AllocError>
-    ensures { (front : Items Row) (base : Kind) → AreParts front base rows value → IfOk result (λ whole.
-        whole ≡ value_of (spec.flattened answer id span (after_rows front id (Base base)))) }
+    ensures { (plain : Value) → value ≡ value_of plain → IfOk result (λ whole.
+        whole ≡ value_of (spec.flattened answer id span plain)) }
 {
-    let instructions = with_final_row(rows, value, answer, id, span)?;
+    let flat = flat_rows(alloc, value)?;
+    let instructions = with_final_row(flat, answer, id, span)?;
     let undefined = InstructionValue::Primitive {
         value: PrimitiveValue::Undefined,
         span,
@@ -41,25 +39,81 @@ pub fn flattened(
     Boxed::new(alloc, sequence)
 }
 
+/// The rows of nested sequences, and the value behind all of them.
+#[derive(Drop)]
+struct FlatValue {
+    rows: List<ReactiveInstruction>,
+    value: ReactiveValue,
+}
+
+/// The rows of a value's sequence, those of the sequence that is its value, and so on. The only error is out of memory.
+fn flat_rows(alloc: Global, value: Boxed<ReactiveValue>) -> Result<FlatValue, AllocError>
+    ensures { (plain : Value) → value ≡ value_of plain → IfOk result (λ flat.
+        (flat.rows ≡ instructions_of (spec.flat_rows plain)) × (flat.value ≡ value_of (spec.final_value plain))) }
+{
+    let mut rows = List::new(alloc);
+    let mut value = value.into_inner();
+    'rows: loop {
+        match open_sequence(value) {
+            Opened::Sequence {
+                mut instructions,
+                behind,
+            } => {
+                rows.take_from(&mut instructions)?;
+                value = behind.into_inner();
+            }
+            Opened::Last { value } => return Ok(FlatValue { rows, value }),
+        }
+    }
+}
+
+/// A sequence with its parts, or another value.
+#[derive(Drop)]
+enum Opened {
+    Sequence {
+        instructions: List<ReactiveInstruction>,
+        behind: Boxed<ReactiveValue>,
+    },
+    Last {
+        value: ReactiveValue,
+    },
+}
+
+/// The parts of a value, if it is a sequence.
+fn open_sequence(value: ReactiveValue) -> Opened
+    ensures { IsOpened value result }
+{
+    match value {
+        ReactiveValue::SequenceExpression {
+            instructions,
+            value,
+            ..
+        } => Opened::Sequence {
+            instructions,
+            behind: value,
+        },
+        value => Opened::Last { value },
+    }
+}
+
 /// The rows, and one more for the value, unless that only loads the answer place. The only error is out of memory.
 fn with_final_row(
-    rows: List<ReactiveInstruction>,
-    value: Boxed<ReactiveValue>,
+    flat: FlatValue,
     answer: Place,
     id: EvaluationOrder,
     span: Option<Span>,
 ) -> Result<List<ReactiveInstruction>, AllocError>
-    ensures { (front : Items Row) (base : Kind) → AreParts front base rows value → IfOk result (λ made. made
-        ≡ instructions_of (spec.rows_join (rows_then front NoRows) (spec.final_row answer id span (Base base)))) }
+    ensures { (plain : Value) → flat.value ≡ value_of plain → IfOk result (λ made.
+        made ≡ flat.rows ++ instructions_of (spec.final_row answer id span plain)) }
 {
-    let mut rows = rows;
-    if loads_own(answer, value.get()) {
+    let FlatValue { mut rows, value } = flat;
+    if loads_own(answer, &value) {
         return Ok(rows);
     }
     rows.push(ReactiveInstruction {
         id,
         lvalue: Some(answer),
-        value: value.into_inner(),
+        value,
         span,
     })?;
     Ok(rows)
@@ -67,7 +121,7 @@ fn with_final_row(
 
 /// Whether the value loads the place's own identifier.
 fn loads_own(answer: Place, value: &ReactiveValue) -> bool
-    ensures { (base : Kind) → value.now ≡ value_of (Base base) → result ≡ spec.loads_own answer (Base base) }
+    ensures { (plain : Value) → value.now ≡ value_of plain → result ≡ spec.loads_own answer plain }
 {
     match value {
         ReactiveValue::Instruction(value) => is_load_of(answer, value),

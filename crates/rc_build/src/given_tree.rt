@@ -1,8 +1,8 @@
 //! Whether a graph spells a tree that is given.
 
 ghost use Rattle.std.specs.Prelude.{◌≡◌, ◌↔◌, IsNone, IfOk, IfErr, IfSome};
+ghost use Rattle.rc_hir.specs.Names.{NamesInTables};
 ghost use Rattle.rc_runs.specs.Spelled.{Spells};
-ghost use Rattle.rc_build.specs.BuildCauses.{CanBeBuilt};
 ghost use Rattle.rc_build.specs.GivenTree.{IsBroken, IsNoAnswerCause};
 ghost use Rattle.rc_build.specs.inside.Answered.{answer_to, other_tree_at};
 
@@ -23,10 +23,7 @@ pub struct Broken {
 /// Returns `None` exactly if the graph spells the tree, with all its parts.
 ///
 /// Otherwise it returns the graph's entry with `OtherTree`; or, only if the graph spells no tree, a block of which
-/// the fact of the rule holds. A graph is refused, in this order,
-///
-/// - with a number outside its table: `BadName`;
-/// - with a terminal of a form that isn't built yet: `NotBuilt`, of the first such block.
+/// the fact of the rule holds. A graph with a number outside its table is refused: `BadName`.
 ///
 /// `NoMemory` may come at any time. The graph isn't copied: its tree is built, and compared with the one that is given.
 pub fn spells(
@@ -37,7 +34,7 @@ pub fn spells(
 ) -> Result<Option<Broken>, Fault>
     ensures same { IfOk result (λ broken. IsNone broken ↔ Spells hir.now env.now tree.now) }
     ensures broken { IfOk result (λ answer. IfSome answer (IsBroken hir.now env.now)) }
-    ensures accepted { IfOk result (λ answer. CanBeBuilt hir.now env.now) }
+    ensures accepted { IfOk result (λ answer. NamesInTables hir.now env.now) }
     ensures refused { IfErr result (IsNoAnswerCause hir.now env.now) }
 {
     let entry = hir.body.entry;

@@ -1,19 +1,21 @@
 //! Statements that end a list: returns, throws, breaks and continues.
 
-ghost use Rattle.std.specs.Prelude.{◌≡◌, Option, None, IfOk};
+ghost use Rattle.std.specs.Prelude.{◌≡◌, true, false, Option, None, IfOk, IfErr};
+ghost use Rattle.rc_hir.specs.declared.fault.Fault.TheVariants as faults;
+ghost use Rattle.rc_hir.specs.declared.fault.Rule.TheVariants as rules;
 ghost use Rattle.rc_names.specs.declared.span.Span.{Span};
 ghost use Rattle.rc_hir.specs.Model.{Terminal};
 ghost use Rattle.rc_hir.specs.declared.terminal.GotoVariant.TheVariants as variants;
 ghost use Rattle.rc_hir.specs.declared.terminal.Terminal.TheVariants as terminals;
 ghost use Rattle.rc_tree.specs.declared.terminal.ReactiveTerminal.TheVariants as tree;
 ghost use Rattle.rc_runs.specs.Frames.{resolve_break};
-ghost use Rattle.rc_runs.specs.Grammar.{break_statements};
+ghost use Rattle.rc_runs.specs.Grammar.{break_statements, is_next};
 ghost use Rattle.rc_build.specs.inside.CanBuild.{CanBreak, CanBuildTerminal};
 ghost use Rattle.rc_build.specs.inside.Task.{FromTerminal, left};
 ghost use Rattle.rc_build.specs.inside.Built.{Builds, BuildsTask, PutsBreak};
 ghost use Rattle.rc_build.specs.inside.Setting as settings;
 
-use crate::builder::{Builder, Site, malformed, terminal_statement};
+use crate::builder::{Builder, Site, is_next, malformed, terminal_statement};
 use rc_hir::{Fault, GotoVariant, Place, Rule};
 use rc_names::{BlockId, EvaluationOrder};
 use rc_runs::{BreakResult, ContinueResult};
@@ -28,8 +30,8 @@ impl<'g> Builder<'g> {
         value: Place,
         id: EvaluationOrder,
     ) -> Result<Option<BlockId>, Fault>
-        requires { (span : Option Span) × CanBuildTerminal self.old.hir.now self.old.marks self.old.frames site.block
-            (terminals.Return value id span) }
+        requires { (span : Option Span) × CanBuildTerminal self.old.hir.now self.old.marks site.handler self.old.frames
+            site.block (terminals.Return value id span) }
         ensures { (span : Option Span) → BuildsTask self.old self.new site
             (FromTerminal (terminals.Return value id span)) left result }
     {
@@ -39,18 +41,21 @@ impl<'g> Builder<'g> {
         Ok(None)
     }
 
-    /// Builds a throw, which ends the list. The only error is out of memory.
+    /// Builds a throw, which ends the list. `Malformed` with `ThrowInTry`: a handler protects the list.
     pub fn build_throw(
         &mut self,
         site: Site,
         value: Place,
         id: EvaluationOrder,
     ) -> Result<Option<BlockId>, Fault>
-        requires { (span : Option Span) × CanBuildTerminal self.old.hir.now self.old.marks self.old.frames site.block
-            (terminals.Throw value id span) }
+        requires { (span : Option Span) × CanBuildTerminal self.old.hir.now self.old.marks site.handler self.old.frames
+            site.block (terminals.Throw value id span) }
         ensures { (span : Option Span) → BuildsTask self.old self.new site
             (FromTerminal (terminals.Throw value id span)) left result }
     {
+        if site.handler.is_some() {
+            return Err(malformed(site.block, Rule::ThrowInTry));
+        }
         let terminal = ReactiveTerminal::Throw { value, id };
         let statement = terminal_statement(self.alloc, terminal, None)?;
         self.out.push(statement)?;
@@ -59,8 +64,7 @@ impl<'g> Builder<'g> {
 
     /// Builds the statement of a jump, if it has one, and ends the list.
     ///
-    /// - `NotBuilt`: the jump is neither a break nor a continue.
-    /// - `Malformed`: as for a break or a continue.
+    /// `Malformed`: as for a break, a continue, or the jump out of a try.
     pub fn build_goto(
         &mut self,
         site: Site,
@@ -68,15 +72,15 @@ impl<'g> Builder<'g> {
         variant: GotoVariant,
         id: EvaluationOrder,
     ) -> Result<Option<BlockId>, Fault>
-        requires { (span : Option Span) × CanBuildTerminal self.old.hir.now self.old.marks self.old.frames site.block
-            (terminals.Goto target variant id span) }
+        requires { (span : Option Span) × CanBuildTerminal self.old.hir.now self.old.marks site.handler self.old.frames
+            site.block (terminals.Goto target variant id span) }
         ensures { (span : Option Span) → BuildsTask self.old self.new site
             (FromTerminal (terminals.Goto target variant id span)) left result }
     {
         match variant {
             GotoVariant::Break => self.build_break(site, target, id),
             GotoVariant::Continue => self.build_continue(site, target, id),
-            GotoVariant::Try => Err(Fault::NotBuilt { block: site.block }),
+            GotoVariant::Try => leave_try(site, target),
         }
     }
 
@@ -87,8 +91,8 @@ impl<'g> Builder<'g> {
         target: BlockId,
         id: EvaluationOrder,
     ) -> Result<Option<BlockId>, Fault>
-        requires { (span : Option Span) × CanBuildTerminal self.old.hir.now self.old.marks self.old.frames site.block
-            (terminals.Goto target variants.Break id span) }
+        requires { (span : Option Span) × CanBuildTerminal self.old.hir.now self.old.marks site.handler self.old.frames
+            site.block (terminals.Goto target variants.Break id span) }
         ensures { (span : Option Span) → BuildsTask self.old self.new site
             (FromTerminal (terminals.Goto target variants.Break id span)) left result }
     {
@@ -133,8 +137,8 @@ impl<'g> Builder<'g> {
         target: BlockId,
         id: EvaluationOrder,
     ) -> Result<Option<BlockId>, Fault>
-        requires { (span : Option Span) × CanBuildTerminal self.old.hir.now self.old.marks self.old.frames site.block
-            (terminals.Goto target variants.Continue id span) }
+        requires { (span : Option Span) × CanBuildTerminal self.old.hir.now self.old.marks site.handler self.old.frames
+            site.block (terminals.Goto target variants.Continue id span) }
         ensures { (span : Option Span) → BuildsTask self.old self.new site
             (FromTerminal (terminals.Goto target variants.Continue id span)) left result }
     {
@@ -147,6 +151,19 @@ impl<'g> Builder<'g> {
             }
         }
     }
+}
+
+/// Ends a list by the jump out of a try, which has no statement. `Malformed` with `GotoTry`: it leads elsewhere than
+/// falling off does.
+fn leave_try(site: Site, target: BlockId) -> Result<Option<BlockId>, Fault>
+    ensures left { IfOk result (λ goes_on. (goes_on ≡ None) × (is_next site.next target ≡ true)) }
+    ensures refused { IfErr result (λ fault. (fault ≡ faults.Malformed site.block rules.GotoTry)
+        × (is_next site.next target ≡ false)) }
+{
+    if !is_next(site.next, target) {
+        return Err(malformed(site.block, Rule::GotoTry));
+    }
+    Ok(None)
 }
 
 /// The statement of a break. The only error is out of memory.

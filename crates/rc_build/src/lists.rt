@@ -10,6 +10,7 @@ ghost use Rattle.rc_build.specs.inside.Built.{Builds, BuildsList, BuildsTask, Bu
 use crate::builder::{Builder, Site};
 use crate::enclosures::Enclosure;
 use crate::loops::loop_of;
+use crate::value_terminals::value_terminal;
 use rc_hir::{Fault, Terminal};
 use rc_names::{BlockId, List};
 use rc_runs::Frame;
@@ -20,16 +21,12 @@ impl<'g> Builder<'g> {
     /// Builds the list from the site's block on.
     #[cycle(builder)]
     pub fn build_list(&mut self, site: Site) -> Result<(), Fault>
-        requires { CanBuildList self.old.hir.now self.old.marks self.old.frames site.block }
+        requires { CanBuildList self.old.hir.now self.old.marks site.handler self.old.frames site.block }
         ensures { BuildsTask self.old self.new site (FromBlock site.block) (λ _. Nothing) result }
     {
         let mut at = Some(site.block);
         'list: while let Some(block) = at {
-            let here = Site {
-                block,
-                next: site.next,
-            };
-            at = self.build_block(here)?;
+            at = self.build_block(site.at(block))?;
         }
         Ok(())
     }
@@ -37,7 +34,7 @@ impl<'g> Builder<'g> {
     /// Builds the statements of the site's block; returns where the list goes on.
     #[cycle(builder)]
     fn build_block(&mut self, site: Site) -> Result<Option<BlockId>, Fault>
-        requires { CanBuildList self.old.hir.now self.old.marks self.old.frames site.block }
+        requires { CanBuildList self.old.hir.now self.old.marks site.handler self.old.frames site.block }
         ensures builds { BuildsTask self.old self.new site (FromBlock site.block) left result }
         ensures more { IfOk result (λ _. length self.old.marks.used < length self.new.marks.used) }
     {
@@ -45,11 +42,11 @@ impl<'g> Builder<'g> {
         self.build_terminal(site, terminal)
     }
 
-    /// Builds the statement of a block's terminal, if it has one; returns where the list goes on. `NotBuilt`: the
-    /// terminal isn't built yet.
+    /// Builds the statement of a block's terminal, if it has one; returns where the list goes on.
     #[cycle(builder)]
     fn build_terminal(&mut self, site: Site, terminal: &Terminal) -> Result<Option<BlockId>, Fault>
-        requires { CanBuildTerminal self.old.hir.now self.old.marks self.old.frames site.block terminal.now }
+        requires { CanBuildTerminal self.old.hir.now self.old.marks site.handler self.old.frames site.block
+            terminal.now }
         ensures { BuildsTask self.old self.new site (FromTerminal terminal.now) left result }
     {
         match terminal {
@@ -115,20 +112,30 @@ impl<'g> Builder<'g> {
                 let enclosure = Enclosure::PrunedScope { scope: *scope };
                 self.build_enclosure(site, enclosure, *block, *fallthrough, *id)
             }
+            Terminal::Try {
+                block,
+                handler_binding,
+                handler,
+                fallthrough,
+                id,
+                ..
+            } => self.build_try(site, *block, *handler_binding, *handler, *fallthrough, *id),
+            Terminal::MaybeThrow {
+                continuation,
+                handler,
+                ..
+            } => self.build_maybe_throw(site, *continuation, *handler),
             Terminal::DoWhile { .. }
             | Terminal::While { .. }
             | Terminal::For { .. }
             | Terminal::ForOf { .. }
-            | Terminal::ForIn { .. }
-            | Terminal::Logical { .. }
+            | Terminal::ForIn { .. } => self.build_loop(site, loop_of(terminal).unwrap()),
+            Terminal::Logical { .. }
             | Terminal::Ternary { .. }
             | Terminal::Optional { .. }
-            | Terminal::Sequence { .. }
-            | Terminal::MaybeThrow { .. }
-            | Terminal::Try { .. } => match loop_of(terminal) {
-                Some(found) => self.build_loop(site, found),
-                None => Err(Fault::NotBuilt { block: site.block }),
-            },
+            | Terminal::Sequence { .. } => {
+                self.build_value_statement(site, value_terminal(terminal).unwrap())
+            }
         }
     }
 
@@ -141,7 +148,8 @@ impl<'g> Builder<'g> {
         frame: Frame,
         opened: Option<BlockId>,
     ) -> Result<List<ReactiveStatement>, Fault>
-        requires { CanBuildList self.old.hir.now self.old.marks (frames_inside opened frame self.old.frames) part }
+        requires { CanBuildList self.old.hir.now self.old.marks site.handler
+            (frames_inside opened frame self.old.frames) part }
         ensures { Builds self.old self.new site
             (λ list. BuiltList (part_setting opened frame (setting_of self.old site)) part list
             (progress_of self.old) (progress_of self.new))
@@ -157,7 +165,7 @@ impl<'g> Builder<'g> {
     /// Builds the list from the site's block on, apart from the statements in front of it.
     #[cycle(builder)]
     pub fn build_apart(&mut self, site: Site) -> Result<List<ReactiveStatement>, Fault>
-        requires { CanBuildList self.old.hir.now self.old.marks self.old.frames site.block }
+        requires { CanBuildList self.old.hir.now self.old.marks site.handler self.old.frames site.block }
         ensures { BuildsList self.old self.new site site.block result }
     {
         let outer = self.out.take();

@@ -156,14 +156,14 @@ impl<'g> Builder<'g> {
         site: Site,
         terminal: LoopTerminal,
     ) -> Result<Option<BlockId>, Fault>
-        requires { CanBuildTerminal self.old.hir.now self.old.marks self.old.frames site.block
+        requires { CanBuildTerminal self.old.hir.now self.old.marks site.handler self.old.frames site.block
             (spec.terminal_of terminal) }
         ensures { BuildsTask self.old self.new site (FromTerminal (spec.terminal_of terminal)) left result }
     {
         if self.is_live(terminal) {
             return Err(malformed(site.block, Rule::LoopLive));
         }
-        let init = self.build_before(terminal, terminal.init(), true)?;
+        let init = self.build_before(site, terminal, terminal.init(), true)?;
         let turns = self.build_turns(site, terminal)?;
         let tree = loop_tree(terminal, init, turns);
         let label = label_at(Some(terminal.fallthrough));
@@ -175,7 +175,7 @@ impl<'g> Builder<'g> {
     /// Builds the turns of a loop: its test, what stands before it, and then the body inside the loop's frame.
     #[cycle(builder)]
     fn build_turns(&mut self, site: Site, terminal: LoopTerminal) -> Result<BuiltTurns, Fault>
-        requires { spec.CanBuildTurns self.old.hir.now self.old.marks self.old.frames terminal }
+        requires { spec.CanBuildTurns self.old.hir.now self.old.marks site.handler self.old.frames terminal }
         ensures { Builds self.old self.new site
             (λ built. spec.TurnsBuilt (setting_of self.old site) terminal built (progress_of self.old)
             (progress_of self.new))
@@ -186,8 +186,14 @@ impl<'g> Builder<'g> {
             flat: terminal.is_flat(),
             span: terminal.span,
         };
-        let test = self.build_test(terminal.test, terminal.body, terminal.fallthrough, showing)?;
-        let before = self.build_before(terminal, terminal.before(), showing.flat)?;
+        let test = self.build_test(
+            site,
+            terminal.test,
+            terminal.body,
+            terminal.fallthrough,
+            showing,
+        )?;
+        let before = self.build_before(site, terminal, terminal.before(), showing.flat)?;
         let opened = Some(terminal.fallthrough);
         let body = self.build_part(site, terminal.body, terminal.frame(), opened)?;
         Ok(BuiltTurns { before, test, body })
@@ -196,19 +202,20 @@ impl<'g> Builder<'g> {
     /// Builds the value that goes on at a loop's test, where there is one.
     fn build_before(
         &mut self,
+        site: Site,
         terminal: LoopTerminal,
         key: Option<BlockId>,
         flat: bool,
     ) -> Result<Option<Boxed<ReactiveValue>>, Fault>
         requires { spec.CanBuildBefore self.old.hir.now self.old.marks key }
-        ensures { spec.BuildsBefore self.old self.new terminal flat key result }
+        ensures { spec.BuildsBefore self.old self.new site terminal flat key result }
     {
         let Some(key) = key else { return Ok(None) };
         let showing = Showing {
             flat,
             span: terminal.span,
         };
-        Ok(Some(self.build_going(key, terminal.test, showing)?))
+        Ok(Some(self.build_going(site, key, terminal.test, showing)?))
     }
 
     /// Whether a jump can name the fallthrough of a loop already, or the block with which its turns begin, or it is a

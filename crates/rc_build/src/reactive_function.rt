@@ -1,19 +1,19 @@
 //! From a graph to the function that it spells.
 
-ghost use Rattle.std.specs.Prelude.{◌≡◌, ◌≢◌, ◌⊎◌, List as Items, IfOk, IfErr, OnOk, IsOk, Err};
+ghost use Rattle.std.specs.Prelude.{◌≡◌, ◌⊎◌, false, List as Items, IfOk, IfErr, IsOk, Err};
+ghost use Rattle.rc_hir.specs.Names.{NamesInTables};
 ghost use Rattle.rc_tree.specs.TreeNames.{TreeInTables};
 ghost use Rattle.rc_tree.specs.Model.{ReactiveFunction};
 ghost use Rattle.rc_runs.specs.BodyRun.{IsBodyRun};
 ghost use Rattle.rc_runs.specs.EarlyReturns.{NoEarlyReturnSet};
-ghost use Rattle.rc_runs.specs.Event.{Event, End};
+ghost use Rattle.rc_runs.specs.Event.{Event, End, has_throw};
 ghost use Rattle.rc_runs.specs.GraphRun.{IsGraphRun};
 ghost use Rattle.rc_runs.specs.Spelled.{Spells};
-ghost use Rattle.rc_build.specs.BuildCauses.{CanBeBuilt, IsBuildCause};
+ghost use Rattle.rc_build.specs.BuildCauses.{IsBuildCause};
 ghost use Rattle.rc_build.specs.inside.Built.{IfRefused};
 ghost use Rattle.rc_build.specs.RuleFacts.{FaultFact};
 
 use crate::builder::{Builder, Site};
-use crate::forms::first_unbuilt;
 use crate::header::with_header;
 use rc_hir::{Environment, Fault, HirFunction, check_names};
 use rc_tree::{ReactiveBlock, ReactiveFunction};
@@ -24,7 +24,6 @@ use std::alloc::Global;
 /// A graph is refused, in this order,
 ///
 /// - with a number outside its table: `BadName`;
-/// - with a terminal of a form that isn't built yet: `NotBuilt`, of the first such block;
 /// - if it spells no function: `Malformed`, with a rule whose fact holds of the named block.
 ///
 /// `NoMemory` may come at any time.
@@ -34,7 +33,7 @@ pub fn build_reactive_function(
     env: &Environment,
 ) -> Result<ReactiveFunction, Fault>
     ensures ok { IfOk result (Spells hir.now env.now) }
-    ensures accepted { IfOk result (λ built. CanBeBuilt hir.now env.now) }
+    ensures accepted { IfOk result (λ built. NamesInTables hir.now env.now) }
     ensures one_tree { IfOk result (λ built.
         (func : ReactiveFunction) → Spells hir.now env.now func → func ≡ built) }
     ensures known { IfOk result (λ built. TreeInTables built env.now) }
@@ -43,36 +42,24 @@ pub fn build_reactive_function(
     ensures graph_to_body { IfOk result (λ built. NoEarlyReturnSet env.now
         → (events : Items Event) (end : End) → IsGraphRun hir.now env.now events end
         → IsBodyRun built env.now events end) }
+    // A body may throw behind any of its rows, and a graph only where a `MaybeThrow` stands.
     ensures body_to_graph { IfOk result (λ built. NoEarlyReturnSet env.now
-        → (events : Items Event) (end : End) → IsBodyRun built env.now events end
+        → (events : Items Event) (end : End) → has_throw events ≡ false → IsBodyRun built env.now events end
         → IsGraphRun hir.now env.now events end) }
 
     ensures refused { IfErr result (IsBuildCause hir.now env.now) }
-    ensures complete { (func : ReactiveFunction) → CanBeBuilt hir.now env.now → Spells hir.now env.now func
+    ensures complete { (func : ReactiveFunction) → NamesInTables hir.now env.now → Spells hir.now env.now func
         → IsOk result ⊎ (result ≡ Err Fault.NoMemory) }
 {
-    accept(hir, env)?;
+    check_names(hir, env)?;
     let built = build(alloc, hir, env)?;
     Ok(built)
-}
-
-/// Refuses a graph for its numbers or forms, in this order. It takes no memory.
-fn accept(hir: &HirFunction, env: &Environment) -> Result<(), Fault>
-    ensures ok { OnOk result (CanBeBuilt hir.now env.now) }
-    ensures refused { IfErr result (λ fault. IsBuildCause hir.now env.now fault × (fault ≢ Fault.NoMemory)) }
-{
-    check_names(hir, env)?;
-    match first_unbuilt(hir) {
-        Some(block) => Err(Fault::NotBuilt { block }),
-        None => Ok(()),
-    }
 }
 
 /// The function that a graph spells; nothing is asked of the graph.
 ///
 /// - `Malformed`: the graph spells none, and the rule's fact holds of the named block.
 /// - `BadName`: a block names a row that isn't there.
-/// - `NotBuilt`: the block's terminal isn't built yet.
 /// - `NoMemory`: out of memory.
 fn build(alloc: Global, hir: &HirFunction, env: &Environment) -> Result<ReactiveFunction, Fault>
     ensures ok { IfOk result (λ func. Spells hir.now env.now func) }
@@ -82,6 +69,7 @@ fn build(alloc: Global, hir: &HirFunction, env: &Environment) -> Result<Reactive
     let entry = Site {
         block: hir.body.entry,
         next: None,
+        handler: None,
     };
     let mut builder = Builder::new(alloc, hir, env);
     builder.build_list(entry)?;

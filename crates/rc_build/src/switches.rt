@@ -43,8 +43,8 @@ impl<'g> Builder<'g> {
         fallthrough: BlockId,
         id: EvaluationOrder,
     ) -> Result<Option<BlockId>, Fault>
-        requires { (span : Option Span) × CanBuildTerminal self.old.hir.now self.old.marks self.old.frames site.block
-            (terminals.Switch test cases.now fallthrough id span) }
+        requires { (span : Option Span) × CanBuildTerminal self.old.hir.now self.old.marks site.handler self.old.frames
+            site.block (terminals.Switch test cases.now fallthrough id span) }
         ensures { (span : Option Span) → BuildsTask self.old self.new site
             (FromTerminal (terminals.Switch test cases.now fallthrough id span)) left result }
     {
@@ -80,7 +80,8 @@ impl<'g> Builder<'g> {
         frame: Frame,
         opened: Option<BlockId>,
     ) -> Result<List<ReactiveSwitchCase>, Fault>
-        requires { CanBuildCases self.old.hir.now self.old.marks (frames_inside opened frame self.old.frames) kept }
+        requires { CanBuildCases self.old.hir.now self.old.marks site.handler
+            (frames_inside opened frame self.old.frames) kept }
         ensures { BuildsCases self.old self.new site (part_setting opened frame (setting_of self.old site)) kept result }
     {
         self.frames.enter(frame, opened)?;
@@ -96,7 +97,7 @@ impl<'g> Builder<'g> {
         site: Site,
         kept: List<Case>,
     ) -> Result<List<ReactiveSwitchCase>, Fault>
-        requires { CanBuildCases self.old.hir.now self.old.marks self.old.frames kept }
+        requires { CanBuildCases self.old.hir.now self.old.marks site.handler self.old.frames kept }
         ensures { BuildsCases self.old self.new site (setting_of self.old site) kept result }
     {
         let mut waiting = kept;
@@ -106,6 +107,7 @@ impl<'g> Builder<'g> {
             let here = Site {
                 block: case.block,
                 next,
+                handler: site.handler,
             };
             let statements = self.build_apart(here)?;
             self.frames.push(Frame::Case { block: case.block })?;

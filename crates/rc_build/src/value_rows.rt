@@ -2,7 +2,7 @@
 
 ghost use Rattle.std.specs.Prelude.{◌≡◌, ◌∷◌, [], List as Items, None, IfOk, IfErr, slice_get, map};
 ghost use Rattle.std.specs.List.{list_any};
-ghost use Rattle.rc_hir.specs.Model.{Instruction as Row, InstructionValue as Kind};
+ghost use Rattle.rc_hir.specs.Model.{Instruction as Row};
 ghost use Rattle.rc_hir.specs.declared.instruction.InstructionValue.TheVariants as kinds;
 ghost use Rattle.rc_tree.specs.Model.{ReactiveInstruction as Made};
 ghost use Rattle.rc_runs.specs.LastRow as spec;
@@ -11,7 +11,7 @@ ghost use Rattle.rc_runs.specs.PlainTree.{Base};
 ghost use Rattle.rc_runs.specs.TreeOf.{value_of};
 ghost use Rattle.rc_build.specs.RuleFacts.{FaultFact};
 ghost use Rattle.rc_build.specs.inside.Built.{IfRefused};
-ghost use Rattle.rc_build.specs.inside.Values.{AreListed, AreParts, HasRow, HasRows, naming_of, row_of};
+ghost use Rattle.rc_build.specs.inside.Values.{AreListed, HasRow, HasRows, behind_rows, naming_of, row_of};
 
 use crate::builder::malformed;
 use crate::rows::find_row;
@@ -84,8 +84,7 @@ pub fn after_rows(
     id: EvaluationOrder,
     value: Boxed<ReactiveValue>,
 ) -> Result<Boxed<ReactiveValue>, AllocError>
-    ensures { (front : Items Row) (base : Kind) → AreParts front base rows value → IfOk result (λ whole.
-        whole ≡ value_of (spec.after_rows front id (Base base))) }
+    ensures { IfOk result (λ whole. whole ≡ behind_rows rows id value) }
 {
     if rows.is_empty() {
         return Ok(value);
@@ -173,7 +172,7 @@ fn names_value(env: &Environment, value: &InstructionValue) -> Option<NamingStor
 }
 
 /// Whether the place's identifier has no name.
-fn is_unnamed(env: &Environment, place: Place) -> bool
+pub fn is_unnamed(env: &Environment, place: Place) -> bool
     ensures { result ≡ silent.is_unnamed env.now place }
 {
     match env.identifiers.get(place.identifier) {

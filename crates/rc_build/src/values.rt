@@ -1,37 +1,46 @@
-//! Values: a block whose rows compute it, and whose terminal says where the graph goes on.
+//! Values: value terminals as rows, and the block behind them whose last row is the value.
+//!
+//! Where each value stands in the fallthrough of the one before, a loop goes forward and another one back; only the parts
+//! of a value terminal are built by a nested call.
 //!
 //! After the value blocks of oxc's build_reactive_function.
 
-ghost use Rattle.std.specs.Prelude.{◌≡◌, ◌∷◌, ◌++◌, [], Option, IfOk, IfErr, OnOk, option_map, slice_get};
-ghost use Rattle.rc_names.specs.Numbers.{BlockId};
-ghost use Rattle.rc_hir.specs.Model.{HirFunction, Environment, Terminal as Ending};
-ghost use Rattle.rc_runs.specs.ListContext.{ListContext, value_context};
+ghost use Rattle.std.specs.Prelude.{◌≡◌, Bool, false, ◌∷◌, [], ◌||◌, ◌&&◌, Option, IfOk, Some, None, option_map, slice_get, if◌then◌else◌};
+ghost use Rattle.rc_names.specs.Numbers.{BlockId, same_id};
+ghost use Rattle.rc_hir.specs.Model.{HirFunction};
+ghost use Rattle.rc_runs.specs.AnsweredTest as answered;
+ghost use Rattle.rc_runs.specs.ListContext.{ValueContext, value_context};
+ghost use Rattle.rc_runs.specs.PlainTree.{Base, Value};
 ghost use Rattle.rc_runs.specs.TreeOf.{value_of};
-ghost use Rattle.rc_runs.specs.PlainTree.{Base};
-ghost use Rattle.rc_runs.specs.LastRow.{after_rows};
-ghost use Rattle.rc_runs.specs.ValueGrammar.{SpellsGoing, SpellsTest};
+ghost use Rattle.rc_runs.specs.ValueGrammar.{GoesTo, SpellsGoing, SpellsTest, ValueEnd};
 ghost use Rattle.rc_runs.specs.ValueGrammar as grammar;
-ghost use Rattle.rc_build.specs.RuleFacts.{BlockIs, FaultFact};
 ghost use Rattle.rc_build.specs.declared.builder.Site.{Site};
-ghost use Rattle.rc_build.specs.inside.Built.{Builds, BuiltPart, IfRefused, Refused};
+ghost use Rattle.rc_build.specs.inside.Built.{Builds, BuiltPart, Refused};
+ghost use Rattle.rc_build.specs.inside.Marks.{IsUnusable};
+ghost use Rattle.rc_build.specs.inside.Setting.{setting_of};
 ghost use Rattle.rc_build.specs.inside.Task.{progress_of};
+ghost use Rattle.rc_build.specs.inside.ValueSteps as steps;
+ghost use Rattle.rc_build.specs.inside.ValueTerminals as rows;
 ghost use Rattle.rc_build.specs.inside.Values as spec;
 
-use crate::blocks::find_block;
-use crate::builder::{Builder, malformed};
+use crate::blocks::{block_with_id, find_block};
+use crate::builder::{Builder, Site, malformed};
 use crate::flatten::flattened;
+use crate::handlers::{MayThrow, is_current, is_empty_goto, may_throw};
+use crate::short_arms::ShortArm;
 use crate::unreachable::has_unreachable_successor;
-use crate::value_rows::{after_rows, last_answer, last_value, load, row_with_id, sequence_rows};
-use rc_hir::{Environment, Fault, Place, Rule, Terminal};
-use rc_names::{BlockId, Boxed, DeclarationId, EvaluationOrder, InstructionId, List, Span};
+use crate::value_rows::{after_rows, sequence_rows};
+use crate::value_terminals::{NestedValue, ValueTerminal, value_terminal};
+use rc_hir::{
+    BasicBlock, Environment, Fault, HirFunction, InstructionValue, Place, Rule, Terminal,
+};
+use rc_names::{BlockId, Boxed, DeclarationId, EvaluationOrder, List, Span};
 use rc_tree::{ReactiveInstruction, ReactiveValue};
 use std::alloc::{AllocError, Global};
 
-/// A value that is built, and its end. Its parts are put together once it is known whether a loop flattens them.
+/// A value that is built, and its end.
 #[derive(Drop)]
 pub struct BuiltValue<'g> {
-    /// The rows before the value.
-    pub rows: List<ReactiveInstruction>,
     pub value: Boxed<ReactiveValue>,
     /// The place with which it answers.
     pub answer: Place,
@@ -40,6 +49,53 @@ pub struct BuiltValue<'g> {
     pub block: BlockId,
     /// The terminal of that block.
     pub last: &'g Terminal,
+    /// The arm that it leaves to the optional whose test it answers, if there is one.
+    pub left_open: Option<ShortArm>,
+}
+
+/// A value that chooses between two blocks by its answer.
+#[derive(Drop)]
+pub struct Condition<'g> {
+    pub tested: BuiltValue<'g>,
+    pub arms: TestArms,
+}
+
+/// What the `Branch` at the end of a condition tests, and the blocks to which it leads.
+#[derive(Clone, Copy)]
+pub struct TestArms {
+    pub test: Place,
+    pub consequent: BlockId,
+    pub alternate: BlockId,
+    pub span: Option<Span>,
+}
+
+/// What stands around a value.
+#[derive(Clone, Copy)]
+pub struct Around {
+    /// The span of the terminal in whose value it stands.
+    pub span: Option<Span>,
+    /// The current handler.
+    pub handler: Option<BlockId>,
+}
+
+/// How a value goes on behind a block of it.
+#[derive(Clone, Copy)]
+enum Step {
+    /// At the fallthrough of a value terminal.
+    Nested { terminal: ValueTerminal },
+    /// At the continuation of a block that may throw.
+    Throws { throw: MayThrow },
+}
+
+/// The rows of a block of a value, and where the value goes on behind it.
+#[derive(Drop)]
+struct ValueRow {
+    /// The rows of the block, and of its value terminal, if it ends in one.
+    rows: List<ReactiveInstruction>,
+    next: BlockId,
+    /// The place with which its value terminal answers.
+    answer: Option<Place>,
+    short: Option<ShortArm>,
 }
 
 /// How a loop shows a value: flattened or not, and its own span.
@@ -50,241 +106,403 @@ pub struct Showing {
 }
 
 impl<'g> Builder<'g> {
-    /// Builds the value from a block on, after which the graph goes on at the next block.
+    /// Builds the value from a block on, after which the graph goes on at the next block, as a loop shows it.
     ///
-    /// - `Malformed` with `ValueEnd`: it goes on elsewhere.
-    /// - `Malformed`, `Todo`, `BadName`: as for a value.
+    /// `Malformed`, `Todo`, `BadName`: as for an arm.
     pub fn build_going(
         &mut self,
+        site: Site,
         key: BlockId,
         next: BlockId,
         showing: Showing,
     ) -> Result<Boxed<ReactiveValue>, Fault>
         requires { spec.CanBuildValue self.old.hir.now self.old.marks key }
-        ensures { (site : Site) (context : ListContext) →
-            let Spelled = SpellsGoing self.old.hir.now self.old.env.now showing.flat key
-            (value_context showing.span context) next in
+        ensures { let Spelled = SpellsGoing self.old.hir.now self.old.env.now showing.flat key
+            (value_context showing.span (setting_of self.old site).context) next in
             Builds self.old self.new site
             (λ built. BuiltPart value_of Spelled self.old.hir.now (key ∷ []) built (progress_of self.old)
             (progress_of self.new)) (Refused self.old.hir.now Spelled self.old.marks.used) result }
     {
-        let built = self.build_value(key)?;
-        if !goes_to(built.last, next) {
-            return Err(malformed(built.block, Rule::ValueEnd));
-        }
+        let built = self.build_arm(key, next, showing.around(site))?;
         Ok(built.shown(self.alloc, showing)?)
     }
 
-    /// Builds the value from a block on, which chooses between two blocks by its answer.
+    /// Builds the value from a block on, which chooses between these two blocks by its answer, as a loop shows it.
     ///
-    /// - `Malformed` with `ValueEnd`: it doesn't end in a `Branch` with these arms.
-    /// - `Malformed` with `Tested`: the `Branch` tests another declaration than that of the answer.
-    /// - `Malformed`, `Todo`, `BadName`: as for a value.
+    /// - `Malformed` with `ValueEnd`: it chooses between other blocks.
+    /// - `Malformed`, `Todo`, `BadName`: as for a condition.
     pub fn build_test(
         &mut self,
+        site: Site,
         key: BlockId,
         consequent: BlockId,
         alternate: BlockId,
         showing: Showing,
     ) -> Result<Boxed<ReactiveValue>, Fault>
         requires { spec.CanBuildValue self.old.hir.now self.old.marks key }
-        ensures { (site : Site) (context : ListContext) →
-            let Spelled = SpellsTest self.old.hir.now self.old.env.now showing.flat key
-            (value_context showing.span context) consequent alternate in
+        ensures { let Spelled = SpellsTest self.old.hir.now self.old.env.now showing.flat key
+            (value_context showing.span (setting_of self.old site).context) consequent alternate in
             Builds self.old self.new site
             (λ built. BuiltPart value_of Spelled self.old.hir.now (key ∷ []) built (progress_of self.old)
             (progress_of self.new)) (Refused self.old.hir.now Spelled self.old.marks.used) result }
     {
-        let built = self.build_value(key)?;
-        let Some(test) = tested_between(built.last, consequent, alternate) else {
-            return Err(malformed(built.block, Rule::ValueEnd));
-        };
-        if !same_declaration(self.env, test, built.answer) {
-            return Err(malformed(built.block, Rule::Tested));
+        let condition = self.build_condition(key, showing.around(site), false)?;
+        if !condition.arms.are(consequent, alternate) {
+            return Err(malformed(condition.tested.block, Rule::ValueEnd));
         }
-        Ok(built.shown(self.alloc, showing)?)
+        Ok(condition.tested.shown(self.alloc, showing)?)
     }
 
-    /// Builds the value from a block on, and marks its block.
+    /// Builds the value from a block on, after which the graph goes on at the next block.
     ///
-    /// - `Malformed` with `NotValue`: the block ends in a terminal that ends no value.
-    /// - `Malformed` with `EmptyValue`: it has no rows, and ends in a `Goto`.
-    /// - `Malformed` with another rule, `BadName`: as for a block of a list.
-    /// - `Todo`: it ends in a `Label`.
-    fn build_value(&mut self, key: BlockId) -> Result<BuiltValue<'g>, Fault>
+    /// - `Malformed` with `ValueEnd`: it goes on elsewhere.
+    /// - `Malformed`, `Todo`, `BadName`: as for a value.
+    #[cycle(values)]
+    pub fn build_arm(
+        &mut self,
+        key: BlockId,
+        next: BlockId,
+        around: Around,
+    ) -> Result<BuiltValue<'g>, Fault>
         requires { spec.CanBuildValue self.old.hir.now self.old.marks key }
-        ensures { (site : Site) → Builds self.old self.new site (spec.BuildsValue self.old self.new key)
-            (spec.HasNoValue self.old.hir.now self.old.env.now key self.old.marks.used) result }
+        ensures { (site : Site) →
+            spec.BuildsValue self.old self.new site key (steps.value_at around false) (GoesTo next) result }
+    {
+        let built = self.build_value(key, around, false)?;
+        if !goes_to(built.last, next) {
+            return Err(malformed(built.block, Rule::ValueEnd));
+        }
+        Ok(built)
+    }
+
+    /// Builds the value from a block on, which chooses between two blocks by its answer; `is_test`: the test of an
+    /// optional.
+    ///
+    /// - `Malformed` with `ValueEnd`: it doesn't end in a `Branch`.
+    /// - `Malformed` with `Tested`: the `Branch` tests another declaration than that of the answer.
+    /// - `Malformed`, `Todo`, `BadName`: as for a value.
+    #[cycle(values)]
+    pub fn build_condition(
+        &mut self,
+        key: BlockId,
+        around: Around,
+        is_test: bool,
+    ) -> Result<Condition<'g>, Fault>
+        requires { spec.CanBuildValue self.old.hir.now self.old.marks key }
+        ensures { (site : Site) →
+            spec.BuildsCondition self.old self.new site key (steps.value_at around is_test) result }
+    {
+        let tested = self.build_value(key, around, is_test)?;
+        let Some(arms) = arms_of(tested.last) else {
+            return Err(malformed(tested.block, Rule::ValueEnd));
+        };
+        if !same_declaration(self.env, arms.test, tested.answer) {
+            return Err(malformed(tested.block, Rule::Tested));
+        }
+        Ok(Condition { tested, arms })
+    }
+
+    /// Builds the value from a block on, in the value of a terminal with that span; `is_test`: the test of an optional.
+    ///
+    /// `Malformed`, `Todo`, `BadName`: as for its blocks, its value terminals and their short arms.
+    #[cycle(values)]
+    fn build_value(
+        &mut self,
+        key: BlockId,
+        around: Around,
+        is_test: bool,
+    ) -> Result<BuiltValue<'g>, Fault>
+        requires { spec.CanBuildValue self.old.hir.now self.old.marks key }
+        ensures { (site : Site) →
+            spec.BuildsValue self.old self.new site key (steps.value_at around is_test) spec.any_end result }
+    {
+        let mut pending = List::new(self.alloc);
+        let mut at = key;
+        'rows: while let Some(step) = self.step_at(at) {
+            let row = self.build_step(at, step, around)?;
+            at = row.next;
+            pending.push(row)?;
+        }
+        let mut built = self.build_last(at, around.handler)?;
+        'back: while let Some(row) = pending.pop() {
+            built = self.put_behind(row, built, is_test, around.handler)?;
+        }
+        Ok(built)
+    }
+
+    /// Builds the rows of a block behind which the value goes on.
+    ///
+    /// `Malformed`, `Todo`, `BadName`: as for a value terminal's row, or for a block that may throw.
+    #[cycle(values)]
+    fn build_step(&mut self, key: BlockId, step: Step, around: Around) -> Result<ValueRow, Fault>
+        requires { rows.CanBuildStep self.old.hir.now self.old.marks key step }
+        ensures { (site : Site) (is_test : Bool) → Builds self.old self.new site
+            (λ row. rows.StepBuilt self.old.hir.now self.old.env.now around key row (progress_of self.old)
+            (progress_of self.new))
+            (spec.HasNoValue self.old.hir.now self.old.env.now key (steps.value_at around is_test) spec.any_end
+            self.old.marks.used) result }
+    {
+        match step {
+            Step::Nested { terminal } => self.build_row(key, terminal, around),
+            Step::Throws { throw } => self.build_throwing(key, throw, around.handler),
+        }
+    }
+
+    /// Builds the value terminal of a block as a row, behind the rows of the block.
+    ///
+    /// - `Malformed`, `BadName`: as for a block of a value.
+    /// - `Malformed`, `Todo`, `BadName`: as for the value terminal.
+    #[cycle(values)]
+    fn build_row(
+        &mut self,
+        key: BlockId,
+        terminal: ValueTerminal,
+        around: Around,
+    ) -> Result<ValueRow, Fault>
+        requires { rows.CanBuildRow self.old.hir.now self.old.marks key terminal }
+        ensures { (site : Site) (is_test : Bool) → Builds self.old self.new site
+            (λ row. rows.RowBuilt self.old.hir.now self.old.env.now around key row (progress_of self.old)
+            (progress_of self.new))
+            (spec.HasNoValue self.old.hir.now self.old.env.now key (steps.value_at around is_test) spec.any_end
+            self.old.marks.used) result }
     {
         let hir = self.hir;
         let block = find_block(hir, key)?;
-        check_end(key, &block.terminal)?;
-        if has_unreachable_successor(hir, &block.terminal) {
+        let mut rows = sequence_rows(self.alloc, hir, key, block.instructions.as_slice())?;
+        if terminal.id.0 == 0 {
+            return Err(malformed(key, Rule::UnsetId));
+        }
+        self.mark_value_block(key, block)?;
+        let NestedValue {
+            value,
+            answer,
+            short,
+        } = self.build_nested(terminal, around.handler)?;
+        rows.push(ReactiveInstruction {
+            id: terminal.id,
+            lvalue: Some(answer),
+            value: value.into_inner(),
+            span: around.span,
+        })?;
+        Ok(ValueRow {
+            rows,
+            next: terminal.fallthrough,
+            answer: Some(answer),
+            short,
+        })
+    }
+
+    /// Builds the rows of a block that may throw, behind which the value goes on.
+    ///
+    /// - `Malformed` with `Handler`: it names a handler that isn't the current one.
+    /// - `Malformed`, `BadName`: as for a block of a value.
+    fn build_throwing(
+        &mut self,
+        key: BlockId,
+        throw: MayThrow,
+        handler: Option<BlockId>,
+    ) -> Result<ValueRow, Fault>
+        requires { rows.CanBuildThrowing self.old.hir.now self.old.marks key throw }
+        ensures { (site : Site) (context : ValueContext) → context.handler ≡ handler → Builds self.old self.new site
+            (λ row. rows.ThrowingBuilt self.old.hir.now handler key row (progress_of self.old) (progress_of self.new))
+            (spec.HasNoValue self.old.hir.now self.old.env.now key context spec.any_end self.old.marks.used) result }
+    {
+        let hir = self.hir;
+        let block = block_with_id(hir, key)?;
+        let rows = sequence_rows(self.alloc, hir, key, block.instructions.as_slice())?;
+        if !is_current(throw.handler, handler) {
+            return Err(malformed(key, Rule::Handler));
+        }
+        self.mark_value_block(key, block)?;
+        Ok(ValueRow {
+            rows,
+            next: throw.continuation,
+            answer: None,
+            short: None,
+        })
+    }
+
+    /// The value of a row and of what is built behind it, with the short arm of the row.
+    ///
+    /// `Malformed`, `BadName`: as for a short arm.
+    fn put_behind(
+        &mut self,
+        row: ValueRow,
+        built: BuiltValue<'g>,
+        is_test: bool,
+        handler: Option<BlockId>,
+    ) -> Result<BuiltValue<'g>, Fault>
+        requires { rows.CanBuildShort self.old.hir.now self.old.marks row.short }
+        ensures { (site : Site) (value : Value) (end : ValueEnd) →
+            spec.IsBuilt self.old.hir.now value end built.entry →
+            rows.PutsBehind self.old self.new site handler row is_test value end result }
+    {
+        let answers = row_answers(self.env, is_test, row.answer, built.value.get());
+        let left_open = self.build_short_arm(
+            row.next,
+            handler,
+            answers,
+            row.short,
+            built.left_open,
+        )?;
+        Ok(built.behind(self.alloc, row.rows, left_open)?)
+    }
+
+    /// How a value goes on behind the block under a key, if there is such a block and it isn't the value's last one.
+    fn step_at(&self, key: BlockId) -> Option<Step>
+        ensures { result ≡ steps.step_at self.now.hir.now key }
+    {
+        match self.hir.body.blocks.get(key) {
+            Some(block) => step_behind(self.hir, &block.terminal),
+            None => None,
+        }
+    }
+
+    /// Marks a block of a value.
+    ///
+    /// - `Malformed` with `Dead`: it leads to a block that ends in `Unreachable`.
+    /// - `Malformed` with `Twice`: it is used already.
+    pub fn mark_value_block(&mut self, key: BlockId, block: &BasicBlock) -> Result<(), Fault>
+        requires { spec.CanMark self.old.hir.now self.old.marks key block.now }
+        ensures { (site : Site) → Builds self.old self.new site
+            (λ _. spec.Marked self.old.hir.now key block.now.terminal (progress_of self.old) (progress_of self.new))
+            (IsUnusable self.old.hir.now [] key self.old.marks) result }
+    {
+        if has_unreachable_successor(self.hir, &block.terminal) {
             return Err(malformed(key, Rule::Dead));
         }
         if !self.marks.used.insert(key)? {
             return Err(malformed(key, Rule::Twice));
         }
-        match block.instructions.as_slice().split_last() {
-            Some((last, front)) => self.value_of_rows(key, &block.terminal, front, *last),
-            None => self.named_test(key, &block.terminal),
+        Ok(())
+    }
+}
+
+impl Showing {
+    /// What stands around the value in a loop at the site.
+    fn around(self, site: Site) -> Around
+        ensures { result ≡ steps.around_at self.span site }
+    {
+        Around {
+            span: self.span,
+            handler: site.handler,
         }
     }
-
-    /// The value of a block with these rows, and its end.
-    fn value_of_rows(
-        &self,
-        key: BlockId,
-        terminal: &'g Terminal,
-        front: &[InstructionId],
-        last: InstructionId,
-    ) -> Result<BuiltValue<'g>, Fault>
-        requires { spec.IsRead self.now.hir.now key terminal.now (front.now ++ last ∷ []) }
-        ensures ok { IfOk result (spec.IsValueOf self.now.hir.now self.now.env.now key terminal.now) }
-        ensures refused { IfRefused result (spec.SpellsNoValue self.now.hir.now self.now.env.now key) }
-        ensures facts { IfErr result (FaultFact self.now.hir.now) }
-    {
-        let row = row_with_id(self.hir, key, last)?;
-        let rows = sequence_rows(self.alloc, self.hir, key, front)?;
-        Ok(BuiltValue {
-            rows,
-            value: last_value(self.alloc, self.env, row)?,
-            answer: last_answer(self.env, row),
-            id: row.id,
-            block: key,
-            last: terminal,
-        })
-    }
-
-    /// The value of a block without rows, which only names the place that its `Branch` tests.
-    /// `Malformed` with `EmptyValue`: it ends in a `Goto`.
-    fn named_test(&self, key: BlockId, terminal: &'g Terminal) -> Result<BuiltValue<'g>, Fault>
-        requires { spec.IsRead self.now.hir.now key terminal.now [] }
-        ensures ok { IfOk result (spec.IsValueOf self.now.hir.now self.now.env.now key terminal.now) }
-        ensures refused { IfRefused result (spec.SpellsNoValue self.now.hir.now self.now.env.now key) }
-        ensures facts { IfErr result (FaultFact self.now.hir.now) }
-    {
-        let Some(named) = place_named(terminal) else {
-            return Err(malformed(key, Rule::EmptyValue));
-        };
-        Ok(BuiltValue {
-            rows: List::new(self.alloc),
-            value: load(self.alloc, named.place)?,
-            answer: named.place,
-            id: named.id,
-            block: key,
-            last: terminal,
-        })
-    }
 }
 
-/// The place that a `Branch` tests, and the id of the `Branch`.
-#[derive(Clone, Copy)]
-struct NamedPlace {
-    place: Place,
-    id: EvaluationOrder,
-}
-
-/// The place that the terminal tests, if it is a `Branch`.
-fn place_named(terminal: &Terminal) -> Option<NamedPlace>
-    ensures { result ≡ spec.place_named terminal.now }
-{
-    match terminal {
-        Terminal::Branch { test, id, .. } => Some(NamedPlace {
-            place: *test,
-            id: *id,
-        }),
-        _ => None,
+impl TestArms {
+    /// Whether the arms are these two blocks.
+    fn are(self, consequent: BlockId, alternate: BlockId) -> bool
+        ensures { result ≡ (same_id self.consequent consequent && same_id self.alternate alternate) }
+    {
+        self.consequent == consequent && self.alternate == alternate
     }
 }
 
 impl<'g> BuiltValue<'g> {
-    /// The value as it stands in a loop. The only error is out of memory.
-    fn shown(self, alloc: Global, showing: Showing) -> Result<Boxed<ReactiveValue>, AllocError>
-        ensures { (hir : HirFunction) (env : Environment) (key : BlockId) (terminal : Ending) →
-            (is : spec.IsValueOf hir env key terminal self.entry) → IfOk result (λ whole. whole
-            ≡ value_of (grammar.shown showing.flat showing.span is.end (after_rows is.front is.end.id (Base is.base)))) }
+    /// The value behind these rows, if there are any, with the arm that both leave open. The only error is out of memory.
+    fn behind(
+        self,
+        alloc: Global,
+        rows: List<ReactiveInstruction>,
+        left_open: Option<ShortArm>,
+    ) -> Result<BuiltValue<'g>, AllocError>
+        ensures value { IfOk result (λ whole. whole.value ≡ spec.behind_rows rows self.entry.id self.entry.value) }
+        ensures end { IfOk result (spec.EndsAlike self.entry left_open) }
     {
         let BuiltValue {
-            rows,
+            value,
+            answer,
+            id,
+            block,
+            last,
+            ..
+        } = self;
+        Ok(BuiltValue {
+            value: after_rows(alloc, rows, id, value)?,
+            answer,
+            id,
+            block,
+            last,
+            left_open,
+        })
+    }
+
+    /// The value as it stands in a loop. The only error is out of memory.
+    fn shown(self, alloc: Global, showing: Showing) -> Result<Boxed<ReactiveValue>, AllocError>
+        ensures { (hir : HirFunction) (value : Value) (end : ValueEnd) → spec.IsBuilt hir value end self.entry →
+            IfOk result (λ whole. whole ≡ value_of (grammar.shown showing.flat showing.span end value)) }
+    {
+        let BuiltValue {
             value,
             answer,
             id,
             ..
         } = self;
         if showing.flat {
-            flattened(alloc, rows, value, answer, id, showing.span)
+            flattened(alloc, value, answer, id, showing.span)
         } else {
-            after_rows(alloc, rows, id, value)
+            Ok(value)
         }
     }
 }
 
-/// What a terminal is at the end of a value's block.
-#[derive(Clone, Copy)]
-enum ValueForm {
-    /// It ends the value.
-    Ends,
-    /// It is a `Label`.
-    Labels,
-    /// The value goes on behind it, which isn't built yet.
-    GoesOn,
-    /// No value has it.
-    NoValue,
-}
-
-/// Refuses a terminal that doesn't end a value, or has no id.
-///
-/// - `Malformed` with `UnsetId`: it has no id.
-/// - `Malformed` with `NotValue`: no value has it.
-/// - `Todo`: it is a `Label`.
-/// - `NotBuilt`: values with other values in them aren't built yet.
-fn check_end(key: BlockId, terminal: &Terminal) -> Result<(), Fault>
-    ensures ok { OnOk result (spec.EndsValue terminal.now) }
-    ensures refused { IfRefused result (spec.EndsValue terminal.now → ⊥) }
-    ensures facts { IfErr result (spec.EndFault key terminal.now) }
+/// How a value goes on behind a block with the terminal, if that isn't the value's last one: a block that may throw is,
+/// where only a `Goto` is behind it.
+fn step_behind(hir: &HirFunction, terminal: &Terminal) -> Option<Step>
+    ensures { result ≡ steps.step_behind hir.now terminal.now }
 {
-    if terminal.evaluation_order().0 == 0 {
-        return Err(malformed(key, Rule::UnsetId));
+    if let Some(terminal) = value_terminal(terminal) {
+        return Some(Step::Nested { terminal });
     }
-    match value_form(terminal) {
-        ValueForm::Ends => Ok(()),
-        ValueForm::Labels => Err(Fault::Todo { block: key }),
-        ValueForm::GoesOn => Err(Fault::NotBuilt { block: key }),
-        ValueForm::NoValue => Err(malformed(key, Rule::NotValue)),
+    match may_throw(terminal) {
+        Some(throw) => if is_empty_goto(hir, throw.continuation) {
+            None
+        } else {
+            Some(Step::Throws { throw })
+        },
+        None => None,
     }
 }
 
-/// What the terminal is at the end of a value's block.
-fn value_form(terminal: &Terminal) -> ValueForm
-    ensures { result ≡ spec.value_form terminal.now }
+/// Whether a row that answers with a place, before this value, answers the test that the whole is, if it is one.
+fn row_answers(
+    env: &Environment,
+    is_test: bool,
+    answer: Option<Place>,
+    value: &ReactiveValue,
+) -> bool
+    ensures { (plain : Value) → value.now ≡ value_of plain → result ≡ rows.row_answers env.now is_test answer plain }
 {
-    match terminal {
-        Terminal::Branch { .. } | Terminal::Goto { .. } => ValueForm::Ends,
-        Terminal::Label { .. } => ValueForm::Labels,
-        Terminal::Logical { .. }
-        | Terminal::Ternary { .. }
-        | Terminal::Optional { .. }
-        | Terminal::Sequence { .. }
-        | Terminal::MaybeThrow { .. } => ValueForm::GoesOn,
-        Terminal::If { .. }
-        | Terminal::Throw { .. }
-        | Terminal::Return { .. }
-        | Terminal::Switch { .. }
-        | Terminal::DoWhile { .. }
-        | Terminal::While { .. }
-        | Terminal::For { .. }
-        | Terminal::ForOf { .. }
-        | Terminal::ForIn { .. }
-        | Terminal::Unreachable { .. }
-        | Terminal::Scope { .. }
-        | Terminal::PrunedScope { .. }
-        | Terminal::Try { .. } => ValueForm::NoValue,
+    match answer {
+        Some(place) => is_test && answers_test(env, place, value),
+        None => false,
+    }
+}
+
+/// Whether a row that writes the place, before this value, answers for the whole sequence: the value only loads the
+/// place.
+fn answers_test(env: &Environment, place: Place, value: &ReactiveValue) -> bool
+    ensures { (plain : Value) → value.now ≡ value_of plain → result ≡ answered.answers_test env.now place plain }
+{
+    match value {
+        ReactiveValue::Instruction(value) => loads_alike(env, place, value),
+        _ => false,
+    }
+}
+
+/// Whether the instruction loads a place of the same declaration.
+fn loads_alike(env: &Environment, place: Place, value: &InstructionValue) -> bool
+    ensures { result ≡ answered.answers_test env.now place (Base value.now) }
+{
+    match value {
+        InstructionValue::LoadLocal { place: loaded, .. } => same_declaration(env, place, *loaded),
+        _ => false,
     }
 }
 
 /// Whether the terminal goes to the block, by a `Goto` of any variant.
-fn goes_to(terminal: &Terminal, next: BlockId) -> bool
+pub fn goes_to(terminal: &Terminal, next: BlockId) -> bool
     ensures { result ≡ spec.goes_to terminal.now next }
 {
     match terminal {
@@ -293,30 +511,30 @@ fn goes_to(terminal: &Terminal, next: BlockId) -> bool
     }
 }
 
-/// The place that the terminal tests, if it is a `Branch` between these two blocks.
-fn tested_between(terminal: &Terminal, first: BlockId, second: BlockId) -> Option<Place>
-    ensures { result ≡ spec.tested_between terminal.now first second }
+/// The arms of the terminal, if it is a `Branch`.
+fn arms_of(terminal: &Terminal) -> Option<TestArms>
+    ensures { result ≡ spec.arms_of terminal.now }
 {
     match terminal {
         Terminal::Branch {
             test,
             consequent,
             alternate,
+            span,
             ..
-        } => {
-            if *consequent == first && *alternate == second {
-                Some(*test)
-            } else {
-                None
-            }
-        }
+        } => Some(TestArms {
+            test: *test,
+            consequent: *consequent,
+            alternate: *alternate,
+            span: *span,
+        }),
         _ => None,
     }
 }
 
 /// Whether the identifiers of two places have one declaration.
 fn same_declaration(env: &Environment, a: Place, b: Place) -> bool
-    ensures { result ≡ grammar.same_declaration env.now a b }
+    ensures { result ≡ answered.same_declaration env.now a b }
 {
     match declaration_of(env, a) {
         Some(declaration) => declaration_of(env, b) == Some(declaration),

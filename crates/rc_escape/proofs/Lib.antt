@@ -8,3 +8,8 @@ pub mod LeastIsMemoized
 pub mod MemoizedIsInGreatest
 pub mod LowestScopeLemmas
 pub mod MemoSetLemmas
+pub mod OutputsLemmas
+pub mod StoresLemmas
+pub mod OneRecord
+pub mod RebuiltRelated
+pub mod NotEscaping

@@ -11,7 +11,9 @@ mod bit_row;
 mod memo_walk;
 mod memoized_names;
 mod missing_scopes;
+mod not_escaping;
 mod walk_state;
 
 pub use memoized_names::memoized;
-pub use rc_memo::{DeclSet, MemoNode, MemoRecord, MemoizationLevel, join_aliases};
+pub use not_escaping::prune_non_escaping_scopes;
+pub use rc_memo::{DeclSet, MemoNode, MemoRecord, MemoizationLevel, collect, join_aliases};

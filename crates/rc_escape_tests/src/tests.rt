@@ -1,5 +1,6 @@
-//! Records that are written here, and the names that are memoized.
+//! Records of rows and records that are written here, and the names that are memoized.
 
+mod kinds;
 mod levels;
 mod records;
 mod walks;

@@ -30,8 +30,6 @@ pub enum Fault {
     NoMemory,
     /// The target of a jump is no label that was met so far.
     BadTarget { target: BlockId },
-    /// The block's terminal isn't built yet; it is the first such block in graph order.
-    NotBuilt { block: BlockId },
     /// The function is met inside itself.
     FunctionCycle { function: FunctionId },
 }

@@ -21,7 +21,9 @@ use Rattle.rc_pipe.specs.declared.fates.ScopeFate.{ScopeFate}
 use Rattle.rc_checks.specs.ScopeBlocks.{scopes_in}
 use Rattle.rc_pipe.specs.Fates.{listed_scopes}
 use Rattle.rc_pipe.proofs.ListedOnce.{from_map, into_map}
-use Rattle.rc_pipe.specs.inside.ListedFates.{IsListedFate, HasListedFate, AreListedFates, scopes_of}
+use Rattle.rc_pipe.specs.declared.passes.LeftScopes.{LeftScopes}
+use Rattle.rc_pipe.specs.inside.ListedFates.{AreListedFates, HasListedFate, IsListedFate, ScopeLists, left_scopes}
+use Rattle.rc_pipe.specs.inside.ListedFates.{scopes_of}
 
 -- the numbers of the scopes of numbers are these numbers
 numbers_again : (numbers : List ℕ) → map (λ (scope : ScopeId). scope.0) (scopes_of numbers) ≡ numbers
@@ -64,31 +66,44 @@ set_has scopes set made scope =
 abbrev SameScopes : List ScopeId → List ScopeId → Type 0
 SameScopes one other = (scope : ScopeId) → Contains one scope ↔ Contains other scope
 
--- the fate of a scope doesn't depend on the order of the scopes by which it is judged
-fate_by_same : (used left used1 left1 : List ScopeId) → SameScopes used used1 → SameScopes left left1
-    → (scope : ScopeId) (fate : Fate) → IsListedFate used left scope fate → IsListedFate used1 left1 scope fate
-fate_by_same used left used1 left1 same_used same scope Kept is = (same scope).0 is
-fate_by_same used left used1 left1 same_used same scope Unused is =
-    (λ there. is.0 ((same_used scope).1 there), λ there. is.1 ((same scope).1 there))
-fate_by_same used left used1 left1 same_used same scope AlwaysInvalidating is =
-    ((same_used scope).0 is.0, λ there. is.1 ((same scope).1 there))
-fate_by_same used left used1 left1 same_used same scope NotEscaping is = is
-fate_by_same used left used1 left1 same_used same scope (MergedInto into) is = is
-fate_by_same used left used1 left1 same_used same scope (DissolvedInto into) is = is
+-- the same of the lists by which fates are judged
+pub record SameLists (one other : ScopeLists) : Type 0 where
+  pub escaping : SameScopes one.escaping other.escaping
+  pub used : SameScopes one.used other.used
+  pub kept : SameScopes one.kept other.kept
 
--- the fates of sorted scopes, each by the scopes that are used and those that remain, are the listed fates
-pub fates_told : (scopes used : List ScopeId) (body : ReactiveBlock) (ordered known left : List ScopeId)
-    → IsStrictlyIncreasing (map (λ scope. scope.0) ordered) → SameScopes ordered scopes → SameScopes known used
-    → SameScopes left (scopes_in body)
-    → (fates : List ScopeFate) → listed_scopes fates ≡ ordered → All (HasListedFate known left) fates
-    → AreListedFates scopes used body fates
-fates_told scopes used body ordered known left rising same same_used same_left fates listed told = record {
+-- the fate of a scope doesn't depend on the order of the scopes by which it is judged
+fate_by_same : (one other : ScopeLists) → SameLists one other → (scope : ScopeId) (fate : Fate)
+    → IsListedFate one scope fate → IsListedFate other scope fate
+fate_by_same one other same scope Kept is = (same.kept scope).0 is
+fate_by_same one other same scope AlwaysInvalidating is =
+    ((same.used scope).0 is.0, λ there. is.1 ((same.kept scope).1 there))
+fate_by_same one other same scope Unused is = (
+  (same.escaping scope).0 is.0,
+  λ there. is.1 ((same.used scope).1 there),
+  λ there. is.2 ((same.kept scope).1 there),
+)
+fate_by_same one other same scope NotEscaping is = (
+  λ there. is.0 ((same.escaping scope).1 there),
+  λ there. is.1 ((same.used scope).1 there),
+  λ there. is.2 ((same.kept scope).1 there),
+)
+fate_by_same one other same scope (MergedInto into) is = is
+fate_by_same one other same scope (DissolvedInto into) is = is
+
+-- the fates of sorted scopes, each by the scopes that are known, are the listed fates
+pub fates_told : (scopes : List ScopeId) (left : LeftScopes) (body : ReactiveBlock) (ordered : List ScopeId)
+    (known : ScopeLists)
+    → IsStrictlyIncreasing (map (λ scope. scope.0) ordered) → SameScopes ordered scopes
+    → SameLists known (left_scopes left body)
+    → (fates : List ScopeFate) → listed_scopes fates ≡ ordered → All (HasListedFate known) fates
+    → AreListedFates scopes left body fates
+fates_told scopes left body ordered known rising same lists fates listed told = record {
   rising = rw listed rising;
   listed = λ scope. rw listed (same scope);
   told = λ place other below.
       let entry = get_or fates place other in
-      fate_by_same known left used (scopes_in body) same_used same_left entry.scope entry.fate
-      (told place other below);
+      fate_by_same known (left_scopes left body) lists entry.scope entry.fate (told place other below);
 }
 
 -- `contains` is true of a set exactly if the set has the scope's number
@@ -107,30 +122,35 @@ set_lacks set scope lacks there =
     let bad : ⊥ = cc in bad
 
 -- a further entry lists its scope, with its fate
-pub fates_more : (used left : List ScopeId) (fates : List ScopeFate) (entry : ScopeFate) (scope : ScopeId)
-    (rest keys : List ScopeId) → entry.scope ≡ scope → HasListedFate used left entry
-    → (listed_scopes fates ++ scope ∷ rest ≡ keys) × All (HasListedFate used left) fates
-    → (listed_scopes (fates ++ entry ∷ []) ++ rest ≡ keys) × All (HasListedFate used left) (fates ++ entry ∷ [])
-fates_more used left fates entry scope rest keys same has given =
+pub fates_more : (known : ScopeLists) (fates : List ScopeFate) (entry : ScopeFate) (scope : ScopeId)
+    (rest keys : List ScopeId) → entry.scope ≡ scope → HasListedFate known entry
+    → (listed_scopes fates ++ scope ∷ rest ≡ keys) × All (HasListedFate known) fates
+    → (listed_scopes (fates ++ entry ∷ []) ++ rest ≡ keys) × All (HasListedFate known) (fates ++ entry ∷ [])
+fates_more known fates entry scope rest keys same has given =
     let list = ap (λ l. l ++ rest) (map-append (λ e. e.scope) fates (entry ∷ []))
     ∙ append_assoc (listed_scopes fates) (entry.scope ∷ []) rest in (
       list ∙ ap (λ s. listed_scopes fates ++ s ∷ rest) same
           ∙ given.0,
-      All-append (HasListedFate used left) fates (entry ∷ []) given.1 alone,
+      All-append (HasListedFate known) fates (entry ∷ []) given.1 alone,
     )
   where
-    alone : All (HasListedFate used left) (entry ∷ [])
+    alone : All (HasListedFate known) (entry ∷ [])
     alone zero other below = has
     alone (suc place) other below = absurd (let no : ⊥ = omega (arith, below) in no)
 
 -- the same for the result of a call, whatever the order in which the body's scopes were found
-pub fates_answered : (scopes used : List ScopeId) (body : ReactiveBlock) (found ordered known left : List ScopeId)
+pub fates_answered : (scopes : List ScopeId) (left : LeftScopes) (body : ReactiveBlock)
+    (found ordered : List ScopeId) (known : ScopeLists)
     → found ≡ scopes_in body → IsStrictlyIncreasing (map (λ scope. scope.0) ordered)
-    → SameScopes ordered scopes → SameScopes known used → SameScopes left found
+    → SameScopes ordered scopes → SameScopes known.escaping left.escaping → SameScopes known.used left.used
+    → SameScopes known.kept found
     → (result : Result (List ScopeFate) AllocError) → IfOk result (λ fates. listed_scopes fates ≡ ordered)
-    → IfOk result (All (HasListedFate known left)) → IfOk result (AreListedFates scopes used body)
-fates_answered scopes used body found ordered known left all rising same same_used same_left (Ok fates) listed told =
-    fates_told scopes used body ordered known left rising same same_used
-    (subst (λ list. SameScopes left list) all same_left) fates listed told
-fates_answered scopes used body found ordered known left all rising same same_used same_left (Err error) listed told =
-    tt
+    → IfOk result (All (HasListedFate known)) → IfOk result (AreListedFates scopes left body)
+fates_answered scopes left body found ordered known all rising same escaping used kept (Ok fates) listed told =
+    fates_told scopes left body ordered known rising same
+    (record {
+      escaping = escaping;
+      used = used;
+      kept = subst (λ list. SameScopes known.kept list) all kept;
+    }) fates listed told
+fates_answered scopes left body found ordered known all rising same escaping used kept (Err error) listed told = tt

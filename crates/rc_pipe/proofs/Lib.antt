@@ -5,4 +5,6 @@ mod FatesHold
 mod OutsideLemmas
 mod CausesLemmas
 mod RunsElsewhere
+mod BlockScopes
+mod EventsStay
 mod PassesLemmas

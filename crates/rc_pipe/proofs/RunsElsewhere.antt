@@ -1,5 +1,5 @@
 -- A body has the same runs whatever the scopes of its environment are.
-use Rattle.std.proofs.Common.{◌≡◌, ◌∙◌, ◌↔◌, Bool, List, Option, refl, sym}
+use Rattle.std.proofs.Common.{◌≡◌, ◌∙◌, ◌↔◌, Bool, true, false, List, Option, Some, None, refl, sym, ap}
 use Rattle.rc_hir.specs.Model.{Environment, InstructionValue, Place, ReactiveScope}
 use Rattle.rc_hir.specs.declared.instruction.InstructionValue.TheVariants as kinds
 use Rattle.rc_names.specs.Numbers.{EvaluationOrder}
@@ -8,36 +8,71 @@ use Rattle.rc_runs.specs.BodyRun.{Completion, Spot, IsBodyRun, RunsAfter, RunsAl
 use Rattle.rc_runs.specs.BodyRun.{RunsLoop, RunsStatement, absent, and_then, break_implicit, break_labeled, break_unlabeled}
 use Rattle.rc_runs.specs.BodyRun.{chosen_here, chosen_later, continue_implicit, continue_labeled, continue_unlabeled}
 use Rattle.rc_runs.specs.BodyRun.{falls_into, goes_on, in_before, in_case, in_do_while, in_for_in, in_for_of, in_init}
-use Rattle.rc_runs.specs.BodyRun.{in_label, in_pruned_scope, in_scope, in_test, in_while, leaves_case, leaves_list}
+use Rattle.rc_runs.specs.BodyRun.{in_handler, in_label, in_pruned_scope, in_scope, in_test, in_try, in_while}
+use Rattle.rc_runs.specs.BodyRun.{leaves_case, leaves_list}
 use Rattle.rc_runs.specs.BodyRun.{leaves_loop, next_turn, no_more_cases, nothing, nothing_before, past_before, past_cases}
 use Rattle.rc_runs.specs.BodyRun.{past_init, present, returned, row, stopped, test_fails, test_holds, thrown, took_arm}
 use Rattle.rc_runs.specs.BodyRun.{took_other}
 use Rattle.rc_runs.specs.Event.{Event, End}
 use Rattle.rc_runs.specs.LoopParts.{LoopParts}
-use Rattle.rc_runs.specs.PlainTree.{Alternate, Cases, Rows, Statement, Statements, Value}
+use Rattle.rc_runs.specs.AnsweredTest.{answers_test}
+use Rattle.rc_runs.specs.PlainTree.{Alternate, Base, Cases, NoRows, Optional, Row, Rows, Statement, Statements, Value}
 use Rattle.rc_runs.specs.Silent.{is_silent_value}
-use Rattle.rc_runs.specs.ValueRun.{Progress, RunsRow, RunsRows, RunsValue, did_and_stopped, did_value, in_row, in_sequence}
-use Rattle.rc_runs.specs.ValueRun.{past_row, past_rows, quiet_value, set_row, unset_row, value_stopped}
+use Rattle.rc_runs.specs.ValueRun.{Progress, RunsRow, RunsRows, RunsValue, did_and_stopped, did_value, goes_past_row}
+use Rattle.rc_runs.specs.ValueRun.{in_condition, in_left, in_optional_test, in_other_optional, in_row, in_sequence}
+use Rattle.rc_runs.specs.ValueRun.{is_row_of_test, left_decides, past_row, past_rows, quiet_value, set_row}
+use Rattle.rc_runs.specs.ValueRun.{took_alternate, took_consequent, took_rest, took_right, took_short_end, unset_row}
+use Rattle.rc_runs.specs.ValueRun.{value_stopped}
 
--- the same values are silent in both environments
-abbrev SameSilence : Environment → Environment → Type 0
-SameSilence old new = (value : InstructionValue) → is_silent_value new value ≡ is_silent_value old value
+-- in both environments the same values are silent, and the same ones answer a test
+record RunsAlike (old new : Environment) : Type 0 where
+  silence : (value : InstructionValue) → is_silent_value new value ≡ is_silent_value old value
+  answers : (place : Place) (value : Value) → answers_test new place value ≡ answers_test old place value
 
-module _ (old new : Environment) (same : SameSilence old new) where
+module _ (old new : Environment) (same : RunsAlike old new) where
+  -- whether the run goes on behind a row
+  row_alike : (is_test : Bool) (target : Option Place) (own : Value) (rest : Rows) (value : Value)
+      → is_row_of_test new is_test target own rest value ≡ is_row_of_test old is_test target own rest value
+  row_alike false target own rest value = refl
+  row_alike true (Some place) (Optional own optional) NoRows value = same.answers place value
+  row_alike true (Some place) (Optional own optional) (Row id target other span rest) value = refl
+  row_alike true None own rest value = refl
+  row_alike true (Some place) own rest value = refl
+
+  past_alike : {past : Bool} (is_test : Bool) (target : Option Place) (own : Value) (rest : Rows) (value : Value)
+      (progress : Progress) → goes_past_row (is_row_of_test old is_test target own rest value) progress ≡ past
+      → goes_past_row (is_row_of_test new is_test target own rest value) progress ≡ past
+  past_alike is_test target own rest value progress e =
+      ap (λ of_test. goes_past_row of_test progress) (row_alike is_test target own rest value) ∙ e
+
   mutual
     value_elsewhere : {is_test : Bool} {value : Value} {events : List Event} {progress : Progress}
         → RunsValue old is_test value events progress → RunsValue new is_test value events progress
     value_elsewhere value_stopped = value_stopped
-    value_elsewhere (quiet_value {value = value} e) = quiet_value (same value ∙ e)
-    value_elsewhere (did_value {value = value} e) = did_value (same value ∙ e)
-    value_elsewhere (did_and_stopped {value = value} e) = did_and_stopped (same value ∙ e)
+    value_elsewhere (quiet_value {value = value} e) = quiet_value (same.silence value ∙ e)
+    value_elsewhere (did_value {value = value} e) = did_value (same.silence value ∙ e)
+    value_elsewhere (did_and_stopped {value = value} e) = did_and_stopped (same.silence value ∙ e)
     value_elsewhere (in_sequence r) = in_sequence (rows_elsewhere r)
+    value_elsewhere (in_condition r) = in_condition (value_elsewhere r)
+    value_elsewhere (took_consequent r past arm p e) =
+        took_consequent (value_elsewhere r) past (value_elsewhere arm) p e
+    value_elsewhere (took_alternate r past arm p e) = took_alternate (value_elsewhere r) past (value_elsewhere arm) p e
+    value_elsewhere (in_left r) = in_left (value_elsewhere r)
+    value_elsewhere (left_decides r past at e) = left_decides (value_elsewhere r) past at e
+    value_elsewhere (took_right r past arm p e) = took_right (value_elsewhere r) past (value_elsewhere arm) p e
+    value_elsewhere (in_optional_test r not_done) = in_optional_test (row_elsewhere r) not_done
+    value_elsewhere (took_short_end r at e) = took_short_end (row_elsewhere r) at e
+    value_elsewhere (took_rest r rest p e) = took_rest (row_elsewhere r) (value_elsewhere rest) p e
+    value_elsewhere (in_other_optional other r p) = in_other_optional other (value_elsewhere r) p
 
     rows_elsewhere : {is_test : Bool} {rows : Rows} {value : Value} {events : List Event} {progress : Progress}
         → RunsRows old is_test rows value events progress → RunsRows new is_test rows value events progress
     rows_elsewhere (past_rows r) = past_rows (value_elsewhere r)
-    rows_elsewhere (past_row r past rest e) = past_row (row_elsewhere r) past (rows_elsewhere rest) e
-    rows_elsewhere (in_row r) = in_row (row_elsewhere r)
+    rows_elsewhere {is_test} {value = value} (past_row {target = target} {own = own} {rest = rest} {row = p} r past more
+        e) =
+        past_row (row_elsewhere r) (past_alike is_test target own rest value p past) (rows_elsewhere more) e
+    rows_elsewhere {is_test} {value = value} (in_row {target = target} {own = own} {rest = rest} {progress = p} r past) =
+        in_row (row_elsewhere r) (past_alike is_test target own rest value p past)
 
     row_elsewhere : {is_test : Bool} {id : EvaluationOrder} {value : Value} {events : List Event} {progress : Progress}
         → RunsRow old is_test id value events progress → RunsRow new is_test id value events progress
@@ -78,6 +113,9 @@ module _ (old new : Environment) (same : SameSilence old new) where
     statement_elsewhere (in_for_of run) = in_for_of (loop_elsewhere run)
     statement_elsewhere (in_for_in run) = in_for_in (loop_elsewhere run)
     statement_elsewhere (in_label run e) = in_label (list_elsewhere run) e
+    statement_elsewhere (in_try run stays e) = in_try (list_elsewhere run) stays e
+    statement_elsewhere (in_handler run reaches later e w) =
+        in_handler (list_elsewhere run) reaches (list_elsewhere later) e w
     statement_elsewhere (in_scope run) = in_scope (list_elsewhere run)
     statement_elsewhere (in_pruned_scope run) = in_pruned_scope (list_elsewhere run)
 
@@ -115,15 +153,27 @@ module _ (old new : Environment) (same : SameSilence old new) where
       record { statements = run.statements; body = run.body; run = list_elsewhere run.run }
 
 module _ (env : Environment) (scopes : List ReactiveScope) where
-  -- whether a value is silent doesn't depend on scopes
-  same_silence : SameSilence env (record env { scopes = scopes })
+  -- neither depends on scopes
+  same_silence : (value : InstructionValue)
+      → is_silent_value (record env { scopes = scopes }) value ≡ is_silent_value env value
   unfolding is_silent_value
   same_silence (kinds.StoreLocal lvalue value span) = refl
   same_silence value = refl
 
+  same_answers : (place : Place) (value : Value)
+      → answers_test (record env { scopes = scopes }) place value ≡ answers_test env place value
+  same_answers place (Base (kinds.LoadLocal loaded span)) = refl
+  same_answers place value = refl
+
   pub runs_with_scopes : (func : ReactiveFunction) (events : List Event) (end : End)
       → IsBodyRun func env events end ↔ IsBodyRun func (record env { scopes = scopes }) events end
   runs_with_scopes func events end = (
-    run_elsewhere env (record env { scopes = scopes }) same_silence func events end,
-    run_elsewhere (record env { scopes = scopes }) env (λ value. sym (same_silence value)) func events end,
+    run_elsewhere env (record env { scopes = scopes }) (record { silence = same_silence; answers = same_answers }) func
+        events end,
+    run_elsewhere (record env { scopes = scopes }) env
+        (record {
+          silence = λ value. sym (same_silence value);
+          answers = λ place value. sym (same_answers place value);
+        })
+        func events end,
   )

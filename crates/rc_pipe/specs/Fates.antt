@@ -1,6 +1,6 @@
 -- The fates of the scope blocks of a spelled tree, each by its rule. A rule is judged on the function and the
 -- environment that its pass received. The first rule that applies, in the order of the passes, gives the fate.
-use Rattle.std.specs.Prelude.{◌≡◌, ◌↔◌, false, List, All, Contains, map}
+use Rattle.std.specs.Prelude.{◌≡◌, ◌↔◌, false, true, List, All, Contains, map}
 use Rattle.std.specs.List.Sorted.{IsStrictlyIncreasing}
 use Rattle.rc_names.specs.Numbers.{ScopeId}
 use Rattle.rc_tree.specs.Model.{ReactiveBlock}
@@ -10,6 +10,7 @@ use Rattle.rc_pipe.specs.declared.fates.Fate.TheVariants.{AlwaysInvalidating}
 use Rattle.rc_pipe.specs.declared.fates.ScopeFate.{ScopeFate}
 use Rattle.rc_checks.specs.ScopeBlocks.{ScopeBlock, scope_blocks, scopes_in}
 use Rattle.rc_checks.specs.UnusedScopes.{stays}
+use Rattle.rc_escape.specs.NotEscaping.{is_dissolved}
 use Rattle.rc_flow.specs.AlwaysInvalidating.{IsInvalidating}
 use Rattle.rc_pipe.specs.Passes.{PassState, IsPruned}
 
@@ -30,12 +31,21 @@ abbrev pub DoesInvalidate : PassState → ScopeId → Type 0
 DoesInvalidate received scope = IsInvalidating received.env received.func.body scope
 
 module _ {spelled pruned : PassState} (passes : IsPruned spelled pruned) where
-  -- the rule of each fate; no pass gives `NotEscaping`, `MergedInto` or `DissolvedInto` yet
+  -- the scope computes nothing memoized: it has an output, none of them is memoized, and no early return is set
+  abbrev pub IsNotEscaping : ScopeId → Type 0
+  IsNotEscaping scope = is_dissolved passes.labeled.env passes.escapes.scopes.set scope ≡ true
+
+  -- the scope escapes, and its block gives something
+  pub record IsUsed (scope : ScopeId) : Type 0 where
+    pub escapes : ¬ IsNotEscaping scope
+    pub gives : ¬ IsUnused passes.reactive scope
+
+  -- the rule of each fate; no pass gives `MergedInto` or `DissolvedInto` yet
   abbrev pub IsFate : ScopeId → Fate → Type 0
-  IsFate scope Unused = IsUnused passes.reactive scope
-  IsFate scope AlwaysInvalidating = ¬ IsUnused passes.reactive scope × DoesInvalidate passes.used scope
-  IsFate scope Kept = ¬ IsUnused passes.reactive scope × ¬ DoesInvalidate passes.used scope
-  IsFate scope NotEscaping = ⊥
+  IsFate scope NotEscaping = IsNotEscaping scope
+  IsFate scope Unused = ¬ IsNotEscaping scope × IsUnused passes.reactive scope
+  IsFate scope AlwaysInvalidating = IsUsed scope × DoesInvalidate passes.used scope
+  IsFate scope Kept = IsUsed scope × ¬ DoesInvalidate passes.used scope
   IsFate scope (MergedInto head) = ⊥
   IsFate scope (DissolvedInto parent) = ⊥
 

@@ -1,19 +1,21 @@
 -- The headline: the relation of an answered function to its graph, and the causes of refusals.
-use Rattle.std.specs.Prelude.{◌≡◌, List, Some, ⊤, map}
+use Rattle.std.specs.Prelude.{◌≡◌, false, All, List, Some, ⊤, map}
 use Rattle.rc_hir.specs.Model.{Fault, HirFunction, Environment}
 use Rattle.rc_hir.specs.declared.fault.Fault.TheVariants as faults
 use Rattle.rc_hir.specs.Names.{NamesInTables, NamesOutside}
 use Rattle.rc_tree.specs.TreeNames.{TreeInTables}
 use Rattle.rc_tree.specs.Model.{ReactiveFunction}
+use Rattle.rc_names.specs.Numbers.{DeclarationId}
+use Rattle.rc_pipe.specs.declared.fates.Fate.TheVariants.{NotEscaping}
 use Rattle.rc_pipe.specs.declared.pipeline.Pruned.{Pruned}
-use Rattle.rc_runs.specs.Event.{Event, End}
+use Rattle.rc_runs.specs.Event.{Event, End, has_throw}
 use Rattle.rc_runs.specs.GraphRun.{IsGraphRun}
 use Rattle.rc_runs.specs.Spelled.{Spells}
 use Rattle.rc_runs.specs.BodyRun.{IsBodyRun}
 use Rattle.rc_runs.specs.EarlyReturns.{first_early_return, NoEarlyReturnSet}
 use Rattle.rc_build.specs.BuildCauses.{SpellsNone}
-use Rattle.rc_build.specs.BuiltForms.{AreBuilt, IsFirstUnbuilt}
 use Rattle.rc_build.specs.RuleFacts.{IsLabeledValue, RuleFact}
+use Rattle.rc_escape.specs.NotEscaping.{HasWholeRecord, IsNeededOutput, LacksNode, LacksScope, staying_scopes}
 use Rattle.rc_pipe.specs.Causes.{HasRoom}
 use Rattle.rc_pipe.specs.Fates.{AreFates, AreKeptExactly}
 use Rattle.rc_pipe.specs.Passes.{AreInside, EndsOutside, IsPruned, state}
@@ -26,35 +28,41 @@ pub record IsAccepted (hir : HirFunction) (env : Environment) : Type 0 where
   pub no_early_return : NoEarlyReturnSet env
   pub room : HasRoom hir env
 
--- the graph has only forms of terminals that are built, spells the function, and has no operand outside the blocks of
--- its scope
+-- the graph spells the function, has no operand outside the blocks of its scope, and its memo record lacks nothing
 pub record HasAnswer (hir : HirFunction) (env : Environment) (func : ReactiveFunction) : Type 0 where
-  pub forms : AreBuilt hir
   pub spelled : Spells hir env func
   pub inside : AreInside env func.body
+  pub recorded : HasWholeRecord env func
 
 -- the answer for a graph and its environment: a pruned function, its fates, and the environment after the passes
 pub record IsAnswer (hir : HirFunction) (env answered : Environment) (pruned : Pruned) : Type 0 where
   pub accepted : IsAccepted hir env
-  pub forms : AreBuilt hir
   -- the graph spells exactly one function, and the passes lead from it to the answered one, with the same header
   pub spelled : ReactiveFunction
   pub spells : Spells hir env spelled
   pub one_tree : (func : ReactiveFunction) → Spells hir env func → func ≡ spelled
   pub passes : IsPruned (state spelled env) (state pruned.func answered)
-  -- every run of the graph is a run of the answered body, and the converse
+  -- every run of the graph is a run of the answered body, and the converse for runs without a throw
   pub graph_to_body : (events : List Event) (end : End) → IsGraphRun hir env events end →
       IsBodyRun pruned.func answered events end
-  pub body_to_graph : (events : List Event) (end : End) → IsBodyRun pruned.func answered events end →
-      IsGraphRun hir env events end
+  pub body_to_graph : (events : List Event) (end : End) → has_throw events ≡ false →
+      IsBodyRun pruned.func answered events end → IsGraphRun hir env events end
   -- each scope of the spelled tree is listed once, in ascending order, with its fate
   pub fates : AreFates passes pruned.fates
   -- a scope of the spelled tree has a scope block in the answered one exactly if its fate is kept
   pub kept : AreKeptExactly pruned.func.body pruned.fates
-  -- the scope blocks of the answered body, and those that always invalidate, are those of the spelled tree that give
+  -- the memo record of the spelled function lacks nothing
+  pub recorded : HasWholeRecord env spelled
+  -- no scope that doesn't escape has an output that must be memoized
+  pub needed : All (λ entry. entry.fate ≡ NotEscaping → (name : DeclarationId)
+      → ¬ IsNeededOutput env spelled entry.scope name) pruned.fates
+  -- the scope blocks behind the escape pass are those of the spelled tree that escape, in the same order
+  pub escaping : scopes_in passes.escaping.func.body
+      ≡ staying_scopes env passes.escapes.scopes.set (scopes_in spelled.body)
+  -- the scope blocks of the answered body, and those that always invalidate, are those of that tree that give
   -- something, in the same order
   pub used : scopes_in passes.used.func.body
-      ≡ map (λ block. block.scope) (staying_blocks passes.reactive.env spelled.body)
+      ≡ map (λ block. block.scope) (staying_blocks passes.reactive.env passes.escaping.func.body)
   -- every number of the answered function and of the answered environment is in its table
   pub known : TreeInTables pruned.func answered
 
@@ -65,17 +73,19 @@ IsCause hir env (faults.BadName table index) = NamesOutside hir env (faults.BadN
 IsCause hir env (faults.EarlyReturnSet scope) =
     NamesInTables hir env × (first_early_return env ≡ Some scope.0)
 IsCause hir env faults.NoIds = NamesInTables hir env × NoEarlyReturnSet env × ¬ HasRoom hir env
-IsCause hir env (faults.NotBuilt block) = IsAccepted hir env × IsFirstUnbuilt hir block
 IsCause hir env (faults.Malformed block rule) =
-    IsAccepted hir env × AreBuilt hir × SpellsNone hir env × RuleFact hir rule block
-IsCause hir env (faults.Todo block) =
-    IsAccepted hir env × AreBuilt hir × SpellsNone hir env × IsLabeledValue hir block
+    IsAccepted hir env × SpellsNone hir env × RuleFact hir rule block
+IsCause hir env (faults.Todo block) = IsAccepted hir env × SpellsNone hir env × IsLabeledValue hir block
 IsCause hir env (faults.ScopeCompleted id scope) =
-    IsAccepted hir env × AreBuilt hir
+    IsAccepted hir env
     × ((func : ReactiveFunction) × Spells hir env func × EndsOutside env func.body id scope)
+IsCause hir env (faults.Uninitialised declaration) =
+    IsAccepted hir env
+    × ((func : ReactiveFunction) × Spells hir env func × AreInside env func.body × LacksNode env func declaration)
+IsCause hir env (faults.NoScopeNode scope) =
+    IsAccepted hir env
+    × ((func : ReactiveFunction) × Spells hir env func × AreInside env func.body × LacksScope env func scope)
 IsCause hir env faults.NoMemory = ⊤
 -- faults that no graph gives
-IsCause hir env (faults.Uninitialised declaration) = ⊥
-IsCause hir env (faults.NoScopeNode scope) = ⊥
 IsCause hir env (faults.BadTarget target) = ⊥
 IsCause hir env (faults.FunctionCycle function) = ⊥

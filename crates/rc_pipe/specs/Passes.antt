@@ -9,6 +9,7 @@ use Rattle.rc_checks.specs.Membership.{IsInside, IsLastOutside}
 use Rattle.rc_checks.specs.ScopeBlocks.{scope_blocks, scopes_in}
 use Rattle.rc_checks.specs.UnusedScopes.{IsWithoutUnusedScopes}
 use Rattle.rc_checks.specs.Membership.Visits.{visits_of}
+use Rattle.rc_escape.specs.NotEscaping.{IsWithoutNotEscaping, LacksNode, LacksScope}
 use Rattle.rc_flow.specs.AlwaysInvalidating.{IsWithoutInvalidating}
 use Rattle.rc_flow.specs.ReactiveNames.{HasReactiveDependencies}
 
@@ -25,6 +26,12 @@ pub record AfterLabels (before after : PassState) : Type 0 where
   pub labels : IsWithoutUnusedLabels before.func.body after.func.body
   pub header : after.func ≡ record before.func { body = after.func.body }
   pub kept_scope_blocks : scope_blocks after.func.body ≡ scope_blocks before.func.body
+  pub kept_environment : after.env ≡ before.env
+
+-- escape pruning: the function lost the scope blocks that compute nothing memoized, and the environment stays
+pub record AfterEscape (before after : PassState) : Type 0 where
+  pub scopes : IsWithoutNotEscaping before.env before.func after.func.body
+  pub header : after.func ≡ record before.func { body = after.func.body }
   pub kept_environment : after.env ≡ before.env
 
 -- scope pruning: the function lost its unused scopes, and the environment stays
@@ -58,8 +65,10 @@ pub record IsPruned (spelled pruned : PassState) : Type 0 where
   pub labeled : PassState
   pub labels : AfterLabels spelled labeled
   pub inside : AreInside spelled.env spelled.func.body
+  pub escaping : PassState
+  pub escapes : AfterEscape labeled escaping
   pub reactive : PassState
-  pub dependencies : AfterDependencies labeled reactive
+  pub dependencies : AfterDependencies escaping reactive
   pub used : PassState
   pub scopes : AfterUnusedScopes reactive used
   pub invalidating : AfterInvalidating used pruned
@@ -67,15 +76,16 @@ pub record IsPruned (spelled pruned : PassState) : Type 0 where
 -- The passes may refuse, with this fault, a function that the graph spells and whose numbers are in their tables.
 abbrev pub IsPassFault : PassState → Fault → Type 0
 IsPassFault spelled (faults.ScopeCompleted id scope) = EndsOutside spelled.env spelled.func.body id scope
+IsPassFault spelled (faults.Uninitialised declaration) =
+    AreInside spelled.env spelled.func.body × LacksNode spelled.env spelled.func declaration
+IsPassFault spelled (faults.NoScopeNode scope) =
+    AreInside spelled.env spelled.func.body × LacksScope spelled.env spelled.func scope
 IsPassFault spelled faults.NoMemory = ⊤
 -- faults of the builder, and faults that no spelled function gives
 IsPassFault spelled (faults.Malformed block rule) = ⊥
 IsPassFault spelled (faults.Todo block) = ⊥
 IsPassFault spelled (faults.EarlyReturnSet scope) = ⊥
-IsPassFault spelled (faults.Uninitialised declaration) = ⊥
-IsPassFault spelled (faults.NoScopeNode scope) = ⊥
 IsPassFault spelled (faults.BadName table index) = ⊥
 IsPassFault spelled faults.NoIds = ⊥
 IsPassFault spelled (faults.BadTarget target) = ⊥
-IsPassFault spelled (faults.NotBuilt block) = ⊥
 IsPassFault spelled (faults.FunctionCycle function) = ⊥

@@ -7,8 +7,9 @@ ghost use Rattle.std.specs.BTreeSet.{IsFromIterResult};
 ghost use Rattle.std.specs.List.Sorted.{IsStrictlyIncreasing};
 ghost use Rattle.rc_names.specs.Numbers.{ScopeId as Scope};
 ghost use Rattle.rc_pipe.specs.Fates.{listed_scopes};
-ghost use Rattle.rc_pipe.specs.inside.ListedFates.{AreListedFates, HasListedFate, scopes_of};
+ghost use Rattle.rc_pipe.specs.inside.ListedFates.{AreListedFates, HasListedFate, known_scopes, scopes_of};
 
+use crate::passes::LeftScopes;
 use rc_checks::scopes_in;
 use rc_names::{List, ScopeId};
 use rc_tree::ReactiveBlock;
@@ -40,21 +41,35 @@ pub struct ScopeFate {
     pub fate: Fate,
 }
 
-/// The fates of these scopes, which are those of the spelled tree, by the scopes that are used and by the scope blocks
-/// that remain in the body. Fails only when out of memory.
+/// The fates of these scopes, which are those of the spelled tree, by the scopes that escape, by those of them that are
+/// used, and by the scope blocks that remain in the body. Fails only when out of memory.
 pub(crate) fn fates_of(
     alloc: Global,
     scopes: &[ScopeId],
-    used: &[ScopeId],
+    left: &LeftScopes,
     body: &ReactiveBlock,
 ) -> Result<List<ScopeFate>, AllocError>
-    ensures { IfOk result (AreListedFates scopes.now used.now body.now) }
+    ensures { IfOk result (AreListedFates scopes.now left.now body.now) }
 {
     let scopes = in_order(alloc, scopes)?;
-    let used = in_order(alloc, used)?;
-    let left = scopes_in(alloc, body)?;
-    let left = in_order(alloc, left.as_slice())?;
-    all_fates(alloc, &scopes, &used, &left)
+    let escaping = in_order(alloc, left.escaping.as_slice())?;
+    let used = in_order(alloc, left.used.as_slice())?;
+    let kept = scopes_in(alloc, body)?;
+    let kept = in_order(alloc, kept.as_slice())?;
+    let known = KnownScopes {
+        escaping,
+        used,
+        kept,
+    };
+    all_fates(alloc, &scopes, &known)
+}
+
+/// The scopes that escape, those of them that are used, and those that are kept, each as a set of numbers.
+#[derive(Drop)]
+pub(crate) struct KnownScopes {
+    pub escaping: BTreeSet<u32>,
+    pub used: BTreeSet<u32>,
+    pub kept: BTreeSet<u32>,
 }
 
 /// The numbers of the scopes, each once and in order. Fails only when out of memory.
@@ -77,30 +92,31 @@ fn collected(alloc: Global, scopes: &[ScopeId]) -> Result<BTreeSet<u32>, AllocEr
 fn all_fates(
     alloc: Global,
     numbers: &BTreeSet<u32>,
-    used: &BTreeSet<u32>,
-    left: &BTreeSet<u32>,
+    known: &KnownScopes,
 ) -> Result<List<ScopeFate>, AllocError>
     ensures listed { IfOk result (λ fates. listed_scopes fates ≡ scopes_of numbers.now.keys) }
-    ensures told { IfOk result (All (HasListedFate (scopes_of used.now.keys) (scopes_of left.now.keys))) }
+    ensures told { IfOk result (All (HasListedFate (known_scopes known.now))) }
 {
     let mut fates = List::new(alloc);
     for number in numbers {
-        fates.push(fate_of(ScopeId::new(*number), used, left))?;
+        fates.push(fate_of(ScopeId::new(*number), known))?;
     }
     Ok(fates)
 }
 
-/// A scope with its fate, by the scopes that are used and those that remain.
-fn fate_of(scope: ScopeId, used: &BTreeSet<u32>, left: &BTreeSet<u32>) -> ScopeFate
+/// A scope with its fate, by the scopes that escape, those that are used and those that are kept.
+fn fate_of(scope: ScopeId, known: &KnownScopes) -> ScopeFate
     ensures scope { result.scope ≡ scope }
-    ensures told { HasListedFate (scopes_of used.now.keys) (scopes_of left.now.keys) result }
+    ensures told { HasListedFate (known_scopes known.now) result }
 {
-    let fate = if left.contains(&scope.0) {
+    let fate = if known.kept.contains(&scope.0) {
         Fate::Kept
-    } else if used.contains(&scope.0) {
+    } else if known.used.contains(&scope.0) {
         Fate::AlwaysInvalidating
-    } else {
+    } else if known.escaping.contains(&scope.0) {
         Fate::Unused
+    } else {
+        Fate::NotEscaping
     };
     ScopeFate { scope, fate }
 }

@@ -1,6 +1,7 @@
 //! The checks and passes over a spelled function, in their order.
 
 ghost use Rattle.std.specs.Prelude.{◌≡◌, ◌↔◌, ◌⊎◌, List as Items, IfErr, IfOk, OnOk};
+ghost use Rattle.rc_escape.specs.NotEscaping.{IsEscapeFault};
 ghost use Rattle.rc_hir.specs.Model.{HirFunction};
 ghost use Rattle.rc_hir.specs.Names.{NamesInTables};
 ghost use Rattle.rc_hir.specs.declared.fault.Fault.TheVariants as faults;
@@ -11,31 +12,40 @@ ghost use Rattle.rc_runs.specs.Erase.{erased};
 ghost use Rattle.rc_runs.specs.Event.{Event, End};
 ghost use Rattle.rc_runs.specs.Spelled.{Spells};
 ghost use Rattle.rc_pipe.specs.Passes.{IsPassFault, state};
-ghost use Rattle.rc_pipe.specs.inside.PrunedParts.{HasScopesPruned, IsChecked, IsPrunedWith};
+ghost use Rattle.rc_pipe.specs.inside.PrunedParts.{HasScopesPruned, IsChecked, IsEscapePruned, IsPrunedWith};
 
 use rc_checks::{
     assert_scope_instructions_within_scopes, assert_well_formed_break_targets, prune_unused_labels,
     prune_unused_scopes, scopes_in,
 };
+use rc_escape::prune_non_escaping_scopes;
 use rc_flow::{prune_always_invalidating_scopes, prune_non_reactive_dependencies};
 use rc_hir::{Environment, Fault};
 use rc_names::{List, ScopeId};
 use rc_tree::ReactiveFunction;
 use std::alloc::Global;
 
-/// Checks a function and prunes it: break targets, unused labels, the operands of scopes, dependencies that aren't
-/// reactive, unused scopes, scopes that always invalidate. Answers the scopes that are used.
+/// The scopes that still have a block behind two of the passes: those that escape, and those of them that are used.
+#[derive(Drop)]
+pub(crate) struct LeftScopes {
+    pub escaping: List<ScopeId>,
+    pub used: List<ScopeId>,
+}
+
+/// Checks a function and prunes it: break targets, unused labels, the operands of scopes, scopes that don't escape,
+/// dependencies that aren't reactive, unused scopes, scopes that always invalidate. Answers the scopes that were left.
 ///
-/// If a graph spells the function and its numbers are in their tables, the only faults are `ScopeCompleted` and
-/// `NoMemory`. The environment is written behind all that may give `ScopeCompleted`.
+/// If a graph spells the function and its numbers are in their tables, the only faults are `ScopeCompleted`,
+/// `Uninitialised`, `NoScopeNode` and `NoMemory`. The environment is written behind all that may give one of the first
+/// three.
 pub(crate) fn prune(
     alloc: Global,
     func: &mut ReactiveFunction,
     env: &mut Environment,
-) -> Result<List<ScopeId>, Fault>
+) -> Result<LeftScopes, Fault>
     ensures ok { IfOk result (IsPrunedWith (state func.old env.old) (state func.new env.new)) }
-    ensures known { IfOk result (λ used. TreeInTables func.old env.old → TreeInTables func.new env.new) }
-    ensures kept_runs { NoEarlyReturnSet env.old → IfOk result (λ used. (events : Items Event) (end : End) →
+    ensures known { IfOk result (λ left. TreeInTables func.old env.old → TreeInTables func.new env.new) }
+    ensures kept_runs { NoEarlyReturnSet env.old → IfOk result (λ left. (events : Items Event) (end : End) →
         IsBodyRun func.old env.old events end ↔ IsBodyRun func.new env.new events end) }
     ensures refused { (hir : HirFunction) → Spells hir env.old func.old → TreeInTables func.old env.old
         → IfErr result (IsPassFault (state func.old env.old)) }
@@ -44,7 +54,9 @@ pub(crate) fn prune(
     ensures known_names { (hir : HirFunction) → NamesInTables hir env.old → NamesInTables hir env.new }
 {
     check(alloc, func, env)?;
-    prune_scopes(alloc, func, env)
+    let escaping = prune_escaping(alloc, func, env)?;
+    let used = prune_scopes(alloc, func, env)?;
+    Ok(LeftScopes { escaping, used })
 }
 
 /// Checks break targets, prunes unused labels, and checks the operands of scopes.
@@ -60,6 +72,22 @@ fn check(alloc: Global, func: &mut ReactiveFunction, env: &Environment) -> Resul
     prune_unused_labels(alloc, func, env)?;
     assert_scope_instructions_within_scopes(alloc, func, env)?;
     Ok(())
+}
+
+/// Prunes scopes that don't escape. Answers those that do.
+fn prune_escaping(
+    alloc: Global,
+    func: &mut ReactiveFunction,
+    env: &Environment,
+) -> Result<List<ScopeId>, Fault>
+    ensures ok { IfOk result (IsEscapePruned (state func.old env.now) (state func.new env.now)) }
+    ensures kept_erased { IfOk result (λ left. erased func.new ≡ erased func.old) }
+    ensures known { IfOk result (λ left. TreeInTables func.old env.now → TreeInTables func.new env.now) }
+    ensures refused { IfErr result (IsEscapeFault env.now func.old) }
+{
+    prune_non_escaping_scopes(alloc, func, env)?;
+    let left = scopes_in(alloc, &func.body)?;
+    Ok(left)
 }
 
 /// Prunes dependencies that aren't reactive, unused scopes, and scopes that always invalidate. Answers the scopes that

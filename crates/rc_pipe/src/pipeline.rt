@@ -25,19 +25,20 @@ pub struct Pruned {
     pub fates: List<ScopeFate>,
 }
 
-/// Builds the one tree that a graph spells and prunes it: its unused labels, the dependencies of its scopes that aren't
-/// reactive, its unused scopes, and those that always invalidate. Returns it with the fate of each scope of the spelled
-/// tree. The environment gets the dependencies that stay.
+/// Builds the one tree that a graph spells and prunes it: its unused labels, its scopes that don't escape, the
+/// dependencies of scopes that aren't reactive, its unused scopes, and those that always invalidate. Returns it with the
+/// fate of each scope of the spelled tree. The environment gets the dependencies that stay.
 ///
 /// Returns the first of these faults that has its cause:
 ///
 /// - `BadName`: a number is outside its table;
 /// - `EarlyReturnSet`: a scope has an early return already; the fault names the lowest such scope;
 /// - `NoIds`: too few numbers are left for those that early returns may need;
-/// - `NotBuilt`: a terminal isn't built yet; the fault names the first such block;
 /// - `Malformed`: the graph spells no tree; the fault names a block and a rule whose fact holds of it;
 /// - `Todo`: the graph spells no tree; the fault names a block that stands for a value and ends in a `Label`;
-/// - `ScopeCompleted`: an operand is outside the blocks of its scope; the fault names the last one.
+/// - `ScopeCompleted`: an operand is outside the blocks of its scope; the fault names the last one;
+/// - `Uninitialised`: the memo record needs a node of a name that has none yet; the fault names the first such name;
+/// - `NoScopeNode`: a scope of a node of the memo record has no record; the fault names the lowest such scope.
 ///
 /// Returns `NoMemory` whenever it runs out of memory. After any other fault the environment is as before, and after
 /// `NoMemory` every number that was in its table still is.
@@ -58,8 +59,8 @@ pub fn build_and_prune(
     accept(hir, env)?;
     let mut func = build_reactive_function(alloc, hir, env)?;
     let spelled = scopes_in(alloc, &func.body)?;
-    let used = prune(alloc, &mut func, env)?;
-    let fates = fates_of(alloc, spelled.as_slice(), used.as_slice(), &func.body)?;
+    let left = prune(alloc, &mut func, env)?;
+    let fates = fates_of(alloc, spelled.as_slice(), &left, &func.body)?;
     Ok(Pruned { func, fates })
 }
 

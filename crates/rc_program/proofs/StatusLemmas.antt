@@ -83,7 +83,11 @@ module _ (bytes : List ℕ) where
       record {
         accepted = answer.accepted;
         func = answer.spelled;
-        answer = record { forms = answer.forms; spelled = answer.spells; inside = answer.passes.inside };
+        answer = record {
+          spelled = answer.spells;
+          inside = answer.passes.inside;
+          recorded = answer.recorded;
+        };
       } in
       (rw whole at p.loaded.whole.size, (p.doc, rw whole at p.loaded.document, it))
   due_of_text left' Refused p =

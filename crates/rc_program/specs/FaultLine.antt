@@ -4,7 +4,7 @@ use Rattle.std.specs.Option.{option_map_or}
 use Rattle.rc_hir.specs.Model.{Fault, Rule, TableName}
 use Rattle.rc_hir.specs.declared.fault.Fault.TheVariants.{Malformed, Todo, EarlyReturnSet, ScopeCompleted}
 use Rattle.rc_hir.specs.declared.fault.Fault.TheVariants.{Uninitialised, NoScopeNode, BadName, NoIds, NoMemory}
-use Rattle.rc_hir.specs.declared.fault.Fault.TheVariants.{BadTarget, NotBuilt, FunctionCycle}
+use Rattle.rc_hir.specs.declared.fault.Fault.TheVariants.{BadTarget, FunctionCycle}
 use Rattle.rc_hir.specs.declared.fault.Rule.TheVariants as rules
 use Rattle.rc_hir.specs.declared.fault.TableName.TheVariants as table_names
 use Rattle.rc_program.specs.LineText.{◌&◌, line}
@@ -45,7 +45,7 @@ table_name table_names.Functions = codes "Functions"
 table_name table_names.Instructions = codes "Instructions"
 table_name table_names.Shapes = codes "Shapes"
 
--- a fault's number and name; being out of memory, a bad target and a cycle of functions have no line
+-- a fault's number and name; being out of memory, and the faults that no graph gets, have no line
 abbrev pub fault_name : Fault → Option (List ℕ)
 fault_name (Malformed block rule) = Some (codes "1 Malformed")
 fault_name (Todo block) = Some (codes "2 Todo")
@@ -57,7 +57,6 @@ fault_name (BadName table index) = Some (codes "7 BadName")
 fault_name NoIds = Some (codes "8 NoIds")
 fault_name NoMemory = None
 fault_name (BadTarget target) = None
-fault_name (NotBuilt block) = Some (codes "11 NotBuilt")
 fault_name (FunctionCycle function) = None
 
 -- the place at which the fault was found
@@ -69,7 +68,6 @@ place_of_fault (ScopeCompleted id scope) = codes " id " & decimal id.0 & codes "
 place_of_fault (Uninitialised declaration) = codes " declaration " & decimal declaration.0
 place_of_fault (NoScopeNode scope) = codes " scope " & decimal scope.0
 place_of_fault (BadName table index) = codes " " & table_name table & codes " " & decimal index
-place_of_fault (NotBuilt block) = codes " block " & decimal block.0
 place_of_fault _ = []
 
 -- the line of a fault; empty if it has none

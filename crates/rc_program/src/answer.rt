@@ -35,7 +35,7 @@ pub fn answer_for(alloc: Global, doc: Doc, note: &mut Note) -> Result<Answer, St
             if is_want_of_memory(&fault) {
                 return Err(Stop::NoMemory);
             }
-            note_fault(alloc, note, &hir, &fault);
+            note_fault(alloc, note, &fault);
             Ok(Answer {
                 text: fault_line(alloc, &fault)?,
                 status: Status::Refused,
@@ -58,7 +58,6 @@ fn is_want_of_memory(fault: &Fault) -> bool
         | Fault::BadName { .. }
         | Fault::NoIds
         | Fault::BadTarget { .. }
-        | Fault::FunctionCycle { .. }
-        | Fault::NotBuilt { .. } => false,
+        | Fault::FunctionCycle { .. } => false,
     }
 }

@@ -3,7 +3,7 @@
 
 use crate::printing::fault_sentence;
 use rc_doc::misread_words;
-use rc_hir::{Fault, HirFunction};
+use rc_hir::Fault;
 use rc_names::Text;
 use serde_json::Value;
 use std::alloc::{AllocError, Global};
@@ -26,8 +26,8 @@ pub fn note_no_doc(alloc: Global, note: &mut Note, value: &Value) {
 }
 
 /// Notes why a graph is refused.
-pub fn note_fault(alloc: Global, note: &mut Note, hir: &HirFunction, fault: &Fault) {
-    if let Ok(text) = fault_sentence(alloc, hir, fault) {
+pub fn note_fault(alloc: Global, note: &mut Note, fault: &Fault) {
+    if let Ok(text) = fault_sentence(alloc, fault) {
         *note = Some(text);
     }
 }

@@ -4,8 +4,11 @@ mod answers;
 mod bad_input;
 mod broken_graphs;
 mod broken_loops;
+mod broken_tries;
+mod broken_values;
 mod built_in_code;
 mod devices;
+mod escape;
 mod flow;
 mod graphs;
 mod library;
@@ -14,6 +17,8 @@ mod loops;
 mod names;
 mod refusals;
 mod switches;
+mod tries;
+mod values;
 
 use rc_names::{List, Text};
 use rc_program::{MemorySink, MemorySource, Status, Words, program};
@@ -63,7 +68,7 @@ pub fn tree_from(
     mut source: MemorySource,
 ) -> Result<(Status, MemorySink), AllocError> {
     let words = words(alloc, &["tree"])?;
-    let mut sink = MemorySink::new(alloc, 1000, 10, List::new(alloc))?;
+    let mut sink = MemorySink::new(alloc, 4000, 10, List::new(alloc))?;
     let status = program(alloc, &words, &mut source, &mut sink, &mut None);
     Ok((status, sink))
 }

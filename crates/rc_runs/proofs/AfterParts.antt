@@ -10,22 +10,25 @@ use Rattle.std.proofs.lemmas.List.{append-nil}
 use Rattle.rc_names.specs.Numbers.{BlockId}
 use Rattle.rc_tree.specs.Model.{ReactiveLabel}
 use Rattle.rc_hir.specs.Model.{Terminal, Instruction, HirFunction, Environment}
+use Rattle.rc_hir.specs.Terminal.{evaluation_order}
 use Rattle.rc_runs.specs.declared.frames.Frame.TheVariants as frame_kinds
 use Rattle.rc_runs.specs.Event.{Event, End, Open}
+use Rattle.rc_runs.specs.Silent.{is_unset}
 use Rattle.rc_runs.specs.Graph.{is_unreachable, ends_unreachable}
 use Rattle.rc_runs.specs.GraphRun.{Edge, HasNoUnreachableSuccessor, GraphRun, GraphRunAt}
 use Rattle.rc_runs.specs.GraphRun as graph
 use Rattle.rc_runs.specs.PlainTree.{Statements, Nil}
 use Rattle.rc_runs.specs.ListContext.{ListContext, inside}
-use Rattle.rc_runs.specs.Grammar.{label_of, falls_to, SpellsList, SpellsRest}
+use Rattle.rc_runs.specs.Grammar.{label_of, falls_to, rows_before, SpellsList, SpellsTerminal, SpellsRest}
 use Rattle.rc_runs.specs.Grammar as grammar
 use Rattle.rc_runs.specs.BodyRun.{Completion, Normal, Ended, leaves, caught, RunsList, RunsAfter}
 use Rattle.rc_runs.specs.BodyRun as body
 use Rattle.rc_runs.proofs.GraphLemmas.{usable_block-at, ends_unreachable-at}
+use Rattle.rc_runs.proofs.SetIds.{usable_block-set}
 use Rattle.rc_runs.proofs.FramesLemmas.{Fits, fits_inside, Aims, Aims-leaves, leaving, falls_to-next, caught-ended}
 use Rattle.rc_runs.proofs.FramesLemmas.{aims_labeled, aims_scope}
 use Rattle.rc_runs.proofs.AliveBlocks.{AllAlive, alive_behind}
-use Rattle.rc_runs.proofs.RowsLemmas.{SpellsRows, rows_spelled}
+use Rattle.rc_runs.proofs.RowsLemmas.{SpellsRows, row_then, rows_done}
 
 -- how runs of the graph go on after statements with that completion
 pub data After (hir : HirFunction) (env : Environment) (context : ListContext) (run : List Event → End → Type 0)
@@ -87,18 +90,34 @@ module _ {hir : HirFunction} {env : Environment} where
       redirect after (λ key aim. subst (λ o. Aims context o key) (sym q) (aims key aim))
       (λ end e. q ∙ ap (caught label) e ∙ caught-ended label end)
 
-  pub at_block : {key : BlockId} {context : ListContext} {statements : Statements} {used : List BlockId}
-      {events : List Event} {outcome : Completion} → SpellsList hir env key context statements used → Fits context
-      → (outcome ≡ Normal → ends_unreachable hir key ≡ false) → AllAlive hir used →
-      Carries hir env context statements events outcome → After hir env context (GraphRunAt hir env key) events outcome
-  at_block {key} {context} (grammar.from_block {used = later} {block = block} found l d q) fits live alive carries =
-      let at = usable_block-at hir key block found in
-      let rows = subst (λ s. SpellsRows hir env block.rows block.terminal context s later) (sym q)
-      (rows_spelled block.rows d) in
-      let moves : HasNoUnreachableSuccessor hir block.terminal = alive key (0, omega arith, refl) block at in
-      ahead [] (carries fits block.rows block.terminal later rows
-      (λ n. sym (ends_unreachable-at hir key block at) ∙ live n)
-      moves (alive_behind hir (key ∷ []) later refl alive)) refl (λ events end run. graph.enters at run)
+  mutual
+    -- a list that a block begins
+    pub at_block : {key : BlockId} {context : ListContext} {statements : Statements} {used : List BlockId}
+        {events : List Event} {outcome : Completion} → SpellsList hir env key context statements used → Fits context
+        → (outcome ≡ Normal → ends_unreachable hir key ≡ false) → AllAlive hir used
+        → Carries hir env context statements events outcome
+        → After hir env context (GraphRunAt hir env key) events outcome
+    at_block {key} {context} {events = events} {outcome} (grammar.from_block {used = later} {block = block} found l d q)
+        fits live alive carries =
+        let at = usable_block-at hir key block found in
+        ahead [] (from_rows block.rows (usable_block-set hir key block found).terminal d fits
+        (λ n. sym (ends_unreachable-at hir key block at) ∙ live n) (alive key (0, omega arith, refl) block at)
+        (alive_behind hir (key ∷ []) later refl alive)
+        (subst (λ s. Carries hir env context s events outcome) q carries)) refl (λ events end run. graph.enters at run)
+
+    -- the remaining rows of a block, and then its terminal; from one that may throw, the list goes on at another block
+    pub from_rows : {terminal : Terminal} {context : ListContext} {rest : Statements} {used : List BlockId}
+        {events : List Event} {outcome : Completion} (rows : List Instruction)
+        → is_unset (evaluation_order terminal) ≡ false → SpellsTerminal hir env terminal context rest used
+        → Fits context → (outcome ≡ Normal → is_unreachable terminal ≡ false)
+        → HasNoUnreachableSuccessor hir terminal → AllAlive hir used
+        → Carries hir env context (rows_before rows rest) events outcome
+        → After hir env context (GraphRun hir env rows terminal) events outcome
+    from_rows (row ∷ rows) set d fits live moves alive carries = carries fits _ _ _ (row_then set d) live moves alive
+    from_rows [] set (grammar.may_throw {continuation = key} current further d) fits live moves alive carries =
+        ahead [] (at_block d fits (λ n. moves [] key graph.goes_on) alive carries) refl
+        (λ events end run. graph.moved graph.goes_on run refl)
+    from_rows [] set d fits live moves alive carries = carries fits _ _ _ (rows_done set d refl) live moves alive
 
   -- a part of a statement, to which the statement's terminal has an edge
   pub in_part : {terminal : Terminal} {step : List Event} {key : BlockId} {context : ListContext} {part : Statements}

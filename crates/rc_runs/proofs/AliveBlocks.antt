@@ -1,14 +1,17 @@
 -- No used block leads to one that ends in `Unreachable`: what that says of a part's blocks, and of a loop's.
-use Rattle.std.proofs.Common.{◌≡◌, Bool, true, false, List, [], ◌∷◌, ◌++◌, Some, refl, sym, subst, arith, Contains}
+use Rattle.std.proofs.Common.{◌≡◌, Bool, true, false, List, [], ◌∷◌, ◌++◌, Option, Some, refl, sym, subst, arith}
+use Rattle.std.proofs.Common.{Contains}
 use Rattle.std.proofs.lemmas.List.Elements.{Contains-append_left, Contains-append_right}
 use Rattle.rc_names.specs.Numbers.{BlockId}
-use Rattle.rc_hir.specs.Model.{HirFunction, Environment}
+use Rattle.rc_hir.specs.Model.{Terminal, HirFunction, Environment}
 use Rattle.rc_runs.specs.Event.{Arm}
 use Rattle.rc_runs.specs.Graph.{Block, block_at, ends_unreachable}
-use Rattle.rc_runs.specs.GraphRun.{branch_true, branch_false, HasNoUnreachableSuccessor}
+use Rattle.rc_runs.specs.GraphRun.{branch_true, branch_false, goes_to, HasNoUnreachableSuccessor}
 use Rattle.rc_runs.specs.PlainTree.{Value}
 use Rattle.rc_runs.specs.ListContext.{ValueContext}
-use Rattle.rc_runs.specs.ValueGrammar.{ValueEnd, SpellsValue, named_test, last_block, SpellsTest}
+use Rattle.rc_runs.specs.ValueGrammar.{ValueEnd, GoesTo, Nested, SpellsValue, named_test, last_block, last_throw}
+use Rattle.rc_runs.specs.ValueGrammar.{may_throw, value_row, SpellsNested, sequence_value, ternary_value}
+use Rattle.rc_runs.specs.ValueGrammar.{logical_value, optional_value, SpellsTest}
 use Rattle.rc_runs.proofs.GraphLemmas.{usable_block-at}
 
 module _ (hir : HirFunction) where
@@ -27,19 +30,55 @@ module _ (hir : HirFunction) where
   alive_behind front behind e alive =
       λ key c. alive key (subst (λ u. Contains u key) (sym e) (Contains-append_right front behind key c))
 
+  -- the blocks of a value terminal's row, of the value behind it, and of its short arm
+  pub row_alive : {key : BlockId} {used : List BlockId} (row value arm : List BlockId)
+      → used ≡ key ∷ (row ++ (value ++ arm)) → AllAlive used → AllAlive row × AllAlive value × AllAlive arm
+  row_alive {key} row value arm e alive =
+      let parts = alive_behind (key ∷ []) (row ++ (value ++ arm)) e alive in
+      let behind = alive_behind row (value ++ arm) refl parts in
+      (alive_front row (value ++ arm) refl parts, alive_front value arm refl behind, alive_behind value arm refl behind)
+
   -- the last block of a value is used
-  value_alive : {env : Environment} {key : BlockId} {context : ValueContext} {value : Value} {end : ValueEnd}
+  pub value_alive : {env : Environment} {key : BlockId} {context : ValueContext} {value : Value} {end : ValueEnd}
       {used : List BlockId} → SpellsValue hir env key context value end used → AllAlive used
       → HasNoUnreachableSuccessor hir end.last
   value_alive {key = key} (named_test {block = block} found empty ends) alive =
       alive key (0, omega arith, refl) block (usable_block-at hir key block found)
   value_alive {key = key} (last_block {block = block} rows row found ends whole) alive =
       alive key (0, omega arith, refl) block (usable_block-at hir key block found)
+  value_alive (last_throw {continuation = key} {behind = behind} rows row found throws current whole found' only)
+      alive =
+      alive key (1, omega arith, refl) behind (usable_block-at hir key behind found')
+  value_alive {key = key} (may_throw {used = later} found throws current further spelled whole) alive =
+      value_alive spelled (alive_behind (key ∷ []) later refl alive)
+  value_alive (value_row {nested_used = u} {value_used = v} {arm_used = w} found row behind arm whole end used) alive =
+      subst (λ (e : ValueEnd). HasNoUnreachableSuccessor hir e.last) (sym end)
+      (value_alive behind (row_alive u v w used alive).1)
+
+  going_alive : {env : Environment} {key next : BlockId} {context : ValueContext} {value : Value} {end : ValueEnd}
+      {used : List BlockId} → SpellsValue hir env key context value end used → GoesTo next end → AllAlive used
+      → ends_unreachable hir next ≡ false
+  going_alive {next = next} spelled goes alive =
+      subst (HasNoUnreachableSuccessor hir) goes.goes (value_alive spelled alive) [] next goes_to
+
+  -- the fallthrough of a value terminal doesn't end in `Unreachable`
+  pub nested_alive : {env : Environment} {handler : Option BlockId} {terminal : Terminal} {nested : Nested}
+      {used : List BlockId} → SpellsNested hir env handler terminal nested used → AllAlive used
+      → ends_unreachable hir nested.fallthrough ≡ false
+  nested_alive (sequence_value inner goes) alive = going_alive inner goes alive
+  nested_alive (ternary_value {test_used = u} {value_used = v} {other_used = w} test chooses value goes other other_goes
+      e) alive =
+      going_alive other other_goes (alive_behind v w refl (alive_behind u (v ++ w) e alive))
+  nested_alive (logical_value {test_used = u} {value_used = v} {other_used = w} test chooses value arm other goes e)
+      alive =
+      going_alive other goes (alive_behind v w refl (alive_behind u (v ++ w) e alive))
+  nested_alive (optional_value {test_used = u} {value_used = v} test chooses shares value goes e) alive =
+      going_alive value goes (alive_behind u v e alive)
 
   -- neither block between which a test chooses ends in `Unreachable`
   pub test_alive : {env : Environment} {flat : Bool} {key consequent alternate : BlockId} {context : ValueContext}
       {value : Value} {used : List BlockId} → SpellsTest hir env flat key context consequent alternate value used
       → AllAlive used → (ends_unreachable hir consequent ≡ false) × (ends_unreachable hir alternate ≡ false)
   test_alive {consequent = consequent} {alternate} spelled alive =
-      let moves = subst (HasNoUnreachableSuccessor hir) spelled.chooses (value_alive spelled.spelled alive) in
+      let moves = subst (HasNoUnreachableSuccessor hir) spelled.chooses.chooses (value_alive spelled.spelled alive) in
       (moves (Arm true ∷ []) consequent branch_true, moves (Arm false ∷ []) alternate branch_false)

@@ -50,12 +50,13 @@ module _ (hir : HirFunction) (env : Environment) where
   pub place_held : (place : Place) → HeldByGraph (place_names place) → Held env (place_names place)
   place_held place = rowless (place_names place) (place_no_row place)
 
+  pub option_place_held : (place : Option Place) → HeldByGraph (names_if place_names place) →
+      Held env (names_if place_names place)
+  option_place_held None held = All-nil (InTable env)
+  option_place_held (Some place) held = place_held place held
+
   pub case_held : (case : Case) → HeldByGraph (case_names case) → Held env (case_names case)
-  case_held case held = by case.test held
-    where
-      by : (test : Option Place) → HeldByGraph (names_if place_names test) → Held env (names_if place_names test)
-      by None held = All-nil (InTable env)
-      by (Some place) held = place_held place held
+  case_held case held = option_place_held case.test held
 
   pub scope_held : (of : ScopeId) → HeldByGraph (scope_name of) → Held env (scope_name of)
   scope_held of = rowless (scope_name of) (scope_no_row of)

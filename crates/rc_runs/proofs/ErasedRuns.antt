@@ -131,10 +131,12 @@ module _ (env : Environment) where
           label-keeps_runs env id body _ label label inside.0 refl,
           label-keeps_runs env id _ body label label inside.1 refl,
         )
-    plain_terminal-runs (Try body binding handler id) label = (
-      try-keeps_runs env body binding handler id label _,
-      try-keeps_runs env (erased_plain body) binding (erased_plain handler) id label _,
-    )
+    plain_terminal-runs (Try body binding handler id) label =
+        let inside = erased_plain-runs body in
+        let last = erased_plain-runs handler in (
+          try-keeps_runs env binding id body _ handler _ label label inside.0 last.0 refl,
+          try-keeps_runs env binding id _ body _ handler label label inside.1 last.1 refl,
+        )
 
     plain_alternate-runs : (alternate : Alternate) → SameAlternateRuns env alternate (plain_alternate alternate)
     plain_alternate-runs Absent = (absent-keeps_runs env, absent-keeps_runs env)

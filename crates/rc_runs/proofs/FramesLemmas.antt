@@ -11,10 +11,10 @@ use Rattle.rc_runs.specs.declared.frames.Frame.{Frame}
 use Rattle.rc_runs.specs.declared.frames.Frame.TheVariants as frame_kinds
 use Rattle.rc_runs.specs.Event.{End}
 use Rattle.rc_runs.specs.Frames.{break_block, fall_block, is_jump_target, is_loop}
-use Rattle.rc_runs.specs.ListContext.{ListContext, outermost, inside}
+use Rattle.rc_runs.specs.ListContext.{ListContext, outermost, inside, protected_by}
 use Rattle.rc_runs.specs.LoopParts.{LoopBlocks, turn_start, loop_frame}
 use Rattle.rc_runs.specs.SwitchCases.{case_context}
-use Rattle.rc_runs.specs.Grammar.{label_of, falls_to}
+use Rattle.rc_runs.specs.Grammar.{label_of, is_next, falls_to}
 use Rattle.rc_runs.specs.BodyRun.{Completion, Normal, BreakTo, BreakLoop, ContinueTo, ContinueLoop, Ended, leaves}
 use Rattle.rc_runs.specs.BodyRun.{caught, turns_again, left_loop}
 use Rattle.rc_names.proofs.NumbersLemmas.{same_id-eq}
@@ -176,6 +176,16 @@ aims_cases (case ∷ later) context outcome key l a =
     aims_cases later context outcome key l
     (aims_past (frame_kinds.Case case.block) (case_context later context) refl refl outcome key l a)
 
+-- a completion of a part that a handler protects: the handler plays no part in where it leads
+pub aims_protected : (handler : BlockId) (context : ListContext) (outcome : Completion) (key : BlockId)
+    → Aims (protected_by handler context) outcome key → Aims context outcome key
+aims_protected handler context Normal key a = a
+aims_protected handler context (BreakTo target) key a = a
+aims_protected handler context BreakLoop key a = a
+aims_protected handler context (ContinueTo target) key a = a
+aims_protected handler context ContinueLoop key a = a
+aims_protected handler context (Ended end) key a = a
+
 -- the label of a loop
 abbrev pub loop_label : LoopBlocks → Option ReactiveLabel
 loop_label blocks = label_of true blocks.fallthrough
@@ -222,14 +232,22 @@ fits_inside true frame apart fits = record {
 }
 fits_inside false frame apart fits = fits
 
+-- the context of a part that a handler protects fits
+pub fits_protected : (handler : BlockId) {context : ListContext} → Fits context → Fits (protected_by handler context)
+fits_protected handler fits = record { falls = fits.falls; apart = fits.apart }
+
 -- the context of a case fits
 pub fits_cases : (later : List Case) {context : ListContext} → Fits context → Fits (case_context later context)
 fits_cases [] fits = fits
 fits_cases (case ∷ later) fits = fits_inside true (frame_kinds.Case case.block) tt (fits_cases later fits)
 
+-- falling off reaches one block at most
+pub is_next-same : (next : Option BlockId) (key : BlockId) → is_next next key ≡ true → next ≡ Some key
+is_next-same None key h = absurd (let bad : ⊥ = cc in bad)
+is_next-same (Some next) key h = ap Some (same_id-eq next key h)
+
 -- leaving the statement leads to its fallthrough
 pub falls_to-next : (opened : Bool) (fallthrough : BlockId) (next : Option BlockId)
     → falls_to opened fallthrough next ≡ true → (if opened then Some fallthrough else next) ≡ Some fallthrough
 falls_to-next true fallthrough next h = refl
-falls_to-next false fallthrough None h = absurd (let bad : ⊥ = cc in bad)
-falls_to-next false fallthrough (Some next) h = ap Some (same_id-eq next fallthrough h)
+falls_to-next false fallthrough next h = is_next-same next fallthrough h

@@ -3,29 +3,35 @@
 -- It is proved by induction on the rows and edges of the run, and each terminal takes one edge. A terminal adds its
 -- edges to `statement_leads`, or a case to `terminal_leads` if it ends its list.
 use Rattle.std.proofs.Common.{◌≡◌, ℕ, zero, suc, ◌<◌, ◌≤◌, Bool, true, false, List, [], ◌∷◌, ◌++◌, refl}
-use Rattle.std.proofs.Common.{sym, ap, ◌∙◌, subst, append-nil, arith, ◌⊎◌, inl, inr}
+use Rattle.std.proofs.Common.{sym, ap, ◌∙◌, subst, append-nil, arith, ◌⊎◌, inl, inr, is_none}
 use Rattle.rc_names.specs.Numbers.{BlockId, EvaluationOrder}
 use Rattle.rc_hir.specs.Model.{Place, Terminal, HirFunction, Environment}
+use Rattle.rc_hir.specs.Terminal.{evaluation_order}
 use Rattle.rc_tree.specs.Model.{ReactiveFunction}
 use Rattle.rc_runs.specs.Event.{Event, Arm, End}
-use Rattle.rc_runs.specs.GraphRun.{branch_true, branch_false, goes_to, GraphRunAt, arrives, enters, IsGraphRun}
-use Rattle.rc_runs.specs.GraphRun.{GraphRun, stopped, moved, returned, thrown}
+use Rattle.rc_runs.specs.Silent.{is_unset}
+use Rattle.rc_runs.specs.Graph.{Block}
+use Rattle.rc_runs.specs.GraphRun.{branch_true, branch_false, goes_to, goes_on as goes_past, throws as throws_to}
+use Rattle.rc_runs.specs.GraphRun.{GraphRunAt, arrives, enters, IsGraphRun, GraphRun, stopped, moved, returned, thrown}
 use Rattle.rc_runs.specs.PlainTree.{Statements, Cons, Statement, If, Alternate, Present}
 use Rattle.rc_runs.specs.ListContext.{ListContext, outermost}
 use Rattle.rc_runs.specs.Grammar.{unlabeled, rows_before, SpellsList, SpellsTerminal, SpellsRest, from_block, returns}
-use Rattle.rc_runs.specs.Grammar.{throws, unreachable, breaks, continues, branch_arms, branch_break, and_rest, no_rest}
-use Rattle.rc_runs.specs.Grammar.{has_rest}
+use Rattle.rc_runs.specs.Grammar.{throws, unreachable, breaks, continues, leaves_try, may_throw_last, may_throw}
+use Rattle.rc_runs.specs.Grammar.{branch_arms, branch_break, and_rest, no_rest, value_statement, has_rest}
 use Rattle.rc_runs.specs.Spelled.{SpellsBody, Spells}
 use Rattle.rc_runs.specs.BodyRun.{Completion, Normal, BreakTo, BreakLoop, ContinueTo, ContinueLoop, Ended, leaves}
 use Rattle.rc_runs.specs.BodyRun.{RunsList, RunsStatement, IsBodyRun, stopped as stops, nothing, and_then, goes_on}
 use Rattle.rc_runs.specs.BodyRun.{leaves_list, returned as returns_here, thrown as throws_here, took_arm, took_other}
 use Rattle.rc_runs.specs.BodyRun.{present}
 use Rattle.rc_runs.proofs.GraphLemmas.{one_held, usable_block-at}
-use Rattle.rc_runs.proofs.FramesLemmas.{Fits, fits_body, Aims, Aims-leaves, leaving, by_leaves}
+use Rattle.rc_runs.proofs.FramesLemmas.{Fits, fits_body, Aims, Aims-leaves, leaving, by_leaves, falls_to-next}
 use Rattle.rc_runs.proofs.JumpsLemmas.{break_jumps, continue_jumps}
 use Rattle.rc_runs.proofs.RunSize.{size, size_at, run_to}
-use Rattle.rc_runs.proofs.Leads.{Runs, Leads, ends, leads, Below, more_room, lead_events, lead_behind, rows_lead}
-use Rattle.rc_runs.proofs.Leads.{jump_leads, alone_leads}
+use Rattle.rc_runs.proofs.SetIds.{usable_block-set}
+use Rattle.rc_runs.proofs.HandlerLemmas.{named_handler}
+use Rattle.rc_runs.proofs.Throws.{throws_there, throw_behind}
+use Rattle.rc_runs.proofs.Leads.{Runs, Leads, ends, leads, to_handler, Below, more_room, lead_events, lead_behind}
+use Rattle.rc_runs.proofs.Leads.{rows_lead, jump_leads, alone_leads}
 use Rattle.rc_runs.proofs.GraphToLoop.{turn_leads}
 use Rattle.rc_runs.proofs.GraphToStatement.{statement_leads}
 use Rattle.rc_runs.proofs.OneTree.{terminal_at}
@@ -64,7 +70,10 @@ module _ {hir : HirFunction} {env : Environment} {bound : ℕ} (below : Below hi
       → SpellsRest hir env opened fallthrough context rest used
       → Leads hir env (leaving opened fallthrough context) bound (RunsStatement env statement) events end
       → Leads hir env context bound (RunsList env (Cons statement rest)) events end
-  then_leads {events = events} rest (ends here) = ends (and_then here (leaves_list refl) (sym (append-nil events)))
+  then_leads {events = events} rest (ends here can) =
+      ends (and_then here (leaves_list refl) (sym (append-nil events))) can
+  then_leads rest (to_handler t) =
+      to_handler (throw_behind [] (λ events here. and_then here (leaves_list refl) (sym (append-nil events))) t)
   then_leads {opened} {fallthrough} {statement} {rest} {events = events} {end} r
       (leads {front = front} {outcome = outcome} {key} here aim run small e) =
       go (by_leaves outcome)
@@ -78,33 +87,46 @@ module _ {hir : HirFunction} {env : Environment} {bound : ℕ} (below : Below hi
 
   -- a terminal, and the statements that it spells
   terminal_leads : {terminal : Terminal} {statements : Statements} {used : List BlockId} {events : List Event}
-      {end : End} → SpellsTerminal hir env terminal context statements used
+      {end : End} → is_unset (evaluation_order terminal) ≡ false
+      → SpellsTerminal hir env terminal context statements used
       → (run : GraphRun hir env [] terminal events end) → size run ≤ bound →
       Leads hir env context bound (RunsList env statements) events end
   unfolding size
-  terminal_leads d stopped small = ends stops
-  terminal_leads returns returned small = ends (and_then returns_here (leaves_list refl) refl)
-  terminal_leads returns (moved m run e) small = elim m [ ]
-  terminal_leads (throws h) thrown small = ends (and_then throws_here (leaves_list refl) refl)
-  terminal_leads (throws h) (moved m run e) small = elim m [ ]
-  terminal_leads unreachable (moved m run e) small = elim m [ ]
-  terminal_leads {statements = statements} (breaks {target = target} {id = id} j) (moved goes_to run e) small =
+  terminal_leads set d stopped small = ends stops refl
+  terminal_leads set returns returned small = ends (and_then returns_here (leaves_list refl) refl) refl
+  terminal_leads set returns (moved m run e) small = elim m [ ]
+  terminal_leads set (throws h) thrown small = ends (and_then throws_here (leaves_list refl) refl) (ap is_none h)
+  terminal_leads set (throws h) (moved m run e) small = elim m [ ]
+  terminal_leads set unreachable (moved m run e) small = elim m [ ]
+  terminal_leads {statements = statements} set (breaks {target = target} {id = id} j) (moved goes_to run e) small =
       lead_events e (jump_leads (break_jumps context target id statements fits j) run (omega arith))
-  terminal_leads {statements = statements} (continues {target = target} {id = id} j) (moved goes_to run e) small =
+  terminal_leads {statements = statements} set (continues {target = target} {id = id} j) (moved goes_to run e) small =
       lead_events e (jump_leads (continue_jumps context target id statements fits j) run (omega arith))
-  terminal_leads (branch_arms d other w) (moved branch_true run e) small =
+  terminal_leads set (leaves_try {target = target} n) (moved goes_to run e) small =
+      lead_events e (leads nothing (falls_to-next false target context.next n) run (omega arith) refl)
+  terminal_leads set (may_throw_last {continuation = next} current n) (moved goes_past run e) small =
+      lead_events e (leads nothing (falls_to-next false next context.next n) run (omega arith) refl)
+  terminal_leads set (may_throw_last current n) (moved (throws_to {handler = key}) run e) small =
+      to_handler (throws_there [] stops (named_handler key context.handler current)
+      (record { run = run; small = omega arith }) refl e)
+  terminal_leads set (may_throw current n d) (moved goes_past run e) small =
+      lead_events e (below.list d fits run (omega arith))
+  terminal_leads set (may_throw current n d) (moved (throws_to {handler = key}) run e) small =
+      to_handler (throws_there [] stops (named_handler key context.handler current)
+      (record { run = run; small = omega arith }) refl e)
+  terminal_leads set (branch_arms d other w) (moved branch_true run e) small =
       lead_events e (arm_leads (below.list d fits run (omega arith)))
-  terminal_leads (branch_arms d other w) (moved branch_false run e) small =
+  terminal_leads set (branch_arms d other w) (moved branch_false run e) small =
       lead_events e (other_leads (below.list other fits run (omega arith)))
-  terminal_leads (branch_break {consequent = target} {id = id} {part = part} t j other) (moved branch_true run e)
+  terminal_leads set (branch_break {consequent = target} {id = id} {part = part} t j other) (moved branch_true run e)
       small =
       lead_events e (arm_leads (jump_leads (break_jumps context target id part fits j) run (omega arith)))
-  terminal_leads (branch_break t j other) (moved branch_false run e) small =
+  terminal_leads set (branch_break t j other) (moved branch_false run e) small =
       lead_events e (other_leads (below.list other fits run (omega arith)))
-  terminal_leads (and_rest d rest w) returned small = elim d [ ]
-  terminal_leads (and_rest d rest w) thrown small = elim d [ ]
-  terminal_leads (and_rest d rest w) (moved m run e) small =
-      lead_events e (then_leads rest (statement_leads below fits d m run (omega arith)))
+  terminal_leads set (and_rest (value_statement i falls d arm v) rest w) returned small = elim d [ ]
+  terminal_leads set (and_rest (value_statement i falls d arm v) rest w) thrown small = elim d [ ]
+  terminal_leads set (and_rest d rest w) (moved m run e) small =
+      lead_events e (then_leads rest (statement_leads below fits set d m run (omega arith)))
 
 -- a block's rows, and then its terminal, which takes an edge
 list_leads : {hir : HirFunction} {env : Environment} {bound : ℕ} {key : BlockId} {context : ListContext}
@@ -113,14 +135,16 @@ list_leads : {hir : HirFunction} {env : Environment} {bound : ℕ} {key : BlockI
     (run : GraphRunAt hir env key events end) → size_at run < suc bound
     → Leads hir env context (suc bound) (RunsList env statements) events end
 unfolding size_at
-list_leads below d fits arrives small = ends stops
+list_leads below d fits arrives small = ends stops refl
 list_leads {hir} {env} {bound} {key} {context} {events = events} {end} below
     (from_block {rest = rest} {block = b} found apart d w) fits (enters {block = other} at run) small =
     let same : b ≡ other = one_held at (usable_block-at hir key b found) in
+    let set = subst (λ (block : Block). is_unset (evaluation_order block.terminal) ≡ false) same
+    (usable_block-set hir key b found).terminal in
     subst (λ s. Leads hir env context (suc bound) (RunsList env s) events end)
     (sym (w ∙ ap (λ v. rows_before v.rows rest) same))
     (rows_lead run small (λ events run small. more_room
-    (terminal_leads below fits (terminal_at same d) run (omega arith))))
+    (terminal_leads below fits set (terminal_at same d) run (omega arith))))
 
 every_run : {hir : HirFunction} {env : Environment} (bound : ℕ) → Below hir env bound
 every_run zero = record {
@@ -135,7 +159,8 @@ every_run (suc bound) = record {
 -- a body's context is empty, so nothing leads out of it
 stays : {hir : HirFunction} {env : Environment} {bound : ℕ} {R : Runs} {events : List Event} {end : End}
     → Leads hir env outermost bound R events end → R events (Ended end)
-stays (ends here) = here
+stays (ends here can) = here
+stays (to_handler t) = absurd (let none = t.current in let bad : ⊥ = cc in bad)
 stays (leads {outcome = outcome} {key} here aim run small e) = absurd (nowhere outcome key aim)
   where
     nowhere : (outcome : Completion) (key : BlockId) → Aims outermost outcome key → ⊥

@@ -1,5 +1,5 @@
 -- A run of the graph from a kept case of a switch runs that case and those after it, or leads out of them.
-use Rattle.std.proofs.Common.{◌≡◌, ℕ, ◌<◌, true, List, [], ◌++◌, Option, refl, sym, subst, ◌⊎◌, inl, inr}
+use Rattle.std.proofs.Common.{◌≡◌, ℕ, ◌<◌, true, List, [], ◌++◌, Option, refl, sym, ap, ◌∙◌, subst, ◌⊎◌, inl, inr}
 use Rattle.rc_names.specs.Numbers.{BlockId}
 use Rattle.rc_hir.specs.Model.{Place, Case, HirFunction, Environment}
 use Rattle.rc_runs.specs.Event.{Event, End}
@@ -12,7 +12,9 @@ use Rattle.rc_runs.specs.BodyRun.{Completion, Normal, leaves, RunsList, RunsCase
 use Rattle.rc_runs.specs.BodyRun.{falls_into, leaves_case, chosen_here, chosen_later}
 use Rattle.rc_runs.proofs.FramesLemmas.{Fits, fits_cases, Aims, aims_cases, by_leaves}
 use Rattle.rc_runs.proofs.RunSize.{size_at, run_to}
-use Rattle.rc_runs.proofs.Leads.{Leads, ends, leads, Below, lead_events, lead_behind}
+use Rattle.rc_runs.proofs.HandlerLemmas.{cases-handler, can_end}
+use Rattle.rc_runs.proofs.Throws.{throw_behind, throw_under}
+use Rattle.rc_runs.proofs.Leads.{Leads, ends, leads, to_handler, Below, lead_events, lead_behind}
 
 -- a run of the graph that begins at cases of a switch
 abbrev CasesLead : (hir : HirFunction) → Environment → ℕ → ListContext → Cases → List Event → End → Type 0
@@ -45,7 +47,10 @@ module _ {hir : HirFunction} {env : Environment} {bound : ℕ} (below : Below hi
 
       go : Leads hir env (case_context others context) bound (RunsList env part) events end
           → CasesLead hir env bound context (TreeCase test (Present part) cases) events end
-      go (ends here) = ends (leaves_case (present here) refl)
+      go (ends here can) =
+          ends (leaves_case (present here) refl) (sym (ap (can_end end) (cases-handler others context)) ∙ can)
+      go (to_handler t) = to_handler (throw_under (cases-handler others context)
+          (throw_behind [] (λ events here. leaves_case (present here) refl) t))
       go (leads {outcome = outcome} here aim run small e) = out here aim run small e (by_leaves outcome)
 
   -- after a case that falls off its end, with these cases after it

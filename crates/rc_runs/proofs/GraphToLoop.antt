@@ -1,6 +1,6 @@
 -- A run of the graph from a place in a loop is a run of the loop, or leads out of it.
-use Rattle.std.proofs.Common.{◌≡◌, ℕ, ◌<◌, ◌≤◌, true, false, List, [], ◌∷◌, ◌++◌, Option, None, refl, sym, ◌∙◌, subst}
-use Rattle.std.proofs.Common.{append_assoc, arith}
+use Rattle.std.proofs.Common.{◌≡◌, ℕ, ◌<◌, ◌≤◌, true, false, List, [], ◌∷◌, ◌++◌, Option, None, refl, sym, ap, ◌∙◌}
+use Rattle.std.proofs.Common.{subst, append_assoc, arith}
 use Rattle.rc_names.specs.Numbers.{BlockId}
 use Rattle.rc_hir.specs.Model.{HirFunction, Environment}
 use Rattle.rc_runs.specs.Event.{Event, Arm, End}
@@ -15,9 +15,12 @@ use Rattle.rc_runs.specs.BodyRun.{in_before, past_before, in_test, test_fails, t
 use Rattle.rc_runs.proofs.FramesLemmas.{Fits, fits_inside, leaving, loop_label, Rounded, to_turn, out_of_loop}
 use Rattle.rc_runs.proofs.FramesLemmas.{rounded}
 use Rattle.rc_runs.proofs.RunSize.{size_at, run_to}
-use Rattle.rc_runs.proofs.GraphToValue.{Goes, stays_inside, goes, passes_going, Chooses, stays_in_test, holds, fails}
-use Rattle.rc_runs.proofs.GraphToValue.{passes_test}
-use Rattle.rc_runs.proofs.Leads.{Leads, ends, leads, Below, lead_events, lead_behind}
+use Rattle.rc_runs.proofs.HandlerLemmas.{can_end}
+use Rattle.rc_runs.proofs.Throws.{throw_behind, throw_room}
+use Rattle.rc_runs.proofs.Passes.{Goes, stays_inside, goes, throws_inside, Chooses, stays_in_test, holds, fails}
+use Rattle.rc_runs.proofs.Passes.{throws_in_test}
+use Rattle.rc_runs.proofs.GraphToValue.{passes_going, passes_test}
+use Rattle.rc_runs.proofs.Leads.{Leads, ends, leads, to_handler, Below, lead_events, lead_behind}
 
 -- a run of the graph that begins at a place in the loop
 abbrev pub LoopLeads : (hir : HirFunction) → Environment → ℕ → LoopBlocks → ListContext → LoopParts → Spot
@@ -47,7 +50,8 @@ module _ {hir : HirFunction} {env : Environment} {bound : ℕ} {blocks : LoopBlo
 
       go : Leads hir env (inside true (loop_frame blocks) context) bound (RunsList env parts.body) events end
           → LoopLeads hir env bound blocks context parts AtBody events end
-      go (ends here) = ends (leaves_loop here refl refl)
+      go (ends here can) = ends (leaves_loop here refl refl) can
+      go (to_handler t) = to_handler (throw_behind [] (λ events here. leaves_loop here refl refl) t)
       go (leads {outcome = outcome} {key} here aim run small e) =
           out here run small e (rounded blocks context outcome key aim)
 
@@ -59,10 +63,12 @@ module _ {hir : HirFunction} {env : Environment} {bound : ℕ} {blocks : LoopBlo
   test_leads {events = events} {end} below (turns apart again test first body w) fits run small =
       go (passes_test test run)
     where
-      go : Chooses hir env parts.test blocks.body blocks.fallthrough (size_at run) events end
+      go : Chooses hir env context.handler parts.test blocks.body blocks.fallthrough (size_at run) events end
           → LoopLeads hir env bound blocks context parts AtTest events end
       go (stays_in_test here e) =
           ends (subst (λ z. RunsLoop env (loop_label blocks) parts AtTest events (Ended z)) (sym e) (in_test here))
+          (ap (λ z. can_end z context.handler) e)
+      go (throws_in_test t) = to_handler (throw_room small (throw_behind [] (λ events here. in_test here) t))
       go (fails {front = front} {back} here from less e) =
           leads (test_fails here refl refl) refl from (omega arith) (e ∙ sym (append_assoc front (Arm false ∷ []) back))
       go (holds {front = front} {back} here from less e) =
@@ -81,10 +87,12 @@ module _ {hir : HirFunction} {env : Environment} {bound : ℕ} {blocks : LoopBlo
   before_leads {events = events} {end} (some_value {value = value} spelled) e run small go =
       by (passes_going spelled run)
     where
-      by : Goes hir env value blocks.test (size_at run) events end
+      by : Goes hir env context.handler value blocks.test (size_at run) events end
           → LoopLeads hir env bound blocks context parts AtTurn events end
       by (stays_inside here q) =
           ends (subst (λ z. RunsLoop env (loop_label blocks) parts AtTurn events (Ended z)) (sym q) (in_before e here))
+          (ap (λ z. can_end z context.handler) q)
+      by (throws_inside t) = to_handler (throw_room small (throw_behind [] (λ events here. in_before e here) t))
       by (goes {front = front} here from less q) =
           lead_events q (lead_behind front (λ events outcome after. past_before e here refl after refl)
           (go _ from (omega arith)))

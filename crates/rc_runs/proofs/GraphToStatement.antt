@@ -1,35 +1,47 @@
 -- A run of the graph that takes an edge of a terminal with a fallthrough is one of the terminal's statement, or leads
 -- out of it.
 use Rattle.std.proofs.Common.{◌≡◌, ℕ, ◌<◌, ◌||◌, Bool, true, false, List, [], ◌∷◌, ◌++◌, Option, Some, None, refl}
-use Rattle.std.proofs.Common.{sym, ap, ◌∙◌, subst, arith}
+use Rattle.std.proofs.Common.{sym, ap, ◌∙◌, subst, append_assoc, arith, ◌⊎◌, inl, inr}
 use Rattle.std.specs.List.{list_any}
 use Rattle.rc_names.specs.Numbers.{BlockId, EvaluationOrder}
 use Rattle.rc_hir.specs.Model.{Place, Case, Terminal, HirFunction, Environment}
 use Rattle.rc_hir.specs.Successors.{is_default}
+use Rattle.rc_hir.specs.Terminal.{evaluation_order}
 use Rattle.rc_tree.specs.Model.{ReactiveLabel}
 use Rattle.rc_runs.specs.declared.frames.Frame.{Frame}
 use Rattle.rc_runs.specs.declared.frames.Frame.TheVariants as frame_kinds
-use Rattle.rc_runs.specs.Event.{Event, Arm, Chose, End}
+use Rattle.rc_runs.specs.Event.{Event, Arm, Chose, Threw, End, Open}
+use Rattle.rc_runs.specs.Silent.{is_unset}
 use Rattle.rc_runs.specs.GraphRun.{Edge, then_arm, else_arm, to_case, past_cases as past_all, into_while, into_do_while}
-use Rattle.rc_runs.specs.GraphRun.{into_for, into_for_of, into_for_in, into_label, into_scope, into_pruned_scope}
-use Rattle.rc_runs.specs.GraphRun.{GraphRunAt}
-use Rattle.rc_runs.specs.PlainTree.{Value, Statements, Statement, TerminalStatement, ScopeStatement}
-use Rattle.rc_runs.specs.PlainTree.{PrunedScopeStatement, For, Switch, Cases}
-use Rattle.rc_runs.specs.ListContext.{ListContext, inside}
+use Rattle.rc_runs.specs.GraphRun.{into_for, into_for_of, into_for_in, into_label, into_try, into_scope}
+use Rattle.rc_runs.specs.GraphRun.{into_pruned_scope, GraphRunAt}
+use Rattle.rc_runs.specs.PlainTree.{Value, Statements, Statement, RowStatement, TerminalStatement, ScopeStatement}
+use Rattle.rc_runs.specs.PlainTree.{PrunedScopeStatement, For, Switch, Try, Cases}
+use Rattle.rc_runs.specs.ListContext.{ListContext, inside, protected_by}
 use Rattle.rc_runs.specs.LoopParts.{LoopBlocks, LoopParts}
+use Rattle.rc_runs.specs.ValueGrammar.{Nested, SpellsSilentArm, SpellsShortArm}
+use Rattle.rc_runs.specs.ValueRun.{set_row}
 use Rattle.rc_runs.specs.Grammar.{label_of, falls_to, SpellsList, SpellsStatement, SpellsCases, SpellsTurns, if_only}
-use Rattle.rc_runs.specs.Grammar.{if_else, label_statement, scope_statement, pruned_scope_statement, switch_statement}
-use Rattle.rc_runs.specs.Grammar.{while_loop, do_while_loop, for_loop, for_of_loop, for_in_loop}
+use Rattle.rc_runs.specs.Grammar.{if_else, label_statement, try_statement, scope_statement, pruned_scope_statement}
+use Rattle.rc_runs.specs.Grammar.{switch_statement}
+use Rattle.rc_runs.specs.Grammar.{while_loop, do_while_loop, for_loop, for_of_loop, for_in_loop, value_statement}
 use Rattle.rc_runs.specs.BodyRun.{Completion, Ended, caught, RunsList, RunsStatement, took_arm, took_other, in_case}
 use Rattle.rc_runs.specs.BodyRun.{past_cases, in_while, in_do_while, in_init, past_init, in_for_of, in_for_in, in_label}
-use Rattle.rc_runs.specs.BodyRun.{in_scope, in_pruned_scope, absent, present}
+use Rattle.rc_runs.specs.BodyRun.{in_try, in_handler, row, in_scope, in_pruned_scope, absent, present}
 use Rattle.rc_names.proofs.NumbersLemmas.{same_id-eq}
 use Rattle.rc_runs.proofs.FramesLemmas.{IsApart, Fits, fits_inside, Aims, leaving, falls_to-next, caught-normal}
-use Rattle.rc_runs.proofs.FramesLemmas.{aims_labeled, aims_scope}
+use Rattle.rc_runs.proofs.FramesLemmas.{caught-ended, aims_labeled, aims_scope, aims_protected, fits_protected}
 use Rattle.rc_runs.proofs.RunSize.{size_at, run_to}
-use Rattle.rc_runs.proofs.GraphToValue.{Goes, stays_inside, goes, passes_going}
+use Rattle.rc_runs.proofs.FlattenedRuns.{value_stops}
+use Rattle.rc_runs.proofs.ShortEnds.{by_arm, nested_set}
+use Rattle.rc_runs.proofs.HandlerLemmas.{inside-handler, can_end, can_end-not_thrown, can_end-outside, aims-not_thrown}
+use Rattle.rc_runs.proofs.Throws.{Throws, throws_there, throw_behind, throw_room}
+use Rattle.rc_runs.proofs.GraphToSilentArm.{PassesArm, comes_behind, throws_in_arm, past_arm}
+use Rattle.rc_runs.proofs.Passes.{stops, passes, shortens, throws_out, Goes, stays_inside, goes, throws_inside}
+use Rattle.rc_runs.proofs.GraphToNested.{NestedPasses}
+use Rattle.rc_runs.proofs.GraphToValue.{nested_passes, passes_going}
 use Rattle.rc_runs.proofs.KeptCases.{same_default, Kept, is_there, leads_on, kept_or_past, none_among_kept}
-use Rattle.rc_runs.proofs.Leads.{Runs, Leads, ends, leads, Below, lead_events, lead_behind, lead_out}
+use Rattle.rc_runs.proofs.Leads.{Runs, Leads, ends, leads, to_handler, Below, lead_events, lead_behind, lead_out}
 use Rattle.rc_runs.proofs.GraphToLoop.{body_leads, test_leads, turn_leads, nothing_first, loop_with}
 use Rattle.rc_runs.proofs.GraphToCases.{chosen_leads}
 
@@ -44,7 +56,7 @@ module _ {hir : HirFunction} {env : Environment} {bound : ℕ} (below : Below hi
   -- a part of a statement, inside the frame of the statement's fallthrough
   part_leads : {key : BlockId} {part : Statements} {used : List BlockId} {events : List Event} {end : End} {S : Runs}
       {behind : ListContext} (opened : Bool) (own : Frame) (name : Option ReactiveLabel) (before : List Event) →
-      IsApart own context.frames →
+      IsApart own context.frames → context.handler ≡ behind.handler →
       ((outcome : Completion) (key : BlockId) → Aims (inside opened own context) outcome key
       → Aims behind (caught name outcome) key) →
       ((events : List Event) (inner outer : Completion) → RunsList env part events inner → outer ≡ caught name inner
@@ -52,8 +64,9 @@ module _ {hir : HirFunction} {env : Environment} {bound : ℕ} (below : Below hi
       SpellsList hir env key (inside opened own context) part used
       → (run : GraphRunAt hir env key events end) → size_at run < bound
       → Leads hir env behind bound S (before ++ events) end
-  part_leads opened own name before apart aims put d run small =
-      lead_out name before aims put (below.list d (fits_inside opened own apart fits) run small)
+  part_leads opened own name before apart same aims put d run small =
+      lead_out name before (inside-handler opened own context ∙ same) aims put
+      (below.list d (fits_inside opened own apart fits) run small)
 
   -- past all cases of a switch that keeps no default
   past_leads : (opened : Bool) {test : Place} {kept : List Case} {fallthrough : BlockId} {id : EvaluationOrder}
@@ -78,7 +91,8 @@ module _ {hir : HirFunction} {env : Environment} {bound : ℕ} (below : Below hi
       → StatementLeads hir env bound context opened fallthrough (TerminalStatement (Switch test cases id) label)
       (Chose case.test ∷ events) end
   switch_leads o {fallthrough = f} {label = l} {case = case} j (is_there among) reached d run small =
-      lead_out l (Chose case.test ∷ []) (aims_labeled o (frame_kinds.Switch f) context l refl refl j)
+      lead_out l (Chose case.test ∷ []) (inside-handler o (frame_kinds.Switch f) context)
+      (aims_labeled o (frame_kinds.Switch f) context l refl refl j)
       (λ events inner outer p q. in_case p q)
       (chosen_leads below (fits_inside o (frame_kinds.Switch f) tt fits) among d run small)
   switch_leads o {events = events} j (leads_on test block none) reached d run small =
@@ -88,70 +102,150 @@ module _ {hir : HirFunction} {env : Environment} {bound : ℕ} (below : Below hi
   -- the init of a `for`, and then its turns
   for_leads : {blocks : LoopBlocks} {parts : LoopParts} {id : EvaluationOrder} {init_value : Value}
       {used : List BlockId} {events : List Event} {end : End} → SpellsTurns hir env blocks context parts used
-      → (small : ℕ) → small < bound → Goes hir env init_value blocks.test small events end
+      → (small : ℕ) → small < bound → Goes hir env context.handler init_value blocks.test small events end
       → StatementLeads hir env bound context true blocks.fallthrough
       (TerminalStatement (For init_value parts.test parts.before parts.body id) (label_of true blocks.fallthrough))
       events end
   for_leads {blocks} {parts} {id} {init_value} {events = events} d small less (stays_inside here e) =
       ends (subst (λ z. RunsStatement env (TerminalStatement (For init_value parts.test parts.before parts.body id)
       (label_of true blocks.fallthrough)) events (Ended z)) (sym e) (in_init here))
+      (ap (λ z. can_end z context.handler) e)
+  for_leads d small less (throws_inside t) =
+      to_handler (throw_room (omega arith) (throw_behind [] (λ events here. in_init here) t))
   for_leads d small less (goes {front = front} here from nearer e) =
       lead_events e (lead_behind front (λ events outcome after. past_init here refl after refl)
       (test_leads below d fits from (omega arith)))
 
+  -- a value terminal is a row, whose short end is its end
+  value_leads : (opened : Bool) {nested : Nested} {arm_used : List BlockId} {events : List Event} {end : End}
+      → falls_to opened nested.fallthrough context.next ≡ true → is_unset nested.id ≡ false
+      → SpellsShortArm hir env context.handler nested.fallthrough false nested.short None None arm_used
+      → NestedPasses hir env context.handler bound nested events end
+      → StatementLeads hir env bound context opened nested.fallthrough
+      (RowStatement nested.id (Some nested.answer) nested.value nested.span) events end
+  value_leads o {nested} {events = events} {end} falls set arm (stops here e) =
+      ends (subst (λ z. RunsStatement env (RowStatement nested.id (Some nested.answer) nested.value nested.span) events
+      (Ended z)) (sym e) (row (set_row set here) refl)) (ap (λ z. can_end z context.handler) e)
+  value_leads o falls set arm (throws_out t) =
+      to_handler (throw_behind [] (λ events here. row (set_row set here) refl) t)
+  value_leads o {nested} falls set arm (passes here at e) =
+      leads (row (set_row set here) refl) (falls_to-next o nested.fallthrough context.next falls) at.run at.small e
+  value_leads o {nested} {arm_used} {events} {end} falls set arm
+      (shortens {front = front} {back} {alternate} here short at e) =
+      go (by_arm arm short)
+    where
+      through : PassesArm hir env context.handler nested.fallthrough bound back end
+          → StatementLeads hir env bound context o nested.fallthrough
+          (RowStatement nested.id (Some nested.answer) nested.value nested.span) events end
+      through (comes_behind behind) =
+          leads (row (set_row set here) refl) (falls_to-next o nested.fallthrough context.next falls) behind.run
+          behind.small e
+      through (throws_in_arm current behind q) =
+          to_handler (throws_there front (row (set_row set (value_stops here)) refl) current behind e q)
+
+      go : ((false ≡ true) × (None ≡ Some alternate))
+          ⊎ ((false ≡ false) × SpellsSilentArm hir env context.handler nested.fallthrough alternate arm_used)
+          → StatementLeads hir env bound context o nested.fallthrough
+          (RowStatement nested.id (Some nested.answer) nested.value nested.span) events end
+      go (inl left) = absurd (let bad : ⊥ = cc (left.0) in bad)
+      go (inr own) = through (past_arm own.1 at.run at.small)
+
+  -- the handler of a try, after the protected block has thrown
+  handler_leads : (opened : Bool) (fallthrough : BlockId) {handler : BlockId} {binding : Option Place} {id : EvaluationOrder}
+      {part other : Statements} {label : Option ReactiveLabel} {used : List BlockId} {events : List Event} {end : End}
+      → label ≡ label_of opened fallthrough
+      → SpellsList hir env handler (inside opened (frame_kinds.Statement fallthrough) context) other used
+      → Throws hir env (Some handler) (λ events. RunsList env part events (Ended Open)) bound events end
+      → StatementLeads hir env bound context opened fallthrough
+      (TerminalStatement (Try part binding other id) label) events end
+  handler_leads o f {handler} {label = l} j d t =
+      let from = run_to (let same : t.key ≡ handler = cc (t.current) in same) t.at.run t.at.small in
+      lead_events (t.whole ∙ sym (append_assoc t.front (Threw ∷ []) t.back))
+      (part_leads o (frame_kinds.Statement f) l (t.front ++ Threw ∷ []) tt refl
+      (aims_labeled o (frame_kinds.Statement f) context l refl refl j)
+      (λ events inner outer p q. in_handler t.inside refl p q (append_assoc t.front (Threw ∷ []) events)) d from.0
+      from.1)
+
+  -- the protected block of a try: a throw in it leads to the handler
+  try_leads : (opened : Bool) (fallthrough : BlockId) {handler : BlockId} {binding : Option Place} {id : EvaluationOrder}
+      {part other : Statements} {label : Option ReactiveLabel} {used : List BlockId} {events : List Event} {end : End}
+      → label ≡ label_of opened fallthrough
+      → SpellsList hir env handler (inside opened (frame_kinds.Statement fallthrough) context) other used
+      → Leads hir env (protected_by handler (inside opened (frame_kinds.Statement fallthrough) context)) bound
+      (RunsList env part) events end
+      → StatementLeads hir env bound context opened fallthrough
+      (TerminalStatement (Try part binding other id) label) events end
+  try_leads o f {handler} {label = l} {end = end} j d (ends here can) =
+      ends (in_try here (can_end-not_thrown end handler can) (sym (caught-ended l end)))
+      (can_end-outside end handler context.handler can)
+  try_leads o f {handler} {label = l} j d (leads {outcome = outcome} {key} here aim run small e) =
+      let out = aims_protected handler (inside o (frame_kinds.Statement f) context) outcome key aim in
+      leads (in_try here (aims-not_thrown (inside o (frame_kinds.Statement f) context) outcome key out) refl)
+      (aims_labeled o (frame_kinds.Statement f) context l refl refl j outcome key out) run small e
+  try_leads o f j d (to_handler t) = handler_leads o f j d t
+
   -- an edge from a terminal that has a fallthrough
   pub statement_leads : {terminal : Terminal} {step : List Event} {key : BlockId} {opened : Bool}
       {fallthrough : BlockId} {statement : Statement} {used : List BlockId} {events : List Event} {end : End} →
+      is_unset (evaluation_order terminal) ≡ false →
       SpellsStatement hir env terminal context opened fallthrough statement used → Edge terminal step key →
       (run : GraphRunAt hir env key events end) → size_at run < bound →
       StatementLeads hir env bound context opened fallthrough statement (step ++ events) end
-  statement_leads (if_only {fallthrough = f} {opened = o} {label = l} i j x y d) then_arm run small =
-      part_leads o (frame_kinds.Statement f) l (Arm true ∷ []) tt
+  statement_leads set (if_only {fallthrough = f} {opened = o} {label = l} i j x y d) then_arm run small =
+      part_leads o (frame_kinds.Statement f) l (Arm true ∷ []) tt refl
       (aims_labeled o (frame_kinds.Statement f) context l refl refl j)
       (λ events inner outer p q. took_arm p q) d run small
-  statement_leads (if_only {alternate = a} {fallthrough = f} {opened = o} {label = l} i j x y d) else_arm run small =
+  statement_leads set (if_only {alternate = a} {fallthrough = f} {opened = o} {label = l} i j x y d) else_arm run
+      small =
       leads (took_other absent (sym (caught-normal l)))
       (falls_to-next o f context.next y ∙ ap Some (sym (same_id-eq a f x))) run small refl
-  statement_leads (if_else {fallthrough = f} {opened = o} {label = l} i j x d a w) then_arm run small =
-      part_leads o (frame_kinds.Statement f) l (Arm true ∷ []) tt
+  statement_leads set (if_else {fallthrough = f} {opened = o} {label = l} i j x d a w) then_arm run small =
+      part_leads o (frame_kinds.Statement f) l (Arm true ∷ []) tt refl
       (aims_labeled o (frame_kinds.Statement f) context l refl refl j)
       (λ events inner outer p q. took_arm p q) d run small
-  statement_leads (if_else {fallthrough = f} {opened = o} {label = l} i j x d a w) else_arm run small =
-      part_leads o (frame_kinds.Statement f) l (Arm false ∷ []) tt
+  statement_leads set (if_else {fallthrough = f} {opened = o} {label = l} i j x d a w) else_arm run small =
+      part_leads o (frame_kinds.Statement f) l (Arm false ∷ []) tt refl
       (aims_labeled o (frame_kinds.Statement f) context l refl refl j)
       (λ events inner outer p q. took_other (present p) q) a run small
-  statement_leads (label_statement {fallthrough = f} {opened = o} {label = l} i j d) into_label run small =
-      part_leads o (frame_kinds.Statement f) l [] tt (aims_labeled o (frame_kinds.Statement f) context l refl refl j)
+  statement_leads set (label_statement {fallthrough = f} {opened = o} {label = l} i j d) into_label run small =
+      part_leads o (frame_kinds.Statement f) l [] tt refl
+      (aims_labeled o (frame_kinds.Statement f) context l refl refl j)
       (λ events inner outer p q. in_label p q) d run small
-  statement_leads (scope_statement {fallthrough = f} {scope = number} {opened = o} {part = part} i d) into_scope run
+  statement_leads set (try_statement {handler = handler} {fallthrough = f} {opened = o} i j d other w) into_try run
       small =
-      part_leads o (frame_kinds.Scope f) None [] tt (aims_scope o f context)
+      try_leads o f j other
+      (below.list d (fits_protected handler (fits_inside o (frame_kinds.Statement f) tt fits)) run small)
+  statement_leads set (scope_statement {fallthrough = f} {scope = number} {opened = o} {part = part} i d) into_scope run
+      small =
+      part_leads o (frame_kinds.Scope f) None [] tt refl (aims_scope o f context)
       (λ events inner outer p q. subst (RunsStatement env (ScopeStatement number part) events) (sym q)
       (in_scope p)) d run small
-  statement_leads (pruned_scope_statement {fallthrough = f} {scope = number} {opened = o} {part = part} i d)
+  statement_leads set (pruned_scope_statement {fallthrough = f} {scope = number} {opened = o} {part = part} i d)
       into_pruned_scope run small =
-      part_leads o (frame_kinds.Scope f) None [] tt (aims_scope o f context)
+      part_leads o (frame_kinds.Scope f) None [] tt refl (aims_scope o f context)
       (λ events inner outer p q. subst (RunsStatement env (PrunedScopeStatement number part) events) (sym q)
       (in_pruned_scope p)) d run small
-  statement_leads {events = events} (switch_statement {cases = cases} {fallthrough = f} {opened = o} i j one past k
+  statement_leads {events = events} set (switch_statement {cases = cases} {fallthrough = f} {opened = o} i j one past k
       reached d) (to_case {case = case} among chosen block) run small =
       let from = run_to block run small in
       lead_events (ap (λ c. Chose c ∷ events) chosen)
       (switch_leads o j (subst (λ kept. Kept kept f case) (sym k) (kept_or_past _ f case cases one among)) reached d
       from.0 from.1)
-  statement_leads (switch_statement {cases = cases} {fallthrough = f} {opened = o} i j one past k reached d)
+  statement_leads set (switch_statement {cases = cases} {fallthrough = f} {opened = o} i j one past k reached d)
       (past_all none) run small =
       past_leads o (ap (list_any is_default) k ∙ none_among_kept _ f cases none) reached d run small
-  statement_leads (while_loop alive d) into_while run small =
+  statement_leads set (while_loop alive d) into_while run small =
       lead_behind [] (λ events outcome after. in_while (loop_with None (nothing_first d refl) after))
       (test_leads below d fits run (omega arith))
-  statement_leads (do_while_loop d) into_do_while run small =
+  statement_leads set (do_while_loop d) into_do_while run small =
       lead_behind [] (λ events outcome after. in_do_while (loop_with None (nothing_first d refl) after))
       (body_leads below d fits run small)
-  statement_leads (for_loop init d w) into_for run small = for_leads d (size_at run) small (passes_going init run)
-  statement_leads (for_of_loop {init_value = init} e d) into_for_of run small =
+  statement_leads set (for_loop init d w) into_for run small = for_leads d (size_at run) small (passes_going init run)
+  statement_leads set (for_of_loop {init_value = init} e d) into_for_of run small =
       lead_behind [] (λ events outcome after. in_for_of (loop_with (Some init) e after))
       (turn_leads below d fits run (omega arith))
-  statement_leads (for_in_loop d) into_for_in run small =
+  statement_leads set (for_in_loop d) into_for_in run small =
       lead_behind [] (λ events outcome after. in_for_in (loop_with None (nothing_first d refl) after))
       (test_leads below d fits run (omega arith))
+  statement_leads set (value_statement {opened = o} i falls d arm w) edge run small =
+      value_leads o falls (nested_set set d) arm (nested_passes bound d edge run small)

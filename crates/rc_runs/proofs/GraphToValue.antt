@@ -1,124 +1,50 @@
--- A run of the graph from a spelled value's block either stops inside the value, or passes it and goes on after it.
+-- A run of the graph from a spelled value's block stops inside the value, passes it and goes on after it, or throws.
 --
 -- `passes_going` and `passes_test` are all that loops need of values.
-use Rattle.std.proofs.Common.{◌≡◌, ℕ, ◌<◌, ◌≤◌, Bool, true, false, List, [], ◌∷◌, ◌++◌, ◌||◌, Option, refl, sym, ap}
-use Rattle.std.proofs.Common.{◌∙◌, subst, append_assoc, append-nil, arith}
-use Rattle.std.proofs.lemmas.Bool.{or_parts}
-use Rattle.rc_names.specs.Numbers.{BlockId, EvaluationOrder}
+use Rattle.std.proofs.Common.{◌≡◌, ℕ, ◌<◌, ◌≤◌, Bool, true, false, List, [], ◌∷◌, ◌++◌, Option, Some, refl, sym}
+use Rattle.std.proofs.Common.{subst, append-nil, arith}
+use Rattle.rc_names.specs.Numbers.{BlockId}
 use Rattle.rc_names.specs.declared.span.Span.{Span}
-use Rattle.rc_hir.specs.Model.{Place, InstructionValue, GotoVariant, Terminal, Instruction, HirFunction, Environment}
-use Rattle.rc_hir.specs.declared.terminal.Terminal.TheVariants as terminals
-use Rattle.rc_runs.specs.Event.{Event, Did, Arm, End, Open}
-use Rattle.rc_runs.specs.Silent.{is_unset, is_silent_value, is_silent}
-use Rattle.rc_runs.specs.Graph.{Block}
-use Rattle.rc_runs.specs.GraphRun.{goes_to, branch_true, branch_false, GraphRunAt, arrives, enters, GraphRun, stopped}
-use Rattle.rc_runs.specs.GraphRun.{quiet, did, moved}
-use Rattle.rc_runs.specs.PlainTree.{Value, Base, NoRows}
-use Rattle.rc_runs.specs.ListContext.{ValueContext}
-use Rattle.rc_runs.specs.LastRow.{last_value, rows_then, after_rows}
-use Rattle.rc_runs.specs.ValueGrammar.{ValueEnd, SpellsValue, named_test, last_block, shown, SpellsGoing, SpellsTest}
-use Rattle.rc_runs.specs.ValueRun.{Progress, Done, Inside, RunsValue, value_stopped, quiet_value, did_value}
-use Rattle.rc_runs.specs.ValueRun.{in_sequence, RunsRows, past_rows, past_row, in_row, RunsRow, unset_row, set_row}
+use Rattle.rc_hir.specs.Model.{Terminal, Instruction, HirFunction, Environment}
+use Rattle.rc_runs.specs.Event.{Event, End}
+use Rattle.rc_runs.specs.Silent.{is_silent_value}
+use Rattle.rc_runs.specs.Graph.{Block, usable_block, only_goes}
+use Rattle.rc_runs.specs.GraphRun.{Edge, into_sequence, into_ternary, into_logical, into_optional, GraphRunAt, arrives}
+use Rattle.rc_runs.specs.GraphRun.{enters, GraphRun, stopped, moved, returned, thrown}
+use Rattle.rc_runs.specs.PlainTree.{Value}
+use Rattle.rc_runs.specs.ListContext.{ValueContext, part_context}
+use Rattle.rc_runs.specs.ValueGrammar.{ValueEnd, GoesTo, ChoosesBetween, Nested, SpellsValue, named_test, last_block}
+use Rattle.rc_runs.specs.ValueGrammar.{last_throw, may_throw, value_row, SpellsNested}
+use Rattle.rc_runs.specs.ValueGrammar.{sequence_value, ternary_value, logical_value, optional_value, shown, SpellsGoing}
+use Rattle.rc_runs.specs.ValueGrammar.{SpellsTest}
+use Rattle.rc_runs.specs.ValueRun.{RunsValue, value_stopped, quiet_value, in_sequence, past_rows}
 use Rattle.rc_runs.proofs.GraphLemmas.{one_held, usable_block-at}
 use Rattle.rc_runs.proofs.RunSize.{size, size_at}
-use Rattle.rc_runs.proofs.SetIds.{AreSet, usable_block-set, first_set, last_set}
-use Rattle.rc_runs.proofs.LastRowLemmas.{runs-last_value}
-use Rattle.rc_runs.proofs.FlattenedRuns.{value_stops, runs-shown}
+use Rattle.rc_runs.proofs.SetIds.{AreSet, usable_block-set}
+use Rattle.rc_runs.proofs.FlattenedRuns.{value_set, runs-shown}
+use Rattle.rc_runs.proofs.RowRuns.{after_rows-run}
+use Rattle.rc_runs.proofs.ShortArmLemmas.{same_alternate, nothing_left}
+use Rattle.rc_runs.proofs.ShortEnds.{nested_set}
+use Rattle.rc_runs.proofs.GraphToSilentArm.{runs_quietly}
+use Rattle.rc_runs.proofs.Passes.{AtLast, Passes, stops, passes, Goes, Chooses, pass_behind}
+use Rattle.rc_runs.proofs.Passes.{pass_events, goes_past, rows_pass, last_rows_pass, at_goto, at_branch, ends_in}
+use Rattle.rc_runs.proofs.Passes.{before_throw, at_throw}
+use Rattle.rc_runs.proofs.GraphToNested.{NestedPasses, conditional_goes, logical_goes, optional_passes}
+use Rattle.rc_runs.proofs.GraphToNested.{nested_row_passes}
 
--- a row that the graph runs with an event or without one
-pub quiet_row : {env : Environment} {id : EvaluationOrder} {value : InstructionValue} → is_silent env id value ≡ true
-    → RunsRow env false id (Base value) [] Done
-quiet_row {env} {id} {value} h = go (is_unset id) refl h
-  where
-    go : (unset : Bool) → is_unset id ≡ unset → unset || is_silent_value env value ≡ true
-        → RunsRow env false id (Base value) [] Done
-    go true u h = unset_row u
-    go false u h = set_row u (quiet_value h)
-
-pub did_row : {env : Environment} {id : EvaluationOrder} {value : InstructionValue} → is_silent env id value ≡ false
-    → RunsRow env false id (Base value) (Did value ∷ []) Done
-did_row {env} {id} {value} h =
-    let parts = or_parts (is_unset id) (is_silent_value env value) h in
-    set_row parts.0 (did_value parts.1)
-
--- with a set id, a row is silent if its value is
-silent_value : (env : Environment) (row : Instruction) (silent : Bool) → is_unset row.id ≡ false
-    → is_silent env row.id row.value ≡ silent → is_silent_value env row.value ≡ silent
-silent_value env row silent set h = ap (λ unset. unset || is_silent_value env row.value) (sym set) ∙ h
-
--- rows of a block and then a value run as the value that they make together
-after_rows-run : {env : Environment} (rows : List Instruction) (id : EvaluationOrder) {value : Value}
-    {events : List Event} {progress : Progress} → RunsRows env false (rows_then rows NoRows) value events progress
-    → RunsValue env false (after_rows rows id value) events progress
-after_rows-run [] id (past_rows run) = run
-after_rows-run (row ∷ rows) id run = in_sequence run
-
-module _ (hir : HirFunction) (env : Environment) where
-  -- a run of the graph that begins at a part with the runs `R`, after which the terminal comes
-  data Passes (R : List Event → Progress → Type 0) (last : Terminal) (bound : ℕ) (events : List Event) (end : End) :
-      Type 0 where
-    stops : R events Inside → end ≡ Open → Passes R last bound events end
-    passes : {front back : List Event} → R front Done → (run : GraphRun hir env [] last back end) → size run ≤ bound →
-        events ≡ front ++ back → Passes R last bound events end
-
-  -- a run of the graph that begins at a value and goes on at a block
-  pub data Goes (value : Value) (next : BlockId) (bound : ℕ) (events : List Event) (end : End) : Type 0 where
-    stays_inside : RunsValue env false value events Inside → end ≡ Open → Goes value next bound events end
-    goes : {front back : List Event} → RunsValue env false value front Done →
-        (run : GraphRunAt hir env next back end) → size_at run < bound → events ≡ front ++ back →
-        Goes value next bound events end
-
-  -- a run of the graph that begins at a test and chooses between two blocks
-  pub data Chooses (value : Value) (consequent alternate : BlockId) (bound : ℕ) (events : List Event) (end : End) :
-      Type 0 where
-    stays_in_test : RunsValue env false value events Inside → end ≡ Open →
-        Chooses value consequent alternate bound events end
-    holds : {front back : List Event} → RunsValue env false value front Done →
-        (run : GraphRunAt hir env consequent back end) → size_at run < bound → events ≡ front ++ (Arm true ∷ back) →
-        Chooses value consequent alternate bound events end
-    fails : {front back : List Event} → RunsValue env false value front Done →
-        (run : GraphRunAt hir env alternate back end) → size_at run < bound → events ≡ front ++ (Arm false ∷ back) →
-        Chooses value consequent alternate bound events end
+-- a block that only goes on has no rows
+no_rows : (rows : List Instruction) (terminal : Terminal) → only_goes rows terminal ≡ true → rows ≡ []
+no_rows [] terminal goes = refl
+no_rows (row ∷ rows) terminal goes = absurd (let bad : ⊥ = cc in bad)
 
 module _ {hir : HirFunction} {env : Environment} where
-  -- events come before those of the part
-  pass_behind : {R S : List Event → Progress → Type 0} {last : Terminal} {small large : ℕ} {events : List Event}
-      {end : End} (before : List Event) → small ≤ large
-      → ((events : List Event) (progress : Progress) → R events progress → S (before ++ events) progress)
-      → Passes hir env R last small events end → Passes hir env S last large (before ++ events) end
-  pass_behind {events = events} before le put (stops here e) = stops (put events Inside here) e
-  pass_behind before le put (passes {front = front} {back} here run small e) =
-      passes (put front Done here) run (omega arith) (ap (λ v. before ++ v) e ∙ sym (append_assoc before front back))
-
-  -- the rows of a value's last block, of which the last one is the value
-  rows_pass : (rows : List Instruction) (row : Instruction) {terminal : Terminal} {events : List Event} {end : End}
-      → AreSet (rows ++ row ∷ []) → (run : GraphRun hir env (rows ++ row ∷ []) terminal events end)
-      → Passes hir env (RunsRows env false (rows_then rows NoRows) (Base (last_value env row.value))) terminal
-      (size run) events end
-  unfolding size
-  rows_pass [] row set stopped = stops (past_rows value_stopped) refl
-  rows_pass [] row set (quiet h run) =
-      let here = quiet_value (silent_value env row true (last_set [] row set) h) in
-      passes (past_rows (runs-last_value row.value here)) run (omega arith) refl
-  rows_pass [] row set (did h run) =
-      let here = did_value (silent_value env row false (last_set [] row set) h) in
-      passes (past_rows (runs-last_value row.value here)) run (omega arith) refl
-  rows_pass (row ∷ rows) last set stopped = stops (in_row (set_row (first_set row (rows ++ last ∷ []) set).0
-      value_stopped)) refl
-  rows_pass (row ∷ rows) last set (quiet h run) =
-      pass_behind [] (omega arith) (λ events progress behind. past_row (quiet_row h) refl behind refl)
-      (rows_pass rows last (first_set row (rows ++ last ∷ []) set).1 run)
-  rows_pass (row ∷ rows) last set (did h run) =
-      pass_behind (Did row.value ∷ []) (omega arith) (λ events progress behind. past_row (did_row h) refl behind refl)
-      (rows_pass rows last (first_set row (rows ++ last ∷ []) set).1 run)
-
   -- a run of an equal block, and of equal rows
-  run_of : {block other : Block} {events : List Event} {end : End} → other ≡ block
-      → (run : GraphRun hir env other.rows other.terminal events end)
-      → (same : GraphRun hir env block.rows block.terminal events end) × (size same ≤ size run)
-  run_of {events = events} {end} e run =
-      subst (λ (b : Block). (same : GraphRun hir env b.rows b.terminal events end) × (size same ≤ size run)) e
-      (run, omega arith)
+  run_of : {block other : Block} {bound : ℕ} {events : List Event} {end : End} → other ≡ block
+      → (run : GraphRun hir env other.rows other.terminal events end) → size run ≤ bound
+      → (same : GraphRun hir env block.rows block.terminal events end) × (size same ≤ bound)
+  run_of {bound = bound} {events} {end} e run small =
+      subst (λ (b : Block). (same : GraphRun hir env b.rows b.terminal events end) × (size same ≤ bound)) e
+      (run, small)
 
   rows_of : {rows others : List Instruction} {terminal : Terminal} {bound : ℕ} {events : List Event} {end : End}
       → others ≡ rows → (run : GraphRun hir env others terminal events end) → size run ≤ bound
@@ -126,72 +52,164 @@ module _ {hir : HirFunction} {env : Environment} where
   rows_of {terminal = terminal} {bound} {events} {end} e run small =
       subst (λ rows. (same : GraphRun hir env rows terminal events end) × (size same ≤ bound)) e (run, small)
 
-  value_passes : {key : BlockId} {context : ValueContext} {value : Value} {value_end : ValueEnd} {used : List BlockId}
-      {events : List Event} {end : End} → SpellsValue hir env key context value value_end used
-      → (run : GraphRunAt hir env key events end)
-      → Passes hir env (RunsValue env false value) value_end.last (size_at run) events end
-  unfolding size_at is_silent_value
-  value_passes d arrives = stops value_stopped refl
-  value_passes {key} (named_test {block = block} found empty ends) (enters at run) =
-      let here = run_of (one_held (usable_block-at hir key block found) at) run in
-      let bare = rows_of empty here.0 here.1 in
-      passes (quiet_value refl) bare.0 bare.1 refl
-  value_passes {key} (last_block {block = block} rows row found h whole) (enters at run) =
-      let here = run_of (one_held (usable_block-at hir key block found) at) run in
-      let these = rows_of whole here.0 here.1 in
-      pass_behind [] these.1 (λ events progress behind. after_rows-run rows row.id behind)
-      (rows_pass rows row (subst AreSet whole (usable_block-set hir key block found).rows) these.0)
+  -- a run to an equal terminal
+  run_with : {rows : List Instruction} {terminal other : Terminal} {bound : ℕ} {events : List Event} {end : End}
+      → other ≡ terminal → (run : GraphRun hir env rows other events end) → size run ≤ bound
+      → (same : GraphRun hir env rows terminal events end) × (size same ≤ bound)
+  run_with {rows} {bound = bound} {events} {end} e run small =
+      subst (λ t. (same : GraphRun hir env rows t events end) × (size same ≤ bound)) e (run, small)
+
+  -- a block without rows is at its terminal at once
+  at_terminal : {key : BlockId} {block : Block} {bound : ℕ} {events : List Event} {end : End}
+      → usable_block hir key ≡ Some block → only_goes block.rows block.terminal ≡ true
+      → (run : GraphRunAt hir env key events end) → size_at run < bound
+      → AtLast hir env block.terminal bound events end
+  unfolding size size_at
+  at_terminal found goes arrives small = record { run = stopped; small = omega arith }
+  at_terminal {key} {block} found goes (enters at run) small =
+      let here = run_of (one_held (usable_block-at hir key block found) at) run (omega arith) in
+      let bare = rows_of (no_rows block.rows block.terminal goes) here.0 here.1 in
+      record { run = bare.0; small = bare.1 }
+
+  -- from a value terminal, by where the runs from its edges lead
+  terminal_passes : {handler : Option BlockId} {terminal : Terminal} {nested : Nested} {used : List BlockId} {bound : ℕ}
+      {events : List Event} {end : End} → SpellsNested hir env handler terminal nested used
+      → (run : GraphRun hir env [] terminal events end) → size run ≤ bound
+      → ((step : List Event) (key : BlockId) (events : List Event) → Edge terminal step key
+      → (run : GraphRunAt hir env key events end) → size_at run < bound
+      → NestedPasses hir env handler bound nested (step ++ events) end)
+      → NestedPasses hir env handler bound nested events end
+  unfolding size
+  terminal_passes d stopped small go = stops value_stopped refl
+  terminal_passes d returned small go = elim d [ ]
+  terminal_passes d thrown small go = elim d [ ]
+  terminal_passes d (moved edge run e) small go = pass_events e (go _ _ _ edge run (omega arith))
+
+  -- past a part of a value terminal, which leaves nothing open
+  past_value : {key next : BlockId} {span : Option Span} {handler : Option BlockId} {value : Value}
+      {value_end : ValueEnd} {used : List BlockId} {bound : ℕ} {events : List Event} {end : End}
+      → SpellsValue hir env key (part_context span handler) value value_end used → GoesTo next value_end
+      → Passes hir env handler (RunsValue env false value) value_end.left_open (AtLast hir env value_end.last bound)
+      bound events end
+      → Goes hir env handler value next bound events end
+  past_value d ends it = at_goto (nothing_left d refl) (ends_in ends.goes it)
+
+  past_test : {key consequent alternate : BlockId} {span : Option Span} {handler : Option BlockId} {value : Value}
+      {value_end : ValueEnd} {used : List BlockId} {bound : ℕ} {events : List Event} {end : End}
+      → SpellsValue hir env key (part_context span handler) value value_end used
+      → ChoosesBetween env consequent alternate value_end
+      → Passes hir env handler (RunsValue env false value) value_end.left_open (AtLast hir env value_end.last bound)
+      bound events end
+      → Chooses hir env handler value consequent alternate bound events end
+  past_test d ends it = at_branch (nothing_left d refl) (ends_in ends.chooses it)
+
+  mutual
+    unfolding size size_at is_silent_value
+
+    -- from the block of a value
+    pub value_passes : {key : BlockId} {context : ValueContext} {value : Value} {value_end : ValueEnd}
+        {used : List BlockId} (bound : ℕ) {events : List Event} {end : End}
+        → SpellsValue hir env key context value value_end used → (run : GraphRunAt hir env key events end)
+        → size_at run ≤ bound
+        → Passes hir env context.handler (RunsValue env context.is_test value) value_end.left_open
+        (AtLast hir env value_end.last bound) bound events end
+    value_passes bound d arrives small = stops value_stopped refl
+    value_passes {key} bound (named_test {block = block} found empty ends) (enters at run) small =
+        let here = run_of (one_held (usable_block-at hir key block found) at) run small in
+        let bare = rows_of empty here.0 here.1 in
+        passes (quiet_value refl) (record { run = bare.0; small = bare.1 }) refl
+    value_passes {key} bound (last_block {block = block} rows row found h whole) (enters at run) small =
+        let here = run_of (one_held (usable_block-at hir key block found) at) run small in
+        let these = rows_of whole here.0 here.1 in
+        pass_behind [] (λ events progress behind. after_rows-run rows row.id behind) (last_rows_pass rows row
+        (subst AreSet whole (usable_block-set hir key block found).rows) these.0 these.1)
+    value_passes {key} bound (last_throw {continuation = continuation} {block = block} rows row found may current whole
+        found_behind goes) (enters at run) small =
+        let here = run_of (one_held (usable_block-at hir key block found) at) run small in
+        let these = rows_of whole here.0 here.1 in
+        at_throw current (λ events run small. at_terminal found_behind goes run small)
+        (ends_in may (pass_behind [] (λ events progress behind. after_rows-run rows row.id behind)
+        (last_rows_pass rows row (subst AreSet whole (usable_block-set hir key block found).rows) these.0 these.1)))
+    value_passes {key} {context} {value_end = value_end} bound {events} {end} (may_throw {block = block} found may current
+        follows behind w) (enters at run) small =
+        let here = run_of (one_held (usable_block-at hir key block found) at) run small in
+        let same : block.rows ≡ block.rows ++ [] = sym (append-nil block.rows) in
+        let these = rows_of same here.0 here.1 in
+        subst (λ v. Passes hir env context.handler (RunsValue env context.is_test v) value_end.left_open
+        (AtLast hir env value_end.last bound) bound events end) (sym w)
+        (pass_behind [] (λ events progress rows. after_rows-run block.rows value_end.id rows)
+        (rows_pass block.rows [] (subst AreSet same (usable_block-set hir key block found).rows) these.0 these.1
+        (λ events run small. pass_behind [] (λ events progress here. past_rows here)
+        (let last = run_with may run small in
+        before_throw current value_stopped last.0 last.1
+        (λ events run small. value_passes bound behind run (omega arith))))))
+    value_passes {key} {context} {value_end = value_end} bound {events} {end} (value_row {block = block}
+        {nested = nested} {whole = whole} {behind = behind_end} {left = left} found d behind arm w q u) (enters at run)
+        small =
+        let here = run_of (one_held (usable_block-at hir key block found) at) run small in
+        let ids = usable_block-set hir key block found in
+        let same : block.rows ≡ block.rows ++ [] = sym (append-nil block.rows) in
+        let these = rows_of same here.0 here.1 in
+        subst (λ (z : ValueEnd). Passes hir env context.handler (RunsValue env context.is_test whole) z.left_open
+        (AtLast hir env z.last bound) bound events end) (sym q)
+        (subst (λ v. Passes hir env context.handler (RunsValue env context.is_test v) left
+        (AtLast hir env behind_end.last bound) bound events end) (sym w)
+        (pass_behind [] (λ events progress rows. in_sequence rows)
+        (rows_pass block.rows [] (subst AreSet same ids.rows) these.0 these.1
+        (λ events run small. nested_row_passes (nested_set ids.terminal d) d arm
+        (λ events end run small. value_passes bound behind run (omega arith))
+        (terminal_passes d run small
+        (λ step key events edge run small. nested_passes bound d edge run small))))))
+
+    -- from an edge of a value terminal
+    pub nested_passes : {handler : Option BlockId} {terminal : Terminal} {nested : Nested} {used : List BlockId}
+        {step : List Event} {key : BlockId} (bound : ℕ) {events : List Event} {end : End}
+        → SpellsNested hir env handler terminal nested used → Edge terminal step key
+        → (run : GraphRunAt hir env key events end) → size_at run < bound
+        → NestedPasses hir env handler bound nested (step ++ events) end
+    nested_passes bound (sequence_value d ends) into_sequence run small =
+        goes_past (past_value d ends (value_passes bound d run (omega arith)))
+    nested_passes bound (ternary_value test chooses d ends other other_ends w) into_ternary run small =
+        goes_past (conditional_goes (past_test test chooses (value_passes bound test run (omega arith)))
+        (λ events end run small. past_value d ends (value_passes bound d run (omega arith)))
+        (λ events end run small. past_value other other_ends (value_passes bound other run (omega arith))))
+    nested_passes bound (logical_value test chooses d silent other ends w) into_logical run small =
+        goes_past (logical_goes (value_set test) (runs_quietly silent d) silent
+        (past_test test chooses (value_passes bound test run (omega arith)))
+        (λ events end run small. past_value other ends (value_passes bound other run (omega arith))))
+    nested_passes bound (optional_value {alternate = own} {condition_end = condition_end} test chooses shares d ends w)
+        into_optional run small =
+        optional_passes (value_set test)
+        (λ key left. sym (same_alternate condition_end.left_open own key shares left))
+        (ends_in chooses.chooses (value_passes bound test run (omega arith)))
+        (λ events end run small. past_value d ends (value_passes bound d run (omega arith)))
 
   -- the value as it stands in a loop
-  shown_passes : {key : BlockId} {context : ValueContext} {value : Value} {value_end : ValueEnd} {used : List BlockId}
-      {events : List Event} {end : End} {last : Terminal} (flat : Bool) (span : Option Span) (shown_value : Value)
-      → SpellsValue hir env key context value value_end used → shown_value ≡ shown flat span value_end value
-      → value_end.last ≡ last → (run : GraphRunAt hir env key events end)
-      → Passes hir env (RunsValue env false shown_value) last (size_at run) events end
-  shown_passes {events = events} {end} flat span shown_value d e last run =
-      subst (λ t. Passes hir env (RunsValue env false shown_value) t (size_at run) events end) last
-      (pass_behind [] (omega arith) (λ events progress here. subst (λ v. RunsValue env false v events progress) (sym e)
-      (runs-shown flat span d here)) (value_passes d run))
-
-  -- at the end of the value
-  at_goto : {value : Value} {next : BlockId} {variant : GotoVariant} {id : EvaluationOrder} {span : Option Span}
-      {bound : ℕ} {events : List Event} {end : End}
-      → Passes hir env (RunsValue env false value) (terminals.Goto next variant id span) bound events end
-      → Goes hir env value next bound events end
-  unfolding size
-  at_goto (stops here e) = stays_inside here e
-  at_goto {value} (passes {front = front} here stopped small e) =
-      stays_inside (subst (λ v. RunsValue env false value v Inside) (sym (e ∙ append-nil front)) (value_stops here))
-      refl
-  at_goto (passes {front = front} here (moved goes_to run q) small e) =
-      goes here run (omega arith) (e ∙ ap (λ v. front ++ v) q)
-
-  at_branch : {value : Value} {test : Place} {consequent alternate : BlockId} {id : EvaluationOrder}
-      {span : Option Span} {bound : ℕ} {events : List Event} {end : End}
-      → Passes hir env (RunsValue env false value) (terminals.Branch test consequent alternate id span) bound events end
-      → Chooses hir env value consequent alternate bound events end
-  unfolding size
-  at_branch (stops here e) = stays_in_test here e
-  at_branch {value} (passes {front = front} here stopped small e) =
-      stays_in_test (subst (λ v. RunsValue env false value v Inside) (sym (e ∙ append-nil front)) (value_stops here))
-      refl
-  at_branch (passes {front = front} here (moved branch_true run q) small e) =
-      holds here run (omega arith) (e ∙ ap (λ v. front ++ v) q)
-  at_branch (passes {front = front} here (moved branch_false run q) small e) =
-      fails here run (omega arith) (e ∙ ap (λ v. front ++ v) q)
+  shown_passes : {key : BlockId} {span : Option Span} {handler : Option BlockId} {value : Value} {value_end : ValueEnd}
+      {used : List BlockId} {last : Terminal} {events : List Event} {end : End} (flat : Bool) (around : Option Span)
+      (shown_value : Value) → SpellsValue hir env key (part_context span handler) value value_end used
+      → shown_value ≡ shown flat around value_end value → value_end.last ≡ last
+      → (run : GraphRunAt hir env key events end)
+      → Passes hir env handler (RunsValue env false shown_value) value_end.left_open
+      (AtLast hir env last (size_at run)) (size_at run) events end
+  shown_passes flat around shown_value d e last run =
+      ends_in last (pass_behind [] (λ events progress here.
+      subst (λ v. RunsValue env false v events progress) (sym e) (runs-shown flat around d here))
+      (value_passes (size_at run) d run (omega arith)))
 
   -- a run from a value that goes on at a block
-  pub passes_going : {flat : Bool} {key next : BlockId} {context : ValueContext} {value : Value} {used : List BlockId}
-      {events : List Event} {end : End} → SpellsGoing hir env flat key context next value used
-      → (run : GraphRunAt hir env key events end) → Goes hir env value next (size_at run) events end
-  passes_going {flat} {context = context} {value} d run =
-      at_goto (shown_passes flat context.around value d.spelled d.is_shown d.goes run)
+  pub passes_going : {flat : Bool} {key next : BlockId} {span : Option Span} {handler : Option BlockId} {value : Value}
+      {used : List BlockId} {events : List Event} {end : End}
+      → SpellsGoing hir env flat key (part_context span handler) next value used
+      → (run : GraphRunAt hir env key events end) → Goes hir env handler value next (size_at run) events end
+  passes_going {flat} {span = span} {value = value} d run =
+      at_goto (nothing_left d.spelled refl) (shown_passes flat span value d.spelled d.is_shown d.goes.goes run)
 
   -- a run from a test
-  pub passes_test : {flat : Bool} {key consequent alternate : BlockId} {context : ValueContext} {value : Value}
-      {used : List BlockId} {events : List Event} {end : End}
-      → SpellsTest hir env flat key context consequent alternate value used
+  pub passes_test : {flat : Bool} {key consequent alternate : BlockId} {span : Option Span} {handler : Option BlockId}
+      {value : Value} {used : List BlockId} {events : List Event} {end : End}
+      → SpellsTest hir env flat key (part_context span handler) consequent alternate value used
       → (run : GraphRunAt hir env key events end)
-      → Chooses hir env value consequent alternate (size_at run) events end
-  passes_test {flat} {context = context} {value} d run =
-      at_branch (shown_passes flat context.around value d.spelled d.is_shown d.chooses run)
+      → Chooses hir env handler value consequent alternate (size_at run) events end
+  passes_test {flat} {span = span} {value = value} d run =
+      at_branch (nothing_left d.spelled refl) (shown_passes flat span value d.spelled d.is_shown d.chooses.chooses run)

@@ -12,7 +12,7 @@ use Rattle.rc_runs.specs.BodyRun.{Completion, Normal, BreakTo, BreakLoop, Contin
 use Rattle.rc_runs.specs.BodyRun.{RunsList, stopped, nothing, and_then, RunsAfter, goes_on, leaves_list, RunsStatement}
 use Rattle.rc_runs.specs.BodyRun.{returned, thrown, break_implicit, break_labeled, break_unlabeled}
 use Rattle.rc_runs.specs.BodyRun.{continue_implicit, continue_labeled, continue_unlabeled, took_arm, took_other}
-use Rattle.rc_runs.specs.BodyRun.{in_label, in_scope, in_pruned_scope, RunsAlternate, present}
+use Rattle.rc_runs.specs.BodyRun.{in_label, in_try, in_handler, in_scope, in_pruned_scope, RunsAlternate, present}
 use Rattle.rc_runs.proofs.LabelLemmas.{NameAlike, caught-alike}
 use Rattle.rc_runs.proofs.PlainLists.{alone, labeled, append}
 
@@ -243,6 +243,19 @@ module _ (env : Environment) where
       inside events outcome (in_label {inner = inner} r q) =
           in_label (keeps events inner r) (q ∙ caught-alike label label' alike inner)
 
+  -- a try is left, and its handler reached, by how the protected block completes, which stays
+  pub try-keeps_runs : (binding : Option Place) (id : EvaluationOrder) (from to handler handler' : Statements)
+      (label label' : Option ReactiveLabel) → KeepsRuns from to → KeepsRuns handler handler' →
+      NameAlike label label' →
+      KeepsRuns (labeled (Try from binding handler id) label) (labeled (Try to binding handler' id) label')
+  try-keeps_runs binding id from to handler handler' label label' keeps keeps' alike = statement-keeps_runs _ _ inside
+    where
+      inside : TerminalKeepsRuns (Try from binding handler id) label (Try to binding handler' id) label'
+      inside events outcome (in_try {inner = inner} r stays q) =
+          in_try (keeps events inner r) stays (q ∙ caught-alike label label' alike inner)
+      inside events outcome (in_handler {inner = inner} r reaches later q e) =
+          in_handler (keeps _ _ r) reaches (keeps' _ inner later) (q ∙ caught-alike label label' alike inner) e
+
   -- the label catches no completion of the list
   abbrev pub CatchesNothing : Option ReactiveLabel → Statements → Type 0
   CatchesNothing label body = AreAmong (RunsList env body) (λ events outcome. caught label outcome ≡ outcome)
@@ -262,11 +275,3 @@ module _ (env : Environment) where
   keeps_runs-flat id label from body keeps catches events outcome r =
       let inside = keeps events outcome r in
       as_list outcome (in_label inside (sym (catches events outcome inside)))
-
-  -- a try has no runs
-  pub try-keeps_runs : (body : Statements) (binding : Option Place) (handler : Statements) (id : EvaluationOrder)
-      (label : Option ReactiveLabel) (to : Statements) → KeepsRuns (labeled (Try body binding handler id) label) to
-  try-keeps_runs body binding handler id label to = from_statement _ to inside
-    where
-      inside : AreAmong (RunsStatement env (TerminalStatement (Try body binding handler id) label)) (RunsList env to)
-      inside events outcome r = elim r [ ]

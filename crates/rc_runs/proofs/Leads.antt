@@ -1,14 +1,15 @@
 -- Where a run of the graph leads that begins at a part of the tree.
 --
--- Such a run either stays in the part to its end, or leaves it with a completion, goes to the block at which the
--- completion aims, and continues from there: this is `Leads`. `Below` is the claim for smaller runs. If a part needs
--- other smaller runs than those of lists, these are a further field of it.
+-- Such a run stays in the part to its end; or it leaves it with a completion, goes to the block at which the completion
+-- aims, and continues from there; or it throws in the part, and continues from the current handler: this is `Leads`.
+-- `Below` is the claim for smaller runs. If a part needs other smaller runs than those of lists, these are a further
+-- field of it.
 use Rattle.std.proofs.Common.{◌≡◌, ℕ, suc, ◌<◌, List, [], ◌∷◌, ◌++◌, Option, refl, sym, ap, ◌∙◌, subst, append_assoc}
 use Rattle.std.proofs.Common.{append-nil, arith, ◌⊎◌, inl, inr, true}
 use Rattle.rc_names.specs.Numbers.{BlockId}
 use Rattle.rc_hir.specs.Model.{Terminal, Instruction, HirFunction, Environment}
 use Rattle.rc_tree.specs.Model.{ReactiveLabel}
-use Rattle.rc_runs.specs.Event.{Event, Did, End}
+use Rattle.rc_runs.specs.Event.{Event, Did, End, Open}
 use Rattle.rc_runs.specs.GraphRun.{GraphRunAt, GraphRun, stopped, quiet, did, moved, returned, thrown}
 use Rattle.rc_runs.specs.PlainTree.{Statements, Nil, Cons, Statement}
 use Rattle.rc_runs.specs.ListContext.{ListContext}
@@ -22,7 +23,9 @@ use Rattle.rc_runs.proofs.FramesLemmas.{Fits, Aims, leaving, caught-ended, by_le
 use Rattle.rc_runs.proofs.JumpsLemmas.{Jumps, falls_off, breaks_implicit, breaks_labeled, breaks_unlabeled}
 use Rattle.rc_runs.proofs.JumpsLemmas.{continues_implicit, continues_labeled, continues_unlabeled}
 use Rattle.rc_runs.proofs.RunSize.{size, size_at}
-use Rattle.rc_runs.proofs.GraphToValue.{quiet_row, did_row}
+use Rattle.rc_runs.proofs.RowRuns.{quiet_row, did_row}
+use Rattle.rc_runs.proofs.HandlerLemmas.{can_end}
+use Rattle.rc_runs.proofs.Throws.{Throws, throw_behind, throw_under, throw_room}
 
 -- the runs of a part of a tree
 abbrev pub Runs : Type 1
@@ -30,12 +33,14 @@ Runs = List Event → Completion → Type 0
 
 module _ (hir : HirFunction) (env : Environment) where
   -- a run of the graph begins at a part of the tree that has the runs `R`: it ends there, or goes out of the part to a
-  -- block and on from there
+  -- block and on from there, or goes to the handler wherever a run of the part has come
   pub data Leads (context : ListContext) (bound : ℕ) (R : Runs) (events : List Event) (end : End) : Type 0 where
-    ends : R events (Ended end) → Leads context bound R events end
+    ends : R events (Ended end) → can_end end context.handler ≡ true → Leads context bound R events end
     leads : {front back : List Event} {outcome : Completion} {key : BlockId} → R front outcome
         → Aims context outcome key →
         (run : GraphRunAt hir env key back end) → size_at run < bound → events ≡ front ++ back
+        → Leads context bound R events end
+    to_handler : Throws hir env context.handler (λ events. R events (Ended Open)) bound events end
         → Leads context bound R events end
 
   -- the claim for runs with fewer rows and edges
@@ -54,8 +59,9 @@ module _ (hir : HirFunction) (env : Environment) where
 module _ {hir : HirFunction} {env : Environment} {context : ListContext} {bound : ℕ} where
   pub more_room : {R : Runs} {events : List Event} {end : End} → Leads hir env context bound R events end
       → Leads hir env context (suc bound) R events end
-  more_room (ends here) = ends here
+  more_room (ends here can) = ends here can
   more_room (leads here aim run small e) = leads here aim run (omega arith) e
+  more_room (to_handler t) = to_handler (throw_room (omega arith) t)
 
   -- the same with equal events
   pub lead_events : {R : Runs} {events all : List Event} {end : End} → all ≡ events
@@ -66,20 +72,26 @@ module _ {hir : HirFunction} {env : Environment} {context : ListContext} {bound 
   pub lead_behind : {R S : Runs} {events : List Event} {end : End} (before : List Event) →
       ((events : List Event) (outcome : Completion) → R events outcome → S (before ++ events) outcome) →
       Leads hir env context bound R events end → Leads hir env context bound S (before ++ events) end
-  lead_behind {events = events} {end} before put (ends here) = ends (put events (Ended end) here)
+  lead_behind {events = events} {end} before put (ends here can) = ends (put events (Ended end) here) can
   lead_behind before put (leads {front = front} {back} {outcome} here aim run small e) =
       leads (put front outcome here) aim run small (ap (λ v. before ++ v) e ∙ sym (append_assoc before front back))
+  lead_behind before put (to_handler t) =
+      to_handler (throw_behind before (λ events here. put events (Ended Open) here) t)
 
-  -- the part is in a statement with that label
+  -- the part is in a statement with that label, which changes no handler
   pub lead_out : {within : ListContext} {R S : Runs} {events : List Event} {end : End} (name : Option ReactiveLabel)
-      (before : List Event) →
+      (before : List Event) → within.handler ≡ context.handler →
       ((outcome : Completion) (key : BlockId) → Aims within outcome key → Aims context (caught name outcome) key) →
       ((events : List Event) (inner outer : Completion) → R events inner → outer ≡ caught name inner
       → S (before ++ events) outer) →
       Leads hir env within bound R events end → Leads hir env context bound S (before ++ events) end
-  lead_out {events = events} {end} name before aims put (ends here) =
+  lead_out {events = events} {end} name before same aims put (ends here can) =
       ends (put events (Ended end) (Ended end) here (sym (caught-ended name end)))
-  lead_out name before aims put (leads {front = front} {back} {outcome} {key} here aim run small e) =
+      (sym (ap (can_end end) same) ∙ can)
+  lead_out name before same aims put (to_handler t) =
+      to_handler (throw_under same (throw_behind before
+      (λ events here. put events (Ended Open) (Ended Open) here (sym (caught-ended name Open))) t))
+  lead_out name before same aims put (leads {front = front} {back} {outcome} {key} here aim run small e) =
       leads (put front outcome (caught name outcome) here refl) (aims outcome key aim) run small
       (ap (λ v. before ++ v) e ∙ sym (append_assoc before front back))
 
@@ -90,7 +102,7 @@ module _ {hir : HirFunction} {env : Environment} {context : ListContext} {bound 
       Leads hir env context bound (RunsList env rest) events end) →
       Leads hir env context bound (RunsList env (rows_before rows rest)) events end
   unfolding size
-  rows_lead stopped small go = ends stops
+  rows_lead stopped small go = ends stops refl
   rows_lead (quiet h run) small go =
       lead_behind [] (λ events outcome after. and_then (row (quiet_row h) refl) (goes_on after) refl)
       (rows_lead run (omega arith) go)
@@ -122,7 +134,9 @@ module _ {hir : HirFunction} {env : Environment} {context : ListContext} {bound 
   pub alone_leads : {statement : Statement} {events : List Event} {end : End}
       → Leads hir env context bound (RunsStatement env statement) events end
       → Leads hir env context bound (RunsList env (Cons statement Nil)) events end
-  alone_leads {events = events} (ends here) = ends (and_then here (leaves_list refl) (sym (append-nil events)))
+  alone_leads {events = events} (ends here can) = ends (and_then here (leaves_list refl) (sym (append-nil events))) can
+  alone_leads (to_handler t) =
+      to_handler (throw_behind [] (λ events here. and_then here (leaves_list refl) (sym (append-nil events))) t)
   alone_leads {statement} {events} {end} (leads {front = front} {outcome = outcome} {key} here aim run small e) =
       go (by_leaves outcome)
     where

@@ -1,5 +1,6 @@
 pub mod AllLemmas
 pub mod AnyLemmas
+pub mod NoThrow
 pub mod GraphLemmas
 pub mod FramesLemmas
 pub mod JumpsLemmas
@@ -7,19 +8,34 @@ pub mod RowsLemmas
 pub mod SetIds
 pub mod LastRowLemmas
 pub mod FlattenedRuns
+pub mod OneArm
+pub mod OneValue
+pub mod ShortArmLemmas
 pub mod Covers
+pub mod ValueRowsToGraph
+pub mod SilentArmToGraph
+pub mod NestedToGraph
+pub mod NestedRowToGraph
 pub mod ValueToGraph
 pub mod AliveBlocks
 pub mod AfterParts
+pub mod RowToGraph
 pub mod JumpToGraph
+pub mod TryToGraph
 pub mod KeptCases
 pub mod CasesToGraph
 pub mod LoopToGraph
 pub mod TreeOfLemmas
 pub mod EveryBlockIsPlain
-pub mod OneValue
 pub mod OneTree
 pub mod RunSize
+pub mod RowRuns
+pub mod ShortEnds
+pub mod HandlerLemmas
+pub mod Throws
+pub mod GraphToSilentArm
+pub mod Passes
+pub mod GraphToNested
 pub mod GraphToValue
 pub mod Leads
 pub mod GraphToLoop
@@ -47,3 +63,5 @@ pub mod ErasedTreeLemmas
 mod ErasedValueRuns
 pub mod ErasedRuns
 mod Examples
+mod ValueExamples
+mod TryExamples

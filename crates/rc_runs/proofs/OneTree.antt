@@ -2,7 +2,8 @@
 --
 -- Two derivations with the same graph and context are compared. A terminal adds one case of `one_statement`, or of
 -- `one_terminal` if it ends its list.
-use Rattle.std.proofs.Common.{◌≡◌, List, ◌∷◌, Option, Some, Bool, true, ◌||◌, refl, sym, ap, ◌∙◌, subst}
+use Rattle.std.proofs.Common.{◌≡◌, List, ◌∷◌, ◌++◌, Option, None, Some, Bool, true, false, ◌||◌, refl, sym, ap, ◌∙◌}
+use Rattle.std.proofs.Common.{subst}
 use Rattle.rc_names.specs.Numbers.{BlockId}
 use Rattle.rc_hir.specs.Model.{Case, Terminal, HirFunction, Environment}
 use Rattle.rc_tree.specs.Model.{ReactiveFunction}
@@ -10,20 +11,25 @@ use Rattle.rc_runs.specs.declared.frames.Frame.{Frame}
 use Rattle.rc_runs.specs.declared.frames.Frame.TheVariants as frame_kinds
 use Rattle.rc_runs.specs.Graph.{Block}
 use Rattle.rc_runs.specs.Frames.{is_jump_target}
-use Rattle.rc_runs.specs.PlainTree.{Value, Statements, Statement, TerminalStatement, While, DoWhile, ForIn, Cases}
+use Rattle.rc_runs.specs.PlainTree.{Value, Statements, Statement, RowStatement, TerminalStatement, While, DoWhile, ForIn}
+use Rattle.rc_runs.specs.PlainTree.{Cases}
 use Rattle.rc_runs.specs.TreeOf.{block_of}
-use Rattle.rc_runs.specs.ListContext.{ListContext, inside}
+use Rattle.rc_runs.specs.ListContext.{ListContext, inside, protected_by}
 use Rattle.rc_runs.specs.LoopParts.{LoopBlocks, LoopParts}
 use Rattle.rc_runs.specs.SwitchCases.{kept_cases}
-use Rattle.rc_runs.specs.Grammar.{label_of, SpellsBefore, no_value, some_value, SpellsList, SpellsTerminal}
+use Rattle.rc_runs.specs.ValueGrammar.{Nested, SpellsShortArm, SpellsNested, sequence_value, ternary_value, logical_value}
+use Rattle.rc_runs.specs.ValueGrammar.{optional_value}
+use Rattle.rc_runs.specs.Grammar.{opens, label_of, SpellsBefore, no_value, some_value, SpellsList, SpellsTerminal}
 use Rattle.rc_runs.specs.Grammar.{SpellsStatement, SpellsCases, SpellsTurns, SpellsRest, from_block, returns, throws}
-use Rattle.rc_runs.specs.Grammar.{unreachable, breaks, continues, branch_arms, branch_break, and_rest, if_only, if_else}
-use Rattle.rc_runs.specs.Grammar.{label_statement, scope_statement, pruned_scope_statement, switch_statement}
-use Rattle.rc_runs.specs.Grammar.{while_loop, do_while_loop, for_loop, for_of_loop, for_in_loop, no_cases, one_case}
-use Rattle.rc_runs.specs.Grammar.{turns, no_rest, has_rest}
+use Rattle.rc_runs.specs.Grammar.{unreachable, breaks, continues, leaves_try, may_throw_last, may_throw, branch_arms}
+use Rattle.rc_runs.specs.Grammar.{branch_break, and_rest, if_only, if_else, label_statement, try_statement}
+use Rattle.rc_runs.specs.Grammar.{scope_statement, pruned_scope_statement, switch_statement, while_loop, do_while_loop}
+use Rattle.rc_runs.specs.Grammar.{for_loop, for_of_loop, for_in_loop, no_cases, one_case, value_statement, turns}
+use Rattle.rc_runs.specs.Grammar.{no_rest, has_rest}
 use Rattle.rc_runs.specs.Spelled.{with_header, SpellsBody, Spells}
 use Rattle.rc_runs.proofs.GraphLemmas.{one_held}
-use Rattle.rc_runs.proofs.OneValue.{one_going, one_test}
+use Rattle.rc_runs.proofs.OneArm.{one_short_arm}
+use Rattle.rc_runs.proofs.OneValue.{one_nested, one_going, one_test}
 
 -- the same part and the same used blocks
 abbrev pub Same : {A : Type 0} → A → List BlockId → A → List BlockId → Type 0
@@ -35,6 +41,19 @@ same_parts a b before test body =
     ap (λ (v : Option Value). record { before = v; test = a.test; body = a.body }) before
     ∙ ap (λ (v : Value). record { before = b.before; test = v; body = a.body }) test
     ∙ ap (λ (v : Statements). record { before = b.before; test = b.test; body = v }) body
+
+-- a statement that is the row of a value terminal
+record IsRow (hir : HirFunction) (env : Environment) (terminal : Terminal) (context : ListContext) (opened : Bool)
+    (fallthrough : BlockId) (statement : Statement) (used : List BlockId) : Type 0 where
+  nested : Nested
+  nested_used : List BlockId
+  arm_used : List BlockId
+  spelled : SpellsNested hir env context.handler terminal nested nested_used
+  arm : SpellsShortArm hir env context.handler nested.fallthrough false nested.short None None arm_used
+  is_opened : opened ≡ opens context.frames nested.fallthrough
+  falls : fallthrough ≡ nested.fallthrough
+  row : statement ≡ RowStatement nested.id (Some nested.answer) nested.value nested.span
+  whole : used ≡ nested_used ++ arm_used
 
 module _ {hir : HirFunction} {env : Environment} where
   -- a terminal's derivation at an equal block
@@ -48,6 +67,14 @@ module _ {hir : HirFunction} {env : Environment} where
       → SpellsList hir env key (inside a frame context) part used
   part_at {key} {part} {used} frame context a b e d =
       subst (λ v. SpellsList hir env key (inside v frame context) part used) e d
+
+  -- the same for a part that a handler protects
+  pub protected_at : {key : BlockId} {part : Statements} {used : List BlockId} (handler : BlockId) (frame : Frame)
+      (context : ListContext) (a b : Bool) → b ≡ a
+      → SpellsList hir env key (protected_by handler (inside b frame context)) part used
+      → SpellsList hir env key (protected_by handler (inside a frame context)) part used
+  protected_at {key} {part} {used} handler frame context a b e d =
+      subst (λ v. SpellsList hir env key (protected_by handler (inside v frame context)) part used) e d
 
   -- the derivation of the rest, for an equal fallthrough that is equally opened
   pub rest_at : {f g : BlockId} {context : ListContext} {rest : Statements} {used : List BlockId} {a b : Bool} → g ≡ f
@@ -63,6 +90,52 @@ module _ {hir : HirFunction} {env : Environment} where
   cases_at {parts} {used} frame context kept other a b k e d =
       subst (λ cases. SpellsCases hir env cases (inside a frame context) parts used) k
       (subst (λ v. SpellsCases hir env other (inside v frame context) parts used) e d)
+
+  -- the row of a value terminal
+  a_row : {terminal : Terminal} {context : ListContext} {opened : Bool} {nested : Nested}
+      {nested_used arm_used used : List BlockId} → opened ≡ opens context.frames nested.fallthrough
+      → SpellsNested hir env context.handler terminal nested nested_used
+      → SpellsShortArm hir env context.handler nested.fallthrough false nested.short None None arm_used
+      → used ≡ nested_used ++ arm_used
+      → IsRow hir env terminal context opened nested.fallthrough
+      (RowStatement nested.id (Some nested.answer) nested.value nested.span) used
+  a_row {nested = nested} {nested_used} {arm_used} i n a u = record {
+    nested = nested;
+    nested_used = nested_used;
+    arm_used = arm_used;
+    spelled = n;
+    arm = a;
+    is_opened = i;
+    falls = refl;
+    row = refl;
+    whole = u;
+  }
+
+  -- the statement of a value terminal is its row
+  row_of : {terminal : Terminal} {context : ListContext} {opened : Bool} {fallthrough : BlockId} {statement : Statement}
+      {used value_used : List BlockId} {handler : Option BlockId} {nested : Nested}
+      → SpellsNested hir env handler terminal nested value_used
+      → SpellsStatement hir env terminal context opened fallthrough statement used
+      → IsRow hir env terminal context opened fallthrough statement used
+  row_of (sequence_value d g) (value_statement i j n a u) = a_row i n a u
+  row_of (ternary_value t c d g e h w) (value_statement i j n a u) = a_row i n a u
+  row_of (logical_value t c d s e h w) (value_statement i j n a u) = a_row i n a u
+  row_of (optional_value t c s d g w) (value_statement i j n a u) = a_row i n a u
+
+  one_row : {terminal : Terminal} {context : ListContext} {o p : Bool} {f g : BlockId} {s t : Statement}
+      {u v : List BlockId} → IsRow hir env terminal context o f s u → IsRow hir env terminal context p g t v
+      → (o ≡ p) × (f ≡ g) × (s ≡ t) × (u ≡ v)
+  one_row {context = context} a b =
+      let same = one_nested a.spelled b.spelled in
+      let back : b.nested ≡ a.nested = sym same.0 in
+      let arm = one_short_arm a.arm
+      (subst (λ (n : Nested). SpellsShortArm hir env context.handler n.fallthrough false n.short None None b.arm_used)
+      back b.arm) in (
+        a.is_opened ∙ ap (λ (n : Nested). opens context.frames n.fallthrough) same.0 ∙ sym b.is_opened,
+        a.falls ∙ ap (λ (n : Nested). n.fallthrough) same.0 ∙ sym b.falls,
+        a.row ∙ ap (λ (n : Nested). RowStatement n.id (Some n.answer) n.value n.span) same.0 ∙ sym b.row,
+        a.whole ∙ ap (λ used. used ++ a.arm_used) same.1 ∙ ap (λ used. b.nested_used ++ used) arm.1 ∙ sym b.whole,
+      )
 
   -- the value before the test of a loop
   pub one_before : {blocks : LoopBlocks} {context : ListContext} {key : Option BlockId} {v w : Option Value}
@@ -86,6 +159,11 @@ module _ {hir : HirFunction} {env : Environment} where
     one_terminal unreachable unreachable = (refl, refl)
     one_terminal (breaks e) (breaks f) = (one_held f e, refl)
     one_terminal (continues e) (continues f) = (one_held f e, refl)
+    one_terminal (leaves_try n) (leaves_try n') = (refl, refl)
+    one_terminal (may_throw_last h n) (may_throw_last h' n') = (refl, refl)
+    one_terminal (may_throw h n d) (may_throw h' n' d') = one_list d d'
+    one_terminal (may_throw_last h n) (may_throw h' n' d) = absurd (let bad : ⊥ = cc in bad)
+    one_terminal (may_throw h n d) (may_throw_last h' n') = absurd (let bad : ⊥ = cc in bad)
     one_terminal (branch_arms d e w) (branch_arms d' e' w') =
         let h = one_list d d' in
         let k = one_list e e' in
@@ -96,20 +174,26 @@ module _ {hir : HirFunction} {env : Environment} where
         (cc, k.1)
     one_terminal (branch_arms (from_block f live d w) e v) (branch_break t b e') = absurd (let bad : ⊥ = cc in bad)
     one_terminal (branch_break t b e') (branch_arms (from_block f live d w) e v) = absurd (let bad : ⊥ = cc in bad)
-    one_terminal returns (and_rest d r w) = elim d [ ]
-    one_terminal (throws h) (and_rest d r w) = elim d [ ]
-    one_terminal unreachable (and_rest d r w) = elim d [ ]
-    one_terminal (breaks e) (and_rest d r w) = elim d [ ]
-    one_terminal (continues e) (and_rest d r w) = elim d [ ]
-    one_terminal (branch_arms x y z) (and_rest d r w) = elim d [ ]
-    one_terminal (branch_break x y z) (and_rest d r w) = elim d [ ]
-    one_terminal (and_rest d r w) returns = elim d [ ]
-    one_terminal (and_rest d r w) (throws h) = elim d [ ]
-    one_terminal (and_rest d r w) unreachable = elim d [ ]
-    one_terminal (and_rest d r w) (breaks e) = elim d [ ]
-    one_terminal (and_rest d r w) (continues e) = elim d [ ]
-    one_terminal (and_rest d r w) (branch_arms x y z) = elim d [ ]
-    one_terminal (and_rest d r w) (branch_break x y z) = elim d [ ]
+    one_terminal returns (and_rest (value_statement i j n a v) r w) = elim n [ ]
+    one_terminal (throws h) (and_rest (value_statement i j n a v) r w) = elim n [ ]
+    one_terminal unreachable (and_rest (value_statement i j n a v) r w) = elim n [ ]
+    one_terminal (breaks e) (and_rest (value_statement i j n a v) r w) = elim n [ ]
+    one_terminal (continues e) (and_rest (value_statement i j n a v) r w) = elim n [ ]
+    one_terminal (leaves_try h) (and_rest (value_statement i j n a v) r w) = elim n [ ]
+    one_terminal (may_throw_last x y) (and_rest (value_statement i j n a v) r w) = elim n [ ]
+    one_terminal (may_throw x y z) (and_rest (value_statement i j n a v) r w) = elim n [ ]
+    one_terminal (branch_arms x y z) (and_rest (value_statement i j n a v) r w) = elim n [ ]
+    one_terminal (branch_break x y z) (and_rest (value_statement i j n a v) r w) = elim n [ ]
+    one_terminal (and_rest (value_statement i j n a v) r w) returns = elim n [ ]
+    one_terminal (and_rest (value_statement i j n a v) r w) (throws h) = elim n [ ]
+    one_terminal (and_rest (value_statement i j n a v) r w) unreachable = elim n [ ]
+    one_terminal (and_rest (value_statement i j n a v) r w) (breaks e) = elim n [ ]
+    one_terminal (and_rest (value_statement i j n a v) r w) (continues e) = elim n [ ]
+    one_terminal (and_rest (value_statement i j n a v) r w) (leaves_try h) = elim n [ ]
+    one_terminal (and_rest (value_statement i j n a v) r w) (may_throw_last x y) = elim n [ ]
+    one_terminal (and_rest (value_statement i j n a v) r w) (may_throw x y z) = elim n [ ]
+    one_terminal (and_rest (value_statement i j n a v) r w) (branch_arms x y z) = elim n [ ]
+    one_terminal (and_rest (value_statement i j n a v) r w) (branch_break x y z) = elim n [ ]
     one_terminal (and_rest d r w) (and_rest d' r' w') =
         let h = one_statement d d' in
         let k = one_rest r (rest_at (sym h.1) (sym h.0) r') in
@@ -119,6 +203,8 @@ module _ {hir : HirFunction} {env : Environment} where
     pub one_statement : {terminal : Terminal} {context : ListContext} {o p : Bool} {f g : BlockId} {s t : Statement}
         {u v : List BlockId} → SpellsStatement hir env terminal context o f s u
         → SpellsStatement hir env terminal context p g t v → (o ≡ p) × (f ≡ g) × (s ≡ t) × (u ≡ v)
+    one_statement (value_statement i j n a u) d = one_row (a_row i n a u) (row_of n d)
+    one_statement d (value_statement i j n a u) = one_row (row_of n d) (a_row i n a u)
     one_statement (if_only {fallthrough = f} {context = around} {opened = o} i l x y d)
         (if_only {opened = p} i' l' x' y' d') =
         let same : p ≡ o = i' ∙ sym i in
@@ -137,6 +223,12 @@ module _ {hir : HirFunction} {env : Environment} where
         let same : p ≡ o = i' ∙ sym i in
         let h = one_list d (part_at (frame_kinds.Statement f) around o p same d') in
         (sym same, refl, cc, h.1)
+    one_statement (try_statement {handler = handler} {fallthrough = f} {context = around} {opened = o} i l d a w)
+        (try_statement {opened = p} i' l' d' a' w') =
+        let same : p ≡ o = i' ∙ sym i in
+        let h = one_list d (protected_at handler (frame_kinds.Statement f) around o p same d') in
+        let k = one_list a (part_at (frame_kinds.Statement f) around o p same a') in
+        (sym same, refl, cc, cc)
     one_statement (scope_statement {fallthrough = f} {context = around} {opened = o} i d)
         (scope_statement {opened = p} i' d') =
         let same : p ≡ o = i' ∙ sym i in

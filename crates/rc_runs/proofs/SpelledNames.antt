@@ -14,10 +14,11 @@ use Rattle.rc_runs.specs.LoopParts.{LoopBlocks, LoopParts}
 use Rattle.rc_runs.specs.SwitchCases.{is_kept, kept_cases}
 use Rattle.rc_runs.specs.Grammar.{SpellsList, SpellsRest, SpellsStatement, SpellsTerminal, SpellsCases, SpellsTurns}
 use Rattle.rc_runs.specs.Grammar.{break_statements, continue_statements, rows_before, unlabeled, from_block, returns}
-use Rattle.rc_runs.specs.Grammar.{throws, unreachable, breaks, continues, branch_arms, branch_break, and_rest, if_only}
-use Rattle.rc_runs.specs.Grammar.{if_else, label_statement, scope_statement, pruned_scope_statement, switch_statement}
-use Rattle.rc_runs.specs.Grammar.{while_loop, do_while_loop, for_loop, for_of_loop, for_in_loop, no_cases, one_case}
-use Rattle.rc_runs.specs.Grammar.{turns, no_rest, has_rest}
+use Rattle.rc_runs.specs.Grammar.{throws, unreachable, breaks, continues, leaves_try, may_throw_last, may_throw}
+use Rattle.rc_runs.specs.Grammar.{branch_arms, branch_break, and_rest, if_only, if_else, label_statement, try_statement}
+use Rattle.rc_runs.specs.Grammar.{scope_statement, pruned_scope_statement, switch_statement, while_loop, do_while_loop}
+use Rattle.rc_runs.specs.Grammar.{for_loop, for_of_loop, for_in_loop, no_cases, one_case, value_statement, turns}
+use Rattle.rc_runs.specs.Grammar.{no_rest, has_rest}
 use Rattle.rc_runs.specs.PlainTree.{Statement, Statements, Nil, Break, Continue, Cases}
 use Rattle.rc_runs.specs.Spelled.{Spells}
 use Rattle.rc_runs.specs.Frames.{resolve_break, resolve_continue}
@@ -26,10 +27,10 @@ use Rattle.rc_runs.specs.declared.frames.BreakResult.TheVariants.{NoFrame, Leave
 use Rattle.rc_runs.specs.declared.frames.ContinueResult.{ContinueResult}
 use Rattle.rc_runs.specs.declared.frames.ContinueResult.TheVariants.{NoLoop, Continues}
 use Rattle.rc_runs.proofs.AllLemmas.{All-left, All-right}
-use Rattle.rc_runs.proofs.BlockNames.{InTable, Held, RowsHeld, InGraph, HeldByGraph, place_held, case_held, scope_held}
-use Rattle.rc_runs.proofs.BlockNames.{usable_block_held}
+use Rattle.rc_runs.proofs.BlockNames.{InTable, Held, RowsHeld, InGraph, HeldByGraph, place_held, option_place_held}
+use Rattle.rc_runs.proofs.BlockNames.{case_held, scope_held, usable_block_held}
 use Rattle.rc_runs.proofs.PlainNames.{HeldValue, HeldOption, HeldStatements, HeldStatement, HeldCases, block_held}
-use Rattle.rc_runs.proofs.SpelledValueNames.{going_held, test_held, before_held}
+use Rattle.rc_runs.proofs.SpelledValueNames.{nested_value_held, going_held, test_held, before_held}
 
 module _ (env : Environment) where
   -- rows, and the statements after them
@@ -100,6 +101,9 @@ module _ (hir : HirFunction) (env : Environment) (named : FunctionInTables env h
         break_held env (resolve_break around.frames target) target id statements e
     terminal_held held (continues {target = target} {id = id} {context = around} {statements = statements} e) =
         continue_held env (resolve_continue around.frames target) id statements e
+    terminal_held held (leaves_try next) = tt
+    terminal_held held (may_throw_last current next) = tt
+    terminal_held held (may_throw current next d) = list_held d
     terminal_held held (branch_arms {test = test} d other e) =
         ((place_held hir env test held, list_held d, list_held other), tt)
     terminal_held held (branch_break {test = test} {consequent = consequent} {id = id} {context = around}
@@ -115,6 +119,8 @@ module _ (hir : HirFunction) (env : Environment) (named : FunctionInTables env h
     statement_held held (if_else {test = test} o l same d other e) =
         (place_held hir env test held, list_held d, list_held other)
     statement_held held (label_statement o l d) = list_held d
+    statement_held held (try_statement {binding = binding} o l d other e) =
+        (list_held d, option_place_held hir env binding held, list_held other)
     statement_held held (scope_statement {scope = scope} o d) = (scope_held hir env scope held, list_held d)
     statement_held held (pruned_scope_statement {scope = scope} o d) = (scope_held hir env scope held, list_held d)
     statement_held held (switch_statement {test = test} {cases = cases} o l one past kept_are default d) =
@@ -131,6 +137,8 @@ module _ (hir : HirFunction) (env : Environment) (named : FunctionInTables env h
     statement_held held (for_of_loop before d) =
         let parts = turns_held d in (subst (HeldOption env) before parts.0, parts.1, parts.2)
     statement_held held (for_in_loop d) = let parts = turns_held d in (parts.1, parts.2)
+    statement_held held (value_statement opened reached d arm e) =
+        let own = nested_value_held hir env named d in (own.1, own.0)
 
     cases_held : {cases : List GraphCase} {context : ListContext} {parts : Cases} {used : List BlockId} →
         CasesHeld hir env cases → SpellsCases hir env cases context parts used → HeldCases env parts

@@ -7,7 +7,7 @@ use Rattle.rc_names.specs.declared.span.Span.{Span}
 use Rattle.rc_hir.specs.GraphNames.{place_names, terminal_names}
 use Rattle.rc_hir.specs.ValueNames.{value_names}
 use Rattle.rc_hir.specs.Names.{FunctionInTables}
-use Rattle.rc_hir.specs.Model.{Environment, HirFunction, Instruction, InstructionValue, Place}
+use Rattle.rc_hir.specs.Model.{Environment, HirFunction, Instruction, InstructionValue, Place, Terminal}
 use Rattle.rc_hir.specs.declared.instruction.InstructionValue.TheVariants as kinds
 use Rattle.rc_runs.specs.Silent.{is_unnamed}
 use Rattle.rc_runs.specs.PlainTree.{Value, Base, Logical, Conditional, Sequence, Optional, Rows, NoRows, Row}
@@ -15,7 +15,9 @@ use Rattle.rc_runs.specs.LastRow.{last_value, last_answer, rows_then, after_rows
 use Rattle.rc_runs.specs.Flattened.{rows_join, flat_rows, final_value, loads_own, final_row}
 use Rattle.rc_runs.specs.ListContext.{ListContext, ValueContext}
 use Rattle.rc_runs.specs.LoopParts.{LoopBlocks}
-use Rattle.rc_runs.specs.ValueGrammar.{ValueEnd, SpellsValue, named_test, last_block, shown, SpellsGoing, SpellsTest}
+use Rattle.rc_runs.specs.ValueGrammar.{ValueEnd, Nested, SpellsValue, named_test, last_block, last_throw, may_throw}
+use Rattle.rc_runs.specs.ValueGrammar.{value_row, SpellsNested, sequence_value, ternary_value, logical_value}
+use Rattle.rc_runs.specs.ValueGrammar.{optional_value, shown, SpellsGoing, SpellsTest}
 use Rattle.rc_runs.specs.Grammar.{SpellsBefore, no_value, some_value}
 use Rattle.rc_runs.proofs.AllLemmas.{All-left, All-right}
 use Rattle.rc_runs.proofs.BlockNames.{InTable, Held, RowsHeld, HeldByGraph, place_held, usable_block_held}
@@ -58,25 +60,30 @@ module _ (env : Environment) where
     All-nil (InTable env),
   )
 
-  -- the rows of a block before its last one, and the last one
-  front_held : (rows : List Instruction) (row : Instruction) → RowsHeld env (rows ++ row ∷ []) → (more : Rows) →
-      HeldRows env more → HeldRows env (rows_then rows more)
-  front_held [] row held more later = later
-  front_held (first ∷ rows) row held more later = (
+  -- the rows of a block as rows of a sequence, and then more of its rows
+  rows_then_held : (rows : List Instruction) → RowsHeld env rows → (more : Rows) → HeldRows env more →
+      HeldRows env (rows_then rows more)
+  rows_then_held [] held more later = later
+  rows_then_held (first ∷ rows) held more later = (
     All-left (InTable env) (place_names first.lvalue) (value_names first.value) held.0,
     All-right (InTable env) (place_names first.lvalue) (value_names first.value) held.0,
-    front_held rows row held.1 more later,
+    rows_then_held rows held.1 more later,
   )
+
+  -- the rows of a block before its last one, and the last one
+  front_held : (rows : List Instruction) (row : Instruction) → RowsHeld env (rows ++ row ∷ []) → RowsHeld env rows
+  front_held [] row held = tt
+  front_held (first ∷ rows) row held = (held.0, front_held rows row held.1)
 
   last_held : (rows : List Instruction) (row : Instruction) → RowsHeld env (rows ++ row ∷ []) →
       RowsHeld env (row ∷ [])
   last_held [] row held = held
   last_held (first ∷ rows) row held = last_held rows row held.1
 
-  after_rows_held : (rows : List Instruction) (row : Instruction) (id : EvaluationOrder) (value : Value) →
-      RowsHeld env (rows ++ row ∷ []) → HeldValue env value → HeldValue env (after_rows rows id value)
-  after_rows_held [] row id value held own = own
-  after_rows_held (first ∷ rows) row id value held own = (front_held (first ∷ rows) row held NoRows tt, own)
+  after_rows_held : (rows : List Instruction) (id : EvaluationOrder) (value : Value) → RowsHeld env rows →
+      HeldValue env value → HeldValue env (after_rows rows id value)
+  after_rows_held [] id value held own = own
+  after_rows_held (first ∷ rows) id value held own = (rows_then_held (first ∷ rows) held NoRows tt, own)
 
   -- the value of the last row, and its answer place
   last_value_held : (target : Place) (value : InstructionValue) → Held env (place_names target) →
@@ -94,21 +101,64 @@ module _ (env : Environment) where
       go false = (held, own)
   last_value_held target value own held = (held, own)
 
-module _ (hir : HirFunction) (env : Environment) (named : FunctionInTables env hir) where
-  spelled_value_held : {key : BlockId} {context : ValueContext} {value : Value} {end : ValueEnd}
-      {used : List BlockId} → SpellsValue hir env key context value end used →
-      HeldValue env value × Held env (place_names end.answer)
-  spelled_value_held (named_test {key = key} {block = b} {test = test} usable rows e) =
-      let here = usable_block_held hir env named key b usable in
-      let own = place_held hir env test (subst (λ t. HeldByGraph hir env (terminal_names t)) e here.1) in
-      (own, own)
-  spelled_value_held (last_block {key = key} {block = b} rows row usable ends e) =
-      let here = subst (RowsHeld env) e (usable_block_held hir env named key b usable).0 in
-      let last = (last_held env rows row here).0 in
-      let both = last_value_held env row.lvalue row.value
+  -- the value of a last block, and the place with which it answers
+  last_block_held : (rows : List Instruction) (row : Instruction) → RowsHeld env (rows ++ row ∷ []) →
+      HeldValue env (after_rows rows row.id (Base (last_value env row.value)))
+      × Held env (place_names (last_answer env row.lvalue row.value))
+  last_block_held rows row held =
+      let last = (last_held rows row held).0 in
+      let both = last_value_held row.lvalue row.value
       (All-left (InTable env) (place_names row.lvalue) (value_names row.value) last)
-      (All-right (InTable env) (place_names row.lvalue) (value_names row.value) last) in
-      (after_rows_held env rows row row.id (Base (last_value env row.value)) here both.0, both.1)
+      (All-right (InTable env) (place_names row.lvalue) (value_names row.value) last) in (
+        after_rows_held rows row.id (Base (last_value env row.value)) (front_held rows row held) both.0,
+        both.1,
+      )
+
+module _ (hir : HirFunction) (env : Environment) (named : FunctionInTables env hir) where
+  mutual
+    pub spelled_value_held : {key : BlockId} {context : ValueContext} {value : Value} {end : ValueEnd}
+        {used : List BlockId} → SpellsValue hir env key context value end used →
+        HeldValue env value × Held env (place_names end.answer)
+    spelled_value_held (named_test {key = key} {block = b} {test = test} usable rows e) =
+        let here = usable_block_held hir env named key b usable in
+        let own = place_held hir env test (subst (λ t. HeldByGraph hir env (terminal_names t)) e here.1) in
+        (own, own)
+    spelled_value_held (last_block {key = key} {block = b} rows row usable ends e) =
+        last_block_held env rows row (subst (RowsHeld env) e (usable_block_held hir env named key b usable).0)
+    spelled_value_held (last_throw {key = key} {block = b} rows row usable ends current e goes only) =
+        last_block_held env rows row (subst (RowsHeld env) e (usable_block_held hir env named key b usable).0)
+    spelled_value_held (may_throw {key = key} {block = b} {value = v} {end = end} usable ends current more behind
+        whole) =
+        let later = spelled_value_held behind in
+        let rows = (usable_block_held hir env named key b usable).0 in
+        (subst (HeldValue env) (sym whole) (after_rows_held env b.rows end.id v rows later.0), later.1)
+    spelled_value_held (value_row {key = key} {context = context} {block = b} {nested = n} {value = v} usable row behind
+        arm whole end used) =
+        let here = (usable_block_held hir env named key b usable).0 in
+        let own = nested_value_held row in
+        let later = spelled_value_held behind in
+        let rows = rows_then_held env b.rows here (Row n.id (Some n.answer) n.value context.around NoRows)
+        (own.1, own.0, tt) in (
+          subst (HeldValue env) (sym whole) (rows, later.0),
+          subst (λ (e : ValueEnd). Held env (place_names e.answer)) (sym end) later.1,
+        )
+
+    -- the value of a value terminal, and the place with which it answers
+    pub nested_value_held : {handler : Option BlockId} {terminal : Terminal} {nested : Nested} {used : List BlockId} →
+        SpellsNested hir env handler terminal nested used →
+        HeldValue env nested.value × Held env (place_names nested.answer)
+    nested_value_held (sequence_value d g) = spelled_value_held d
+    nested_value_held (ternary_value test choice d g other h used) =
+        let own = spelled_value_held d in
+        (((spelled_value_held test).0, own.0, (spelled_value_held other).0), own.1)
+    nested_value_held (logical_value test choice d silent other h used) =
+        let tested = spelled_value_held test in
+        let own = spelled_value_held d in
+        ((((tested.1, tested.0, tt), own.0), (spelled_value_held other).0), own.1)
+    nested_value_held (optional_value test choice shares d g used) =
+        let tested = spelled_value_held test in
+        let own = spelled_value_held d in
+        (((tested.1, tested.0, tt), own.0), own.1)
 
   shown_value_held : (flat : Bool) {key : BlockId} {context : ValueContext} {value : Value} {end : ValueEnd}
       {used : List BlockId} (whole : Value) → SpellsValue hir env key context value end used →

@@ -1,121 +1,168 @@
--- Each run of a spelled value is a run of the graph from the value's block to the terminal of its last block.
+-- Each run of a spelled value is a run of the graph from the value's block to the terminal of its last block: by
+-- recursion on how the value is spelled.
 --
--- The lemmas on values that go on and on tests are all that loops need of values.
-use Rattle.std.proofs.Common.{◌≡◌, Bool, true, false, List, [], ◌∷◌, ◌++◌, Some, refl, sym, subst}
+-- The lemmas on values that go on and on tests are all that loops need of values, and `nested_to_graph` is all that a
+-- list needs of a value terminal.
+use Rattle.std.proofs.Common.{◌≡◌, Bool, true, false, List, [], ◌∷◌, ◌++◌, Option, Some, None}
+use Rattle.std.proofs.Common.{refl, sym, ap, ◌∙◌, subst}
 use Rattle.rc_names.specs.Numbers.{BlockId}
+use Rattle.rc_names.specs.declared.span.Span.{Span}
 use Rattle.rc_hir.specs.Model.{Place, Terminal, Instruction, HirFunction, Environment}
 use Rattle.rc_hir.specs.declared.instruction.InstructionValue.TheVariants as kinds
 use Rattle.rc_hir.specs.declared.terminal.Terminal.TheVariants as terminals
 use Rattle.rc_runs.specs.Event.{Event, End, Open}
-use Rattle.rc_runs.specs.Silent.{is_silent_value}
-use Rattle.rc_runs.specs.Graph.{Block, block_at}
-use Rattle.rc_runs.specs.GraphRun.{Edge, goes_to, GraphRun, stopped, moved}
-use Rattle.rc_runs.specs.GraphRun.{GraphRunAt, enters}
-use Rattle.rc_runs.specs.PlainTree.{Value, Base, NoRows}
-use Rattle.rc_runs.specs.ListContext.{ValueContext}
-use Rattle.rc_runs.specs.LastRow.{last_value, rows_then, after_rows}
-use Rattle.rc_runs.specs.ValueGrammar.{ValueEnd, SpellsValue, named_test, last_block, SpellsGoing, SpellsTest}
-use Rattle.rc_runs.specs.ValueRun.{Progress, Inside, goes_past, RunsValue, value_stopped, quiet_value, did_value}
-use Rattle.rc_runs.specs.ValueRun.{did_and_stopped, in_sequence, RunsRows, past_rows, past_row, in_row, set_row}
+use Rattle.rc_runs.specs.Silent.{is_unset, is_silent_value}
+use Rattle.rc_runs.specs.Graph.{Block, usable_block, only_goes}
+use Rattle.rc_runs.specs.GraphRun.{Edge, GraphRun, stopped, moved, GraphRunAt, enters}
+use Rattle.rc_runs.specs.PlainTree.{Value, Base}
+use Rattle.rc_runs.specs.ListContext.{ValueContext, part_context}
+use Rattle.rc_runs.specs.ValueGrammar.{ValueEnd, Nested, SpellsValue}
+use Rattle.rc_runs.specs.ValueGrammar.{named_test, last_block, last_throw, may_throw, value_row, SpellsNested}
+use Rattle.rc_runs.specs.ValueGrammar.{sequence_value, ternary_value, logical_value, optional_value, SpellsGoing}
+use Rattle.rc_runs.specs.ValueGrammar.{SpellsTest}
+use Rattle.rc_runs.specs.ValueRun.{Progress, Inside, goes_past, RunsValue, value_stopped}
+use Rattle.rc_runs.specs.ValueRun.{quiet_value, did_value, did_and_stopped}
 use Rattle.rc_runs.proofs.GraphLemmas.{usable_block-at}
-use Rattle.rc_runs.proofs.SetIds.{AreSet, usable_block-set, first_set, last_set}
-use Rattle.rc_runs.proofs.LastRowLemmas.{last_value-runs}
-use Rattle.rc_runs.proofs.FlattenedRuns.{shown-runs}
-use Rattle.rc_runs.proofs.Covers.{Covers, passes, stays, and_on, and_stop, covers_then, row_covered}
+use Rattle.rc_runs.proofs.SetIds.{AreSet, usable_block-set}
+use Rattle.rc_runs.proofs.FlattenedRuns.{value_set, shown-runs}
+use Rattle.rc_runs.proofs.ShortArmLemmas.{nothing_left, nested_id}
+use Rattle.rc_runs.proofs.Covers.{Extends, Covers, passes, stays, extends_then, and_on, and_stop, covers_then}
+use Rattle.rc_runs.proofs.Covers.{covers_on, over_throw}
+use Rattle.rc_runs.proofs.ValueRowsToGraph.{after_rows_covered, last_block_covered}
+use Rattle.rc_runs.proofs.NestedRowToGraph.{row_then_value, sequence_covered}
+use Rattle.rc_runs.proofs.SilentArmToGraph.{past_silent_arm, silent_value_waits}
+use Rattle.rc_runs.proofs.NestedToGraph.{CoversValue, CoversNested, sequence_to_graph, ternary_to_graph}
+use Rattle.rc_runs.proofs.NestedToGraph.{logical_to_graph, optional_to_graph, to_fallthrough}
+
+-- a block that only goes on has no rows
+no_rows : (rows : List Instruction) (terminal : Terminal) → only_goes rows terminal ≡ true → rows ≡ []
+no_rows [] terminal only = refl
+no_rows (row ∷ rows) terminal only = absurd (let bad : ⊥ = cc in bad)
 
 module _ {hir : HirFunction} {env : Environment} where
-  -- the rows of a last block, of which the last one is the value
-  rows_covered : (rows : List Instruction) (row : Instruction) {terminal : Terminal} {events : List Event}
-      {progress : Progress} → AreSet (rows ++ row ∷ [])
-      → RunsRows env false (rows_then rows NoRows) (Base (last_value env row.value)) events progress
-      → Covers (GraphRun hir env (rows ++ row ∷ []) terminal) (GraphRun hir env [] terminal) events progress
-  rows_covered [] row set (past_rows run) =
-      row_covered row (set_row (last_set [] row set) (last_value-runs row.value run))
-  rows_covered (first ∷ rows) row set (past_row one past run e) =
-      covers_then (row_covered first one) past
-      (rows_covered rows row (first_set first (rows ++ row ∷ []) set).1 run) e
-  rows_covered (first ∷ rows) row set (in_row one) = stays (and_stop (row_covered first one))
-
-  block_covered : (rows : List Instruction) (row : Instruction) {terminal : Terminal} {events : List Event}
-      {progress : Progress} → AreSet (rows ++ row ∷ [])
-      → RunsValue env false (after_rows rows row.id (Base (last_value env row.value))) events progress
-      → Covers (GraphRun hir env (rows ++ row ∷ []) terminal) (GraphRun hir env [] terminal) events progress
-  block_covered [] row set run = rows_covered [] row set (past_rows run)
-  block_covered (first ∷ rows) row set value_stopped = stays stopped
-  block_covered (first ∷ rows) row set (in_sequence run) = rows_covered (first ∷ rows) row set run
-
   -- a test that is only loaded has no row, and no event
-  named_covered : {test : Place} {terminal : Terminal} {events : List Event} {progress : Progress}
-      → RunsValue env false (Base (kinds.LoadLocal test test.span)) events progress
-      → Covers (GraphRun hir env [] terminal) (GraphRun hir env [] terminal) events progress
+  named_covered : {is_test : Bool} {left : Option BlockId} {test : Place} {terminal : Terminal} {events : List Event}
+      {progress : Progress} → RunsValue env is_test (Base (kinds.LoadLocal test test.span)) events progress
+      → Covers hir env left (GraphRun hir env [] terminal) (GraphRun hir env [] terminal) events progress
   unfolding is_silent_value
   named_covered value_stopped = stays stopped
-  named_covered (quiet_value h) = passes (λ more end run. run)
+  named_covered (quiet_value h) = passes (record { on = λ more end run. run })
   named_covered (did_value h) = absurd (let bad : ⊥ = cc in bad)
   named_covered (did_and_stopped h) = absurd (let bad : ⊥ = cc in bad)
 
-  entered : {key : BlockId} {block : Block} {behind : List Event → End → Type 0} {events : List Event}
-      {progress : Progress} → block_at hir key ≡ Some block
-      → Covers (GraphRun hir env block.rows block.terminal) behind events progress
-      → Covers (GraphRunAt hir env key) behind events progress
-  entered at (passes go) = passes (λ more end run. enters at (go more end run))
-  entered at (stays stop) = stays (enters at stop)
+  -- into a block
+  into_block : {key : BlockId} {block : Block} {rows : List Instruction} → usable_block hir key ≡ Some block
+      → block.rows ≡ rows → Extends (GraphRunAt hir env key) (GraphRun hir env rows block.terminal) []
+  into_block {key} {block} found same = record {
+    on = λ more end run. enters (usable_block-at hir key block found)
+        (subst (λ rows. GraphRun hir env rows block.terminal more end) (sym same) run);
+  }
 
-  value_covered : {key : BlockId} {context : ValueContext} {value : Value} {end : ValueEnd} {used : List BlockId}
-      {events : List Event} {progress : Progress} → SpellsValue hir env key context value end used
+  entered : {left : Option BlockId} {key : BlockId} {block : Block} {rows : List Instruction}
+      {behind : List Event → End → Type 0} {events : List Event} {progress : Progress}
+      → usable_block hir key ≡ Some block → block.rows ≡ rows
+      → Covers hir env left (GraphRun hir env rows block.terminal) behind events progress
+      → Covers hir env left (GraphRunAt hir env key) behind events progress
+  entered found same covered = covers_then (into_block found same) covered refl
+
+  -- outside of the test of an optional, a value leaves no alternate open
+  closed : {key : BlockId} {span : Option Span} {handler : Option BlockId} {value : Value} {end : ValueEnd}
+      {used : List BlockId} → SpellsValue hir env key (part_context span handler) value end used
+      → CoversValue hir env false value end.left_open key end.last → CoversValue hir env false value None key end.last
+  closed {key = key} {value = value} {end} spelled covered =
+      subst (λ left. CoversValue hir env false value left key end.last) (nothing_left spelled refl) covered
+
+  mutual
+    value_to_graph : {key : BlockId} {context : ValueContext} {value : Value} {end : ValueEnd} {used : List BlockId}
+        → SpellsValue hir env key context value end used
+        → CoversValue hir env context.is_test value end.left_open key end.last
+    value_to_graph (named_test found empty ends) events progress run = entered found empty (named_covered run)
+    value_to_graph {key} (last_block {block = block} rows row found ends whole) events progress run =
+        entered found whole
+        (last_block_covered rows row (subst AreSet whole (usable_block-set hir key block found).rows) run)
+    value_to_graph {key} (last_throw {block = block} {behind = behind} rows row found throws current whole found' only)
+        events progress run =
+        covers_on (entered found whole
+        (last_block_covered rows row (subst AreSet whole (usable_block-set hir key block found).rows) run))
+        (extends_then (over_throw throws) (into_block found' (no_rows behind.rows behind.terminal only)) refl)
+    value_to_graph {context = context}
+        (may_throw {block = block} {end = end} found throws current further spelled whole) events progress run =
+        entered found refl
+        (after_rows_covered block.rows end.id
+        (λ events progress run. covers_then (over_throw throws) (value_to_graph spelled events progress run) refl)
+        (subst (λ v. RunsValue env context.is_test v events progress) whole run))
+    value_to_graph {key} {context} (value_row {block = block} found spelled rest arm whole ends e) events progress run =
+        let set = sym (ap is_unset (nested_id spelled)) ∙ (usable_block-set hir key block found).terminal in
+        subst (λ (end : ValueEnd). Covers hir env end.left_open (GraphRunAt hir env key) (GraphRun hir env [] end.last)
+        events progress) (sym ends)
+        (entered found refl
+        (sequence_covered block.rows
+        (row_then_value context.is_test set spelled arm (nested_to_graph spelled) (value_to_graph rest))
+        (subst (λ v. RunsValue env context.is_test v events progress) whole run)))
+
+    pub nested_to_graph : {handler : Option BlockId} {terminal : Terminal} {nested : Nested} {used : List BlockId}
+        → SpellsNested hir env handler terminal nested used
+        → CoversNested hir env terminal nested.value nested.short nested.fallthrough
+    nested_to_graph (sequence_value inner goes) = sequence_to_graph goes (closed inner (value_to_graph inner))
+    nested_to_graph (ternary_value test chooses value goes other other_goes e) =
+        ternary_to_graph chooses goes other_goes (closed test (value_to_graph test))
+        (closed value (value_to_graph value)) (closed other (value_to_graph other))
+    nested_to_graph (logical_value test chooses value arm other goes e) =
+        logical_to_graph (value_set test) chooses goes (past_silent_arm arm) (closed test (value_to_graph test))
+        (λ events progress run. silent_value_waits arm value run) (closed other (value_to_graph other))
+    nested_to_graph (optional_value test chooses shares value goes e) =
+        optional_to_graph (value_set test) chooses shares goes (value_to_graph test)
+        (closed value (value_to_graph value))
+
+module _ {hir : HirFunction} {env : Environment} {flat : Bool} {key : BlockId} {span : Option Span}
+    {handler : Option BlockId} {value : Value} {used : List BlockId} where
+  -- a value after which the graph goes on, up to where it does
+  going_covered : {next : BlockId} {events : List Event} {progress : Progress}
+      → SpellsGoing hir env flat key (part_context span handler) next value used
       → RunsValue env false value events progress
-      → Covers (GraphRunAt hir env key) (GraphRun hir env [] end.last) events progress
-  value_covered {key} {events = events} {progress} (named_test {block = block} found empty ends) run =
-      entered (usable_block-at hir key block found)
-      (subst (λ rows. Covers (GraphRun hir env rows block.terminal) (GraphRun hir env [] block.terminal) events progress)
-      (sym empty) (named_covered run))
-  value_covered {key} {events = events} {progress} (last_block {block = block} rows row found ends whole) run =
-      entered (usable_block-at hir key block found)
-      (subst (λ rows. Covers (GraphRun hir env rows block.terminal) (GraphRun hir env [] block.terminal) events progress)
-      (sym whole) (block_covered rows row (subst AreSet whole (usable_block-set hir key block found).rows) run))
-
-  -- the run goes on behind a value by an edge of its last terminal
-  by_edge : {key to : BlockId} {last terminal : Terminal} {step events more : List Event} {progress : Progress}
-      {end : End} → last ≡ terminal → Edge terminal step to
-      → Covers (GraphRunAt hir env key) (GraphRun hir env [] last) events progress → goes_past progress ≡ true
-      → GraphRunAt hir env to more end → GraphRunAt hir env key (events ++ (step ++ more)) end
-  by_edge {step = step} {more = more} {end = end} same edge covered past run =
-      and_on covered past
-      (subst (λ t. GraphRun hir env [] t (step ++ more) end) (sym same) (moved edge run refl))
-
-module _ {hir : HirFunction} {env : Environment} {flat : Bool} {key : BlockId} {context : ValueContext}
-    {value : Value} {used : List BlockId} where
-  -- past a value after which the graph goes on
-  pub going_on : {next : BlockId} {events more : List Event} {progress : Progress} {end : End}
-      → SpellsGoing hir env flat key context next value used → RunsValue env false value events progress
-      → goes_past progress ≡ true → GraphRunAt hir env next more end → GraphRunAt hir env key (events ++ more) end
-  going_on {events = events} {progress = progress} spelled run past behind =
+      → Covers hir env None (GraphRunAt hir env key) (GraphRunAt hir env next) events progress
+  going_covered {events = events} {progress} spelled run =
       let same = subst (λ v. RunsValue env false v events progress) spelled.is_shown run in
-      by_edge spelled.goes goes_to
-      (value_covered spelled.spelled (shown-runs flat context.around spelled.spelled same)) past behind
+      to_fallthrough spelled.goes
+      (closed spelled.spelled (value_to_graph spelled.spelled) events progress
+      (shown-runs flat span spelled.spelled same))
+
+  -- past such a value
+  pub going_on : {next : BlockId} {events more : List Event} {progress : Progress} {end : End}
+      → SpellsGoing hir env flat key (part_context span handler) next value used
+      → RunsValue env false value events progress → goes_past progress ≡ true → GraphRunAt hir env next more end
+      → GraphRunAt hir env key (events ++ more) end
+  going_on {more = more} {end = end} spelled run past behind =
+      (and_on (going_covered spelled run) past).on more end behind
 
   -- stopped inside such a value
-  pub going_stops : {next : BlockId} {events : List Event} → SpellsGoing hir env flat key context next value used
+  pub going_stops : {next : BlockId} {events : List Event}
+      → SpellsGoing hir env flat key (part_context span handler) next value used
       → RunsValue env false value events Inside → GraphRunAt hir env key events Open
-  going_stops {events = events} spelled run =
-      let same = subst (λ v. RunsValue env false v events Inside) spelled.is_shown run in
-      and_stop (value_covered spelled.spelled (shown-runs flat context.around spelled.spelled same))
+  going_stops spelled run = and_stop (going_covered spelled run)
+
+  -- a test, up to its branch
+  test_covered : {consequent alternate : BlockId} {events : List Event} {progress : Progress}
+      → (spelled : SpellsTest hir env flat key (part_context span handler) consequent alternate value used)
+      → RunsValue env false value events progress
+      → Covers hir env None (GraphRunAt hir env key) (GraphRun hir env [] spelled.end.last) events progress
+  test_covered {events = events} {progress} spelled run =
+      let same = subst (λ v. RunsValue env false v events progress) spelled.is_shown run in
+      closed spelled.spelled (value_to_graph spelled.spelled) events progress
+      (shown-runs flat span spelled.spelled same)
 
   -- past a test, into one of the two blocks between which it chooses
   pub test_chooses : {consequent alternate to : BlockId} {step events more : List Event} {progress : Progress}
-      {end : End} → (spelled : SpellsTest hir env flat key context consequent alternate value used)
+      {end : End} → (spelled : SpellsTest hir env flat key (part_context span handler) consequent alternate value used)
       → RunsValue env false value events progress → goes_past progress ≡ true
-      → Edge (terminals.Branch spelled.test consequent alternate spelled.id spelled.span) step to
-      → GraphRunAt hir env to more end → GraphRunAt hir env key (events ++ (step ++ more)) end
-  test_chooses {events = events} {progress = progress} spelled run past edge behind =
-      let same = subst (λ v. RunsValue env false v events progress) spelled.is_shown run in
-      by_edge spelled.chooses edge
-      (value_covered spelled.spelled (shown-runs flat context.around spelled.spelled same)) past behind
+      → Edge (terminals.Branch spelled.chooses.test consequent alternate spelled.chooses.id spelled.chooses.span) step
+      to → GraphRunAt hir env to more end → GraphRunAt hir env key (events ++ (step ++ more)) end
+  test_chooses {to = to} {step} {more = more} {end = end} spelled run past edge behind =
+      (and_on (test_covered spelled run) past).on (step ++ more) end
+      (moved (subst (λ t. Edge t step to) (sym spelled.chooses.chooses) edge) behind refl)
 
   -- stopped inside a test
   pub test_stops : {consequent alternate : BlockId} {events : List Event}
-      → SpellsTest hir env flat key context consequent alternate value used → RunsValue env false value events Inside
-      → GraphRunAt hir env key events Open
-  test_stops {events = events} spelled run =
-      let same = subst (λ v. RunsValue env false v events Inside) spelled.is_shown run in
-      and_stop (value_covered spelled.spelled (shown-runs flat context.around spelled.spelled same))
+      → SpellsTest hir env flat key (part_context span handler) consequent alternate value used
+      → RunsValue env false value events Inside → GraphRunAt hir env key events Open
+  test_stops spelled run = and_stop (test_covered spelled run)

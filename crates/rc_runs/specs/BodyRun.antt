@@ -6,10 +6,10 @@ use Rattle.rc_names.specs.declared.span.Span.{Span}
 use Rattle.rc_hir.specs.Model.{Place, Environment}
 use Rattle.rc_tree.specs.declared.kind.ReactiveTerminalTargetKind.TheVariants.{Implicit, Labeled, Unlabeled}
 use Rattle.rc_tree.specs.Model.{ReactiveLabel, ReactiveFunction}
-use Rattle.rc_runs.specs.Event.{Event, Arm, Chose, End, Open, Returned, Thrown}
+use Rattle.rc_runs.specs.Event.{Event, Arm, Chose, Threw, End, Open, Returned, Thrown}
 use Rattle.rc_runs.specs.PlainTree.{Value, Statements, Nil, Cons, Statement, RowStatement, TerminalStatement}
 use Rattle.rc_runs.specs.PlainTree.{ScopeStatement, PrunedScopeStatement, Break, Continue, Return, Throw, Switch, DoWhile}
-use Rattle.rc_runs.specs.PlainTree.{While, For, ForOf, ForIn, If, Label, Alternate, Absent, Present, Cases, NoCases, Case}
+use Rattle.rc_runs.specs.PlainTree.{While, For, ForOf, ForIn, If, Label, Try, Alternate, Absent, Present, Cases, NoCases, Case}
 use Rattle.rc_runs.specs.LoopParts.{LoopParts}
 use Rattle.rc_runs.specs.ValueRun.{Progress, Inside, goes_past, RunsValue, RunsRow}
 use Rattle.rc_runs.specs.TreeOf.{block_of}
@@ -50,6 +50,17 @@ abbrev pub left_loop : Option ReactiveLabel → Completion → Completion
 left_loop label BreakLoop = Normal
 left_loop label outcome = caught label outcome
 
+-- the run ends by a throw statement
+abbrev pub is_thrown : Completion → Bool
+is_thrown (Ended (Thrown place)) = true
+is_thrown _ = false
+
+-- from here a handler takes over: a row may throw wherever a run has come, and a throw statement throws
+abbrev pub reaches_handler : Completion → Bool
+reaches_handler (Ended Open) = true
+reaches_handler (Ended (Thrown place)) = true
+reaches_handler _ = false
+
 -- one of the cases is a default
 abbrev pub has_default : Cases → Bool
 has_default NoCases = false
@@ -80,7 +91,7 @@ mutual
     leaves_list : {outcome : Completion} {rest : Statements} → leaves outcome ≡ true →
         RunsAfter env outcome rest [] outcome
 
-  -- a run of one statement; a form that no graph spells has no run
+  -- a run of one statement
   pub data RunsStatement (env : Environment) : Statement → List Event → Completion → Type 0 where
     row : {id : EvaluationOrder} {target : Option Place} {value : Value} {span : Option Span} {events : List Event}
         {progress : Progress} {outcome : Completion} →
@@ -156,6 +167,16 @@ mutual
         {events : List Event} {inner outer : Completion} →
         RunsList env body events inner → outer ≡ caught label inner →
         RunsStatement env (TerminalStatement (Label body id) label) events outer
+    -- a throw statement in a protected block doesn't end the run
+    in_try : {body handler : Statements} {binding : Option Place} {id : EvaluationOrder}
+        {label : Option ReactiveLabel} {events : List Event} {inner outer : Completion} →
+        RunsList env body events inner → is_thrown inner ≡ false → outer ≡ caught label inner →
+        RunsStatement env (TerminalStatement (Try body binding handler id) label) events outer
+    in_handler : {body handler : Statements} {binding : Option Place} {id : EvaluationOrder}
+        {label : Option ReactiveLabel} {first second events : List Event} {reached inner outer : Completion} →
+        RunsList env body first reached → reaches_handler reached ≡ true → RunsList env handler second inner →
+        outer ≡ caught label inner → events ≡ first ++ (Threw ∷ second) →
+        RunsStatement env (TerminalStatement (Try body binding handler id) label) events outer
     in_scope : {scope : ScopeId} {body : Statements} {events : List Event} {outcome : Completion} →
         RunsList env body events outcome → RunsStatement env (ScopeStatement scope body) events outcome
     in_pruned_scope : {scope : ScopeId} {body : Statements} {events : List Event} {outcome : Completion} →

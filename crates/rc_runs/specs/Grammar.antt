@@ -4,7 +4,9 @@
 -- jumps in them may name it, and it is spelled once, after the statement. A fallthrough that a jump can name already
 -- is spelled further out. So it isn't opened again, and the list ends with the statement.
 -- A loop always opens its fallthrough. Its body falls off to the block with which each turn begins.
--- No rule sets the handler yet.
+-- A value terminal is a row, after which the list goes on at its fallthrough.
+-- A block that may throw ends no list: the list goes on at its continuation, unless falling off reaches that.
+-- The handler is that of the innermost try whose protected block the list is in.
 --
 -- The indices of each family are: a block or a terminal, the context of the list, the statements, and the used blocks
 -- in the order in which they are marked.
@@ -26,13 +28,13 @@ use Rattle.rc_runs.specs.declared.frames.ContinueResult.{ContinueResult}
 use Rattle.rc_runs.specs.declared.frames.ContinueResult.TheVariants.{NoLoop, Continues}
 use Rattle.rc_runs.specs.Graph.{Block, usable_block, ends_unreachable}
 use Rattle.rc_runs.specs.Frames.{is_jump_target, resolve_break, resolve_continue}
-use Rattle.rc_runs.specs.ListContext.{ListContext, inside, value_context}
+use Rattle.rc_runs.specs.ListContext.{ListContext, inside, protected_by, is_current, value_context}
 use Rattle.rc_runs.specs.LoopParts.{LoopBlocks, LoopParts, turn_start, loop_frame}
 use Rattle.rc_runs.specs.SwitchCases.{kept_cases, has_one_default, tests_past, case_context}
-use Rattle.rc_runs.specs.ValueGrammar.{SpellsGoing, SpellsTest}
+use Rattle.rc_runs.specs.ValueGrammar.{Nested, SpellsShortArm, SpellsNested, SpellsGoing, SpellsTest}
 use Rattle.rc_runs.specs.PlainTree.{Value, Base, Statements, Nil, Cons, Statement, RowStatement, TerminalStatement}
 use Rattle.rc_runs.specs.PlainTree.{ScopeStatement, PrunedScopeStatement, TreeTerminal, Break, Continue, Return, Throw}
-use Rattle.rc_runs.specs.PlainTree.{Switch, DoWhile, While, For, ForOf, ForIn, If, Label, Absent, Present}
+use Rattle.rc_runs.specs.PlainTree.{Switch, DoWhile, While, For, ForOf, ForIn, If, Label, Try, Absent, Present}
 use Rattle.rc_runs.specs.PlainTree.{Cases, NoCases, Case as TreeCase}
 
 -- a fallthrough is opened unless a jump can name it already
@@ -117,6 +119,19 @@ mutual
         {statements : Statements} →
         continue_statements (resolve_continue context.frames target) id ≡ Some statements →
         SpellsTerminal hir env (terminals.Goto target variants.Continue id span) context statements []
+    -- the jump out of a protected block has no statement: it leads to where falling off does
+    leaves_try : {target : BlockId} {id : EvaluationOrder} {span : Option Span} {context : ListContext} →
+        is_next context.next target ≡ true →
+        SpellsTerminal hir env (terminals.Goto target variants.Try id span) context Nil []
+    may_throw_last : {continuation : BlockId} {named : Option BlockId} {id : EvaluationOrder} {span : Option Span}
+        {context : ListContext} → is_current named context.handler ≡ true →
+        is_next context.next continuation ≡ true →
+        SpellsTerminal hir env (terminals.MaybeThrow continuation named id span) context Nil []
+    may_throw : {continuation : BlockId} {named : Option BlockId} {id : EvaluationOrder} {span : Option Span}
+        {context : ListContext} {statements : Statements} {used : List BlockId} →
+        is_current named context.handler ≡ true → is_next context.next continuation ≡ false →
+        SpellsList hir env continuation context statements used →
+        SpellsTerminal hir env (terminals.MaybeThrow continuation named id span) context statements used
     -- a branch is an if without a label or fallthrough: its arms stay in the context of the list
     branch_arms : {test : Place} {consequent alternate : BlockId} {id : EvaluationOrder} {span : Option Span}
         {context : ListContext} {part other : Statements} {part_used other_used used : List BlockId} →
@@ -167,6 +182,17 @@ mutual
         SpellsList hir env inner (inside opened (frame_kinds.Statement fallthrough) context) part used →
         SpellsStatement hir env (terminals.Label inner fallthrough id span) context
         opened fallthrough (TerminalStatement (Label part id) label) used
+    -- the handler protects the block, and not itself
+    try_statement : {block handler fallthrough : BlockId} {binding : Option Place} {id : EvaluationOrder}
+        {span : Option Span} {context : ListContext} {opened : Bool} {label : Option ReactiveLabel}
+        {part other : Statements} {part_used other_used used : List BlockId} →
+        opened ≡ opens_reachable hir context.frames fallthrough → label ≡ label_of opened fallthrough →
+        SpellsList hir env block (protected_by handler (inside opened (frame_kinds.Statement fallthrough) context))
+        part part_used →
+        SpellsList hir env handler (inside opened (frame_kinds.Statement fallthrough) context) other other_used →
+        used ≡ part_used ++ other_used →
+        SpellsStatement hir env (terminals.Try block binding handler fallthrough id span) context
+        opened fallthrough (TerminalStatement (Try part binding other id) label) used
     -- scopes have no label, and open an `Unreachable` fallthrough like any other
     scope_statement : {inner fallthrough : BlockId} {scope : ScopeId} {id : EvaluationOrder} {span : Option Span}
         {context : ListContext} {opened : Bool} {part : Statements} {used : List BlockId} →
@@ -233,6 +259,15 @@ mutual
         context parts used →
         SpellsStatement hir env (terminals.ForIn init body fallthrough id span) context true fallthrough
         (TerminalStatement (ForIn parts.test parts.body span id) (label_of true fallthrough)) used
+    -- a value terminal is a row without a label; it opens an `Unreachable` fallthrough like any other
+    value_statement : {terminal : Terminal} {nested : Nested} {context : ListContext} {opened : Bool}
+        {nested_used arm_used used : List BlockId} →
+        opened ≡ opens context.frames nested.fallthrough → falls_to opened nested.fallthrough context.next ≡ true →
+        SpellsNested hir env context.handler terminal nested nested_used →
+        SpellsShortArm hir env context.handler nested.fallthrough false nested.short None None arm_used →
+        used ≡ nested_used ++ arm_used →
+        SpellsStatement hir env terminal context opened nested.fallthrough
+        (RowStatement nested.id (Some nested.answer) nested.value nested.span) used
 
   -- the kept cases of a switch; the blocks of the later ones are marked first
   pub data SpellsCases (hir : HirFunction) (env : Environment) : List Case → ListContext → Cases → List BlockId →

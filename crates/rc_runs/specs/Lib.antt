@@ -11,6 +11,7 @@ pub mod ListContext
 pub mod LoopParts
 pub mod SwitchCases
 pub mod LastRow
+pub mod AnsweredTest
 pub mod Flattened
 pub mod ValueGrammar
 pub mod Grammar

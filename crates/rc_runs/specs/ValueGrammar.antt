@@ -1,19 +1,27 @@
 -- The value that a graph spells from a block on, its end, and the blocks that it uses.
 --
+-- A value terminal is a row of the value in which it stands, and the value goes on at the fallthrough. The optional that
+-- ends the test of another optional may answer that test: then both share one alternate, the short arm, which is used
+-- once, by the outermost of them.
+--
+-- A block that may throw names the current handler, or none, and the value goes on at its continuation.
+--
 -- The indices are: a block, the context of the value, the value, its end, and the used blocks in the order in which they
--- are marked. No rule reads the handler yet, nor whether the value is the test of an optional: both are for values with
--- other values in them.
-use Rattle.std.specs.Prelude.{◌≡◌, Bool, true, false, List, [], ◌∷◌, ◌++◌, Option, Some, None, slice_get}
+-- are marked.
+use Rattle.std.specs.Prelude.{◌≡◌, Bool, true, false, List, [], ◌∷◌, ◌++◌, Option, Some, None}
 use Rattle.std.specs.Prelude.{if◌then◌else◌}
+use Rattle.std.specs.List.{list_all}
 use Rattle.rc_names.specs.Numbers.{BlockId, EvaluationOrder, same_id}
 use Rattle.rc_names.specs.declared.span.Span.{Span}
-use Rattle.rc_hir.specs.Model.{Place, GotoVariant, Terminal, Instruction, HirFunction, Identifier, Environment}
+use Rattle.rc_hir.specs.Model.{Place, LogicalOperator, GotoVariant, Terminal, Instruction, HirFunction, Environment}
 use Rattle.rc_hir.specs.declared.instruction.InstructionValue.TheVariants as kinds
 use Rattle.rc_hir.specs.declared.terminal.Terminal.TheVariants as terminals
-use Rattle.rc_runs.specs.Graph.{Block, usable_block}
-use Rattle.rc_runs.specs.PlainTree.{Value, Base}
-use Rattle.rc_runs.specs.ListContext.{ValueContext}
-use Rattle.rc_runs.specs.LastRow.{ends_value, last_value, last_answer, after_rows}
+use Rattle.rc_runs.specs.Silent.{is_silent}
+use Rattle.rc_runs.specs.Graph.{Block, block_at, usable_block, only_goes, is_empty_goto}
+use Rattle.rc_runs.specs.PlainTree.{Value, Base, Logical, Conditional, Sequence, Optional, NoRows, Row}
+use Rattle.rc_runs.specs.ListContext.{is_current, ValueContext, part_context}
+use Rattle.rc_runs.specs.LastRow.{ends_value, last_value, last_answer, rows_then, after_rows}
+use Rattle.rc_runs.specs.AnsweredTest.{same_declaration, answers_test}
 use Rattle.rc_runs.specs.Flattened.{flattened}
 
 -- the end of a value: the place with which it answers, its id, the terminal of its last block, and the alternate that
@@ -24,37 +32,206 @@ pub record ValueEnd : Type 0 where
   pub last : Terminal
   pub left_open : Option BlockId
 
--- both identifiers are there, and have one declaration
-abbrev pub declared_alike : Option Identifier → Option Identifier → Bool
-declared_alike (Some a) (Some b) = same_id a.declaration_id b.declaration_id
-declared_alike _ _ = false
+-- after the value the graph goes on at the next block
+pub record GoesTo (next : BlockId) (end : ValueEnd) : Type 0 where
+  pub variant : GotoVariant
+  pub id : EvaluationOrder
+  pub span : Option Span
+  pub goes : end.last ≡ terminals.Goto next variant id span
 
--- the identifiers of two places have one declaration
-abbrev pub same_declaration : Environment → Place → Place → Bool
-same_declaration env a b =
-    declared_alike (slice_get env.identifiers a.identifier.0) (slice_get env.identifiers b.identifier.0)
+-- the value chooses between two blocks by its answer
+pub record ChoosesBetween (env : Environment) (consequent alternate : BlockId) (end : ValueEnd) : Type 0 where
+  pub test : Place
+  pub id : EvaluationOrder
+  pub span : Option Span
+  pub chooses : end.last ≡ terminals.Branch test consequent alternate id span
+  pub answers : same_declaration env test end.answer ≡ true
 
--- the value from a block on
-pub data SpellsValue (hir : HirFunction) (env : Environment) : BlockId → ValueContext → Value → ValueEnd →
-    List BlockId → Type 0 where
-  -- a branch without rows before it tests a place that is only loaded
-  named_test : {key : BlockId} {context : ValueContext} {block : Block} {test : Place} {consequent alternate : BlockId}
-      {id : EvaluationOrder} {span : Option Span} →
-      usable_block hir key ≡ Some block → block.rows ≡ [] →
-      block.terminal ≡ terminals.Branch test consequent alternate id span →
-      SpellsValue hir env key context (Base (kinds.LoadLocal test test.span))
-      (record { answer = test; id = id; last = block.terminal; left_open = None }) (key ∷ [])
-  -- the last row is the value
-  last_block : {key : BlockId} {context : ValueContext} {block : Block} (rows : List Instruction) (row : Instruction) →
-      usable_block hir key ≡ Some block → ends_value block.terminal ≡ true → block.rows ≡ rows ++ row ∷ [] →
-      SpellsValue hir env key context (after_rows rows row.id (Base (last_value env row.value)))
-      (record {
-        answer = last_answer env row.lvalue row.value;
-        id = row.id;
-        last = block.terminal;
-        left_open = None;
-      })
-      (key ∷ [])
+-- a value terminal: where the graph goes on after it, its id and span, its value, the place with which it answers, and
+-- the alternate of an optional, which leads to its short end
+pub record Nested : Type 0 where
+  pub fallthrough : BlockId
+  pub id : EvaluationOrder
+  pub span : Option Span
+  pub value : Value
+  pub answer : Place
+  pub short : Option BlockId
+
+-- no row has an event
+abbrev pub are_silent : Environment → List Instruction → Bool
+are_silent env rows = list_all (λ row. is_silent env row.id row.value) rows
+
+-- a silent arm under a handler: a chain of blocks without events, after which the graph goes on at the next block
+pub data SpellsSilentArm (hir : HirFunction) (env : Environment) (handler : Option BlockId) (next : BlockId) :
+    BlockId → List BlockId → Type 0 where
+  silent_block : {key : BlockId} {block : Block} {variant : GotoVariant} {id : EvaluationOrder} {span : Option Span} →
+      usable_block hir key ≡ Some block → are_silent env block.rows ≡ true →
+      block.terminal ≡ terminals.Goto next variant id span →
+      SpellsSilentArm hir env handler next key (key ∷ [])
+  silent_chain : {key continuation : BlockId} {block : Block} {named : Option BlockId} {id : EvaluationOrder}
+      {span : Option Span} {used : List BlockId} →
+      usable_block hir key ≡ Some block → are_silent env block.rows ≡ true →
+      block.terminal ≡ terminals.MaybeThrow continuation named id span → is_current named handler ≡ true →
+      SpellsSilentArm hir env handler next continuation used →
+      SpellsSilentArm hir env handler next key (key ∷ used)
+
+-- the short arm of a value terminal: there is none, it is left to the test that the value answers, or it is its own.
+-- The alternate that is left open then, from the one that the value behind leaves open
+pub data SpellsShortArm (hir : HirFunction) (env : Environment) (handler : Option BlockId) (next : BlockId) : Bool →
+    Option BlockId → Option BlockId → Option BlockId → List BlockId → Type 0 where
+  no_arm : {answers : Bool} {behind : Option BlockId} →
+      SpellsShortArm hir env handler next answers None behind behind []
+  left_to_test : {alternate : BlockId} {behind : Option BlockId} →
+      SpellsShortArm hir env handler next true (Some alternate) behind (Some alternate) []
+  own_arm : {alternate : BlockId} {behind : Option BlockId} {used : List BlockId} →
+      SpellsSilentArm hir env handler next alternate used →
+      SpellsShortArm hir env handler next false (Some alternate) behind behind used
+
+-- the alternate that a test leaves open, if there is one, is that of the optional
+abbrev pub shares_alternate : Option BlockId → BlockId → Bool
+shares_alternate None alternate = true
+shares_alternate (Some left) alternate = same_id left alternate
+
+mutual
+  -- the value from a block on
+  pub data SpellsValue (hir : HirFunction) (env : Environment) : BlockId → ValueContext → Value → ValueEnd →
+      List BlockId → Type 0 where
+    -- a branch without rows before it tests a place that is only loaded
+    named_test : {key : BlockId} {context : ValueContext} {block : Block} {test : Place}
+        {consequent alternate : BlockId} {id : EvaluationOrder} {span : Option Span} →
+        usable_block hir key ≡ Some block → block.rows ≡ [] →
+        block.terminal ≡ terminals.Branch test consequent alternate id span →
+        SpellsValue hir env key context (Base (kinds.LoadLocal test test.span))
+        (record { answer = test; id = id; last = block.terminal; left_open = None }) (key ∷ [])
+    -- the last row is the value
+    last_block : {key : BlockId} {context : ValueContext} {block : Block} (rows : List Instruction)
+        (row : Instruction) →
+        usable_block hir key ≡ Some block → ends_value block.terminal ≡ true → block.rows ≡ rows ++ row ∷ [] →
+        SpellsValue hir env key context (after_rows rows row.id (Base (last_value env row.value)))
+        (record {
+          answer = last_answer env row.lvalue row.value;
+          id = row.id;
+          last = block.terminal;
+          left_open = None;
+        })
+        (key ∷ [])
+    -- a block that may throw, and then only goes on, ends the value like a last block
+    last_throw : {key continuation : BlockId} {context : ValueContext} {block behind : Block}
+        {named : Option BlockId} {id : EvaluationOrder} {span : Option Span} (rows : List Instruction)
+        (row : Instruction) →
+        usable_block hir key ≡ Some block → block.terminal ≡ terminals.MaybeThrow continuation named id span →
+        is_current named context.handler ≡ true → block.rows ≡ rows ++ row ∷ [] →
+        usable_block hir continuation ≡ Some behind → only_goes behind.rows behind.terminal ≡ true →
+        SpellsValue hir env key context (after_rows rows row.id (Base (last_value env row.value)))
+        (record {
+          answer = last_answer env row.lvalue row.value;
+          id = row.id;
+          last = behind.terminal;
+          left_open = None;
+        })
+        (key ∷ continuation ∷ [])
+    -- behind another block that may throw, the value goes on after its rows
+    may_throw : {key continuation : BlockId} {context : ValueContext} {block : Block} {named : Option BlockId}
+        {id : EvaluationOrder} {span : Option Span} {value whole : Value} {end : ValueEnd} {used : List BlockId} →
+        usable_block hir key ≡ Some block → block.terminal ≡ terminals.MaybeThrow continuation named id span →
+        is_current named context.handler ≡ true → is_empty_goto (block_at hir continuation) ≡ false →
+        SpellsValue hir env continuation context value end used → whole ≡ after_rows block.rows end.id value →
+        SpellsValue hir env key context whole end (key ∷ used)
+    -- a value terminal is a row, before the value at its fallthrough
+    value_row : {key : BlockId} {context : ValueContext} {block : Block} {nested : Nested} {value whole : Value}
+        {behind end : ValueEnd} {left : Option BlockId} {nested_used value_used arm_used used : List BlockId} →
+        usable_block hir key ≡ Some block →
+        SpellsNested hir env context.handler block.terminal nested nested_used →
+        SpellsValue hir env nested.fallthrough context value behind value_used →
+        SpellsShortArm hir env context.handler nested.fallthrough
+        (if context.is_test then answers_test env nested.answer value else false)
+        nested.short behind.left_open left arm_used →
+        whole ≡ Sequence
+        (rows_then block.rows (Row nested.id (Some nested.answer) nested.value context.around NoRows)) behind.id value →
+        end ≡ record behind { left_open = left } →
+        used ≡ key ∷ (nested_used ++ (value_used ++ arm_used)) →
+        SpellsValue hir env key context whole end used
+
+  -- a value terminal under a handler, whose parts meet at its fallthrough
+  pub data SpellsNested (hir : HirFunction) (env : Environment) : Option BlockId → Terminal → Nested →
+      List BlockId → Type 0 where
+    sequence_value : {handler : Option BlockId} {inner fallthrough : BlockId} {id : EvaluationOrder}
+        {span : Option Span} {value : Value} {end : ValueEnd} {used : List BlockId} →
+        SpellsValue hir env inner (part_context span handler) value end used → GoesTo fallthrough end →
+        SpellsNested hir env handler (terminals.Sequence inner fallthrough id span)
+        (record {
+          fallthrough = fallthrough;
+          id = id;
+          span = span;
+          value = value;
+          answer = end.answer;
+          short = None;
+        })
+        used
+    ternary_value : {handler : Option BlockId} {test consequent alternate fallthrough : BlockId}
+        {id : EvaluationOrder} {span : Option Span} {condition value other : Value}
+        {condition_end end other_end : ValueEnd} {test_used value_used other_used used : List BlockId} →
+        SpellsValue hir env test (part_context span handler) condition condition_end test_used →
+        ChoosesBetween env consequent alternate condition_end →
+        SpellsValue hir env consequent (part_context span handler) value end value_used → GoesTo fallthrough end →
+        SpellsValue hir env alternate (part_context span handler) other other_end other_used →
+        GoesTo fallthrough other_end →
+        used ≡ test_used ++ (value_used ++ other_used) →
+        SpellsNested hir env handler (terminals.Ternary test fallthrough id span)
+        (record {
+          fallthrough = fallthrough;
+          id = id;
+          span = span;
+          value = Conditional condition value other;
+          answer = end.answer;
+          short = None;
+        })
+        used
+    -- the consequent only hands the answer of the test on, so it is a silent arm besides
+    logical_value : {handler : Option BlockId} {operator : LogicalOperator}
+        {test consequent alternate fallthrough : BlockId} {id : EvaluationOrder} {span : Option Span}
+        {condition value other : Value} {condition_end end other_end : ValueEnd}
+        {test_used value_used other_used used : List BlockId} →
+        SpellsValue hir env test (part_context span handler) condition condition_end test_used →
+        ChoosesBetween env consequent alternate condition_end →
+        SpellsValue hir env consequent (part_context span handler) value end value_used →
+        SpellsSilentArm hir env handler fallthrough consequent value_used →
+        SpellsValue hir env alternate (part_context span handler) other other_end other_used →
+        GoesTo fallthrough other_end →
+        used ≡ test_used ++ (value_used ++ other_used) →
+        SpellsNested hir env handler (terminals.Logical operator test fallthrough id span)
+        (record {
+          fallthrough = fallthrough;
+          id = id;
+          span = span;
+          value = Logical operator
+              (Sequence (Row condition_end.id (Some condition_end.answer) condition span NoRows) end.id value) other;
+          answer = end.answer;
+          short = None;
+        })
+        used
+    -- the alternate is no value, but the short arm
+    optional_value : {handler : Option BlockId} {optional : Bool} {test consequent alternate fallthrough : BlockId}
+        {id : EvaluationOrder} {span : Option Span} {condition value : Value} {condition_end end : ValueEnd}
+        {test_used value_used used : List BlockId} →
+        SpellsValue hir env test (record (part_context span handler) { is_test = true }) condition condition_end
+        test_used →
+        (chosen : ChoosesBetween env consequent alternate condition_end) →
+        shares_alternate condition_end.left_open alternate ≡ true →
+        SpellsValue hir env consequent (part_context span handler) value end value_used → GoesTo fallthrough end →
+        used ≡ test_used ++ value_used →
+        SpellsNested hir env handler (terminals.Optional optional test fallthrough id span)
+        (record {
+          fallthrough = fallthrough;
+          id = id;
+          span = span;
+          value = Optional
+              (Sequence (Row condition_end.id (Some condition_end.answer) condition chosen.span NoRows) end.id value)
+              optional;
+          answer = end.answer;
+          short = Some alternate;
+        })
+        used
 
 -- a value as it stands in a loop, which flattens it or not
 abbrev pub shown : Bool → Option Span → ValueEnd → Value → Value
@@ -66,10 +243,7 @@ pub record SpellsGoing (hir : HirFunction) (env : Environment) (flat : Bool) (ke
   pub value : Value
   pub end : ValueEnd
   pub spelled : SpellsValue hir env key context value end used
-  pub variant : GotoVariant
-  pub id : EvaluationOrder
-  pub span : Option Span
-  pub goes : end.last ≡ terminals.Goto next variant id span
+  pub goes : GoesTo next end
   pub is_shown : shown_value ≡ shown flat context.around end value
 
 -- the value from a block on, which chooses between two blocks by its answer
@@ -78,9 +252,5 @@ pub record SpellsTest (hir : HirFunction) (env : Environment) (flat : Bool) (key
   pub value : Value
   pub end : ValueEnd
   pub spelled : SpellsValue hir env key context value end used
-  pub test : Place
-  pub id : EvaluationOrder
-  pub span : Option Span
-  pub chooses : end.last ≡ terminals.Branch test consequent alternate id span
-  pub answers : same_declaration env test end.answer ≡ true
+  pub chooses : ChoosesBetween env consequent alternate end
   pub is_shown : shown_value ≡ shown flat context.around end value

@@ -1,13 +1,15 @@
 -- Runs of values: the events of a value, and whether the run came past it.
 --
--- A value of the plain tree may hold other values; a form that no graph spells yet has no run that goes into it.
-use Rattle.std.specs.Prelude.{◌≡◌, Bool, true, false, List, [], ◌∷◌, ◌++◌, Option}
+-- An optional that chooses its short end goes on behind the optional of which it is the test, if it answers that test,
+-- and so on outward. Everywhere else its short end is its end.
+use Rattle.std.specs.Prelude.{◌≡◌, Bool, true, false, List, [], ◌∷◌, ◌++◌, Option, Some}
 use Rattle.rc_names.specs.Numbers.{EvaluationOrder}
 use Rattle.rc_names.specs.declared.span.Span.{Span}
-use Rattle.rc_hir.specs.Model.{Place, InstructionValue, Environment}
-use Rattle.rc_runs.specs.Event.{Event, Did}
+use Rattle.rc_hir.specs.Model.{Place, InstructionValue, LogicalOperator, Environment}
+use Rattle.rc_runs.specs.Event.{Event, Did, Arm}
 use Rattle.rc_runs.specs.Silent.{is_unset, is_silent_value}
-use Rattle.rc_runs.specs.PlainTree.{Value, Base, Sequence, Rows, NoRows, Row}
+use Rattle.rc_runs.specs.PlainTree.{Value, Base, Logical, Conditional, Sequence, Optional, Rows, NoRows, Row}
+use Rattle.rc_runs.specs.AnsweredTest.{answers_test}
 
 -- where a run of a value is: past the value, past the short end of an optional, or still inside
 pub data Progress : Type 0 where
@@ -19,6 +21,40 @@ pub data Progress : Type 0 where
 abbrev pub goes_past : Progress → Bool
 goes_past Inside = false
 goes_past _ = true
+
+-- the run came past the value, and not by a short end
+abbrev pub is_done : Progress → Bool
+is_done Done = true
+is_done _ = false
+
+-- a short end is the end of whatever the value is a part of
+abbrev pub settled : Progress → Progress
+settled Short = Done
+settled progress = progress
+
+-- a run that came to that end is there, or stopped right before it
+abbrev pub is_at : Progress → Progress → Bool
+is_at Done Inside = true
+is_at Done Done = true
+is_at Short Inside = true
+is_at Short Short = true
+is_at end progress = false
+
+-- a row is the last one of an optional's test, and holds an optional that answers the test: its short end is the test's
+abbrev pub is_row_of_test : Environment → Bool → Option Place → Value → Rows → Value → Bool
+is_row_of_test env false target own rest value = false
+is_row_of_test env true (Some place) (Optional own optional) NoRows value = answers_test env place value
+is_row_of_test env true target own rest value = false
+
+-- the run goes on behind a row
+abbrev pub goes_past_row : Bool → Progress → Bool
+goes_past_row false progress = goes_past progress
+goes_past_row true progress = is_done progress
+
+-- the value is an optional's test as a row, and then the rest
+abbrev pub is_test_and_rest : Value → Bool
+is_test_and_rest (Sequence (Row id target value span NoRows) last rest) = true
+is_test_and_rest value = false
 
 mutual
   -- a run of a value, which is the test of an optional or not
@@ -35,6 +71,50 @@ mutual
     in_sequence : {is_test : Bool} {rows : Rows} {id : EvaluationOrder} {value : Value} {events : List Event}
         {progress : Progress} → RunsRows env is_test rows value events progress →
         RunsValue env is_test (Sequence rows id value) events progress
+    -- a conditional runs its test, and then one of its arms
+    in_condition : {is_test : Bool} {test consequent alternate : Value} {events : List Event} →
+        RunsValue env false test events Inside →
+        RunsValue env is_test (Conditional test consequent alternate) events Inside
+    took_consequent : {is_test : Bool} {test consequent alternate : Value} {first second events : List Event}
+        {past arm progress : Progress} →
+        RunsValue env false test first past → goes_past past ≡ true → RunsValue env false consequent second arm →
+        progress ≡ settled arm → events ≡ first ++ (Arm true ∷ second) →
+        RunsValue env is_test (Conditional test consequent alternate) events progress
+    took_alternate : {is_test : Bool} {test consequent alternate : Value} {first second events : List Event}
+        {past arm progress : Progress} →
+        RunsValue env false test first past → goes_past past ≡ true → RunsValue env false alternate second arm →
+        progress ≡ settled arm → events ≡ first ++ (Arm false ∷ second) →
+        RunsValue env is_test (Conditional test consequent alternate) events progress
+    -- a logical runs its left part, which decides, or else its right part too
+    in_left : {is_test : Bool} {operator : LogicalOperator} {left right : Value} {events : List Event} →
+        RunsValue env false left events Inside → RunsValue env is_test (Logical operator left right) events Inside
+    left_decides : {is_test : Bool} {operator : LogicalOperator} {left right : Value} {first events : List Event}
+        {past progress : Progress} → RunsValue env false left first past → goes_past past ≡ true →
+        is_at Done progress ≡ true → events ≡ first ++ Arm true ∷ [] →
+        RunsValue env is_test (Logical operator left right) events progress
+    took_right : {is_test : Bool} {operator : LogicalOperator} {left right : Value} {first second events : List Event}
+        {past arm progress : Progress} →
+        RunsValue env false left first past → goes_past past ≡ true → RunsValue env false right second arm →
+        progress ≡ settled arm → events ≡ first ++ (Arm false ∷ second) →
+        RunsValue env is_test (Logical operator left right) events progress
+    -- an optional runs its test, and then the rest, or takes its short end
+    in_optional_test : {is_test optional : Bool} {id last : EvaluationOrder} {target : Option Place}
+        {test rest : Value} {span : Option Span} {events : List Event} {progress : Progress} →
+        RunsRow env true id test events progress → is_done progress ≡ false →
+        RunsValue env is_test (Optional (Sequence (Row id target test span NoRows) last rest) optional) events progress
+    took_short_end : {is_test optional : Bool} {id last : EvaluationOrder} {target : Option Place}
+        {test rest : Value} {span : Option Span} {first events : List Event} {progress : Progress} →
+        RunsRow env true id test first Done → is_at Short progress ≡ true → events ≡ first ++ Arm false ∷ [] →
+        RunsValue env is_test (Optional (Sequence (Row id target test span NoRows) last rest) optional) events progress
+    took_rest : {is_test optional : Bool} {id last : EvaluationOrder} {target : Option Place} {test rest : Value}
+        {span : Option Span} {first second events : List Event} {arm progress : Progress} →
+        RunsRow env true id test first Done → RunsValue env false rest second arm →
+        progress ≡ settled arm → events ≡ first ++ (Arm true ∷ second) →
+        RunsValue env is_test (Optional (Sequence (Row id target test span NoRows) last rest) optional) events progress
+    -- an optional of another form, which no graph spells, runs its value
+    in_other_optional : {is_test optional : Bool} {value : Value} {events : List Event} {part progress : Progress} →
+        is_test_and_rest value ≡ false → RunsValue env false value events part → progress ≡ settled part →
+        RunsValue env is_test (Optional value optional) events progress
 
   -- a run of the rows of a sequence, and then of its value
   pub data RunsRows (env : Environment) : Bool → Rows → Value → List Event → Progress → Type 0 where
@@ -42,13 +122,16 @@ mutual
         RunsValue env is_test value events progress → RunsRows env is_test NoRows value events progress
     past_row : {is_test : Bool} {id : EvaluationOrder} {target : Option Place} {own value : Value}
         {span : Option Span} {rest : Rows} {first second events : List Event} {row progress : Progress} →
-        RunsRow env false id own first row → goes_past row ≡ true →
+        RunsRow env false id own first row →
+        goes_past_row (is_row_of_test env is_test target own rest value) row ≡ true →
         RunsRows env is_test rest value second progress → events ≡ first ++ second →
         RunsRows env is_test (Row id target own span rest) value events progress
+    -- stopped inside the row, or out of the sequence by its short end
     in_row : {is_test : Bool} {id : EvaluationOrder} {target : Option Place} {own value : Value}
-        {span : Option Span} {rest : Rows} {events : List Event} →
-        RunsRow env false id own events Inside →
-        RunsRows env is_test (Row id target own span rest) value events Inside
+        {span : Option Span} {rest : Rows} {events : List Event} {progress : Progress} →
+        RunsRow env false id own events progress →
+        goes_past_row (is_row_of_test env is_test target own rest value) progress ≡ false →
+        RunsRows env is_test (Row id target own span rest) value events progress
 
   -- a run of a row: a row whose id is unset has no event
   pub data RunsRow (env : Environment) : Bool → EvaluationOrder → Value → List Event → Progress → Type 0 where

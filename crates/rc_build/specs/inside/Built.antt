@@ -100,7 +100,7 @@ BuildsList old new site key result = Builds old new site
 pub record TakesBlock (old new : Builder) (site : Site) (terminal : Terminal) : Type 0 where
   pub rows : BuiltPrefix (setting_of old site) (FromBlock site.block) (FromTerminal terminal)
       (progress_of old) (progress_of new)
-  pub ready : CanBuildTerminal old.hir.now new.marks old.frames site.block terminal
+  pub ready : CanBuildTerminal old.hir.now new.marks site.handler old.frames site.block terminal
   pub more : length old.marks.used < length new.marks.used
 
 -- how far the loop over the blocks of a list has come

@@ -1,5 +1,5 @@
 -- What the builder's functions start from: which blocks are used, which are pending, and the frames around.
-use Rattle.std.specs.Prelude.{◌≡◌, ◌≤◌, true, false, List, [], ◌∷◌, ◌++◌, Some, IsSome, if◌then◌else◌}
+use Rattle.std.specs.Prelude.{◌≡◌, ◌≤◌, true, false, List, [], ◌∷◌, ◌++◌, Option, Some, None, IsSome, if◌then◌else◌}
 use Rattle.std.specs.List.{filter_map, flat_map}
 use Rattle.rc_names.specs.Numbers.{BlockId, same_id, is_among, times}
 use Rattle.rc_hir.specs.Successors.{case_blocks}
@@ -10,7 +10,7 @@ use Rattle.rc_build.specs.declared.builder.Marks.{Marks}
 use Rattle.rc_runs.specs.Graph.{basic_block}
 use Rattle.rc_runs.specs.Spelled.{AreSound, scope_at}
 use Rattle.rc_build.specs.References.{referenced_blocks, tested_blocks, fallthrough_of, scope_fallthrough, cases_of}
-use Rattle.rc_build.specs.RuleFacts.{BlockIs, IsLostJump, Jumps}
+use Rattle.rc_build.specs.RuleFacts.{BlockIs, HasTry, IsLostJump, Jumps}
 
 -- the used blocks are sound and blocks of the graph, and the used scopes are theirs
 pub record AreMarked (hir : HirFunction) (marks : Marks) : Type 0 where
@@ -81,19 +81,27 @@ IsUsedApart marks b key = IsUsed marks key × (same_id key b ≡ false)
 abbrev pub AreUsed : Marks → List BlockId → Type 0
 AreUsed marks blocks = (key : BlockId) → is_among blocks key ≡ true → IsUsed marks key
 
--- a list can be built from the block on: a used block refers to it, and the frames are those of used blocks, as far
--- as their statements have come
-pub record CanBuildList (hir : HirFunction) (marks : Marks) (frames : List Frame) (key : BlockId) : Type 0 where
+-- where there is a handler, it is that of a `Try` of the graph
+abbrev pub IsHandler : HirFunction → Option BlockId → Type 0
+IsHandler hir None = Unit {0}
+IsHandler hir (Some handler) = HasTry hir
+
+-- a list can be built under the handler from the block on: a used block refers to it, and the frames are those of used
+-- blocks, as far as their statements have come
+pub record CanBuildList (hir : HirFunction) (marks : Marks) (handler : Option BlockId) (frames : List Frame)
+    (key : BlockId) : Type 0 where
   pub marked : AreMarked hir marks
+  pub handled : IsHandler hir handler
   pub referenced : AreReferenced hir marks.used (key ∷ pending_blocks frames)
   pub used_before : AreUsed marks (used_blocks frames)
   pub owned : AreOwned hir (IsUsed marks) frames
 
--- the statement of a terminal can be built: its block is used, the blocks that it refers to are pending, and the
--- frames are those of other blocks
-pub record CanBuildTerminal (hir : HirFunction) (marks : Marks) (frames : List Frame) (key : BlockId)
-    (terminal : Terminal) : Type 0 where
+-- the statement of a terminal can be built under the handler: its block is used, the blocks that it refers to are
+-- pending, and the frames are those of other blocks
+pub record CanBuildTerminal (hir : HirFunction) (marks : Marks) (handler : Option BlockId) (frames : List Frame)
+    (key : BlockId) (terminal : Terminal) : Type 0 where
   pub marked : AreMarked hir marks
+  pub handled : IsHandler hir handler
   pub used : IsUsed marks key
   pub here : BlockIs hir key (λ block. block.terminal ≡ terminal)
   pub referenced : AreReferenced hir marks.used (referenced_blocks terminal ++ pending_blocks frames)
@@ -103,6 +111,7 @@ pub record CanBuildTerminal (hir : HirFunction) (marks : Marks) (frames : List F
 -- a break of that block's terminal to the target can be built, or is a fault of the block
 pub record CanBreak (hir : HirFunction) (marks : Marks) (frames : List Frame) (key : BlockId) (terminal : Terminal)
     (target : BlockId) : Type 0 where
-  pub can : CanBuildTerminal hir marks frames key terminal
+  pub handler : Option BlockId
+  pub can : CanBuildTerminal hir marks handler frames key terminal
   pub jumps : Jumps terminal target
   pub lost : IsLostJump hir key terminal

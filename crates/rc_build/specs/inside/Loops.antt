@@ -9,7 +9,6 @@ use Rattle.rc_tree.specs.Model.{ReactiveValue, ReactiveTerminal}
 use Rattle.rc_tree.specs.declared.terminal.ReactiveTerminal.TheVariants as tree
 use Rattle.rc_runs.specs.declared.frames.Frame.{Frame}
 use Rattle.rc_runs.specs.Frames.{is_jump_target}
-use Rattle.rc_runs.specs.ListContext.{ListContext}
 use Rattle.rc_runs.specs.LoopParts.{LoopBlocks, LoopParts, turn_start}
 use Rattle.rc_runs.specs.TreeOf.{statements_of, value_of}
 use Rattle.rc_runs.specs.Grammar.{SpellsBefore, SpellsTurns}
@@ -21,9 +20,9 @@ use Rattle.rc_build.specs.declared.loops.LoopKind.{LoopKind}
 use Rattle.rc_build.specs.declared.loops.LoopKind.TheVariants as kinds
 use Rattle.rc_build.specs.declared.loops.BuiltTurns.{BuiltTurns}
 use Rattle.rc_build.specs.RuleFacts.{BlockIs}
-use Rattle.rc_build.specs.inside.CanBuild.{AreMarked, AreOwned, AreReferenced, AreUsed, IsUsed, pending_blocks}
+use Rattle.rc_build.specs.inside.CanBuild.{AreMarked, AreOwned, AreReferenced, AreUsed, IsHandler, IsUsed, pending_blocks}
 use Rattle.rc_build.specs.inside.CanBuild.{used_blocks}
-use Rattle.rc_build.specs.inside.Setting.{Setting}
+use Rattle.rc_build.specs.inside.Setting.{setting_of, Setting}
 use Rattle.rc_build.specs.inside.Task.{Progress, progress_of}
 use Rattle.rc_build.specs.inside.Built.{Builds, BuiltPart, Refused}
 use Rattle.rc_build.specs.inside.Values.{CanBuildValue}
@@ -110,18 +109,20 @@ pub record CanBuildBefore (hir : HirFunction) (marks : Marks) (at : Option Block
   pub value : (key : BlockId) → at ≡ Some key → CanBuildValue hir marks key
 
 -- the value from the block on is built as it stands before the loop's test, where there is one
-abbrev pub BuildsBefore : Builder → Builder → LoopTerminal → Bool → Option BlockId →
+abbrev pub BuildsBefore : Builder → Builder → Site → LoopTerminal → Bool → Option BlockId →
     Result (Option ReactiveValue) Fault → Type 0
-BuildsBefore old new t flat at result = (site : Site) (context : ListContext) → Builds old new site
+BuildsBefore old new site t flat at result = Builds old new site
     (λ built. BuiltPart (option_map value_of)
-    (SpellsBefore old.hir.now old.env.now (shown_blocks flat t) context at) old.hir.now (option_to_list at) built
+    (SpellsBefore old.hir.now old.env.now (shown_blocks flat t) (setting_of old site).context at) old.hir.now (option_to_list at) built
     (progress_of old) (progress_of new))
-    (Refused old.hir.now (SpellsBefore old.hir.now old.env.now (shown_blocks flat t) context at) old.marks.used) result
+    (Refused old.hir.now (SpellsBefore old.hir.now old.env.now (shown_blocks flat t) (setting_of old site).context at) old.marks.used) result
 
--- the turns of a used block's loop can be built: their blocks are pending, and no jump can name where they begin or
--- where they lead
-pub record CanBuildTurns (hir : HirFunction) (marks : Marks) (frames : List Frame) (t : LoopTerminal) : Type 0 where
+-- the turns of a used block's loop can be built under the handler: their blocks are pending, and no jump can name where
+-- they begin or where they lead
+pub record CanBuildTurns (hir : HirFunction) (marks : Marks) (handler : Option BlockId) (frames : List Frame)
+    (t : LoopTerminal) : Type 0 where
   pub marked : AreMarked hir marks
+  pub handled : IsHandler hir handler
   pub referenced : AreReferenced hir marks.used
       ((value_blocks t ++ t.body ∷ t.fallthrough ∷ []) ++ pending_blocks frames)
   pub used_before : AreUsed marks (used_blocks frames)

@@ -1,8 +1,12 @@
 -- The marks: the used blocks, the scopes that they open, and the blocks that are pending.
-use Rattle.std.specs.Prelude.{◌≡◌, Bool, true, List, ◌++◌, Option, Some, None, not}
+use Rattle.std.specs.Prelude.{◌≡◌, Bool, true, false, List, [], ◌∷◌, ◌++◌, Option, Some, None, not}
 use Rattle.std.specs.List.{list_any}
 use Rattle.rc_names.specs.Numbers.{BlockId, ScopeId, same_id}
 use Rattle.rc_hir.specs.Model.{HirFunction}
+use Rattle.rc_runs.specs.declared.frames.Frame.{Frame}
+use Rattle.rc_runs.specs.Frames.{is_jump_target}
+use Rattle.rc_runs.specs.Graph.{Block, usable_block}
+use Rattle.rc_runs.specs.Spelled.{AreSound}
 use Rattle.rc_build.specs.declared.builder.Marks.{Marks}
 use Rattle.rc_build.specs.inside.CanBuild.{AreMarked, AreReferenced}
 
@@ -18,3 +22,8 @@ pub record MarksBlocks (hir : HirFunction) (before after : List BlockId) (old ne
 abbrev pub is_fresh_scope : List ScopeId → Option ScopeId → Bool
 is_fresh_scope scopes None = true
 is_fresh_scope scopes (Some scope) = not (list_any (same_id scope) scopes)
+
+-- no tree may use the block there
+abbrev pub IsUnusable : HirFunction → List Frame → BlockId → Marks → Type 0
+IsUnusable hir frames key marks = (block : Block) → usable_block hir key ≡ Some block →
+    is_jump_target frames key ≡ false → AreSound hir (marks.used ++ key ∷ []) → ⊥

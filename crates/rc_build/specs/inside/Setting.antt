@@ -16,12 +16,12 @@ pub record Setting : Type 0 where
   pub env : Environment
   pub context : ListContext
 
--- the setting of a list that the builder puts at the site; it is outside of handlers, since no `Try` is built
+-- the setting of a list that the builder puts at the site
 abbrev pub setting_of : Builder → Site → Setting
 setting_of builder site = record {
   hir = builder.hir.now;
   env = builder.env.now;
-  context = record { next = site.next; frames = builder.frames; handler = None };
+  context = record { next = site.next; frames = builder.frames; handler = site.handler };
 }
 
 -- the setting of a part of a statement, whose fallthrough is opened or not
@@ -34,11 +34,16 @@ abbrev pub site_inside : Option BlockId → Frame → BlockId → Site → Site
 site_inside opened frame part site = record {
   block = part;
   next = if is_some opened then Some (fall_block frame) else site.next;
+  handler = site.handler;
 }
+
+-- the site of what a handler protects
+abbrev pub site_protected : BlockId → Site → Site
+site_protected handler site = record { block = site.block; next = site.next; handler = Some handler }
 
 -- the site of another block in the same list
 abbrev pub site_at : BlockId → Site → Site
-site_at block site = record { block = block; next = site.next }
+site_at block site = record { block = block; next = site.next; handler = site.handler }
 
 -- the fallthrough, where it is opened
 abbrev pub open_block : Bool → BlockId → Option BlockId

@@ -15,15 +15,19 @@ use Rattle.rc_build.specs.declared.builder.Marks.{Marks}
 use Rattle.rc_build.specs.declared.builder.Site.{Site}
 use Rattle.rc_build.specs.References as references
 use Rattle.rc_build.specs.RuleFacts.{BlockIs}
-use Rattle.rc_build.specs.inside.CanBuild.{AreMarked, AreOwned, AreReferenced, AreUsed, IsUsed, pending_blocks, used_blocks}
+use Rattle.rc_build.specs.inside.CanBuild.{AreMarked, AreOwned, AreReferenced, AreUsed, IsHandler, IsUsed, pending_blocks}
+use Rattle.rc_build.specs.inside.CanBuild.{used_blocks}
 use Rattle.rc_build.specs.inside.Marks.{MarksBlocks}
 use Rattle.rc_build.specs.inside.Setting.{Setting, setting_of}
 use Rattle.rc_build.specs.inside.Task.{Progress, progress_of}
 use Rattle.rc_build.specs.inside.Built.{Builds, BuiltPart, Refused}
 
--- these cases of a switch can be built: they are pending cases of a used block, and the frames are those of used blocks
-pub record CanBuildCases (hir : HirFunction) (marks : Marks) (frames : List Frame) (cases : List Case) : Type 0 where
+-- these cases of a switch can be built under the handler: they are pending cases of a used block, and the frames are
+-- those of used blocks
+pub record CanBuildCases (hir : HirFunction) (marks : Marks) (handler : Option BlockId) (frames : List Frame)
+    (cases : List Case) : Type 0 where
   pub marked : AreMarked hir marks
+  pub handled : IsHandler hir handler
   pub referenced : AreReferenced hir marks.used (case_blocks cases ++ pending_blocks frames)
   pub used_before : AreUsed marks (used_blocks frames)
   pub owned : AreOwned hir (IsUsed marks) frames
@@ -66,7 +70,8 @@ pub record CasesSoFar (old now : Builder) (site : Site) (kept waiting : List Cas
   pub is : reverse parts ≡ cases_of plain
   pub spelled : SpellsKept (setting_of old site) later plain newly
   pub marking : MarksBlocks old.hir.now (case_blocks kept) (case_blocks waiting) old.marks now.marks newly
-  pub can : CanBuildCases now.hir.now now.marks now.frames waiting
-  pub setting : setting_of now (record { block = site.block; next = next }) ≡ setting_after later (setting_of old site)
+  pub can : CanBuildCases now.hir.now now.marks site.handler now.frames waiting
+  pub setting : setting_of now (record { block = site.block; next = next; handler = site.handler })
+      ≡ setting_after later (setting_of old site)
   pub kept_out : now.out ≡ old.out
   pub count : length parts ≡ length later

@@ -4,22 +4,24 @@ use Rattle.std.proofs.Common.{◌≡◌, ℕ, zero, suc, List, [], ◌∷◌, �
 use Rattle.std.proofs.Common.{if◌then◌else◌, ◌||◌, ◌⊎◌, inl, inr, Option, None, Some, Result, Ok, Err, IfErr}
 use Rattle.std.proofs.Common.{option_map, refl, sym, ap, ◌∙◌, subst}
 use Rattle.rc_names.specs.Numbers.{BlockId, EvaluationOrder, same_id}
+use Rattle.rc_names.specs.declared.span.Span.{Span}
 use Rattle.rc_hir.specs.Model.{Environment, Fault, HirFunction, Instruction, Place, Terminal}
 use Rattle.rc_hir.specs.declared.fault.Fault.TheVariants.{BadTarget, NoMemory}
-use Rattle.rc_tree.specs.Model.{ReactiveFunction, ReactiveLabel, ReactiveInstruction}
+use Rattle.rc_tree.specs.Model.{ReactiveFunction, ReactiveLabel}
 use Rattle.rc_tree.specs.declared.terminal.ReactiveTerminal.{out-ReactiveTerminal}
 use Rattle.rc_tree.specs.declared.terminal.ReactiveTerminal.TheVariants as tree
-use Rattle.rc_tree.specs.declared.value.ReactiveValue.TheVariants as reactive_values
 use Rattle.rc_runs.specs.Frames.{resolve_break, resolve_from, resolve_at, resolve_continue, continue_from}
 use Rattle.rc_runs.specs.Grammar.{SpellsList, SpellsRest, SpellsStatement, SpellsTerminal, break_statements}
 use Rattle.rc_runs.specs.Grammar.{continue_statements, rows_before, unlabeled, from_block, returns, throws}
-use Rattle.rc_runs.specs.Grammar.{unreachable, breaks, continues, branch_arms, branch_break, and_rest, if_only, if_else}
-use Rattle.rc_runs.specs.Grammar.{label_statement, scope_statement, pruned_scope_statement, switch_statement}
-use Rattle.rc_runs.specs.Grammar.{while_loop, do_while_loop, for_loop, for_of_loop, for_in_loop, no_rest, has_rest}
+use Rattle.rc_runs.specs.Grammar.{unreachable, breaks, continues, leaves_try, may_throw_last, may_throw, branch_arms}
+use Rattle.rc_runs.specs.Grammar.{branch_break, and_rest, if_only, if_else, label_statement, try_statement}
+use Rattle.rc_runs.specs.Grammar.{scope_statement, pruned_scope_statement, switch_statement}
+use Rattle.rc_runs.specs.Grammar.{while_loop, do_while_loop, for_loop, for_of_loop, for_in_loop, value_statement}
+use Rattle.rc_runs.specs.Grammar.{no_rest, has_rest}
 use Rattle.rc_runs.specs.ListContext.{ListContext, inside}
-use Rattle.rc_runs.specs.PlainTree.{Base, Statement, RowStatement, TerminalStatement, Statements, Nil, Cons}
+use Rattle.rc_runs.specs.PlainTree.{Value, Base, Statement, RowStatement, TerminalStatement, Statements, Nil, Cons}
 use Rattle.rc_runs.specs.PlainTree.{TreeTerminal, Return, Throw, Switch, DoWhile, While, For, ForOf, ForIn, If, Label}
-use Rattle.rc_runs.specs.PlainTree.{Absent, Present}
+use Rattle.rc_runs.specs.PlainTree.{Try, Absent, Present}
 use Rattle.rc_runs.specs.Spelled.{Spells}
 use Rattle.rc_runs.specs.TreeOf.{value_of, block_of, cases_of, statement_of, statements_of, terminal_of}
 use Rattle.rc_runs.specs.declared.frames.Frame.{Frame}
@@ -96,13 +98,16 @@ cons_quiet : (statement : Statement) (rest : Statements) → NoJumps (met_at (st
 cons_quiet statement rest first later =
     no_jumps-append (met_at (statement_of statement)) (flat_map met_at (statements_of rest)) first later
 
+row_quiet : (id : EvaluationOrder) (place : Option Place) (value : Value) (span : Option Span)
+    → NoJumps (met_at (statement_of (RowStatement id place value span)))
+row_quiet id place value span =
+    subst NoJumps (sym (met_at-Instruction (record { id = id; lvalue = place; value = value_of value; span = span }))) tt
+
 rows_quiet : (rows : List Instruction) (rest : Statements) → Quiet rest → Quiet (rows_before rows rest)
 rows_quiet [] rest later = later
 rows_quiet (row ∷ rows) rest later =
-    let x : ReactiveInstruction =
-    record { id = row.id; lvalue = Some row.lvalue; value = reactive_values.Instruction row.value; span = row.span } in
     cons_quiet (RowStatement row.id (Some row.lvalue) (Base row.value) row.span) (rows_before rows rest)
-    (subst NoJumps (sym (met_at-Instruction x)) tt) (rows_quiet rows rest later)
+    (row_quiet row.id (Some row.lvalue) (Base row.value) row.span) (rows_quiet rows rest later)
 
 -- a terminal that is no jump
 still : (terminal : TreeTerminal) (own : Option ReactiveLabel)
@@ -166,6 +171,9 @@ module _ {hir : HirFunction} {env : Environment} where
     quiet_terminal (continues {target = target} {id = id} {context = context} {statements = statements} e) all =
         continue_quiet (resolve_continue context.frames target) id statements
         (scopes_continue true false context.frames target all) e
+    quiet_terminal (leaves_try falls) all = tt
+    quiet_terminal (may_throw_last current falls) all = tt
+    quiet_terminal (may_throw current goes d) all = quiet_list d all
     quiet_terminal (branch_arms {test = test} {id = id} {part = part} {other = other} d d' e) all =
         branch_quiet test part other id
     quiet_terminal (branch_break {test = test} {id = id} {part = part} {other = other} names e d) all =
@@ -184,6 +192,9 @@ module _ {hir : HirFunction} {env : Environment} where
         (tree.outs-If test (block_of part) (Some (block_of other)) id))
     quiet_statement (label_statement {id = id} {label = own} {part = part} i l d) all =
         still (Label part id) own (ap target_of (tree.outs-Label (block_of part) id))
+    quiet_statement (try_statement {binding = place} {id = id} {label = own} {part = part} {other = other} i l d e w)
+        all =
+        still (Try part place other id) own (ap target_of (tree.outs-Try (block_of part) place (block_of other) id))
     quiet_statement (scope_statement {fallthrough = f} {scope = of} {context = context} {opened = o} {part = part} i d)
         all =
         subst NoJumps (sym (met_at-Scope (record { scope = of; instructions = block_of part })))
@@ -211,6 +222,8 @@ module _ {hir : HirFunction} {env : Environment} where
     quiet_statement (for_in_loop {id = id} {span = span} {parts = parts} d) all =
         still (ForIn parts.test parts.body span id) _
         (ap target_of (tree.outs-ForIn (value_of parts.test) (block_of parts.body) span id))
+    quiet_statement (value_statement {nested = n} opened falls d arm used) all =
+        row_quiet n.id (Some n.answer) n.value n.span
 
     quiet_rest : {o : Bool} {f : BlockId} {context : ListContext} {statements : Statements} {used : List BlockId} →
         SpellsRest hir env o f context statements used → AreScopes context.frames → Quiet statements

@@ -174,9 +174,11 @@ module _ (env : Environment) where
         refl)
         last.behind (rw (tree.outs-Try (block_of inside.after) binding (block_of last.after) id) refl)
         (λ block e. last.stay block (inside.stay block e)) (
-          try-keeps_runs env body binding handler id label _,
-          try-keeps_runs env inside.after binding last.after id _ _,
-        ) (try_named env last.behind)
+          try-keeps_runs env binding id body inside.after handler last.after label _ inside.alike.0 last.alike.0
+              (label_after-alike last.behind label),
+          try-keeps_runs env binding id inside.after body last.after handler _ label inside.alike.1 last.alike.1
+              (sym (label_after-alike last.behind label)),
+        ) (try_named env inside.behind last.behind last.stay inside.named last.named)
 
     pruned_alternate : (before : Alternate) (targets : Targets) → PrunedAlternate env before targets
     pruned_alternate Absent targets = record {

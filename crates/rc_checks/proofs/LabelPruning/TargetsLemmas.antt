@@ -17,7 +17,8 @@ use Rattle.rc_runs.specs.BodyRun.{Completion, Normal, BreakTo, BreakLoop, Contin
 use Rattle.rc_runs.specs.BodyRun.{row_completion, RunsList, stopped, nothing, and_then, goes_on, leaves_list}
 use Rattle.rc_runs.specs.BodyRun.{RunsStatement, row, returned, thrown, break_implicit, break_labeled}
 use Rattle.rc_runs.specs.BodyRun.{break_unlabeled, continue_implicit, continue_labeled, continue_unlabeled, took_arm}
-use Rattle.rc_runs.specs.BodyRun.{took_other, in_label, in_scope, in_pruned_scope, RunsAlternate, absent, present}
+use Rattle.rc_runs.specs.BodyRun.{took_other, in_label, in_try, in_handler, in_scope, in_pruned_scope, RunsAlternate}
+use Rattle.rc_runs.specs.BodyRun.{absent, present}
 use Rattle.rc_names.proofs.NumbersLemmas.{ids_equivalence, same_id-eq}
 use Rattle.rc_runs.proofs.LabelLemmas.{NameAlike}
 use Rattle.rc_checks.specs.Labels.{Targets, is_target, with_jump, is_named, label_after}
@@ -128,12 +129,6 @@ module _ (env : Environment) where
   continue_named targets events outcome continue_labeled block e = absurd (let bad : ⊥ = cc in bad)
   continue_named targets events outcome continue_unlabeled block e = absurd (let bad : ⊥ = cc in bad)
 
-  -- a try has no runs
-  pub try_named : {body : Statements} {binding : Option Place} {handler : Statements} {id : EvaluationOrder}
-      {label : Option ReactiveLabel} (targets : Targets)
-      → AllNamed (RunsStatement env (TerminalStatement (Try body binding handler id) label)) targets
-  try_named targets events outcome r block e = elim r [ ]
-
   module _ (targets : Targets) {body : Statements} (inside : AllNamed (RunsList env body) targets) where
     pub label_named : {id : EvaluationOrder} {label : Option ReactiveLabel}
         → AllNamed (RunsStatement env (TerminalStatement (Label body id) label)) targets
@@ -169,6 +164,16 @@ module _ (env : Environment) where
         stay block (arm _ inner r block (inner_break label inner block (sym q ∙ e)))
     if_named arm other events outcome (took_other {label = label} {inner = inner} r q) block e =
         other _ inner r block (inner_break label inner block (sym q ∙ e))
+
+    -- the jumps out of a try are those of its block, and those of its handler
+    pub try_named : {body : Statements} {binding : Option Place} {handler : Statements} {id : EvaluationOrder}
+        {label : Option ReactiveLabel} → AllNamed (RunsList env body) targets
+        → AllNamed (RunsList env handler) targets'
+        → AllNamed (RunsStatement env (TerminalStatement (Try body binding handler id) label)) targets'
+    try_named first later events outcome (in_try {label = label} {inner = inner} r stays q) block e =
+        stay block (first _ inner r block (inner_break label inner block (sym q ∙ e)))
+    try_named first later events outcome (in_handler {label = label} {inner = inner} r reaches h q w) block e =
+        later _ inner h block (inner_break label inner block (sym q ∙ e))
 
 -- a label that nothing names catches nothing
 pub caught-unnamed : (label : Option ReactiveLabel) (outcome : Completion) (targets : Targets) →

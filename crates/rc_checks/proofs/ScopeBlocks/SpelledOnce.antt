@@ -5,31 +5,32 @@ use Rattle.std.proofs.Common.{option_and_then, option_map, arith, refl, ap, subs
 use Rattle.std.specs.List.{filter_map}
 use Rattle.std.proofs.lemmas.List.Elements.{filter_map-append}
 use Rattle.rc_names.specs.Numbers.{BlockId, ScopeId, EvaluationOrder, times}
+use Rattle.rc_names.specs.declared.span.Span.{Span}
 use Rattle.rc_hir.specs.Model.{Environment, HirFunction, Instruction, Place, Terminal}
 use Rattle.rc_hir.specs.Model.{Case as GraphCase}
 use Rattle.rc_tree.specs.Collected.{collected, collected_case, collected_cases, collected_list, collected_statement}
 use Rattle.rc_tree.specs.Collected.{collected_terminal}
 use Rattle.rc_tree.specs.Model.{ReactiveFunction, ReactiveLabel}
 use Rattle.rc_tree.specs.declared.terminal.ReactiveSwitchCase.{roll-ReactiveSwitchCase}
-use Rattle.rc_tree.specs.declared.value.ReactiveValue.TheVariants as reactive_values
 use Rattle.rc_tree.proofs.CollectedLemmas.{collected-block, collected-case, collected-Instruction, collected-Terminal}
 use Rattle.rc_tree.proofs.CollectedLemmas.{collected-Scope, collected-PrunedScope, collected-Break, collected-Continue}
 use Rattle.rc_tree.proofs.CollectedLemmas.{collected-Return, collected-Throw, collected-Switch, collected-DoWhile}
 use Rattle.rc_tree.proofs.CollectedLemmas.{collected-While, collected-For, collected-ForOf, collected-ForIn}
-use Rattle.rc_tree.proofs.CollectedLemmas.{collected-If, collected-Label}
+use Rattle.rc_tree.proofs.CollectedLemmas.{collected-If, collected-Label, collected-Try}
 use Rattle.rc_runs.specs.Frames.{resolve_break, resolve_continue}
 use Rattle.rc_runs.specs.Graph.{Block, block_at}
 use Rattle.rc_runs.specs.Grammar.{SpellsList, SpellsRest, SpellsStatement, SpellsTerminal, SpellsCases, SpellsTurns}
 use Rattle.rc_runs.specs.Grammar.{break_statements, continue_statements, label_of, rows_before, unlabeled, from_block}
-use Rattle.rc_runs.specs.Grammar.{returns, throws, unreachable, breaks, continues, branch_arms, branch_break, and_rest}
-use Rattle.rc_runs.specs.Grammar.{if_only, if_else, label_statement, scope_statement, pruned_scope_statement}
+use Rattle.rc_runs.specs.Grammar.{returns, throws, unreachable, breaks, continues, leaves_try, may_throw_last}
+use Rattle.rc_runs.specs.Grammar.{may_throw, branch_arms, branch_break, and_rest, if_only, if_else, label_statement}
+use Rattle.rc_runs.specs.Grammar.{try_statement, scope_statement, pruned_scope_statement}
 use Rattle.rc_runs.specs.Grammar.{while_loop, do_while_loop, for_loop, for_of_loop, for_in_loop, no_cases, one_case}
-use Rattle.rc_runs.specs.Grammar.{switch_statement, turns, no_rest, has_rest}
+use Rattle.rc_runs.specs.Grammar.{switch_statement, value_statement, turns, no_rest, has_rest}
 use Rattle.rc_runs.specs.ListContext.{ListContext}
 use Rattle.rc_runs.specs.LoopParts.{LoopBlocks, LoopParts}
-use Rattle.rc_runs.specs.PlainTree.{Base, Statement, RowStatement, TerminalStatement, Statements, Nil, Cons}
+use Rattle.rc_runs.specs.PlainTree.{Value, Base, Statement, RowStatement, TerminalStatement, Statements, Nil, Cons}
 use Rattle.rc_runs.specs.PlainTree.{TreeTerminal, Break, Continue, Return, Throw, Switch, DoWhile, While, For, ForOf}
-use Rattle.rc_runs.specs.PlainTree.{ForIn, If, Label, Absent, Present, Cases}
+use Rattle.rc_runs.specs.PlainTree.{ForIn, If, Label, Try, Absent, Present, Cases}
 use Rattle.rc_runs.specs.Spelled.{Spells, scope_at, scope_named}
 use Rattle.rc_runs.specs.TreeOf.{value_of, block_of, cases_of, statement_of, statements_of, terminal_of}
 use Rattle.rc_runs.specs.declared.frames.BreakResult.{BreakResult}
@@ -104,19 +105,21 @@ module _ (hir : HirFunction) (env : Environment) (s : ScopeId) where
       omega (arith, tree-Cons (TerminalStatement terminal None) Nil, labeled_times terminal None e)
 
   -- rows have no scope blocks
+  row_times : (id : EvaluationOrder) (target : Option Place) (value : Value) (span : Option Span)
+      → contents_times (collected_statement contents_of_parts (statement_of (RowStatement id target value span))) ≡ 0
+  row_times id target value span =
+      ap contents_times (collected-Instruction contents_of_parts
+      (record { id = id; lvalue = target; value = value_of value; span = span }))
+
   tree-rows : (rows : List Instruction) (rest : Statements) → tree_times (rows_before rows rest) ≡ tree_times rest
   tree-rows [] rest = refl
   tree-rows (row ∷ rows) rest =
-      let x : Statement = RowStatement row.id (Some row.lvalue) (Base row.value) row.span in
-      let none : contents_times (collected_statement contents_of_parts (statement_of x)) ≡ 0 =
-      ap contents_times (collected-Instruction contents_of_parts
-      (record {
-        id = row.id;
-        lvalue = Some row.lvalue;
-        value = reactive_values.Instruction row.value;
-        span = row.span;
-      })) in
-      omega (arith, tree-Cons x (rows_before rows rest), tree-rows rows rest, none)
+      omega (
+        arith,
+        tree-Cons (RowStatement row.id (Some row.lvalue) (Base row.value) row.span) (rows_before rows rest),
+        tree-rows rows rest,
+        row_times row.id (Some row.lvalue) (Base row.value) row.span,
+      )
 
   -- a jump has none
   jump_times : (way : BreakResult) (target : BlockId) (id : EvaluationOrder) (statements : Statements)
@@ -140,6 +143,19 @@ module _ (hir : HirFunction) (env : Environment) (s : ScopeId) where
   part_times : (part : Statements) → contents_times (collected contents_of_parts (block_of part)) ≡ tree_times part
   part_times part = ap contents_times (collected-block contents_of_parts (block_of part))
 
+  -- two lists of one statement
+  two_times : (part other : Statements)
+      → contents_times (contents_of_parts.joining.both (collected contents_of_parts (block_of part))
+      (collected contents_of_parts (block_of other))) ≡ tree_times part + tree_times other
+  two_times part other =
+      omega (
+        arith,
+        contents_times-both (collected contents_of_parts (block_of part))
+            (collected contents_of_parts (block_of other)),
+        part_times part,
+        part_times other,
+      )
+
   -- the arms of a branch
   branch_times : (test : Place) (part other : Statements) (id : EvaluationOrder)
       → tree_times (unlabeled (If test part (Present other) id)) ≡ tree_times part + tree_times other
@@ -148,10 +164,7 @@ module _ (hir : HirFunction) (env : Environment) (s : ScopeId) where
         arith,
         alone_times (If test part (Present other) id)
             (collected-If contents_of_parts test (block_of part) (Some (block_of other)) id),
-        contents_times-both (collected contents_of_parts (block_of part))
-            (collected contents_of_parts (block_of other)),
-        part_times part,
-        part_times other,
+        two_times part other,
       )
 
   mutual
@@ -175,6 +188,9 @@ module _ (hir : HirFunction) (env : Environment) (s : ScopeId) where
         omega (arith, alone_times (Throw value id) (collected-Throw contents_of_parts value id))
     terminal_times (continues {target = target} {id = id} {context = around} {statements = statements} e) =
         omega (arith, continue_times (resolve_continue around.frames target) id statements e)
+    terminal_times (leaves_try falls) = omega arith
+    terminal_times (may_throw_last current falls) = omega arith
+    terminal_times (may_throw current goes d) = omega (arith, list_times d)
     terminal_times (branch_arms {test = test} {id = id} {part = part} {other = other} {part_used = a} {other_used = b}
         d e is) =
         rw is (omega (arith, branch_times test part other id, used-append a b, list_times d, list_times e))
@@ -204,15 +220,11 @@ module _ (hir : HirFunction) (env : Environment) (s : ScopeId) where
         )
     statement_times (if_else {test = test} {id = id} {label = own} {part = part} {other = other}
         {part_used = a} {other_used = b} i l same d e is) =
-        let x = collected contents_of_parts (block_of part) in
-        let y = collected contents_of_parts (block_of other) in
         rw is (omega (
           arith,
           labeled_times (If test part (Present other) id) own
               (collected-If contents_of_parts test (block_of part) (Some (block_of other)) id),
-          contents_times-both x y,
-          part_times part,
-          part_times other,
+          two_times part other,
           list_times d,
           list_times e,
           used-append a b,
@@ -224,6 +236,17 @@ module _ (hir : HirFunction) (env : Environment) (s : ScopeId) where
           part_times part,
           list_times d,
         )
+    statement_times (try_statement {binding = place} {id = id} {label = own} {part = part} {other = other}
+        {part_used = a} {other_used = b} i l d e is) =
+        rw is (omega (
+          arith,
+          labeled_times (Try part place other id) own
+              (collected-Try contents_of_parts (block_of part) place (block_of other) id),
+          two_times part other,
+          list_times d,
+          list_times e,
+          used-append a b,
+        ))
     statement_times (scope_statement {scope = of} {part = part} i d) =
         let e = ap contents_times (collected-Scope contents_of_parts
         (record { scope = of; instructions = block_of part })) in
@@ -283,6 +306,8 @@ module _ (hir : HirFunction) (env : Environment) (s : ScopeId) where
           part_times parts.body,
           turns_times d,
         )
+    statement_times (value_statement {nested = n} opened falls d arm is) =
+        omega (arith, row_times n.id (Some n.answer) n.value n.span)
 
     cases_times : {cases : List GraphCase} {context : ListContext} {parts : Cases} {used : List BlockId}
         (id : EvaluationOrder) → SpellsCases hir env cases context parts used

@@ -4,6 +4,7 @@ pub mod changes;
 mod document;
 pub mod judged;
 pub mod parts;
+mod places;
 mod spellings;
 pub mod types;
 mod uses;

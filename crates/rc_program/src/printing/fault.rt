@@ -38,7 +38,6 @@ fn name_of(fault: Fault) -> Option<&'static str>
         Fault::NoScopeNode { .. } => Some("6 NoScopeNode"),
         Fault::BadName { .. } => Some("7 BadName"),
         Fault::NoIds => Some("8 NoIds"),
-        Fault::NotBuilt { .. } => Some("11 NotBuilt"),
         Fault::NoMemory | Fault::BadTarget { .. } | Fault::FunctionCycle { .. } => None,
     }
 }
@@ -53,9 +52,7 @@ fn write_place(page: &mut Page, fault: Fault) -> Result<(), AllocError>
             page.push(" rule ")?;
             page.push(rule_name(rule))
         }
-        Fault::Todo { block } | Fault::NotBuilt { block } => write_numbered(
-            page, " block ", block.0,
-        ),
+        Fault::Todo { block } => write_numbered(page, " block ", block.0),
         Fault::EarlyReturnSet { scope } | Fault::NoScopeNode { scope } => write_numbered(
             page, " scope ", scope.0,
         ),

@@ -1,18 +1,17 @@
 //! The sentence that says why a graph is refused, for standard error.
 
 use crate::printing::page::Page;
-use rc_hir::{Fault, HirFunction, Rule, TableName, Terminal};
-use rc_names::{BlockId, Text};
+use rc_hir::{Fault, Rule, TableName};
+use rc_names::Text;
 use std::alloc::{AllocError, Global};
 
 /// Returns a fault in one plain sentence, and the page on which it is explained. Fails only when out of memory.
-pub fn fault_sentence(alloc: Global, hir: &HirFunction, fault: &Fault) -> Result<Text, AllocError> {
+pub fn fault_sentence(alloc: Global, fault: &Fault) -> Result<Text, AllocError> {
     let mut page = Page::new(alloc);
     match *fault {
         Fault::Malformed { block, rule } => {
             write_about(&mut page, "block ", block.0, rule_sentence(rule))?;
         }
-        Fault::NotBuilt { block } => write_unbuilt(&mut page, hir, block)?,
         Fault::BadName { table, index } => {
             let front = table_sentence(table);
             write_about(&mut page, front, index, ", which is not there")?;
@@ -31,11 +30,17 @@ pub fn fault_sentence(alloc: Global, hir: &HirFunction, fault: &Fault) -> Result
             let back = " must give a value and ends in `Label`";
             write_about(&mut page, "block ", block.0, back)?;
         }
-        Fault::Uninitialised { .. }
-        | Fault::NoScopeNode { .. }
-        | Fault::NoMemory
-        | Fault::BadTarget { .. }
-        | Fault::FunctionCycle { .. } => page.push("a pass refuses it")?,
+        Fault::Uninitialised { declaration } => {
+            let back = " is needed before a row gives it a value";
+            write_about(&mut page, "declaration ", declaration.0, back)?;
+        }
+        Fault::NoScopeNode { scope } => {
+            let back = " is needed and no operand or target is in it";
+            write_about(&mut page, "scope ", scope.0, back)?;
+        }
+        Fault::NoMemory | Fault::BadTarget { .. } | Fault::FunctionCycle { .. } => page.push(
+            "a pass refuses it",
+        )?,
     }
     page.push("; see docs/FAULTS.md")?;
     Ok(page.finish())
@@ -46,16 +51,6 @@ fn write_about(page: &mut Page, front: &str, number: u32, back: &str) -> Result<
     page.push(front)?;
     page.number(number)?;
     page.push(back)
-}
-
-/// A block whose terminal isn't built yet.
-fn write_unbuilt(page: &mut Page, hir: &HirFunction, block: BlockId) -> Result<(), AllocError> {
-    write_about(page, "block ", block.0, " ends in ")?;
-    page.push(match hir.body.blocks.get(block) {
-        Some(block) => terminal_name(&block.terminal),
-        None => "a terminal",
-    })?;
-    page.push(", which is not built yet")
 }
 
 /// What holds of the block that breaks a rule, behind its number.
@@ -99,32 +94,5 @@ fn table_sentence(table: TableName) -> &'static str {
         TableName::Functions => "the document names function ",
         TableName::Instructions => "the document names instruction ",
         TableName::Shapes => "the document names shape ",
-    }
-}
-
-/// The name of a terminal, as documents have it.
-fn terminal_name(terminal: &Terminal) -> &'static str {
-    match terminal {
-        Terminal::If { .. } => "If",
-        Terminal::Branch { .. } => "Branch",
-        Terminal::Logical { .. } => "Logical",
-        Terminal::Ternary { .. } => "Ternary",
-        Terminal::Optional { .. } => "Optional",
-        Terminal::Sequence { .. } => "Sequence",
-        Terminal::Throw { .. } => "Throw",
-        Terminal::Return { .. } => "Return",
-        Terminal::Goto { .. } => "Goto",
-        Terminal::Switch { .. } => "Switch",
-        Terminal::DoWhile { .. } => "DoWhile",
-        Terminal::While { .. } => "While",
-        Terminal::For { .. } => "For",
-        Terminal::ForOf { .. } => "ForOf",
-        Terminal::ForIn { .. } => "ForIn",
-        Terminal::Label { .. } => "Label",
-        Terminal::Unreachable { .. } => "Unreachable",
-        Terminal::MaybeThrow { .. } => "MaybeThrow",
-        Terminal::Scope { .. } => "Scope",
-        Terminal::PrunedScope { .. } => "PrunedScope",
-        Terminal::Try { .. } => "Try",
     }
 }

@@ -47,6 +47,17 @@ const CONTINUES: &str = r#"
 {"key":*6,"id":~6,"terminal":{"k":"Goto","variant":"!Continue","block":@1,"id":#9}},
 {"key":*8,"id":~8,"terminal":{"k":"Return","value":1,"id":#9}}"#;
 
+/// In the body of a `While` a `Scope` around a row, and behind it a `PrunedScope`.
+const SCOPES: &str = r#"
+{"key":*0,"id":~0,"terminal":{"k":"While","test":@1,"loop_block":@2,"fallthrough":@5,"id":#1}},
+{"key":*1,"id":~1,"terminal":{"k":"Branch","test":0,"consequent":@2,"alternate":@5,"id":#3}},
+{"key":*2,"id":~2,"terminal":{"k":"Scope","block":@3,"fallthrough":@4,"scope":%0,"id":#4}},
+{"key":*3,"id":~3,"instructions":[0],"terminal":{"k":"Goto","variant":"!Break","block":@4,"id":#5}},
+{"key":*4,"id":~4,"terminal":{"k":"PrunedScope","block":@6,"fallthrough":@7,"scope":%1,"id":#6}},
+{"key":*6,"id":~6,"terminal":{"k":"Goto","variant":"!Break","block":@7,"id":#7}},
+{"key":*7,"id":~7,"terminal":{"k":"Goto","variant":"!Continue","block":@1,"id":#8}},
+{"key":*5,"id":~5,"terminal":{"k":"Return","value":0,"id":#9}}"#;
+
 #[test]
 fn a_loop_with_a_number_changed_is_refused_or_spells_a_tree(rt: HostRuntime) -> Result<(), Fail> {
     let alloc = rt.alloc();
@@ -105,8 +116,40 @@ fn a_loop_with_a_number_changed_is_refused_or_spells_a_tree(rt: HostRuntime) -> 
     Ok(())
 }
 
+#[test]
+fn a_loop_around_scopes_with_a_number_changed_is_refused_or_spells_a_tree(
+    rt: HostRuntime,
+) -> Result<(), Fail> {
+    let alloc = rt.alloc();
+    // A mark, the digits to which each number after it is changed, and, for each of these numbers in the order of the
+    // text, the digits with which the graph spells a tree: a jump in a scope may leave the loop, and no two scopes have
+    // one number.
+    let table: [(u8, &str, &[&str]); 5] = [
+        (
+            b'@',
+            "012345678",
+            &[
+                "05", "1", "2", "5", "2", "5", "3", "4", "45", "6", "7", "57", "1",
+            ],
+        ),
+        (b'%', "0123", &["02", "12"]),
+        (b'#', "0", &["", "", "", "", "", "", "", "", ""]),
+        (b'*', "8", &["", "", "", "", "", "", "", ""]),
+        (b'~', "8", &["", "", "", "", "", "", "", ""]),
+    ];
+    for (mark, digits, spelled) in table {
+        for (nth, due) in spelled.iter().enumerate() {
+            assert!(rt;
+                are_spelling(alloc, SCOPES, mark, nth, digits, due)?,
+                "of number {nth} behind {mark}"
+            );
+        }
+    }
+    Ok(())
+}
+
 /// The text without its marks, and with another word after the `nth` mark before a variant, counted from 0.
-fn with_variant(
+pub fn with_variant(
     alloc: Global,
     text: &str,
     nth: usize,
@@ -155,21 +198,46 @@ fn is_spelled(
 #[test]
 fn a_jump_of_another_variant_is_refused_or_spells_a_tree(rt: HostRuntime) -> Result<(), Fail> {
     let alloc = rt.alloc();
-    // A graph, and of each of its jumps whether it may be a break, and whether a continue: at the end of a value both
-    // will do.
-    let table: [(&str, &[(bool, bool)]); 3] = [
+    // A graph, and of each of its jumps whether it may be a break, a continue, and a jump out of a try: at the end of a
+    // value each will do, and out of a try where falling off leads.
+    let table: [(&str, &[(bool, bool, bool)]); 4] = [
         (
             LOOPS,
-            &[(true, true), (true, true), (false, true), (false, true)],
+            &[
+                (true, true, true),
+                (true, true, true),
+                (false, true, false),
+                (false, true, true),
+            ],
         ),
         (
             SWITCH,
-            &[(true, false), (true, false), (true, false), (false, true)],
+            &[
+                (true, false, true),
+                (true, false, false),
+                (true, false, true),
+                (false, true, true),
+            ],
         ),
-        (CONTINUES, &[(true, true), (false, true), (false, true)]),
+        (
+            CONTINUES,
+            &[
+                (true, true, true),
+                (false, true, false),
+                (false, true, true),
+            ],
+        ),
+        (
+            SCOPES,
+            &[
+                (true, false, true),
+                (true, false, true),
+                (false, true, true),
+            ],
+        ),
     ];
     for (blocks, jumps) in table {
-        for (nth, (breaks, continues)) in jumps.iter().enumerate() {
+        for (nth, (breaks, continues, leaves)) in jumps.iter().enumerate() {
             assert!(rt;
                 is_spelled(alloc, blocks, nth, "Break", *breaks)?,
                 "break {nth} in {blocks}"
@@ -178,9 +246,8 @@ fn a_jump_of_another_variant_is_refused_or_spells_a_tree(rt: HostRuntime) -> Res
                 is_spelled(alloc, blocks, nth, "Continue", *continues)?,
                 "continue {nth} in {blocks}"
             );
-            // A jump out of a protected block isn't built yet.
             assert!(rt;
-                is_spelled(alloc, blocks, nth, "Try", false)?,
+                is_spelled(alloc, blocks, nth, "Try", *leaves)?,
                 "try {nth} in {blocks}"
             );
         }

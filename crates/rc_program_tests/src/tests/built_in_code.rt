@@ -2,7 +2,7 @@
 
 use rc_hir::{
     BasicBlock, Effect, Environment, Fault, GotoVariant, Hir, HirFunction, HirType, Identifier,
-    MutableRange, Place, ReactiveScope, Terminal,
+    MutableRange, ParamPattern, Place, ReactiveScope, Terminal,
 };
 use rc_names::{
     BlockId, DeclarationId, EvaluationOrder, IdentifierId, Keyed, List, ScopeId, Text, TypeId,
@@ -81,11 +81,13 @@ fn graph(alloc: Global) -> Result<HirFunction, Fault> {
             },
         )?;
     }
+    let mut params = List::new(alloc);
+    params.push(ParamPattern::Place(read(0)))?;
     Ok(HirFunction {
         span: None,
         id: None,
         name_hint: None,
-        params: List::new(alloc),
+        params,
         generator: false,
         is_async: false,
         context: List::new(alloc),
@@ -131,6 +133,7 @@ fn environment(alloc: Global) -> Result<Environment, Fault> {
 
 /// The printed text of it. The scope has no output.
 const TEXT: &str = "function null hint null generator false async false
+param 0
 body
   label id 1 as bb6
     body

@@ -75,12 +75,20 @@ fates
   scope 0 unused
 "#;
 
-/// The printed text of it if the scope declares the target of the row.
+/// The printed text of it if the row makes an array that is returned, and the scope declares the row's target.
 const KEPT_SCOPE_TEXT: &str = r#"  scope 0
-    2 2 = {"k":"Debugger"}
-  return 0 id 4
+    2 2 = {"elements":[],"k":"ArrayExpression"}
+  return 2 id 4
 fates
   scope 0 kept
+"#;
+
+/// The same if the scope declares it for another scope.
+const OTHER_SCOPE_TEXT: &str = r#"  pruned 0
+    2 2 = {"elements":[],"k":"ArrayExpression"}
+  return 2 id 4
+fates
+  scope 0 unused
 "#;
 
 /// The scopes of the document.
@@ -121,17 +129,30 @@ fn graphs_of_several_blocks_have_their_statements(rt: HostRuntime) -> Result<(),
     Ok(())
 }
 
-/// The document of the scope, in which the declaration of the row's target has that scope.
+/// The document of the scope with an array that is returned, in which the declaration of the row's target has that
+/// scope.
 fn declared_by(alloc: Global, owner: &str) -> Result<String, AllocError> {
     let scopes = replaced(alloc, DECLARED, "OWNER", owner)?;
-    let document = document(alloc, "2", SCOPE)?;
-    replaced(alloc, document.as_str(), SCOPES, scopes.as_str())
+    let blocks = replaced(
+        alloc,
+        SCOPE,
+        r#""k":"Return","value":0"#,
+        r#""k":"Return","value":2"#,
+    )?;
+    let document = document(alloc, "2", blocks.as_str())?;
+    let with_array = replaced(
+        alloc,
+        document.as_str(),
+        r#""k":"Debugger""#,
+        r#""k":"ArrayExpression""#,
+    )?;
+    replaced(alloc, with_array.as_str(), SCOPES, scopes.as_str())
 }
 
 #[test]
 fn a_scope_is_kept_for_a_declaration_of_its_own(rt: HostRuntime) -> Result<(), Fail> {
     let alloc = rt.alloc();
-    let cases = [("0", KEPT_SCOPE_TEXT), ("1", UNUSED_SCOPE_TEXT)];
+    let cases = [("0", KEPT_SCOPE_TEXT), ("1", OTHER_SCOPE_TEXT)];
     for (owner, statements) in cases {
         let document = declared_by(alloc, owner)?;
         assert!(rt;

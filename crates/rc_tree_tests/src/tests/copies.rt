@@ -1,63 +1,87 @@
-//! Each type can be copied, and the walk of a copy is that of its source.
+//! Each part of a tree can be copied, and its copy equals it in all parts: spans, effects, labels, kinds of jumps and
+//! operators count.
 
-use crate::tests::order::{rows, statements, walked};
+use crate::tests::order::{rows, statements};
 use crate::tests::parts::{ForOrder, Written, for_loop};
-use crate::tests::trees::{empty, function, load, place, returning, row, statement};
-use rc_hir::Fault;
-use rc_names::{CloneIn, ScopeId};
+use crate::tests::trees::{SPAN, empty, function, load, place, returning, row, statement};
+use rc_equality::Equals;
+use rc_hir::{ParamPattern, SpreadPattern};
+use rc_names::{BlockId, CloneIn, List, ScopeId, Text};
 use rc_tree::{
-    PrunedReactiveScopeBlock, ReactiveBlock, ReactiveScopeBlock, ReactiveSwitchCase,
-    ReactiveTerminalStatement,
+    PrunedReactiveScopeBlock, ReactiveBlock, ReactiveFunction, ReactiveLabel, ReactiveScopeBlock,
+    ReactiveSwitchCase, ReactiveTerminalStatement,
 };
 use std::alloc::{AllocError, Global};
 use std::test::Fail;
 
-/// Whether two bodies have the same walk.
-fn walk_alike(alloc: Global, copy: ReactiveBlock, body: ReactiveBlock) -> Result<bool, Fault> {
-    let walked_copy = walked(alloc, copy)?;
-    let walked_body = walked(alloc, body)?;
-    Ok(walked_copy.as_slice() == walked_body.as_slice())
+/// Whether a part equals its copy.
+fn equals_its_copy<T: CloneIn + Equals + Drop>(alloc: Global, part: T) -> Result<bool, AllocError> {
+    Ok(part.clone_in(alloc)?.equals(&part))
 }
 
-/// Whether a body walks like its copy.
-fn walks_like_its_copy(alloc: Global, written: Written) -> Result<bool, Fault> {
-    let Written { body, visits: _ } = written;
-    let copy = body.clone_in(alloc)?;
-    walk_alike(alloc, copy, body)
+/// A list with one text.
+fn texts(alloc: Global, text: &str) -> Result<List<Text>, AllocError> {
+    let mut texts = List::new(alloc);
+    texts.push(Text::from_str(alloc, text)?)?;
+    Ok(texts)
 }
 
-/// Whether the body of a function walks like that of the function's copy.
-fn walks_like_its_function(alloc: Global, written: Written) -> Result<bool, Fault> {
+/// A parameter and a rest parameter.
+fn params(alloc: Global) -> Result<List<ParamPattern>, AllocError> {
+    let params = [
+        ParamPattern::Place(place(1)),
+        ParamPattern::Spread(SpreadPattern { place: place(2) }),
+    ];
+    List::from_slice(alloc, &params)
+}
+
+/// A function with that body, and with every other part.
+fn whole_function(alloc: Global, body: ReactiveBlock) -> Result<ReactiveFunction, AllocError> {
+    let mut func = function(alloc, body);
+    func.span = SPAN;
+    func.id = Some(Text::from_str(alloc, "name")?);
+    func.name_hint = Some(Text::from_str(alloc, "hint")?);
+    func.params = params(alloc)?;
+    func.generator = true;
+    func.is_async = true;
+    func.directives = texts(alloc, "use strict")?;
+    Ok(func)
+}
+
+/// Whether a body equals its copy.
+fn body_equals_its_copy(alloc: Global, written: Written) -> Result<bool, AllocError> {
     let Written { body, visits: _ } = written;
-    let func = function(alloc, body);
-    let copy = func.clone_in(alloc)?;
-    walk_alike(alloc, copy.body, func.body)
+    equals_its_copy(alloc, body)
+}
+
+/// Whether a function with the body equals its copy.
+fn function_equals_its_copy(alloc: Global, written: Written) -> Result<bool, AllocError> {
+    let Written { body, visits: _ } = written;
+    equals_its_copy(alloc, whole_function(alloc, body)?)
 }
 
 #[test]
-fn a_copy_of_every_statement_walks_like_its_source(rt: HostRuntime) -> Result<(), Fail> {
+fn a_copy_of_every_statement_equals_its_source(rt: HostRuntime) -> Result<(), Fail> {
     let alloc = rt.alloc();
-    assert!(rt; walks_like_its_copy(alloc, statements(alloc, ForOrder::BodyFirst)?)?);
+    assert!(rt; body_equals_its_copy(alloc, statements(alloc, ForOrder::BodyFirst)?)?);
     Ok(())
 }
 
 #[test]
-fn a_copy_of_every_value_walks_like_its_source(rt: HostRuntime) -> Result<(), Fail> {
+fn a_copy_of_every_value_equals_its_source(rt: HostRuntime) -> Result<(), Fail> {
     let alloc = rt.alloc();
-    assert!(rt; walks_like_its_function(alloc, rows(alloc)?)?);
+    assert!(rt; function_equals_its_copy(alloc, rows(alloc)?)?);
     Ok(())
 }
 
-/// Whether a part can be copied.
-fn has_copy<T: CloneIn>(alloc: Global, part: T) -> bool {
-    part.clone_in(alloc).is_ok()
-}
-
-/// The statement of a `for` that was copied.
-fn copied_for(alloc: Global) -> Result<ReactiveTerminalStatement, AllocError> {
+/// The statement of a `for` with a label.
+fn labeled_for(alloc: Global) -> Result<ReactiveTerminalStatement, AllocError> {
     Ok(ReactiveTerminalStatement {
-        terminal: for_loop(alloc)?.clone_in(alloc)?,
-        label: None,
+        terminal: for_loop(alloc)?,
+        label: Some(ReactiveLabel {
+            id: BlockId::new(7),
+            implicit: true,
+        }),
     })
 }
 
@@ -86,14 +110,14 @@ fn pruned_scope(alloc: Global) -> PrunedReactiveScopeBlock {
 }
 
 #[test]
-fn each_part_has_a_copy(rt: HostRuntime) -> Result<(), Fail> {
+fn a_copy_of_each_part_equals_its_source(rt: HostRuntime) -> Result<(), Fail> {
     let alloc = rt.alloc();
-    assert!(rt; has_copy(alloc, load(1)));
-    assert!(rt; has_copy(alloc, row(1, load(1))));
-    assert!(rt; has_copy(alloc, statement(alloc, for_loop(alloc)?)?));
-    assert!(rt; has_copy(alloc, copied_for(alloc)?));
-    assert!(rt; has_copy(alloc, case(alloc)?));
-    assert!(rt; has_copy(alloc, scope(alloc)));
-    assert!(rt; has_copy(alloc, pruned_scope(alloc)));
+    assert!(rt; equals_its_copy(alloc, load(1))?);
+    assert!(rt; equals_its_copy(alloc, row(1, load(1)))?);
+    assert!(rt; equals_its_copy(alloc, statement(alloc, for_loop(alloc)?)?)?);
+    assert!(rt; equals_its_copy(alloc, labeled_for(alloc)?)?);
+    assert!(rt; equals_its_copy(alloc, case(alloc)?)?);
+    assert!(rt; equals_its_copy(alloc, scope(alloc))?);
+    assert!(rt; equals_its_copy(alloc, pruned_scope(alloc))?);
     Ok(())
 }

@@ -4,7 +4,7 @@ pub mod rows;
 
 use crate::tests::recorder::{Part, Visit};
 use crate::tests::trees::{
-    empty, load, load_visits, note, place, returning, returning_visits, row, statement,
+    SPAN, empty, load, load_visits, note, place, returning, returning_visits, row, statement,
 };
 use rc_names::{BlockId, EvaluationOrder, List, ScopeId};
 use rc_tree::{
@@ -72,16 +72,15 @@ impl Written {
 /// A jump of either kind has only its id.
 pub fn put_jumps(alloc: Global, written: &mut Written) -> Result<(), AllocError> {
     let target = BlockId::new(1);
-    let target_kind = ReactiveTerminalTargetKind::Labeled;
     let jump = ReactiveTerminal::Break {
         target,
-        target_kind,
+        target_kind: ReactiveTerminalTargetKind::Labeled,
         id: EvaluationOrder::new(10),
     };
     written.put(alloc, jump, &[&[Visit::Id(10)]])?;
     let jump = ReactiveTerminal::Continue {
         target,
-        target_kind,
+        target_kind: ReactiveTerminalTargetKind::Unlabeled,
         id: EvaluationOrder::new(11),
     };
     written.put(alloc, jump, &[&[Visit::Id(11)]])
@@ -222,7 +221,7 @@ pub fn put_for_of(alloc: Global, written: &mut Written) -> Result<(), AllocError
         init: load(1),
         test: load(2),
         loop_block: returning(alloc, 25, 3)?,
-        span: None,
+        span: SPAN,
         id: EvaluationOrder::new(24),
     };
     written.put(
@@ -242,7 +241,7 @@ pub fn put_for_in(alloc: Global, written: &mut Written) -> Result<(), AllocError
     let terminal = ReactiveTerminal::ForIn {
         init: load(1),
         loop_block: returning(alloc, 27, 2)?,
-        span: None,
+        span: SPAN,
         id: EvaluationOrder::new(26),
     };
     written.put(

@@ -2,20 +2,23 @@
 
 use crate::tests::recorder::{Part, Visit};
 use rc_hir::{Effect, InstructionValue, Place};
-use rc_names::{Boxed, EvaluationOrder, IdentifierId, List};
+use rc_names::{Boxed, EvaluationOrder, IdentifierId, List, Span};
 use rc_tree::{
     ReactiveBlock, ReactiveFunction, ReactiveInstruction, ReactiveStatement, ReactiveTerminal,
     ReactiveTerminalStatement, ReactiveValue,
 };
 use std::alloc::{AllocError, Global};
 
-/// A place that is read.
+/// The span of each part that has one.
+pub const SPAN: Option<Span> = Some(Span { start: 3, end: 8 });
+
+/// A place, with no part as it is where nothing is said of it.
 pub fn place(number: u32) -> Place {
     Place {
         identifier: IdentifierId::new(number),
-        effect: Effect::Read,
-        reactive: false,
-        span: None,
+        effect: Effect::Store,
+        reactive: true,
+        span: SPAN,
     }
 }
 
@@ -23,7 +26,7 @@ pub fn place(number: u32) -> Place {
 pub fn load(number: u32) -> ReactiveValue {
     ReactiveValue::Instruction(InstructionValue::LoadLocal {
         place: place(number),
-        span: None,
+        span: SPAN,
     })
 }
 
@@ -42,7 +45,7 @@ pub fn row(id: u32, value: ReactiveValue) -> ReactiveInstruction {
         id: EvaluationOrder::new(id),
         lvalue: None,
         value,
-        span: None,
+        span: SPAN,
     }
 }
 

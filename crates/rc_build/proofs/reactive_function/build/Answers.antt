@@ -1,4 +1,4 @@
-use Rattle.std.proofs.Common.{sym, ap, subst}
+use Rattle.std.proofs.Common.{None, sym, ap, subst}
 use Rattle.rc_build.specs.inside.CanBuild.{CanBuildList}
 use Rattle.rc_build.specs.inside.Task.{Progress}
 use Rattle.rc_build.proofs.BuildLemmas.{at_entry, at_outermost, function_built, none_spelled}
@@ -9,7 +9,7 @@ pub build_list-requires : goal.build_list-requires
 build_list-requires c =
     let builder = c.new-builder.result in
     let hir = c.args.hir.now in
-    subst (λ z. CanBuildList z builder.marks builder.frames hir.body.entry) (sym c.new-builder.ensures.hir)
+    subst (λ z. CanBuildList z builder.marks None builder.frames hir.body.entry) (sym c.new-builder.ensures.hir)
     (at_entry hir builder.marks builder.frames (ap (λ (z : Progress). z.marks) c.new-builder.ensures.progress)
     c.new-builder.ensures.frames)
 

@@ -1,6 +1,5 @@
-use Rattle.std.proofs.Common.{◌≡◌, get_or, length, subst, ap, arith}
+use Rattle.std.proofs.Common.{arith}
 use Rattle.rc_names.specs.Numbers.{InstructionId, to_id}
-use Rattle.rc_build.specs.inside.Values.{HasRow}
 use Rattle.rc_build.proofs.BuildsLemmas.{passed_on}
 use Rattle.rc_build.proofs.ValueRowsLemmas.{rows_further, row_at}
 use Rattle.rc_build.proofs.value_rows.sequence_rows.Goals as goal

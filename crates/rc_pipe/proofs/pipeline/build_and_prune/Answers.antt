@@ -5,37 +5,38 @@ use Rattle.rc_checks.specs.ScopeBlocks.{scopes_in}
 use Rattle.rc_pipe.specs.inside.ListedFates.{AreListedFates}
 use Rattle.rc_pipe.specs.inside.PrunedParts.{as_passes}
 use Rattle.rc_pipe.proofs.CausesLemmas.{build_cause, only_memory}
-use Rattle.rc_pipe.proofs.FatesHold.{fates_hold, kept_exactly, used_staying}
+use Rattle.rc_pipe.proofs.FatesHold.{escaping_staying, fates_hold, kept_exactly, none_needed, used_staying}
+use Rattle.rc_pipe.proofs.FatesHold.{whole_record}
 use Rattle.rc_pipe.proofs.PassesLemmas.{pass_cause}
 use Rattle.rc_pipe.proofs.pipeline.build_and_prune.Goals as goal
 
 pub returns-clause-ok : goal.returns-clause-ok
 returns-clause-ok c =
     let built = c.in_ok-func.ensures in
-    let parts = c.in_ok-used.ensures.ok in
+    let parts = c.in_ok-left.ensures.ok in
     let none = c.in_ok-accept.ensures.ok.no_early_return in
-    let runs = c.in_ok-used.ensures.kept_runs none in
+    let runs = c.in_ok-left.ensures.kept_runs none in
     let body = c.in_ok-func.func.body in
     let once = c.in_ok-spelled.ensures.once c.args.hir.now c.args.env.now c.in_ok-func.func built.ok refl in
     let all : c.as_slice.result.now ≡ scopes_in body = search rules in
-    let used : c.as_slice-2.result.now ≡ c.in_ok-used.used = search rules in
-    let listed : AreListedFates (scopes_in body) c.in_ok-used.used c.prune.new.func.body c.in_ok-fates.fates =
-    subst (λ scopes. AreListedFates (scopes_in body) scopes c.prune.new.func.body c.in_ok-fates.fates) used
-    (subst (λ scopes. AreListedFates scopes c.as_slice-2.result.now c.prune.new.func.body c.in_ok-fates.fates) all
-    c.in_ok-fates.ensures) in
+    let listed : AreListedFates (scopes_in body) c.in_ok-left.left c.prune.new.func.body c.in_ok-fates.fates =
+    subst (λ scopes. AreListedFates scopes c.in_ok-left.left c.prune.new.func.body c.in_ok-fates.fates) all
+    c.in_ok-fates.ensures in
     record {
       accepted = c.in_ok-accept.ensures.ok;
-      forms = built.accepted.forms;
       spelled = c.in_ok-func.func;
       spells = built.ok;
       one_tree = built.one_tree;
       passes = as_passes parts;
       graph_to_body = λ events end run. (runs events end).0 (built.graph_to_body none events end run);
-      body_to_graph = λ events end run. built.body_to_graph none events end ((runs events end).1 run);
+      body_to_graph = λ events end calm run. built.body_to_graph none events end calm ((runs events end).1 run);
       fates = fates_hold parts once c.in_ok-fates.fates listed;
       kept = kept_exactly parts once c.in_ok-fates.fates listed;
+      recorded = whole_record parts once;
+      needed = none_needed parts once c.in_ok-fates.fates listed;
+      escaping = escaping_staying parts once;
       used = used_staying parts once;
-      known = c.in_ok-used.ensures.known built.known;
+      known = c.in_ok-left.ensures.known built.known;
     }
 
 pub returns-in_err-accept-clause-complete : goal.returns-in_err-accept-clause-complete
@@ -62,31 +63,31 @@ returns-in_err-func-clause-complete c =
     c.in_err-func.field-0.0 cause)))
 
 -- a pass's refusal of the one tree has a cause
-pub returns-in_err-used-clause-refused : goal.returns-in_err-used-clause-refused
-returns-in_err-used-clause-refused c =
-    let p = err_from_is_err_and c.from_residual-in_err-used.result c.from_residual-in_err-used.ensures.1 in
+pub returns-in_err-left-clause-refused : goal.returns-in_err-left-clause-refused
+returns-in_err-left-clause-refused c =
+    let p = err_from_is_err_and c.from_residual-in_err-left.result c.from_residual-in_err-left.ensures.1 in
     let built = c.in_ok-func.ensures in
-    rw (p.1, p.2) (pass_cause c.args.hir.now c.args.env.now c.in_ok-accept.ensures.ok built.accepted.forms
-    c.in_ok-func.func built.ok c.in_err-used.field-0.0
-    (c.in_err-used.ensures.refused c.args.hir.now built.ok built.known))
+    rw (p.1, p.2) (pass_cause c.args.hir.now c.args.env.now c.in_ok-accept.ensures.ok
+    c.in_ok-func.func built.ok c.in_err-left.field-0.0
+    (c.in_err-left.ensures.refused c.args.hir.now built.ok built.known))
 
-pub returns-in_err-used-clause-complete : goal.returns-in_err-used-clause-complete
-returns-in_err-used-clause-complete c =
-    let p = err_from_is_err_and c.from_residual-in_err-used.result c.from_residual-in_err-used.ensures.1 in
+pub returns-in_err-left-clause-complete : goal.returns-in_err-left-clause-complete
+returns-in_err-left-clause-complete c =
+    let p = err_from_is_err_and c.from_residual-in_err-left.result c.from_residual-in_err-left.ensures.1 in
     let built = c.in_ok-func.ensures in
-    let cause = pass_cause c.args.hir.now c.args.env.now c.in_ok-accept.ensures.ok built.accepted.forms
-    c.in_ok-func.func built.ok c.in_err-used.field-0.0
-    (c.in_err-used.ensures.refused c.args.hir.now built.ok built.known)
+    let cause = pass_cause c.args.hir.now c.args.env.now c.in_ok-accept.ensures.ok
+    c.in_ok-func.func built.ok c.in_err-left.field-0.0
+    (c.in_err-left.ensures.refused c.args.hir.now built.ok built.known)
     in
     rw (p.1, p.2) (λ func accepted answer. inr (ap Err (only_memory c.args.hir.now c.args.env.now accepted func answer
-    c.in_err-used.field-0.0 cause)))
+    c.in_err-left.field-0.0 cause)))
 
 -- the passes keep numbers in their tables, whatever comes
 pub returns-clause-known_names : goal.returns-clause-known_names
 returns-clause-known_names c = c.prune.ensures.known_names c.args.hir.now
 
-pub returns-in_err-used-clause-known_names : goal.returns-in_err-used-clause-known_names
-returns-in_err-used-clause-known_names c = c.prune.ensures.known_names c.args.hir.now
+pub returns-in_err-left-clause-known_names : goal.returns-in_err-left-clause-known_names
+returns-in_err-left-clause-known_names c = c.prune.ensures.known_names c.args.hir.now
 
 pub returns-in_err-fates-clause-known_names : goal.returns-in_err-fates-clause-known_names
 returns-in_err-fates-clause-known_names c = c.prune.ensures.known_names c.args.hir.now

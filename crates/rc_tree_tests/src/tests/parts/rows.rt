@@ -2,7 +2,7 @@
 
 use crate::tests::parts::Written;
 use crate::tests::recorder::{Part, Visit};
-use crate::tests::trees::{load, load_visits, place, row};
+use crate::tests::trees::{SPAN, load, load_visits, place, row};
 use rc_hir::{
     ArrayPatternElement, InstructionKind, InstructionValue, LValue, LValuePattern, LogicalOperator,
     Pattern, PlaceOrSpread, SpreadPattern,
@@ -19,7 +19,7 @@ pub fn put_store(written: &mut Written) -> Result<(), AllocError> {
             place: place(3),
         },
         value: place(1),
-        span: None,
+        span: SPAN,
     };
     let mut store = row(40, ReactiveValue::Instruction(store));
     store.lvalue = Some(place(2));
@@ -42,7 +42,7 @@ pub fn put_destructure(alloc: Global, written: &mut Written) -> Result<(), Alloc
             },
         },
         value: place(1),
-        span: None,
+        span: SPAN,
     };
     let targets = [Visit::Id(41), Visit::Target(41, 4), Visit::Target(41, 5)];
     written.put_row(
@@ -57,7 +57,7 @@ pub fn put_contexts(written: &mut Written) -> Result<(), AllocError> {
         kind: InstructionKind::Let,
         place: place(6),
     };
-    let declare = InstructionValue::DeclareLocal { lvalue, span: None };
+    let declare = InstructionValue::DeclareLocal { lvalue, span: SPAN };
     let value = [Visit::Enter(Part::Value(42)), Visit::Leave(Part::Value(42))];
     written.put_row(
         row(42, ReactiveValue::Instruction(declare)),
@@ -67,7 +67,7 @@ pub fn put_contexts(written: &mut Written) -> Result<(), AllocError> {
     let store = InstructionValue::StoreContext {
         lvalue,
         value: place(1),
-        span: None,
+        span: SPAN,
     };
     let value = [
         Visit::Enter(Part::Value(43)),
@@ -87,7 +87,7 @@ pub fn put_update(alloc: Global, written: &mut Written) -> Result<(), AllocError
         lvalue: place(3),
         operation: Text::from_str(alloc, "++")?,
         value: place(4),
-        span: None,
+        span: SPAN,
     };
     written.put_row(
         row(44, ReactiveValue::Instruction(update)),
@@ -104,7 +104,7 @@ pub fn put_call(alloc: Global, written: &mut Written) -> Result<(), AllocError> 
     let call = InstructionValue::CallExpression {
         callee: place(1),
         args: List::from_slice(alloc, &args)?,
-        span: None,
+        span: SPAN,
     };
     let value = [
         Visit::Enter(Part::Value(45)),
@@ -122,7 +122,7 @@ pub fn put_call(alloc: Global, written: &mut Written) -> Result<(), AllocError> 
 /// A logical, a conditional and an optional walk their parts at the given id.
 pub fn put_expressions(alloc: Global, written: &mut Written) -> Result<(), AllocError> {
     let logical = ReactiveValue::LogicalExpression {
-        operator: LogicalOperator::And,
+        operator: LogicalOperator::Coalesce,
         left: Boxed::new(alloc, load(1))?,
         right: Boxed::new(alloc, load(2))?,
     };

@@ -66,3 +66,6 @@ invariant-build_list-list l = ListSoFar l.fn.self l.self l.site l.at
 
 abbrev pub decreases-build_list-list : goal.decreases-build_list-list
 decreases-build_list-list l = length l.self.hir.now.body.blocks - length l.self.marks.used
+
+abbrev pub decreases-build_try : goal.decreases-build_try
+decreases-build_try l = unused l.self.now + 7

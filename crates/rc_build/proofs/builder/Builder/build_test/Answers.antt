@@ -1,44 +1,43 @@
-use Rattle.std.proofs.Common.{◌≡◌, ◌∷◌, [], refl, sym, ◌∙◌}
+use Rattle.std.proofs.Common.{refl, sym, ◌∙◌, false, subst}
+use Rattle.std.proofs.lemmas.Bool.{and_parts}
+use Rattle.rc_names.proofs.NumbersLemmas.{same_id-eq}
 use Rattle.rc_hir.specs.declared.fault.Rule.TheVariants as rules
-use Rattle.rc_runs.specs.ListContext.{value_context}
-use Rattle.rc_runs.specs.ValueGrammar.{shown}
+use Rattle.rc_build.specs.declared.values.Around.{Around}
+use Rattle.rc_build.specs.inside.Task.{progress_of}
+use Rattle.rc_build.specs.inside.ValueSteps.{value_at}
+use Rattle.rc_build.specs.inside.Values.{HasNoValue, IsChoice}
 use Rattle.rc_build.proofs.BuildsLemmas.{breaks_rule, is_built, passes_on}
-use Rattle.rc_build.proofs.ShownLemmas.{end_elsewhere, kept_env, test_made, test_not, test_unlike, tested_fact, value_built}
+use Rattle.rc_build.proofs.TestPartLemmas.{ConditionBuilt}
+use Rattle.rc_build.proofs.ValueEndLemmas.{arms_differ, end_elsewhere, test_built, test_elsewhere, test_refused_value}
 use Rattle.rc_build.proofs.builder.Builder.build_test.Goals as goal
 
-pub returns-in_err-built : goal.returns-in_err-built
-returns-in_err-built c = λ site context. passes_on c.from_residual.ensures.1 refl (c.in_err-built.ensures site)
-    (λ none value blocks d sound.
-    none (value_context c.args.showing.span context) d.value d.end blocks d.spelled sound)
+pub returns-in_err-condition : goal.returns-in_err-condition
+returns-in_err-condition c =
+    let old = c.args.self.now in
+    passes_on c.from_residual.ensures.1 refl (c.in_err-condition.ensures c.args.site)
+    (λ none. test_refused_value old.marks.used
+    (subst (λ z. HasNoValue old.hir.now old.env.now c.args.key (value_at z false) (IsChoice old.env.now) old.marks.used)
+    c.around.ensures none))
 
-pub returns-in_default : goal.returns-in_default
-returns-in_default c = λ site context.
-    let value = (c.in_ok-built.ensures site).ok.value in
+pub returns-then-not-are : goal.returns-then-not-are
+returns-then-not-are c =
+    let old = c.args.self.now in
+    let built = c.in_ok-condition.ensures c.args.site in
+    let test = subst (λ (z : Around). ConditionBuilt old.hir.now old.env.now c.args.key z.span z.handler false
+    c.in_ok-condition.condition.arms c.in_ok-condition.condition.tested (progress_of old)
+    (progress_of c.build_condition.new.self)) c.around.ensures built.ok in
     breaks_rule _ rules.ValueEnd c.malformed.ensures
-    (λ whole blocks d sound. test_not value.1 (sym c.tested_between.ensures ∙ c.in_default.is) d)
-    (end_elsewhere value.1 value.2 c.requires.referenced)
-
-pub returns-then-not-same_declaration : goal.returns-then-not-same_declaration
-returns-then-not-same_declaration c = λ site context.
-    let built = c.in_ok-built.ensures site in
-    let value = built.ok.value in
-    let tests = sym c.tested_between.ensures ∙ c.in-Some.is in
-    let unlike = kept_env c.in-Some.test c.in_ok-built.built.answer built.frames ∙ sym c.same_declaration.ensures ∙ c.if-not-same_declaration.true in
-    breaks_rule _ rules.Tested c.malformed-then-not-same_declaration.ensures
-    (λ whole blocks d sound. test_unlike value.1 tests unlike d)
-    (tested_fact value.1 c.args.consequent c.args.alternate _ tests value.2 c.requires.referenced)
+    (test_elsewhere test old.marks.used
+    (arms_differ c.in_ok-condition.condition.arms c.args.consequent c.args.alternate
+    (sym c.are.ensures ∙ c.if-not-are.true))) (end_elsewhere test)
 
 pub returns : goal.returns
-returns c = λ site context.
-    let built = c.in_ok-built.ensures site in
-    let value = built.ok.value in
-    let tests = sym c.tested_between.ensures ∙ c.in-Some.is in
-    let alike = kept_env c.in-Some.test c.in_ok-built.built.answer built.frames ∙ sym c.same_declaration.ensures ∙ c.if-not-same_declaration.false in
-    is_built _ (record {
-      value = shown c.args.showing.flat c.args.showing.span value.1.end (value_built value.1);
-      newly = c.args.key ∷ [];
-      is = c.in_ok-shown.ensures _ _ _ _ value.1;
-      spelled = test_made value.1 tests alike;
-      marking = built.ok.marking;
-      kept = built.ok.kept;
-    }) built.frames
+returns c =
+    let old = c.args.self.now in
+    let built = c.in_ok-condition.ensures c.args.site in
+    let test = subst (λ (z : Around). ConditionBuilt old.hir.now old.env.now c.args.key z.span z.handler false
+    c.in_ok-condition.condition.arms c.in_ok-condition.condition.tested (progress_of old)
+    (progress_of c.build_condition.new.self)) c.around.ensures built.ok in
+    let same = and_parts _ _ (sym c.are.ensures ∙ c.if-not-are.false) in
+    is_built _ (test_built test (same_id-eq _ _ same.0) (same_id-eq _ _ same.1)
+    (c.in_ok-shown.ensures _ _ _ test.is)) built.frames

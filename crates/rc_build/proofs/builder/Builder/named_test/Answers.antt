@@ -1,5 +1,5 @@
 use Rattle.std.proofs.Common.{refl, sym, ◌∙◌}
-use Rattle.rc_build.proofs.ValueLemmas.{empty_fact, named_made, spells_unnamed}
+use Rattle.rc_build.proofs.ValueMadeLemmas.{named_made, spells_unnamed}
 use Rattle.rc_build.proofs.builder.Builder.named_test.Goals as goal
 
 pub returns-in_default-clause-refused : goal.returns-in_default-clause-refused
@@ -8,4 +8,4 @@ returns-in_default-clause-refused c = λ named rule e.
 
 pub returns-clause-ok : goal.returns-clause-ok
 returns-clause-ok c = named_made c.args.self.now.hir.now c.args.key c.args.terminal.now c.requires c.in-Some.named _
-    (sym c.place_named.ensures ∙ c.in-Some.is) c.new.ensures c.in_ok-load.ensures refl refl refl refl
+    (sym c.place_named.ensures ∙ c.in-Some.is) c.in_ok-load.ensures refl refl refl refl refl

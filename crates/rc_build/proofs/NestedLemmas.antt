@@ -1,0 +1,206 @@
+-- What the builder ensures of the four value terminals, once their parts are built.
+use Rattle.std.proofs.Common.{◌≡◌, Bool, true, false, List, [], ◌∷◌, ◌++◌, Option, Some, None, refl, sym, ap, ◌∙◌, subst}
+use Rattle.std.proofs.Common.{Result, arith}
+use Rattle.rc_names.specs.Numbers.{BlockId, EvaluationOrder}
+use Rattle.rc_names.specs.declared.span.Span.{Span}
+use Rattle.rc_hir.specs.Model.{LogicalOperator, Fault, HirFunction, Environment}
+use Rattle.rc_hir.specs.declared.terminal.Terminal.TheVariants as terminals
+use Rattle.rc_tree.specs.Model.{ReactiveValue}
+use Rattle.rc_tree.specs.declared.value.ReactiveValue.TheVariants as reactive_values
+use Rattle.rc_runs.specs.PlainTree.{Conditional, Logical, Optional, Sequence, Row, NoRows}
+use Rattle.rc_runs.specs.TreeOf.{value_of}
+use Rattle.rc_runs.specs.ValueGrammar.{SpellsNested, shares_alternate}
+use Rattle.rc_runs.specs.ValueGrammar.{sequence_value, ternary_value, logical_value, optional_value}
+use Rattle.rc_build.specs.declared.builder.Builder.{Builder}
+use Rattle.rc_build.specs.declared.builder.Marks.{Marks}
+use Rattle.rc_build.specs.declared.builder.Site.{Site}
+use Rattle.rc_build.specs.declared.values.Around.{Around}
+use Rattle.rc_build.specs.declared.values.BuiltValue.{BuiltValue}
+use Rattle.rc_build.specs.declared.values.TestArms.{TestArms}
+use Rattle.rc_build.specs.declared.value_terminals.NestedValue.{NestedValue}
+use Rattle.rc_build.specs.declared.value_terminals.ValueKind.{ValueKind}
+use Rattle.rc_build.specs.declared.value_terminals.ValueKind.TheVariants as kinds
+use Rattle.rc_build.specs.declared.value_terminals.ValueTerminal.{ValueTerminal}
+use Rattle.rc_build.specs.inside.Built.{Refused}
+use Rattle.rc_build.specs.inside.Marks.{MarksBlocks}
+use Rattle.rc_build.specs.inside.Task.{Progress}
+use Rattle.rc_build.specs.inside.SilentArms.{AreArmBlocks}
+use Rattle.rc_build.specs.inside.ValueKinds.{with_kind}
+use Rattle.rc_build.specs.inside.ValueSteps.{around_parts}
+use Rattle.rc_build.specs.inside.ValueTerminals.{BuildsNested, CanBuildNested, NestedBuilt}
+use Rattle.rc_build.specs.inside.Values.{CanBuildValue, alternate_of}
+use Rattle.rc_build.proofs.BuiltLemmas.{marking_beside, marking_drop, marking_then}
+use Rattle.rc_build.proofs.LoopKindLemmas.{among_first}
+use Rattle.rc_build.proofs.LoopLemmas.{value_can}
+use Rattle.rc_build.proofs.TestPartLemmas.{ArmBuilt, ConditionBuilt, HasNoArm, arm_marking, choice_of, condition_marking}
+use Rattle.rc_build.proofs.TestPartLemmas.{short_arm}
+use Rattle.rc_build.proofs.SilentValueLemmas.{silent_arm}
+use Rattle.rc_build.proofs.ValueLoopLemmas.{marking_kept}
+
+module _ {hir : HirFunction} {marks : Marks} {fallthrough : BlockId} {id : EvaluationOrder} {span : Option Span} where
+  -- the one value of a sequence
+  pub sequence_can : {block : BlockId} → CanBuildNested hir marks (with_kind (kinds.Sequence block) fallthrough id span)
+      → CanBuildValue hir marks block
+  sequence_can {block} can = value_can block (block ∷ fallthrough ∷ []) can.marked can.referenced
+      (λ other. omega arith) can.here (among_first block (fallthrough ∷ []))
+
+  -- the test of the other three
+  pub ternary_can : {test : BlockId} → CanBuildNested hir marks (with_kind (kinds.Ternary test) fallthrough id span)
+      → CanBuildValue hir marks test
+  ternary_can {test} can = value_can test (test ∷ fallthrough ∷ []) can.marked can.referenced
+      (λ other. omega arith) can.here (among_first test (fallthrough ∷ []))
+
+  pub logical_can : {operator : LogicalOperator} {test : BlockId}
+      → CanBuildNested hir marks (with_kind (kinds.Logical operator test) fallthrough id span)
+      → CanBuildValue hir marks test
+  logical_can {test = test} can = value_can test (test ∷ fallthrough ∷ []) can.marked can.referenced
+      (λ other. omega arith) can.here (among_first test (fallthrough ∷ []))
+
+  pub optional_can : {optional : Bool} {test : BlockId}
+      → CanBuildNested hir marks (with_kind (kinds.Optional optional test) fallthrough id span)
+      → CanBuildValue hir marks test
+  optional_can {test = test} can = value_can test (test ∷ fallthrough ∷ []) can.marked can.referenced
+      (λ other. omega arith) can.here (among_first test (fallthrough ∷ []))
+
+module _ {hir : HirFunction} {env : Environment} {fallthrough test : BlockId} {span : Option Span} {handler : Option BlockId} {is_test : Bool}
+    {arms : TestArms} {tested first second : BuiltValue} {old mid late new : Progress}
+    (b : ConditionBuilt hir env test span handler is_test arms tested old mid)
+    (f : ArmBuilt hir env arms.consequent fallthrough span handler first mid late)
+    (s : ArmBuilt hir env arms.alternate fallthrough span handler second late new) where
+  -- the blocks of a test and of two arms are marked
+  pub arms_marking : MarksBlocks hir (test ∷ fallthrough ∷ []) (fallthrough ∷ []) old.marks new.marks
+      (b.newly ++ (f.newly ++ s.newly))
+  arms_marking = marking_then hir (marking_kept (fallthrough ∷ []) (condition_marking b))
+      (marking_then hir (marking_beside hir (arm_marking f)) (marking_beside hir (arm_marking s)))
+
+module _ {hir : HirFunction} {env : Environment} {fallthrough : BlockId} {id : EvaluationOrder} {span : Option Span}
+    {handler : Option BlockId} where
+  pub sequence_built : {block : BlockId} {built : BuiltValue} {old new : Progress}
+      → ArmBuilt hir env block fallthrough span handler built old new
+      → NestedBuilt hir env handler (with_kind (kinds.Sequence block) fallthrough id span)
+      (record { value = built.value; answer = built.answer; short = None }) old new
+  sequence_built b = record {
+    nested = record {
+      fallthrough = fallthrough;
+      id = id;
+      span = span;
+      value = b.value;
+      answer = b.end.answer;
+      short = None;
+    };
+    newly = b.newly;
+    is = record { is = b.is.is; answer = b.is.answer; left = refl; short = tt };
+    spelled = sequence_value b.spelled b.ends;
+    marking = marking_beside hir (arm_marking b);
+    kept = b.kept;
+  }
+
+  pub sequence_refused : {block : BlockId} (used : List BlockId) → HasNoArm hir env block fallthrough span handler used
+      → Refused hir (SpellsNested hir env handler (terminals.Sequence block fallthrough id span)) used
+  sequence_refused used none nested blocks (sequence_value {value = v} {end = e} d g) sound = none v e blocks d g sound
+
+  module _ {test : BlockId} {arms : TestArms} {tested first : BuiltValue} {old mid late : Progress} where
+    module _ {second : BuiltValue} {new : Progress} {value : ReactiveValue}
+        (b : ConditionBuilt hir env test span handler false arms tested old mid)
+        (f : ArmBuilt hir env arms.consequent fallthrough span handler first mid late)
+        (s : ArmBuilt hir env arms.alternate fallthrough span handler second late new) where
+      pub ternary_built : value ≡ reactive_values.ConditionalExpression tested.value first.value second.value
+          → NestedBuilt hir env handler (with_kind (kinds.Ternary test) fallthrough id span)
+          (record { value = value; answer = first.answer; short = None }) old new
+      ternary_built is = record {
+        nested = record {
+          fallthrough = fallthrough;
+          id = id;
+          span = span;
+          value = Conditional b.value f.value s.value;
+          answer = f.end.answer;
+          short = None;
+        };
+        newly = b.newly ++ (f.newly ++ s.newly);
+        is = record {
+          is = is ∙ ap (λ z. reactive_values.ConditionalExpression z first.value second.value) b.is.is
+              ∙ ap (λ z. reactive_values.ConditionalExpression (value_of b.value) z second.value) f.is.is
+              ∙ ap (λ z. reactive_values.ConditionalExpression (value_of b.value) (value_of f.value) z) s.is.is;
+          answer = f.is.answer;
+          left = refl;
+          short = tt;
+        };
+        spelled = ternary_value b.spelled (choice_of b.ends) f.spelled f.ends s.spelled s.ends refl;
+        marking = arms_marking b f s;
+        kept = s.kept ∙ f.kept ∙ b.kept;
+      }
+
+      pub logical_built : {operator : LogicalOperator} {left : ReactiveValue}
+          → left ≡ value_of (Sequence (Row b.end.id (Some b.end.answer) b.value span NoRows) f.end.id f.value)
+          → AreArmBlocks hir env f.newly
+          → value ≡ reactive_values.LogicalExpression operator left second.value
+          → NestedBuilt hir env handler (with_kind (kinds.Logical operator test) fallthrough id span)
+          (record { value = value; answer = first.answer; short = None }) old new
+      logical_built {operator} {left} before silent is = record {
+        nested = record {
+          fallthrough = fallthrough;
+          id = id;
+          span = span;
+          value = Logical operator
+              (Sequence (Row b.end.id (Some b.end.answer) b.value span NoRows) f.end.id f.value) s.value;
+          answer = f.end.answer;
+          short = None;
+        };
+        newly = b.newly ++ (f.newly ++ s.newly);
+        is = record {
+          is = is ∙ ap (λ z. reactive_values.LogicalExpression operator z second.value) before
+              ∙ ap (λ z. reactive_values.LogicalExpression operator
+              (value_of (Sequence (Row b.end.id (Some b.end.answer) b.value span NoRows) f.end.id f.value)) z) s.is.is;
+          answer = f.is.answer;
+          left = refl;
+          short = tt;
+        };
+        spelled = logical_value b.spelled (choice_of b.ends) f.spelled
+            (silent_arm refl f.spelled f.ends silent) s.spelled s.ends refl;
+        marking = arms_marking b f s;
+        kept = s.kept ∙ f.kept ∙ b.kept;
+      }
+
+    module _ {value : ReactiveValue} {optional : Bool}
+        (b : ConditionBuilt hir env test span handler true arms tested old mid)
+        (f : ArmBuilt hir env arms.consequent fallthrough span handler first mid late) where
+      pub optional_built : {inner : ReactiveValue} → shares_alternate (alternate_of tested.left_open) arms.alternate ≡ true
+          → inner ≡ value_of (Sequence (Row b.end.id (Some b.end.answer) b.value arms.span NoRows) f.end.id f.value)
+          → value ≡ reactive_values.OptionalExpression inner optional
+          → NestedBuilt hir env handler (with_kind (kinds.Optional optional test) fallthrough id span)
+          (record {
+            value = value;
+            answer = first.answer;
+            short = Some (record { alternate = arms.alternate; branch = tested.block });
+          }) old late
+      optional_built {inner} shared before is = record {
+        nested = record {
+          fallthrough = fallthrough;
+          id = id;
+          span = span;
+          value = Optional (Sequence (Row b.end.id (Some b.end.answer) b.value arms.span NoRows) f.end.id f.value) optional;
+          answer = f.end.answer;
+          short = Some arms.alternate;
+        };
+        newly = b.newly ++ f.newly;
+        is = record {
+          is = is ∙ ap (λ z. reactive_values.OptionalExpression z optional) before;
+          answer = f.is.answer;
+          left = refl;
+          short = short_arm b;
+        };
+        spelled = optional_value b.spelled (choice_of b.ends)
+            (ap (λ z. shares_alternate z arms.alternate) (sym b.is.left) ∙ shared) f.spelled f.ends refl;
+        marking = marking_then hir (marking_kept (fallthrough ∷ []) (condition_marking b))
+            (marking_drop hir (λ other. omega arith) (marking_beside hir (arm_marking f)));
+        kept = f.kept ∙ b.kept;
+      }
+
+-- what is built with that around its parts, said of the value terminal itself
+pub nested_around : {old new : Builder} {site : Site} {result : Result NestedValue Fault} {around : Around}
+    (terminal : ValueTerminal) (handler : Option BlockId) (kind : ValueKind) → around ≡ around_parts terminal handler
+    → BuildsNested old new site around.handler (with_kind kind terminal.fallthrough terminal.id around.span) result
+    → BuildsNested old new site handler (record terminal { kind = kind }) result
+nested_around {old} {new} {site} {result} terminal handler kind is built =
+    subst (λ (z : Around). BuildsNested old new site z.handler (with_kind kind terminal.fallthrough terminal.id z.span)
+    result) is built

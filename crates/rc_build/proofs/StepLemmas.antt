@@ -1,0 +1,215 @@
+-- How a value goes on behind a block, by the block's terminal.
+use Rattle.std.proofs.Common.{◌≡◌, Bool, true, false, Option, Some, None, Result, Ok, Err, IfOk, refl, sym, ap, ◌∙◌}
+use Rattle.std.specs.Prelude.{option_and_then, option_map, if◌then◌else◌}
+use Rattle.rc_names.specs.Numbers.{BlockId}
+use Rattle.rc_hir.specs.Model.{BasicBlock, Terminal, Fault, HirFunction, Environment}
+use Rattle.rc_hir.specs.declared.terminal.Terminal.TheVariants as terminals
+use Rattle.rc_runs.specs.Graph.{basic_block, block_at, is_empty_goto}
+use Rattle.rc_build.specs.declared.builder.Builder.{Builder}
+use Rattle.rc_build.specs.declared.builder.Marks.{Marks}
+use Rattle.rc_build.specs.declared.builder.Site.{Site}
+use Rattle.rc_build.specs.declared.handlers.MayThrow.{MayThrow}
+use Rattle.rc_build.specs.declared.values.Around.{Around}
+use Rattle.rc_build.specs.declared.values.Step.{Step}
+use Rattle.rc_build.specs.declared.values.Step.TheVariants as steps
+use Rattle.rc_build.specs.declared.values.ValueRow.{ValueRow}
+use Rattle.rc_build.specs.declared.value_terminals.ValueKind.TheVariants as kinds
+use Rattle.rc_build.specs.declared.value_terminals.ValueTerminal.{ValueTerminal}
+use Rattle.rc_build.specs.RuleFacts.{BlockIs}
+use Rattle.rc_build.specs.inside.Built.{Builds}
+use Rattle.rc_build.specs.inside.Task.{Progress}
+use Rattle.rc_build.specs.inside.Throws.{may_throw, throw_at}
+use Rattle.rc_build.specs.inside.ValueKinds.{terminal_of, value_terminal}
+use Rattle.rc_build.specs.inside.ValueSteps.{step_at, step_behind}
+use Rattle.rc_build.specs.inside.ValueTerminals.{CanBuildRow, CanBuildStep, CanBuildThrowing, RowBuilt, StepBuilt}
+use Rattle.rc_build.specs.inside.ValueTerminals.{ThrowingBuilt, nested_row, throwing_row}
+use Rattle.rc_build.specs.inside.Values.{CanBuildEnd, CanBuildLast, CanBuildLastThrow}
+use Rattle.rc_build.proofs.MayThrowLemmas.{throws_as}
+
+-- a terminal that is a value terminal
+pub terminal_same : (terminal : Terminal) (found : ValueTerminal) → value_terminal terminal ≡ Some found
+    → terminal ≡ terminal_of found
+terminal_same (terminals.Sequence block fallthrough id span) found e =
+    let same : record { kind = kinds.Sequence block; fallthrough = fallthrough; id = id; span = span } ≡ found = cc in
+    ap terminal_of same
+terminal_same (terminals.Ternary test fallthrough id span) found e =
+    let same : record { kind = kinds.Ternary test; fallthrough = fallthrough; id = id; span = span } ≡ found = cc in
+    ap terminal_of same
+terminal_same (terminals.Logical operator test fallthrough id span) found e =
+    let same : record { kind = kinds.Logical operator test; fallthrough = fallthrough; id = id; span = span } ≡ found = cc
+    in
+    ap terminal_of same
+terminal_same (terminals.Optional optional test fallthrough id span) found e =
+    let same : record { kind = kinds.Optional optional test; fallthrough = fallthrough; id = id; span = span } ≡ found = cc
+    in
+    ap terminal_of same
+terminal_same terminal found e = let bad : ⊥ = cc in absurd bad
+
+module _ (hir : HirFunction) where
+  -- behind a value terminal
+  pub steps_nested : (terminal : Terminal) (found : ValueTerminal) → value_terminal terminal ≡ Some found
+      → step_behind hir terminal ≡ Some (steps.Nested found)
+  steps_nested (terminals.MaybeThrow continuation handler id span) found e = let bad : ⊥ = cc in absurd bad
+  steps_nested terminal found e = ap (option_map steps.Nested) e
+
+  -- behind a block that may throw
+  pub steps_throws : (terminal : Terminal) (throw : MayThrow) → may_throw terminal ≡ Some throw
+      → step_behind hir terminal
+      ≡ (if is_empty_goto (block_at hir throw.continuation) then None else Some (steps.Throws throw))
+  steps_throws terminal throw e = ap (step_behind hir) (throws_as terminal throw e).2
+
+  -- and behind another one
+  pub steps_none : (terminal : Terminal) → value_terminal terminal ≡ None → may_throw terminal ≡ None
+      → step_behind hir terminal ≡ None
+  steps_none (terminals.MaybeThrow continuation handler id span) last stays = let bad : ⊥ = cc in absurd bad
+  steps_none terminal last stays = ap (option_map steps.Nested) last
+
+  -- a value goes on behind a value terminal where there is one
+  some_nested : (found : Option ValueTerminal) (terminal : ValueTerminal)
+      → option_map steps.Nested found ≡ Some (steps.Nested terminal) → found ≡ Some terminal
+  some_nested None terminal e = let bad : ⊥ = cc in absurd bad
+  some_nested (Some found) terminal e = ap Some (let same : found ≡ terminal = cc in same)
+
+  no_nested : (found : Option ValueTerminal) (throw : MayThrow)
+      → option_map steps.Nested found ≡ Some (steps.Throws throw) → ⊥
+  no_nested None throw e = let bad : ⊥ = cc in bad
+  no_nested (Some found) throw e = let bad : ⊥ = cc in bad
+
+  none_nested : (found : Option ValueTerminal) → option_map steps.Nested found ≡ None → found ≡ None
+  none_nested None e = refl
+  none_nested (Some found) e = let bad : ⊥ = cc in absurd bad
+
+  pub nested_step : (terminal : Terminal) (found : ValueTerminal)
+      → step_behind hir terminal ≡ Some (steps.Nested found) → terminal ≡ terminal_of found
+  nested_step (terminals.MaybeThrow continuation handler id span) found e =
+      absurd (go (is_empty_goto (block_at hir continuation)) e)
+    where
+      go : (empty : Bool) → ◌≡◌ {A = Option Step} (if empty then None
+          else Some (steps.Throws (record { continuation = continuation; handler = handler }))) (Some (steps.Nested found))
+          → ⊥
+      go true h = let bad : ⊥ = cc in bad
+      go false h = let bad : ⊥ = cc in bad
+  nested_step terminal found e = terminal_same terminal found (some_nested (value_terminal terminal) found e)
+
+  pub throws_step : (terminal : Terminal) (throw : MayThrow) → step_behind hir terminal ≡ Some (steps.Throws throw)
+      → (may_throw terminal ≡ Some throw) × (is_empty_goto (block_at hir throw.continuation) ≡ false)
+  throws_step (terminals.MaybeThrow continuation handler id span) throw e =
+      go (is_empty_goto (block_at hir continuation)) refl e
+    where
+      go : (empty : Bool) → is_empty_goto (block_at hir continuation) ≡ empty
+          → ◌≡◌ {A = Option Step} (if empty then None
+          else Some (steps.Throws (record { continuation = continuation; handler = handler }))) (Some (steps.Throws throw))
+          → (may_throw (terminals.MaybeThrow continuation handler id span) ≡ Some throw)
+          × (is_empty_goto (block_at hir throw.continuation) ≡ false)
+      go true q h = let bad : ⊥ = cc in absurd bad
+      go false q h =
+          let same : record { continuation = continuation; handler = handler } ≡ throw = cc in
+          (ap Some same, ap (λ (z : MayThrow). is_empty_goto (block_at hir z.continuation)) (sym same) ∙ q)
+  throws_step terminal throw e = absurd (no_nested (value_terminal terminal) throw e)
+
+  -- where a value doesn't go on, there is no value terminal, and a block that may throw is before an empty one
+  pub last_step : (terminal : Terminal) → step_behind hir terminal ≡ None → value_terminal terminal ≡ None
+  last_step (terminals.MaybeThrow continuation handler id span) e = refl
+  last_step terminal e = none_nested (value_terminal terminal) e
+
+  pub last_throw_step : (terminal : Terminal) (throw : MayThrow) → step_behind hir terminal ≡ None
+      → may_throw terminal ≡ Some throw → is_empty_goto (block_at hir throw.continuation) ≡ true
+  last_throw_step terminal throw none throws =
+      go (is_empty_goto (block_at hir throw.continuation)) refl (sym (steps_throws terminal throw throws) ∙ none)
+    where
+      go : (empty : Bool) → is_empty_goto (block_at hir throw.continuation) ≡ empty
+          → ◌≡◌ {A = Option Step} (if empty then None else Some (steps.Throws throw)) None
+          → is_empty_goto (block_at hir throw.continuation) ≡ true
+      go true q h = q
+      go false q h = let bad : ⊥ = cc in absurd bad
+
+  -- the block under a key, of which that was found
+  pub step_there : (key : BlockId) (step : Step) → step_at hir key ≡ Some step
+      → BlockIs hir key (λ block. step_behind hir block.terminal ≡ Some step)
+  step_there key step e = go (basic_block hir key) refl e
+    where
+      go : (found : Option BasicBlock) → basic_block hir key ≡ found
+          → option_and_then (λ (z : BasicBlock). step_behind hir z.terminal) found ≡ Some step
+          → BlockIs hir key (λ block. step_behind hir block.terminal ≡ Some step)
+      go None p h = let bad : ⊥ = cc in absurd bad
+      go (Some block) p h = record { block = block; found = p; holds = h }
+
+  throw_there : (key : BlockId) (throw : MayThrow) → throw_at hir key ≡ Some throw
+      → BlockIs hir key (λ block. may_throw block.terminal ≡ Some throw)
+  throw_there key throw e = go (basic_block hir key) refl e
+    where
+      go : (found : Option BasicBlock) → basic_block hir key ≡ found
+          → option_and_then (λ (z : BasicBlock). may_throw z.terminal) found ≡ Some throw
+          → BlockIs hir key (λ block. may_throw block.terminal ≡ Some throw)
+      go None p h = let bad : ⊥ = cc in absurd bad
+      go (Some block) p h = record { block = block; found = p; holds = h }
+
+  last_there : (key : BlockId) (found : Option BasicBlock)
+      → option_and_then (λ (z : BasicBlock). step_behind hir z.terminal) found ≡ None
+      → option_and_then (λ (z : BasicBlock). value_terminal z.terminal) found ≡ None
+  last_there key None e = refl
+  last_there key (Some block) e = last_step block.terminal e
+
+module _ {hir : HirFunction} {marks : Marks} {key : BlockId} where
+  -- a row can be built behind which the value goes on
+  pub row_can : {step : Step} (terminal : ValueTerminal) → step ≡ steps.Nested terminal → CanBuildStep hir marks key step
+      → CanBuildRow hir marks key terminal
+  row_can terminal is can = record {
+    can = can.can;
+    here = record {
+      block = can.here.block;
+      found = can.here.found;
+      holds = nested_step hir can.here.block.terminal terminal (can.here.holds ∙ ap Some is);
+    };
+  }
+
+  -- or the rows of a block that may throw
+  pub throwing_can : {step : Step} (throw : MayThrow) → step ≡ steps.Throws throw → CanBuildStep hir marks key step
+      → CanBuildThrowing hir marks key throw
+  throwing_can throw is can =
+      let both = throws_step hir can.here.block.terminal throw (can.here.holds ∙ ap Some is) in record {
+        can = can.can;
+        here = record { block = can.here.block; found = can.here.found; holds = both.0 };
+        goes_on = both.1;
+      }
+
+  -- the last block, which doesn't throw
+  pub end_block_can : CanBuildLast hir marks key → throw_at hir key ≡ None → CanBuildEnd hir marks key
+  end_block_can can stays =
+      record { can = can.can; ends = last_there hir key (basic_block hir key) can.ends; stays = stays }
+
+  -- and the last two, of which the first one does
+  pub last_throw_can : (throw : MayThrow) → CanBuildLast hir marks key → throw_at hir key ≡ Some throw
+      → CanBuildLastThrow hir marks key throw
+  last_throw_can throw can throws =
+      let here = throw_there hir key throw throws in record {
+        can = can.can;
+        here = here;
+        goes = last_throw_step hir here.block.terminal throw
+            (sym (ap (option_and_then (λ (z : BasicBlock). step_behind hir z.terminal)) here.found) ∙ can.ends)
+            here.holds;
+      }
+
+-- what is built, said otherwise
+pub builds_as : {A : Type 0} {old new : Builder} {site : Site} {Built BuiltThere : A → Type 0} {N NThere : Type 0}
+    {result : Result A Fault} → ((answer : A) → BuiltThere answer → Built answer) → (NThere → N)
+    → Builds old new site BuiltThere NThere result → Builds old new site Built N result
+builds_as {A = A} {Built = Built} {BuiltThere} {result = result} built none b = record {
+  ok = go result b.ok;
+  refused = λ named rule e. none (b.refused named rule e);
+  facts = b.facts;
+  frames = b.frames;
+}
+  where
+    go : (r : Result A Fault) → IfOk r BuiltThere → IfOk r Built
+    go (Ok answer) h = built answer h
+    go (Err fault) h = tt
+
+module _ {hir : HirFunction} {env : Environment} {around : Around} {key : BlockId} {row : ValueRow} {old new : Progress}
+  where
+    -- the row of a value terminal, and that of a block that may throw
+    pub row_step : RowBuilt hir env around key row old new → StepBuilt hir env around key row old new
+    row_step b = record { newly = b.newly; is = nested_row b.is; marking = b.marking; kept = b.kept }
+
+    pub throwing_step : ThrowingBuilt hir around.handler key row old new → StepBuilt hir env around key row old new
+    throwing_step b = record { newly = b.newly; is = throwing_row b.is; marking = b.marking; kept = b.kept }

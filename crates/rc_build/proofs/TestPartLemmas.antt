@@ -1,0 +1,386 @@
+-- The parts of the value terminals that test: the test, the arm that is a value for all of them, and a second arm.
+use Rattle.std.proofs.Common.{◌≡◌, ◌≤◌, Bool, true, false, List, [], ◌∷◌, ◌++◌, Option, Some, None, refl, sym, ap, ◌∙◌, subst}
+use Rattle.std.proofs.Common.{arith, if◌then◌else◌}
+use Rattle.std.proofs.lemmas.List.{append-nil}
+use Rattle.rc_names.specs.Numbers.{BlockId, EvaluationOrder, same_id, is_among}
+use Rattle.rc_names.specs.declared.span.Span.{Span}
+use Rattle.rc_hir.specs.Model.{Terminal, LogicalOperator, HirFunction, Environment}
+use Rattle.rc_hir.specs.declared.fault.Rule.TheVariants as rules
+use Rattle.rc_hir.specs.declared.terminal.Terminal.TheVariants as terminals
+use Rattle.rc_runs.specs.ListContext.{ValueContext}
+use Rattle.rc_runs.specs.PlainTree.{Value}
+use Rattle.rc_runs.specs.Spelled.{AreSound}
+use Rattle.rc_runs.specs.ValueGrammar.{ValueEnd, ChoosesBetween, GoesTo, Nested, SpellsNested, SpellsSilentArm, SpellsValue}
+use Rattle.rc_runs.specs.ValueGrammar.{shares_alternate, ternary_value, logical_value, optional_value}
+use Rattle.rc_runs.proofs.OneValue.{one_choice, one_value}
+use Rattle.rc_build.specs.declared.short_arms.ShortArm.{ShortArm}
+use Rattle.rc_build.specs.declared.values.BuiltValue.{BuiltValue}
+use Rattle.rc_build.specs.declared.values.TestArms.{TestArms}
+use Rattle.rc_build.specs.References.{referenced_blocks, value_references}
+use Rattle.rc_build.specs.RuleFacts.{BlockIs, IsBranchArm, IsValueReferenced, RuleFact, ValueBlockIs, branch_alternate, branch_arms, is_branch}
+use Rattle.rc_build.specs.RuleFacts.{times_referenced}
+use Rattle.rc_build.specs.inside.CanBuild.{AreReferenced}
+use Rattle.rc_build.specs.inside.Marks.{MarksBlocks}
+use Rattle.rc_build.specs.inside.Setting.{Setting}
+use Rattle.rc_build.specs.inside.SilentArms.{CanCheckSilent}
+use Rattle.rc_build.specs.inside.Task.{Progress}
+use Rattle.rc_build.specs.inside.Values.{AreShort, CanBuildValue, HasArms, HasNoValue, IsChoice, IsShort, ValueBuilt, alternate_of}
+use Rattle.rc_build.specs.inside.Values.{other_arm_of}
+use Rattle.rc_build.proofs.BuiltLemmas.{marking_drop, refused_back, refused_front}
+use Rattle.rc_build.proofs.LoopKindLemmas.{among_first}
+use Rattle.rc_build.proofs.MarksLemmas.{among_back, references_le, referenced_fewer, times_among, times_append}
+use Rattle.rc_build.proofs.SilentArmLemmas.{usable_there}
+use Rattle.rc_build.proofs.SilentValueLemmas.{silent_goes}
+use Rattle.rc_build.proofs.ValueLemmas.{value_block}
+use Rattle.rc_build.proofs.WalkLemmas.{none_used}
+
+-- a used block is referred to
+referenced_used : (hir : HirFunction) (used pending : List BlockId) (key : BlockId) → AreReferenced hir used pending
+    → is_among used key ≡ true → 1 ≤ times_referenced hir key
+referenced_used hir used pending key h among =
+    omega (arith, h key, times_append key pending used, times_among key used among, references_le hir used key)
+
+-- the context of a part of a value terminal with that span
+abbrev pub in_part : Option Span → Option BlockId → Bool → ValueContext
+in_part span handler is_test = record { around = span; handler = handler; is_test = is_test }
+
+-- a test with its first arm, and the blocks that are used behind them
+pub record TestParts (hir : HirFunction) (env : Environment) (test fallthrough : BlockId) (span : Option Span) (handler : Option BlockId)
+    (is_test : Bool) (blocks : List BlockId) : Type 0 where
+  pub condition : Value
+  pub condition_end : ValueEnd
+  pub test_used : List BlockId
+  pub consequent : BlockId
+  pub alternate : BlockId
+  pub tested : SpellsValue hir env test (in_part span handler is_test) condition condition_end test_used
+  pub choice : ChoosesBetween env consequent alternate condition_end
+  pub value : Value
+  pub end : ValueEnd
+  pub value_used : List BlockId
+  pub first : SpellsValue hir env consequent (in_part span handler false) value end value_used
+  pub goes : GoesTo fallthrough end
+  pub rest : List BlockId
+  pub whole : blocks ≡ test_used ++ (value_used ++ rest)
+
+-- the second arm is a value too
+pub record SecondPart (hir : HirFunction) (env : Environment) (fallthrough : BlockId) (span : Option Span) (handler : Option BlockId)
+    (alternate : BlockId) (rest : List BlockId) : Type 0 where
+  pub other : Value
+  pub end : ValueEnd
+  pub second : SpellsValue hir env alternate (in_part span handler false) other end rest
+  pub goes : GoesTo fallthrough end
+
+-- an arm is built
+abbrev pub ArmBuilt : HirFunction → Environment → BlockId → BlockId → Option Span → Option BlockId → BuiltValue → Progress → Progress
+    → Type 0
+ArmBuilt hir env key next span handler built old new = ValueBuilt hir env key (in_part span handler false) (GoesTo next) built old new
+
+-- no arm is spelled
+abbrev pub HasNoArm : HirFunction → Environment → BlockId → BlockId → Option Span → Option BlockId → List BlockId → Type 0
+HasNoArm hir env key next span handler used = HasNoValue hir env key (in_part span handler false) (GoesTo next) used
+
+-- a condition is built
+abbrev pub ConditionBuilt : HirFunction → Environment → BlockId → Option Span → Option BlockId → Bool → TestArms → BuiltValue → Progress
+    → Progress → Type 0
+ConditionBuilt hir env key span handler is_test arms built old new =
+    ValueBuilt hir env key (in_part span handler is_test) (HasArms env arms) built old new
+
+-- the choice of a condition that is built
+abbrev pub choice_of : {env : Environment} {arms : TestArms} {end : ValueEnd} → HasArms env arms end
+    → ChoosesBetween env arms.consequent arms.alternate end
+choice_of {arms = arms} h =
+    record { test = arms.test; id = h.id; span = arms.span; chooses = h.chooses; answers = h.answers }
+
+module _ {hir : HirFunction} {env : Environment} where
+  -- nothing that an arm refers to stays pending
+  pub arm_marking : {key next : BlockId} {span : Option Span} {handler : Option BlockId} {built : BuiltValue} {old new : Progress}
+      (b : ArmBuilt hir env key next span handler built old new) → MarksBlocks hir (key ∷ []) [] old.marks new.marks b.newly
+  arm_marking b = marking_drop hir (λ other. omega arith) b.marking
+
+  module _ {test : BlockId} {span : Option Span} {handler : Option BlockId} {is_test : Bool} {arms : TestArms} {tested : BuiltValue}
+      {old mid : Progress} (b : ConditionBuilt hir env test span handler is_test arms tested old mid) where
+    -- both arms stay pending behind a condition
+    pub condition_marking :
+        MarksBlocks hir (test ∷ []) (arms.consequent ∷ arms.alternate ∷ []) old.marks mid.marks b.newly
+    condition_marking = subst (λ t. MarksBlocks hir (test ∷ []) (referenced_blocks t) old.marks mid.marks b.newly)
+        b.ends.chooses b.marking
+
+    -- the `Branch` of the condition
+    branch_here : BlockIs hir tested.block (λ block. block.terminal
+        ≡ terminals.Branch arms.test arms.consequent arms.alternate b.ends.id arms.span)
+    branch_here = record {
+      block = b.is.at_end.here.block;
+      found = b.is.at_end.here.found;
+      holds = b.is.at_end.here.holds ∙ b.ends.chooses;
+    }
+
+    pub valued_arm : (key : BlockId) → is_among (arms.consequent ∷ arms.alternate ∷ []) key ≡ true
+        → IsValueReferenced hir key
+    valued_arm key among = (
+      tested.block,
+      record {
+        block = branch_here.block;
+        found = branch_here.found;
+        holds = ap (λ t. is_among (value_references t) key) branch_here.holds ∙ among;
+      },
+    )
+
+    pub branch_arm : (key : BlockId) → is_among (arms.consequent ∷ arms.alternate ∷ []) key ≡ true
+        → IsBranchArm hir key
+    branch_arm key among = (
+      tested.block,
+      record {
+        block = branch_here.block;
+        found = branch_here.found;
+        holds = ap (λ t. is_among (branch_arms t) key) branch_here.holds ∙ among;
+      },
+    )
+
+    -- its alternate may be a short arm
+    pub short_arm : IsShort hir (record { alternate = arms.alternate; branch = tested.block })
+    short_arm = record {
+      referenced = b.is.at_end.referenced;
+      here = record {
+        block = branch_here.block;
+        found = branch_here.found;
+        holds = ap branch_alternate branch_here.holds;
+      };
+    }
+
+    among_second : is_among (arms.consequent ∷ arms.alternate ∷ []) arms.alternate ≡ true
+    among_second = among_back (arms.consequent ∷ []) (arms.alternate ∷ []) arms.alternate (among_first arms.alternate [])
+
+    module _ (fallthrough : BlockId)
+        (pending : AreReferenced hir old.marks.used (test ∷ fallthrough ∷ [])) where
+      -- the first arm can be built
+      pub first_can : CanBuildValue hir mid.marks arms.consequent
+      first_can = record {
+        can = record {
+          marked = b.marking.marked;
+          handled = tt;
+          referenced = referenced_fewer hir mid.marks.used (arms.consequent ∷ [])
+              (arms.consequent ∷ arms.alternate ∷ fallthrough ∷ []) (λ other. omega arith)
+              (condition_marking.referenced (fallthrough ∷ []) pending);
+          used_before = none_used mid.marks;
+          owned = tt;
+        };
+        referenced = valued_arm arms.consequent (among_first arms.consequent (arms.alternate ∷ []));
+      }
+
+      -- the blocks that are used behind it can be looked at
+      pub silent_can : {first : BuiltValue} {new : Progress}
+          → ArmBuilt hir env arms.consequent fallthrough span handler first mid new
+          → CanCheckSilent hir new.marks arms.consequent
+      silent_can {new = new} f =
+          let at = value_block f.spelled in record {
+            referenced = λ key used. referenced_used hir new.marks.used (arms.alternate ∷ fallthrough ∷ []) key
+                ((arm_marking f).referenced (arms.alternate ∷ fallthrough ∷ [])
+                (condition_marking.referenced (fallthrough ∷ []) pending)) used;
+            arm_is = branch_arm arms.consequent (among_first arms.consequent (arms.alternate ∷ []));
+            there = usable_there hir arms.consequent at.whole at.usable;
+          }
+
+      -- and the second one behind it
+      pub second_can : {first : BuiltValue} {new : Progress}
+          → ArmBuilt hir env arms.consequent fallthrough span handler first mid new → CanBuildValue hir new.marks arms.alternate
+      second_can {new = new} f = record {
+        can = record {
+          marked = f.marking.marked;
+          handled = tt;
+          referenced = referenced_fewer hir new.marks.used (arms.alternate ∷ []) (arms.alternate ∷ fallthrough ∷ [])
+              (λ other. omega arith) ((arm_marking f).referenced (arms.alternate ∷ fallthrough ∷ [])
+              (condition_marking.referenced (fallthrough ∷ []) pending));
+          used_before = none_used new.marks;
+          owned = tt;
+        };
+        referenced = valued_arm arms.alternate among_second;
+      }
+
+    module _ {fallthrough : BlockId} {blocks : List BlockId} (p : TestParts hir env test fallthrough span handler is_test blocks)
+      where
+        -- the parts of a terminal have the condition that was built
+        one_tested : (p.condition ≡ b.value) × (p.condition_end ≡ b.end) × (p.test_used ≡ b.newly)
+        one_tested = one_value p.tested b.spelled
+
+        pub one_arms : (p.consequent ≡ arms.consequent) × (p.alternate ≡ arms.alternate) × (p.choice.span ≡ arms.span)
+        one_arms = one_choice one_tested.1 p.choice (choice_of b.ends)
+
+        first_there : SpellsValue hir env arms.consequent (in_part span handler false) p.value p.end p.value_used
+        first_there = subst (λ z. SpellsValue hir env z (in_part span handler false) p.value p.end p.value_used) one_arms.0 p.first
+
+        behind_test : AreSound hir (old.marks.used ++ blocks) → AreSound hir (mid.marks.used ++ (p.value_used ++ p.rest))
+        behind_test sound = refused_back hir old.marks.used b.newly (p.value_used ++ p.rest) sound
+            (p.whole ∙ ap (λ z. z ++ (p.value_used ++ p.rest)) one_tested.2) b.marking.used
+
+        -- and the first arm
+        pub one_first : {first : BuiltValue} {new : Progress}
+            → (f : ArmBuilt hir env arms.consequent fallthrough span handler first mid new) → p.value_used ≡ f.newly
+        one_first f = (one_value first_there f.spelled).2
+
+        pub first_refused : HasNoArm hir env arms.consequent fallthrough span handler mid.marks.used
+            → AreSound hir (old.marks.used ++ blocks) → ⊥
+        first_refused none sound = none p.value p.end p.value_used first_there p.goes
+            (refused_front hir mid.marks.used p.value_used p.rest (behind_test sound) refl)
+
+        pub second_refused : {first : BuiltValue} {new : Progress}
+            → ArmBuilt hir env arms.consequent fallthrough span handler first mid new
+            → HasNoArm hir env arms.alternate fallthrough span handler new.marks.used
+            → SecondPart hir env fallthrough span handler p.alternate p.rest → AreSound hir (old.marks.used ++ blocks) → ⊥
+        second_refused f none s sound =
+            let same = one_value first_there f.spelled in
+            none s.other s.end p.rest
+            (subst (λ z. SpellsValue hir env z (in_part span handler false) s.other s.end p.rest) one_arms.1 s.second) s.goes
+            (refused_back hir mid.marks.used f.newly p.rest (behind_test sound) (ap (λ z. z ++ p.rest) same.2) f.marking.used)
+
+        -- the test leaves the arm open that the terminal shares
+        pub shares_same : shares_alternate p.condition_end.left_open p.alternate ≡ true
+            → shares_alternate (alternate_of tested.left_open) arms.alternate ≡ true
+        shares_same shared = ap (λ z. shares_alternate z arms.alternate) (b.is.left ∙ sym (ap (λ (e : ValueEnd). e.left_open) one_tested.1))
+            ∙ ap (λ z. shares_alternate p.condition_end.left_open z) (sym one_arms.1) ∙ shared
+
+  -- a terminal whose test is refused is refused
+  pub test_refused : {test fallthrough : BlockId} {span : Option Span} {handler : Option BlockId} {is_test : Bool} (used : List BlockId)
+      {blocks : List BlockId} → HasNoValue hir env test (in_part span handler is_test) (IsChoice env) used
+      → (p : TestParts hir env test fallthrough span handler is_test blocks) → AreSound hir (used ++ blocks) → ⊥
+  test_refused used none p sound = none p.condition p.condition_end p.test_used p.tested (p.consequent, p.alternate, p.choice)
+      (refused_front hir used p.test_used (p.value_used ++ p.rest) sound p.whole)
+
+  pub ternary_parts : {handler : Option BlockId} {test fallthrough : BlockId} {id : EvaluationOrder} {span : Option Span} {nested : Nested}
+      {blocks : List BlockId}
+      → SpellsNested hir env handler (terminals.Ternary test fallthrough id span) nested blocks
+      → (p : TestParts hir env test fallthrough span handler false blocks)
+      × SecondPart hir env fallthrough span handler p.alternate p.rest
+  ternary_parts (ternary_value {consequent = a} {alternate = b} {condition = c0} {value = v} {other = o} {condition_end = e0} {end = end}
+      {other_end = oe} {test_used = x} {value_used = y} {other_used = z} t c d g e h u) = (
+        record {
+          condition = c0;
+          condition_end = e0;
+          test_used = x;
+          consequent = a;
+          alternate = b;
+          tested = t;
+          choice = c;
+          value = v;
+          end = end;
+          value_used = y;
+          first = d;
+          goes = g;
+          rest = z;
+          whole = u;
+        },
+        record { other = o; end = oe; second = e; goes = h },
+      )
+
+  pub logical_parts : {handler : Option BlockId} {operator : LogicalOperator} {test fallthrough : BlockId} {id : EvaluationOrder} {span : Option Span} {nested : Nested}
+      {blocks : List BlockId}
+      → SpellsNested hir env handler (terminals.Logical operator test fallthrough id span) nested blocks
+      → (p : TestParts hir env test fallthrough span handler false blocks)
+      × SecondPart hir env fallthrough span handler p.alternate p.rest
+      × SpellsSilentArm hir env handler fallthrough p.consequent p.value_used
+  logical_parts (logical_value {consequent = a} {alternate = b} {condition = c0} {value = v} {other = o} {condition_end = e0} {end = end}
+      {other_end = oe} {test_used = x} {value_used = y} {other_used = z} t c d s e h u) =
+      let g = silent_goes s d in (
+        record {
+          condition = c0;
+          condition_end = e0;
+          test_used = x;
+          consequent = a;
+          alternate = b;
+          tested = t;
+          choice = c;
+          value = v;
+          end = end;
+          value_used = y;
+          first = d;
+          goes = g;
+          rest = z;
+          whole = u;
+        },
+        record { other = o; end = oe; second = e; goes = h },
+        s,
+      )
+
+  pub optional_parts : {handler : Option BlockId} {optional : Bool} {test fallthrough : BlockId} {id : EvaluationOrder} {span : Option Span} {nested : Nested}
+      {blocks : List BlockId}
+      → SpellsNested hir env handler (terminals.Optional optional test fallthrough id span) nested blocks
+      → (p : TestParts hir env test fallthrough span handler true blocks)
+      × (shares_alternate p.condition_end.left_open p.alternate ≡ true)
+  optional_parts (optional_value {consequent = a} {alternate = b} {condition = c0} {value = v} {condition_end = e0}
+      {end = end} {test_used = x} {value_used = y} t c shared d g u) = (
+        record {
+          condition = c0;
+          condition_end = e0;
+          test_used = x;
+          consequent = a;
+          alternate = b;
+          tested = t;
+          choice = c;
+          value = v;
+          end = end;
+          value_used = y;
+          first = d;
+          goes = g;
+          rest = [];
+          whole = u ∙ ap (λ z. x ++ z) (sym (append-nil y));
+        },
+        shared,
+      )
+
+-- where no other arm is open, the alternate is shared
+pub other_none : (left : Option ShortArm) (alternate : BlockId) → other_arm_of left alternate ≡ None
+    → shares_alternate (alternate_of left) alternate ≡ true
+other_none None alternate e = refl
+other_none (Some arm) alternate e = go (same_id arm.alternate alternate) refl e
+  where
+    go : (b : Bool) → same_id arm.alternate alternate ≡ b
+        → ◌≡◌ {A = Option BlockId} (if b then None else Some arm.branch) None → same_id arm.alternate alternate ≡ true
+    go true q h = q
+    go false q h = let bad : ⊥ = cc in absurd bad
+
+-- and where one is, it isn't
+pub other_some : (left : Option ShortArm) (alternate branch : BlockId) → other_arm_of left alternate ≡ Some branch
+    → shares_alternate (alternate_of left) alternate ≡ false
+other_some None alternate branch e = let bad : ⊥ = cc in absurd bad
+other_some (Some arm) alternate branch e = go (same_id arm.alternate alternate) refl e
+  where
+    go : (b : Bool) → same_id arm.alternate alternate ≡ b
+        → ◌≡◌ {A = Option BlockId} (if b then None else Some arm.branch) (Some branch)
+        → same_id arm.alternate alternate ≡ false
+    go true q h = let bad : ⊥ = cc in absurd bad
+    go false q h = q
+
+-- a terminal with an alternate is a `Branch`
+alternate_branch : (terminal : Terminal) (alternate : BlockId) → branch_alternate terminal ≡ Some alternate
+    → is_branch terminal ≡ true
+alternate_branch (terminals.Branch test consequent other id span) alternate e = refl
+alternate_branch terminal alternate e = let bad : ⊥ = cc in absurd bad
+
+-- the fact of the `Branch` that leaves another arm open
+pub short_fact : (hir : HirFunction) (left : Option ShortArm) (alternate branch : BlockId) → AreShort hir left
+    → other_arm_of left alternate ≡ Some branch → RuleFact hir rules.ShortArm branch
+short_fact hir None alternate branch short e = let bad : ⊥ = cc in absurd bad
+short_fact hir (Some arm) alternate branch short e = go (same_id arm.alternate alternate) e
+  where
+    go : (b : Bool) → ◌≡◌ {A = Option BlockId} (if b then None else Some arm.branch) (Some branch)
+        → RuleFact hir rules.ShortArm branch
+    go true h = let bad : ⊥ = cc in absurd bad
+    go false h =
+        let same : arm.branch ≡ branch = cc in
+        subst (λ z. ValueBlockIs hir z (λ block. is_branch block.terminal ≡ true)) same (record {
+          referenced = short.referenced;
+          here = record {
+            block = short.here.block;
+            found = short.here.found;
+            holds = alternate_branch short.here.block.terminal arm.alternate short.here.holds;
+          };
+        })
+
+-- what is built in the same setting
+pub arm_at : {s t : Setting} {key next : BlockId} {span : Option Span} {handler : Option BlockId} {built : BuiltValue} {old new : Progress} → s ≡ t
+    → ArmBuilt s.hir s.env key next span handler built old new → ArmBuilt t.hir t.env key next span handler built old new
+arm_at {key = key} {next} {span} {handler} {built} {old} {new} same b =
+    subst (λ (z : Setting). ArmBuilt z.hir z.env key next span handler built old new) same b
+
+pub no_arm_at : {s t : Setting} (key next : BlockId) (span : Option Span) (handler : Option BlockId) (used : List BlockId) → s ≡ t
+    → HasNoArm s.hir s.env key next span handler used → HasNoArm t.hir t.env key next span handler used
+no_arm_at key next span handler used same none = subst (λ (z : Setting). HasNoArm z.hir z.env key next span handler used) same none

@@ -1,0 +1,159 @@
+use Rattle.std.proofs.Common.{◌∷◌, Some, refl, sym, ap, ◌∙◌, subst, arith}
+use Rattle.rc_hir.specs.declared.fault.Rule.TheVariants.{LoopLive}
+use Rattle.rc_build.specs.inside.CanBuild.{CanBuildList}
+use Rattle.rc_build.specs.inside.Depths.{frames_inside}
+use Rattle.rc_build.specs.inside.Loops.{CanBuildBefore, CanBuildTurns, SpellsTurnsOf, TurnsBuilt, before_of, blocks_of}
+use Rattle.rc_runs.specs.LoopParts.{loop_frame}
+use Rattle.rc_build.specs.inside.Setting.{Setting, setting_of, terminal_statement}
+use Rattle.rc_build.specs.inside.Task.{progress_of, FromBlock, Spells}
+use Rattle.rc_build.specs.inside.Built.{Refused, BuiltList}
+use Rattle.rc_build.proofs.BuildsLemmas.{breaks_rule, is_built, passes_on}
+use Rattle.rc_build.proofs.ListLemmas.{same_blocks, used_longer}
+use Rattle.rc_build.proofs.LoopLemmas.{SpellsLoopBefore, before_at, before_can, body_can, in_frame, init_can}
+use Rattle.rc_build.proofs.LoopLemmas.{start_marked, test_at, test_can, turns_built, turns_can, turns_refused_before}
+use Rattle.rc_build.proofs.LoopLemmas.{turns_refused_body, turns_refused_test, values_built, values_marked}
+use Rattle.rc_build.proofs.LoopStatementLemmas.{init_refused, live_fact, not_live, live_refused, loop_built}
+use Rattle.rc_build.proofs.LoopStatementLemmas.{loop_refused, tree_there}
+use Rattle.rc_build.proofs.builder.Builder.+builder.Goals as goal
+
+-- a loop
+
+pub build_loop-returns-then-is_live : goal.build_loop-returns-then-is_live
+build_loop-returns-then-is_live t c =
+    let old = c.args.self.now in
+    let live = sym c.is_live.ensures ∙ c.if-is_live.true in
+    breaks_rule c.args.site.block LoopLive c.malformed.ensures
+    (live_refused (setting_of old c.args.site) c.args.terminal old.marks.used live)
+    (live_fact c.args.terminal c.requires live)
+
+pub build_loop-build_before-requires : goal.build_loop-build_before-requires
+build_loop-build_before-requires t c =
+    let old = c.args.self.now in
+    subst (CanBuildBefore old.hir.now old.marks) (sym c.init.ensures) (init_can c.args.terminal c.requires)
+
+pub build_loop-returns-in_err-init : goal.build_loop-returns-in_err-init
+build_loop-returns-in_err-init t c =
+    let s = setting_of c.args.self.now c.args.site in
+    passes_on c.from_residual.ensures.1 refl
+    (before_at c.args.terminal c.init.ensures refl c.in_err-init.ensures)
+    (init_refused s c.args.terminal c.args.self.now.marks.used)
+
+pub build_loop-build_turns-requires : goal.build_loop-build_turns-requires
+build_loop-build_turns-requires t c =
+    let old = c.args.self.now in
+    let mid = c.build_before.new.self in
+    let s = setting_of old c.args.site in
+    let init = before_at c.args.terminal c.init.ensures refl c.in_ok-init.ensures in
+    let free = not_live s c.args.terminal (sym c.is_live.ensures ∙ c.if-is_live.false) in (
+      omega (arith, same_blocks old mid c.args.site init.frames, used_longer init.ok.marking),
+      subst (λ (z : Setting). CanBuildTurns z.hir mid.marks c.args.site.handler z.context.frames c.args.terminal)
+          (sym init.frames)
+          (turns_can c.args.terminal c.requires init.ok.marking free.0 free.1),
+    )
+
+pub build_loop-returns-in_err-turns : goal.build_loop-returns-in_err-turns
+build_loop-returns-in_err-turns t c =
+    let old = c.args.self.now in
+    let s = setting_of old c.args.site in
+    let init = before_at c.args.terminal c.init.ensures refl c.in_ok-init.ensures in
+    passes_on c.from_residual-in_err-turns.ensures.1 (ap (λ (z : Setting). z.hir) init.frames) c.in_err-turns.ensures
+    (λ none. loop_refused s c.args.terminal init.ok (subst (λ (z : Setting). Refused z.hir
+    (SpellsTurnsOf z c.args.terminal) c.build_before.new.self.marks.used) init.frames none))
+
+pub build_loop-loop_tree-tree-requires : goal.build_loop-loop_tree-tree-requires
+build_loop-loop_tree-tree-requires t c =
+    let s = setting_of c.args.self.now c.args.site in
+    let init = before_at c.args.terminal c.init.ensures refl c.in_ok-init.ensures in
+    let free = not_live s c.args.terminal (sym c.is_live.ensures ∙ c.if-is_live.false) in
+    tree_there s c.args.terminal init.ok (subst (λ (z : Setting). TurnsBuilt z c.args.terminal c.in_ok-turns.turns
+    (progress_of c.build_before.new.self) (progress_of c.build_turns.new.self)) init.frames c.in_ok-turns.ensures.ok)
+    free.2
+
+pub build_loop-returns : goal.build_loop-returns
+build_loop-returns t c =
+    let s = setting_of c.args.self.now c.args.site in
+    let init = before_at c.args.terminal c.init.ensures refl c.in_ok-init.ensures in
+    let free = not_live s c.args.terminal (sym c.is_live.ensures ∙ c.if-is_live.false) in
+    let turns = c.in_ok-turns.ensures in
+    is_built (Some c.args.terminal.fallthrough)
+    (loop_built s c.args.terminal init.ok (subst (λ (z : Setting). TurnsBuilt z c.args.terminal c.in_ok-turns.turns
+    (progress_of c.build_before.new.self) (progress_of c.build_turns.new.self)) init.frames turns.ok) free.2
+    c.loop_tree-tree.ensures
+    (c.in_ok-statement.ensures ∙ ap (terminal_statement c.loop_tree-tree.result) c.label_at-label.ensures)
+    c.in_ok-push.ensures.ok) (turns.frames ∙ init.frames)
+
+-- its turns
+
+pub build_turns-build_test-requires : goal.build_turns-build_test-requires
+build_turns-build_test-requires t c = test_can c.args.terminal c.requires
+
+pub build_turns-returns-in_err-test : goal.build_turns-returns-in_err-test
+build_turns-returns-in_err-test t c =
+    let s = setting_of c.args.self.now c.args.site in
+    passes_on c.from_residual.ensures.1 refl
+    (test_at c.args.terminal c.is_flat.ensures c.in_err-test.ensures)
+    (turns_refused_test s c.args.terminal c.args.self.now.marks.used)
+
+pub build_turns-build_before-requires : goal.build_turns-build_before-requires
+build_turns-build_before-requires t c =
+    let mid = c.build_test.new.self in
+    let s = setting_of c.args.self.now c.args.site in
+    let test = test_at c.args.terminal c.is_flat.ensures c.in_ok-test.ensures in
+    subst (CanBuildBefore mid.hir.now mid.marks) (sym c.before-2.ensures)
+    (subst (λ (z : Setting). CanBuildBefore z.hir mid.marks (before_of c.args.terminal.kind)) (sym test.frames)
+    (before_can c.args.terminal c.requires test.ok.marking))
+
+pub build_turns-returns-in_err-before : goal.build_turns-returns-in_err-before
+build_turns-returns-in_err-before t c =
+    let mid = c.build_test.new.self in
+    let s = setting_of c.args.self.now c.args.site in
+    let test = test_at c.args.terminal c.is_flat.ensures c.in_ok-test.ensures in
+    passes_on c.from_residual-in_err-before.ensures.1 (ap (λ (z : Setting). z.hir) test.frames)
+    (before_at c.args.terminal c.before-2.ensures c.is_flat.ensures c.in_err-before.ensures)
+    (λ none. turns_refused_before s c.args.terminal test.ok (subst (λ (z : Setting). Refused z.hir
+    (SpellsLoopBefore z c.args.terminal) mid.marks.used) test.frames none))
+
+pub build_turns-build_part-requires : goal.build_turns-build_part-requires
+build_turns-build_part-requires t c =
+    let old = c.args.self.now in
+    let late = c.build_before.new.self in
+    let loop = c.args.terminal in
+    let values = values_built loop c.args.site c.is_flat.ensures c.before-2.ensures c.in_ok-test.ensures
+    c.in_ok-before.ensures in (
+      omega (
+        arith,
+        same_blocks old late c.args.site values.same,
+        used_longer (values_marked (setting_of old c.args.site) loop values.tested values.begun),
+      ),
+      subst (λ z. CanBuildList late.hir.now late.marks c.args.site.handler
+          (frames_inside (Some loop.fallthrough) z late.frames) loop.body)
+          (sym c.frame.ensures)
+          (subst (λ (z : Setting). CanBuildList z.hir late.marks c.args.site.handler
+          (loop_frame (blocks_of loop) ∷ z.context.frames) loop.body)
+          (sym values.same) (body_can loop c.requires
+          (values_marked (setting_of old c.args.site) loop values.tested values.begun)
+          (start_marked (setting_of old c.args.site) loop values.tested values.begun))),
+    )
+
+pub build_turns-returns-in_err-body : goal.build_turns-returns-in_err-body
+build_turns-returns-in_err-body t c =
+    let late = c.build_before.new.self in
+    let loop = c.args.terminal in
+    let values = values_built loop c.args.site c.is_flat.ensures c.before-2.ensures c.in_ok-test.ensures
+    c.in_ok-before.ensures in
+    passes_on c.from_residual-in_err-body.ensures.1 (ap (λ (z : Setting). z.hir) values.same) c.in_err-body.ensures
+    (λ none. turns_refused_body (setting_of c.args.self.now c.args.site) loop values.tested values.begun
+    (in_frame (λ z. Refused z.hir (Spells z (FromBlock loop.body)) late.marks.used) loop c.frame.ensures values.same
+    none))
+
+pub build_turns-returns : goal.build_turns-returns
+build_turns-returns t c =
+    let late = c.build_before.new.self in
+    let loop = c.args.terminal in
+    let values = values_built loop c.args.site c.is_flat.ensures c.before-2.ensures c.in_ok-test.ensures
+    c.in_ok-before.ensures in
+    let body = c.in_ok-body.ensures in
+    is_built _
+    (turns_built (setting_of c.args.self.now c.args.site) loop values.tested values.begun c.requires.falls_apart
+    c.requires.starts_apart (in_frame (λ z. BuiltList z loop.body c.in_ok-body.body (progress_of late)
+    (progress_of c.build_part.new.self)) loop c.frame.ensures values.same body.ok)) (body.frames ∙ values.same)

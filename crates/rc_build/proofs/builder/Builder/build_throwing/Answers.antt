@@ -1,0 +1,58 @@
+use Rattle.std.proofs.Common.{[], Err, refl, sym, ap, ◌∙◌, subst}
+use Rattle.rc_hir.specs.declared.fault.Rule.TheVariants as rules
+use Rattle.rc_build.specs.inside.Values.{HasRows, any_end}
+use Rattle.rc_build.proofs.BuildsLemmas.{breaks_rule, fails, is_built, passes_on}
+use Rattle.rc_build.proofs.MarksLemmas.{referenced_once}
+use Rattle.rc_build.proofs.MayThrowLemmas.{handler_fact}
+use Rattle.rc_build.proofs.ThrowingLemmas.{block_throws, throwing_built, throwing_can_mark, value_handled}
+use Rattle.rc_build.proofs.ValueLemmas.{spells_unusable, value_has_rows}
+use Rattle.rc_build.proofs.builder.Builder.build_throwing.Goals as goal
+
+pub block_with_id-requires : goal.block_with_id-requires
+block_with_id-requires c =
+    referenced_once c.args.self.now.hir.now c.args.self.now.marks.used c.args.key [] c.requires.can.can.referenced
+
+pub returns-in_err-rows : goal.returns-in_err-rows
+returns-in_err-rows c = λ site context same.
+    let block = c.in_ok-block.block.now in
+    fails c.from_residual-in_err-rows.ensures.1 c.in_err-rows.ensures.facts
+    (λ named rule e value end blocks d asked sound.
+    let has = value_has_rows c.args.key block c.in_ok-block.ensures.found d in
+    c.in_err-rows.ensures.refused named rule (ap Err e) has.0
+    (subst (λ z. HasRows c.args.self.now.hir.now z has.0) (sym c.as_slice.ensures) has.1))
+
+pub returns-then-not-is_current : goal.returns-then-not-is_current
+returns-then-not-is_current c = λ site context same.
+    let block = c.in_ok-block.block.now in
+    let found = c.in_ok-block.ensures.found in
+    let throws = block_throws found c.requires.here in
+    let other = sym c.is_current.ensures ∙ c.if-not-is_current.true in
+    breaks_rule c.args.key rules.Handler c.malformed.ensures
+    (value_handled c.args.self.now.hir.now c.args.key block found c.args.throw throws c.args.self.now.env.now context
+    c.args.handler c.args.self.now.marks.used same other)
+    (handler_fact c.args.self.now.hir.now c.args.key block found c.args.throw c.args.handler throws other)
+
+pub mark_value_block-requires : goal.mark_value_block-requires
+mark_value_block-requires c =
+    let block = c.in_ok-block.block.now in
+    let found = c.in_ok-block.ensures.found in
+    throwing_can_mark c.args.self.now.hir.now c.args.key block found c.args.throw (block_throws found c.requires.here)
+    c.in_ok-rows.rows c.requires.can.can
+    (subst (λ z. HasRows c.args.self.now.hir.now z c.in_ok-rows.rows) c.as_slice.ensures c.in_ok-rows.ensures.ok)
+    c.in_ok-block.ensures.set
+
+pub returns-in_err-mark_value_block : goal.returns-in_err-mark_value_block
+returns-in_err-mark_value_block c = λ site context same.
+    passes_on c.from_residual-in_err-mark_value_block.ensures.1 refl (c.in_err-mark_value_block.ensures site)
+    (spells_unusable c.args.key c.args.self.now.marks context any_end)
+
+pub returns : goal.returns
+returns c = λ site context same.
+    let block = c.in_ok-block.block.now in
+    let found = c.in_ok-block.ensures.found in
+    let marked = c.in_ok-mark_value_block.ensures site in
+    is_built _ (throwing_built c.args.self.now.hir.now c.args.key block found c.args.throw
+    (block_throws found c.requires.here) c.in_ok-block.ensures.own
+    (subst (λ z. HasRows c.args.self.now.hir.now z c.in_ok-rows.rows) c.as_slice.ensures c.in_ok-rows.ensures.ok)
+    c.in_ok-block.ensures.set (sym c.is_current.ensures ∙ c.if-not-is_current.false) c.requires.goes_on marked.ok)
+    marked.frames

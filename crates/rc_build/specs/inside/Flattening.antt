@@ -1,0 +1,24 @@
+-- How far a value is flattened.
+use Rattle.std.specs.Prelude.{◌≡◌, ◌++◌, List}
+use Rattle.rc_names.specs.Numbers.{EvaluationOrder}
+use Rattle.rc_tree.specs.Model.{ReactiveInstruction, ReactiveValue}
+use Rattle.rc_tree.specs.declared.value.ReactiveValue.TheVariants as reactive_values
+use Rattle.rc_runs.specs.PlainTree.{Value}
+use Rattle.rc_runs.specs.TreeOf.{instructions_of, value_of}
+use Rattle.rc_runs.specs.Flattened.{flat_rows, final_value}
+use Rattle.rc_build.specs.declared.flatten.Opened.{Opened}
+use Rattle.rc_build.specs.declared.flatten.Opened.TheVariants as opened
+
+-- the parts of a sequence, or another value
+abbrev pub IsOpened : ReactiveValue → Opened → Type 0
+IsOpened value (opened.Sequence rows behind) =
+    (id : EvaluationOrder) × (value ≡ reactive_values.SequenceExpression rows id behind)
+IsOpened value (opened.Last last) = (last ≡ value) × ((rows : List ReactiveInstruction) (id : EvaluationOrder)
+    (behind : ReactiveValue) → value ≡ reactive_values.SequenceExpression rows id behind → ⊥)
+
+-- these rows stand before the rest of the value
+pub record FlatSoFar (plain : Value) (rows : List ReactiveInstruction) (value : ReactiveValue) : Type 0 where
+  pub rest : Value
+  pub is : value ≡ value_of rest
+  pub rows_are : instructions_of (flat_rows plain) ≡ rows ++ instructions_of (flat_rows rest)
+  pub final : final_value plain ≡ final_value rest

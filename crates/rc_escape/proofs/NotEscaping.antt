@@ -1,0 +1,5 @@
+-- Why the pass on scope blocks that compute nothing memoized follows its rules, and what it keeps.
+pub mod StepsLemmas
+pub mod KeptParts
+pub mod LeftScopes
+pub mod NeededOutputs

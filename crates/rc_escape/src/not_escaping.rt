@@ -1,0 +1,61 @@
+//! The scope block that computes nothing memoized gives way to its statements.
+//!
+//! After oxc's prune_non_escaping_scopes.
+
+ghost use Rattle.std.specs.Prelude.{◌≡◌, Contains, IfErr, OnOk};
+ghost use Rattle.rc_escape.specs.NotEscaping.{block_scopes, IsEscapeFault, IsNeededOutput, IsWithoutNotEscaping};
+ghost use Rattle.std.specs.List.{IsDistinct};
+ghost use Rattle.rc_names.specs.Numbers.{DeclarationId as Declaration, same_id, ScopeId as Scope};
+ghost use Rattle.rc_runs.specs.Erase.{erased};
+ghost use Rattle.rc_tree.specs.TreeNames.{TreeInTables};
+
+mod met;
+mod outputs;
+mod rows;
+mod transform;
+
+use crate::memoized;
+use crate::not_escaping::met::Met;
+use crate::not_escaping::transform::NotEscaping;
+use rc_hir::{Environment, Fault};
+use rc_memo::collect;
+use rc_tree::ReactiveFunction;
+use rc_tree::rewrite::transform_reactive_function;
+use std::alloc::Global;
+
+/// Replaces each scope block by its statements whose scope has an output, none of them memoized, and no early return.
+/// Sets the flag of each `FinishMemoize` whose name is computed in no scope block that stays.
+///
+/// A scope block stays whose scope has an output that must be memoized, as long as an escaping name reaches that output
+/// through recorded dependencies. Numbers stay in their tables, and so does all that stands in the tree outside its
+/// scopes.
+///
+/// Fails with `Uninitialised` exactly if a name of which the memo record needs a node has none yet, and names the first
+/// such name; else with `NoScopeNode` exactly if a node has a scope without a record, and names the lowest such scope.
+/// Fails with `NoMemory` when out of memory, and with no other fault. The body has no stated content then.
+pub fn prune_non_escaping_scopes(
+    alloc: Global,
+    func: &mut ReactiveFunction,
+    env: &Environment,
+) -> Result<(), Fault>
+    ensures ok { OnOk result (IsWithoutNotEscaping env.now func.old func.new.body) }
+    ensures header { func.new ≡ record func.old { body = func.new.body } }
+    ensures needed { OnOk result ((scope : Scope) (name : Declaration) → Contains (block_scopes func.old.body) scope
+        → IsNeededOutput env.now func.old scope name → Contains (block_scopes func.new.body) scope) }
+    ensures kept_erased { OnOk result (erased func.new ≡ erased func.old) }
+    ensures known { OnOk result (TreeInTables func.old env.now → TreeInTables func.new env.now) }
+    ensures scopes_once { OnOk result (IsDistinct same_id (block_scopes func.old.body)
+        → IsDistinct same_id (block_scopes func.new.body)) }
+
+    ensures refused { IfErr result (IsEscapeFault env.now func.old) }
+{
+    let rec = collect(alloc, func, env)?;
+    let set = memoized(alloc, &rec)?;
+    let mut transform = NotEscaping {
+        alloc,
+        env,
+        set: &set,
+    };
+    let mut met = Met::new(alloc);
+    transform_reactive_function(alloc, func, &mut transform, &mut met)
+}

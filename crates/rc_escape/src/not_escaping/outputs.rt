@@ -1,0 +1,78 @@
+//! Whether the block of a scope gives way.
+
+ghost use Rattle.std.specs.Prelude.{◌≡◌};
+ghost use Rattle.std.specs.List.{list_any};
+ghost use Rattle.rc_escape.specs.NotEscaping as spec;
+ghost use Rattle.rc_hir.specs.Model as model;
+ghost use Rattle.rc_memo.specs.RowEvents.{declaration_of};
+ghost use Rattle.rc_names.specs.Numbers.{is_among};
+
+use crate::DeclSet;
+use rc_hir::{Environment, ReactiveScope};
+use rc_names::{DeclarationId, IdentifierId, ScopeId};
+
+/// Returns the declaration of an identifier.
+pub fn declaration_of(env: &Environment, number: IdentifierId) -> DeclarationId
+    ensures { result ≡ declaration_of env.now number }
+{
+    match env.identifiers.get(number) {
+        Some(identifier) => identifier.declaration_id,
+        None => DeclarationId::new(number.0),
+    }
+}
+
+/// Returns the scope of an identifier.
+pub fn scope_of(env: &Environment, number: IdentifierId) -> Option<ScopeId>
+    ensures { result ≡ spec.scope_of env.now number }
+{
+    let identifier = env.identifiers.get(number)?;
+    identifier.scope
+}
+
+/// Returns whether a name that the scope declares is memoized.
+fn declares_memoized(env: &Environment, set: &DeclSet, scope: &ReactiveScope) -> bool
+    ensures { result ≡ list_any (λ entry. is_among set.now (declaration_of env.now entry.value.identifier))
+        scope.now.declarations }
+{
+    let mut declarations = scope.declarations.as_slice().iter();
+    declarations.any(|entry| set.contains(declaration_of(env, entry.value.identifier)))
+}
+
+/// Returns whether a name that the scope reassigns is memoized.
+fn reassigns_memoized(env: &Environment, set: &DeclSet, scope: &ReactiveScope) -> bool
+    ensures { result ≡ list_any (λ number. is_among set.now (declaration_of env.now number)) scope.now.reassignments }
+{
+    let mut reassignments = scope.reassignments.as_slice().iter();
+    reassignments.any(|number| set.contains(declaration_of(env, *number)))
+}
+
+/// Returns whether an output of the scope is memoized.
+fn has_memoized(env: &Environment, set: &DeclSet, scope: &ReactiveScope) -> bool
+    ensures { result ≡ list_any (is_among set.now) (spec.outputs_of env.now scope.now) }
+{
+    declares_memoized(env, set, scope) || reassigns_memoized(env, set, scope)
+}
+
+/// Returns whether the scope declares or reassigns a name.
+fn has_output(scope: &ReactiveScope) -> bool
+    ensures { (env : model.Environment) → result ≡ spec.has_output (spec.outputs_of env scope.now) }
+{
+    !scope.declarations.is_empty() || !scope.reassignments.is_empty()
+}
+
+/// Returns whether the block of the scope gives way.
+fn gives_way(env: &Environment, set: &DeclSet, scope: &ReactiveScope) -> bool
+    ensures { result ≡ spec.gives_way env.now set.now scope.now }
+{
+    scope.early_return_value.is_none() && (has_output(scope) && !has_memoized(env, set, scope))
+}
+
+/// Returns whether the block of the scope of a number gives way; one outside the table stays.
+pub fn is_dissolved(env: &Environment, set: &DeclSet, number: ScopeId) -> bool
+    ensures { result ≡ spec.is_dissolved env.now set.now number }
+{
+    match env.scopes.get(number) {
+        Some(scope) => gives_way(env, set, scope),
+        None => false,
+    }
+}
