@@ -1,4 +1,5 @@
-"""Documents of graphs with many blocks: in a row, nested, and scopes side by side."""
+"""Documents of graphs with many blocks: statements and values in a row and nested, and scopes side by side; and of one
+block with many names."""
 import json
 
 
@@ -104,7 +105,7 @@ def loop(number, test, body, behind):
 
 
 def tested(number, to, behind):
-    """The test of a loop."""
+    """The test of a loop, or of a value."""
     return block(number, "Branch", {"test": 0, "consequent": to, "alternate": behind})
 
 
@@ -154,3 +155,207 @@ def nested_switches(depth):
         head = 2 * level + 2
         blocks += [switch(head, [head + 1, head + 2], 1), go_on(head + 1, 1)]
     return document([*blocks, go_on(2 * depth + 2, 1), answer(end)])
+
+
+# The one row of the graphs with values: what an arm answers with, or a silent arm.
+STORE = {"id": 1, "lvalue": 0, "value": {"k": "StoreLocal", "lvalue": {"kind": "Const", "place": 0}, "value": 0}}
+
+
+def arm(number, to):
+    """A block of the one row that goes to another one."""
+    return {**jump(number, to), "instructions": [0]}
+
+
+def value(kind, number, test, behind):
+    """A value terminal."""
+    own = {"Logical": {"operator": "And"}, "Optional": {"optional": True}}.get(kind, {})
+    first = "block" if kind == "Sequence" else "test"
+    return block(number, kind, {**own, first: test, "fallthrough": behind})
+
+
+def size(kind):
+    """How many blocks a value of this kind has without its fallthrough."""
+    return 2 if kind == "Sequence" else 4
+
+
+def whole_value(kind, head, behind):
+    """A value of this kind with all of its blocks, of which the first has that number."""
+    first = head + 1
+    if kind == "Sequence":
+        return [value(kind, head, first, behind), arm(first, behind)]
+    arms = [arm(head + 2, behind), arm(head + 3, behind)]
+    return [value(kind, head, first, behind), tested(first, head + 2, head + 3), *arms]
+
+
+def values_in_a_row(kind, count):
+    """So many values one after the other in a list."""
+    end = size(kind) * count
+    blocks = [part for head in range(0, end, size(kind)) for part in whole_value(kind, head, head + size(kind))]
+    return document([*blocks, answer(end)], rows=[STORE])
+
+
+def chained_values(kind, count):
+    """As the test of a `While` so many values, each in the fallthrough of the one before."""
+    end = size(kind) * count + 1
+    blocks = [part for head in range(1, end, size(kind)) for part in whole_value(kind, head, head + size(kind))]
+    ends = [tested(end, end + 1, end + 2), go_on(end + 1, 1), answer(end + 2)]
+    return document([loop(0, 1, end + 1, end + 2), *blocks, *ends], rows=[STORE])
+
+
+def may_throw(number, to, handler=None):
+    """A block that may throw before it goes on to another one."""
+    return block(number, "MaybeThrow", {"continuation": to, "handler": handler})
+
+
+def attempt(number, to, handler, behind):
+    """A `Try`."""
+    return block(number, "Try", {"block": to, "handler": handler, "fallthrough": behind})
+
+
+def tries_in_a_row(count):
+    """So many `Try`s one after the other, whose blocks may throw."""
+    blocks = []
+    for head in range(0, 4 * count, 4):
+        blocks += [attempt(head, head + 1, head + 3, head + 4), may_throw(head + 1, head + 2, head + 3)]
+        blocks += [jump(head + 2, head + 4), jump(head + 3, head + 4)]
+    return document([*blocks, answer(4 * count)])
+
+
+def nested_tries(depth):
+    """So many `Try`s one in the block of the other, the innermost of which may throw."""
+    end = 3 * depth + 1
+    heads = [attempt(head, head + 1, depth + 1 + head, end - head) for head in range(depth)]
+    handlers = [jump(depth + 1 + head, end - head) for head in range(depth)]
+    behind = [jump(number, number + 1) for number in range(2 * depth + 1, end)]
+    return document([*heads, may_throw(depth, 2 * depth + 1, 2 * depth), *handlers, *behind, answer(end)])
+
+
+def throws_in_a_row(count):
+    """So many blocks that may throw, one after the other in a list."""
+    return document([*[may_throw(number, number + 1) for number in range(count)], answer(count)])
+
+
+def throws_in_a_test(count):
+    """As the test of a `While` so many blocks that may throw, one after the other."""
+    chain = [may_throw(number, number + 1) for number in range(1, count + 1)]
+    return document([loop(0, 1, count + 2, count + 3), *chain, tested(count + 1, count + 2, count + 3), go_on(count + 2, 1),
+                     answer(count + 3)])
+
+
+def throws_in_an_arm(count):
+    """So many blocks that may throw, one after the other, as the short arm of an `Optional`."""
+    chain = [may_throw(number, number + 1) for number in range(4, count + 4)]
+    return document([value("Optional", 0, 1, 3), tested(1, 2, 4), arm(2, 3), answer(3), *chain, jump(count + 4, 3)], rows=[STORE])
+
+
+def nested_sequences(depth):
+    """So many `Sequence`s, each in the block of the one around it."""
+    heads = [value("Sequence", head, head + 1, 2 * depth - head) for head in range(depth)]
+    arms = [arm(number, number + 1) for number in range(depth, 2 * depth)]
+    return document([*heads, *arms, answer(2 * depth)], rows=[STORE])
+
+
+def nested_tests(kind, depth):
+    """So many values, each in the test of the one around it, with arms of their own."""
+    end = 2 * depth
+    blocks = [value(kind, head, head + 1, end - head) for head in range(depth)]
+    for head in range(depth):
+        first = end + 1 + 2 * head
+        blocks += [tested(end - 1 - head, first, first + 1), arm(first, end - head), arm(first + 1, end - head)]
+    return document([*blocks, answer(end)], rows=[STORE])
+
+
+def nested_optionals(depth):
+    """So many `Optional`s, each of which answers the test of the one around it; the short arm of all is one block."""
+    end = 2 * depth
+    blocks = [value("Optional", head, head + 1, end - head) for head in range(depth)]
+    for head in range(depth):
+        first = end + 2 + head
+        blocks += [tested(end - 1 - head, first, end + 1), arm(first, end - head)]
+    return document([*blocks, jump(end + 1, end), answer(end)], rows=[STORE])
+
+
+def nested_alternates(depth):
+    """So many `Ternary`s, each in the alternate of the one around it."""
+    end = 4 * depth
+    blocks = []
+    for level in range(depth):
+        head, behind = 3 * level, end - level
+        blocks += [value("Ternary", head, head + 1, behind), tested(head + 1, head + 2, head + 3)]
+        blocks.append(arm(head + 2, behind))
+    arms = [arm(number, number + 1) for number in range(3 * depth, end)]
+    return document([*blocks, *arms, answer(end)], rows=[STORE])
+
+
+def names_document(values, answered):
+    """The bytes of a document of one block with a row for each of these values, whose target is a name of its own, and
+    which returns that name. Name 0 is the parameter, and row I has name I + 1 as its target."""
+    rows = [{"id": number + 1, "lvalue": number + 1, "value": value} for number, value in enumerate(values)]
+    last = {"id": 0, "instructions": list(range(len(rows))),
+            "terminal": {"k": "Return", "value": answered, "id": len(rows) + 1}}
+    hir = {"params": [{"k": "Place", "v": 0}], "body": {"entry": 0, "blocks": [last]}, "instructions": rows}
+    env = {
+        "identifiers": [{"declaration_id": number, "type_": 0} for number in range(len(rows) + 1)],
+        "types": ["Other"],
+        "config": {},
+        "next_block": 1,
+    }
+    return json.dumps({"hir": hir, "env": env}, separators=(",", ":")).encode()
+
+
+def names_in_a_chain(count):
+    """So many names, each of which needs the one before it; the last one is returned."""
+    return names_document([{"k": "Await", "value": number} for number in range(count)], count)
+
+
+def names_in_a_star(count):
+    """So many names, all of which the last one needs, which is returned."""
+    others = [{"k": "Await", "value": 0} for _ in range(count - 1)]
+    elements = [{"k": "Place", "v": number} for number in range(1, count)]
+    return names_document([*others, {"k": "ArrayExpression", "elements": elements}], count)
+
+
+def names_in_cycles(count):
+    """So many names, each of which needs the one before it and the one behind it; the last one is returned."""
+    return names_document([
+        {"k": "ArrayExpression", "elements": [{"k": "Place", "v": number}, {"k": "Place", "v": number + 2}]}
+        for number in range(count - 1)
+    ] + [{"k": "Await", "value": count - 1}], count)
+
+
+def scope_with_array(name):
+    """The two blocks of a scope with an array, the row, the identifier of the array, and the scope."""
+    head, at = 2 * name, 3 * name + 1
+    opens = {"k": "Scope", "fallthrough": head + 2, "block": head + 1, "scope": name, "id": at}
+    ends = {"k": "Goto", "variant": "Break", "block": head + 2, "id": at + 2}
+    value = {"k": "ArrayExpression", "elements": [{"k": "Place", "v": name}]}
+    return (
+        [{"id": head, "terminal": opens}, {"id": head + 1, "instructions": [name], "terminal": ends}],
+        {"id": at + 1, "lvalue": name + 1, "value": value},
+        {"declaration_id": name + 1, "type_": 0, "scope": name},
+        {"range": {"start": at, "end": at + 3},
+         "declarations": [{"key": name + 1, "value": {"identifier": name + 1, "scope": name}}]},
+    )
+
+
+def scopes_with_arrays(count, answered):
+    """So many scopes one after the other, each with an array that holds that of the scope before, and the return of
+    this name."""
+    parts = [scope_with_array(name) for name in range(count)]
+    last = {"id": 2 * count, "terminal": {"k": "Return", "value": answered, "id": 3 * count + 1}}
+    blocks = [block for part in parts for block in part[0]]
+    hir = {"params": [{"k": "Place", "v": 0}], "body": {"entry": 0, "blocks": [*blocks, last]},
+           "instructions": [part[1] for part in parts]}
+    env = {"identifiers": [{"declaration_id": 0, "type_": 0}, *[part[2] for part in parts]], "types": ["Other"],
+           "scopes": [part[3] for part in parts], "config": {}, "next_block": 2 * count + 1}
+    return json.dumps({"hir": hir, "env": env}, separators=(",", ":")).encode()
+
+
+def scopes_that_escape(count):
+    """So many scopes with arrays, of which the last array is returned and needs all others."""
+    return scopes_with_arrays(count, count)
+
+
+def scopes_that_do_not_escape(count):
+    """So many scopes with arrays, none of which is returned."""
+    return scopes_with_arrays(count, 0)
