@@ -19,7 +19,8 @@ use crate::membership::visitor::{Membership, Seen};
 use crate::scope_blocks::scopes_in;
 use rc_hir::{Environment, Fault};
 use rc_names::{KeySet, ScopeId};
-use rc_tree::{ReactiveBlock, ReactiveFunction, visit_reactive_function};
+use rc_tree::{ReactiveBlock, ReactiveFunction};
+use rc_walk::visit_reactive_function;
 use std::alloc::{AllocError, Global};
 
 /// Whether each operand whose identifier has a scope, and that is visited inside the scope's range, stands in a scope

@@ -18,12 +18,12 @@ ghost use Rattle.rc_checks.specs.inside.UnusedScopesSteps as steps;
 
 use rc_hir::{Environment, Fault, ReactiveScope, TableName};
 use rc_names::{List, ScopeId};
-use rc_tree::rewrite::transform_reactive_function;
 use rc_tree::{
-    OverStatements, PrunedReactiveScopeBlock, ReactiveBlock, ReactiveFunction, ReactiveScopeBlock,
-    ReactiveStatement, ReactiveTerminal, ReactiveTerminalStatement, StatementTransform,
-    Transformed,
+    PrunedReactiveScopeBlock, ReactiveBlock, ReactiveFunction, ReactiveScopeBlock,
+    ReactiveStatement, ReactiveTerminal, ReactiveTerminalStatement, Transformed,
 };
+use rc_walk::rewrite::transform_reactive_function;
+use rc_walk::{OverStatements, StatementTransform};
 use std::alloc::{AllocError, Global};
 
 /// Makes the block of each scope that gives nothing a pruned one: the scope reassigns no name and declares none of its

@@ -9,6 +9,3 @@ pub mod Graph
 pub mod Environment
 pub mod Document
 pub mod Misread
-pub mod Showing
-pub mod ShownParts
-pub mod ShownKinds

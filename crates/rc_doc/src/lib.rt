@@ -1,4 +1,4 @@
-//! The document: a function and its environment, read from JSON exactly and printed exactly.
+//! The document: a function and its environment, read from JSON exactly.
 #![tactic(auto)]
 
 mod document;
@@ -7,12 +7,9 @@ mod known;
 mod misread;
 mod read;
 mod refusal;
-mod show;
 
 pub use document::{Doc, read_doc, read_instruction_value};
 pub use misread::form::{Asked, Form};
 pub use misread::words::misread_words;
 pub use misread::{Misread, Step, find_misread};
 pub use read::place::read_place;
-pub use show::instruction::value_json;
-pub use show::place::{is_short, place_json};

@@ -20,7 +20,7 @@ use crate::not_escaping::transform::NotEscaping;
 use rc_hir::{Environment, Fault};
 use rc_memo::collect;
 use rc_tree::ReactiveFunction;
-use rc_tree::rewrite::transform_reactive_function;
+use rc_walk::rewrite::transform_reactive_function;
 use std::alloc::Global;
 
 /// Replaces each scope block by its statements whose scope has an output, none of them memoized, and no early return.

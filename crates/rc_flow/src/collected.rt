@@ -15,7 +15,8 @@ use crate::spread::Spread;
 use crate::step::Step;
 use rc_hir::{Environment, Fault};
 use rc_names::{IdentifierId, KeySet, List};
-use rc_tree::{ReactiveFunction, visit_reactive_function};
+use rc_tree::ReactiveFunction;
+use rc_walk::visit_reactive_function;
 use std::alloc::Global;
 
 /// The names that are marked reactive where the body reads or writes them, and the keys of the declarations of its

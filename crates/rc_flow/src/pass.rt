@@ -12,11 +12,12 @@ ghost use Rattle.rc_flow.specs.inside.DroppingSteps as steps;
 use crate::invalidating::dropped_blocks;
 use rc_hir::{Environment, Fault};
 use rc_names::List;
-use rc_tree::rewrite::transform_reactive_function;
 use rc_tree::{
-    OverStatements, PrunedReactiveScopeBlock, ReactiveBlock, ReactiveFunction, ReactiveScopeBlock,
-    ReactiveStatement, ReactiveTerminalStatement, StatementTransform, Transformed,
+    PrunedReactiveScopeBlock, ReactiveBlock, ReactiveFunction, ReactiveScopeBlock,
+    ReactiveStatement, ReactiveTerminalStatement, Transformed,
 };
+use rc_walk::rewrite::transform_reactive_function;
+use rc_walk::{OverStatements, StatementTransform};
 use std::alloc::Global;
 
 /// Makes each scope block a pruned one that depends on a value that is new in every render and that no scope keeps.

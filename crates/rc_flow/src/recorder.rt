@@ -8,9 +8,10 @@ use crate::types::{is_primitive, is_ref, type_of};
 use rc_hir::{DeclarationEntry, Environment, Fault, Place};
 use rc_names::{EvaluationOrder, List, ScopeId};
 use rc_tree::{
-    Enter, PrunedReactiveScopeBlock, ReactiveBlock, ReactiveFunctionVisitor, ReactiveInstruction,
-    ReactiveScopeBlock, ReactiveTerminalStatement, ReactiveValue,
+    Enter, PrunedReactiveScopeBlock, ReactiveBlock, ReactiveInstruction, ReactiveScopeBlock,
+    ReactiveTerminalStatement, ReactiveValue,
 };
+use rc_walk::ReactiveFunctionVisitor;
 use std::alloc::{AllocError, Global};
 
 /// The hooks of the walk, whose state is the list.

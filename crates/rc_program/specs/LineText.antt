@@ -7,7 +7,7 @@ use Rattle.rc_names.specs.declared.span.Span.{Span}
 use Rattle.rc_names.specs.Numbers.{EvaluationOrder}
 use Rattle.rc_hir.specs.Model.{Place}
 use Rattle.rc_tree.specs.Model.{ReactiveLabel}
-use Rattle.rc_doc.specs.ShownParts.Places.{place_data}
+use Rattle.rc_show.specs.ShownParts.Places.{place_data}
 
 -- a text and then another
 infixr 6 ◌&◌

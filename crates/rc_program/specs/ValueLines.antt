@@ -9,7 +9,7 @@ use Rattle.rc_tree.specs.declared.value.ReactiveValue.TheOpen.{ReactiveValue-F, 
 use Rattle.rc_tree.specs.declared.value.ReactiveValue.TheOpen.{ConditionalExpression, SequenceExpression}
 use Rattle.rc_tree.specs.declared.value.ReactiveValue.TheOpen.{OptionalExpression, ReactiveInstruction-F}
 use Rattle.rc_tree.specs.declared.value.ReactiveInstruction.{ReactiveInstruction, fold-ReactiveInstruction}
-use Rattle.rc_doc.specs.ShownKinds.{value_data}
+use Rattle.rc_show.specs.ShownKinds.{value_data}
 use Rattle.rc_program.specs.LineText.{◌&◌, bool_text, span_text, place_text}
 
 -- an operator as it is written in the source

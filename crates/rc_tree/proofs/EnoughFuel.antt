@@ -19,7 +19,7 @@ use Rattle.rc_tree.specs.declared.value.ReactiveValue.TheOpen as value
 use Rattle.rc_tree.specs.declared.value.ReactiveValue.TheOpen.{ReactiveValue-F}
 use Rattle.rc_tree.specs.declared.value.ReactiveValue.TheVariants as reactive_values
 use Rattle.rc_tree.specs.Model.{Enter}
-use Rattle.rc_tree.specs.declared.visitor.Enter.TheVariants.{Inside, Skip}
+use Rattle.rc_tree.specs.declared.hooks.Enter.TheVariants.{Inside, Skip}
 
 pub known_bind : {A B : Type 0} (first : Fueled A) (next : A → Fueled B) → HasFuel first
     → ((a : A) → first ≡ Done a → HasFuel (next a)) → HasFuel (bind first next)

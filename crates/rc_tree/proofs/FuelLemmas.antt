@@ -14,7 +14,7 @@ use Rattle.rc_tree.specs.Step.{IsStep}
 use Rattle.rc_tree.specs.Fuel.{Fueled, OutOfFuel, Failed, Done, bind, after, last, IsFueled, HasFuel, as_step, Hook}
 use Rattle.rc_tree.specs.Fuel.{FueledWalk, FueledInto, in_turn, kept_into, by_answer}
 use Rattle.rc_tree.specs.Model.{Enter}
-use Rattle.rc_tree.specs.declared.visitor.Enter.TheVariants.{Inside}
+use Rattle.rc_tree.specs.declared.hooks.Enter.TheVariants.{Inside}
 
 -- a computation that succeeds, and the next one
 pub meets_next : {A B S T : Type 0} (first : Fueled (A × S)) (next : A × S → Fueled (B × T)) (a : A) (s : S)

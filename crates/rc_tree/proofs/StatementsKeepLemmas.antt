@@ -9,7 +9,7 @@ use Rattle.rc_tree.specs.StatementSteps.{StatementSteps, enters_scope, over_stat
 use Rattle.rc_tree.specs.StatementSteps.{transforms_terminal}
 use Rattle.rc_tree.specs.Model.{ReactiveScopeBlock, ReactiveStatement, ReactiveTerminalStatement, Transformed, Enter}
 use Rattle.rc_tree.specs.declared.statement.ReactiveStatement.TheVariants as reactive
-use Rattle.rc_tree.specs.declared.visitor.Enter.TheVariants.{Inside}
+use Rattle.rc_tree.specs.declared.hooks.Enter.TheVariants.{Inside}
 use Rattle.rc_tree.proofs.IdleKeepsLemmas.{holds_if, leaves_if, idle_keeps}
 
 module _ {V I L C P T S : Type 0} (m : Measure V I L C P) (steps : T → StatementSteps S) where

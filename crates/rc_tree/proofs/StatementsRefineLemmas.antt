@@ -11,7 +11,7 @@ use Rattle.rc_tree.specs.StatementSteps.{StatementSteps, over_statements}
 use Rattle.rc_tree.specs.inside.StatementsRefine.{StatementsRefine}
 use Rattle.rc_tree.specs.Model.{ReactiveBlock, ReactiveStatement, Transformed}
 use Rattle.rc_tree.specs.declared.statement.ReactiveStatement.TheVariants as reactive
-use Rattle.rc_tree.specs.declared.visitor.Enter.TheVariants.{Inside}
+use Rattle.rc_tree.specs.declared.hooks.Enter.TheVariants.{Inside}
 
 module _ {T S R St : Type 0} (rules : Rules S) (steps : T → StatementSteps St) (at : R → S → St) (inner : R → S → R)
   where

@@ -3,7 +3,7 @@ use Rattle.std.specs.Prelude.{◌≡◌, ◌⊎◌, List, [], ◌∷◌, ◌++�
 use Rattle.rc_hir.specs.Model.{Fault}
 use Rattle.rc_hir.specs.declared.fault.Fault.TheVariants.{NoMemory}
 use Rattle.rc_tree.specs.Model.{Enter}
-use Rattle.rc_tree.specs.declared.visitor.Enter.TheVariants.{Inside, Skip}
+use Rattle.rc_tree.specs.declared.hooks.Enter.TheVariants.{Inside, Skip}
 
 -- the result of a computation with fuel: nothing once the fuel is used up, a fault, or a value
 pub data Fueled (A : Type 0) : Type 0 where

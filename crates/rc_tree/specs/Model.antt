@@ -9,10 +9,10 @@ use Rattle.rc_tree.specs.declared.terminal.ReactiveLabel.{ReactiveLabel as TheRe
 use Rattle.rc_tree.specs.declared.terminal.ReactiveSwitchCase.{ReactiveSwitchCase as TheReactiveSwitchCase}
 use Rattle.rc_tree.specs.declared.terminal.ReactiveTerminal.{ReactiveTerminal as TheReactiveTerminal}
 use Rattle.rc_tree.specs.declared.terminal.ReactiveTerminalStatement.{ReactiveTerminalStatement as TheReactiveTerminalStatement}
-use Rattle.rc_tree.specs.declared.transform.Transformed.{Transformed as TheTransformed}
+use Rattle.rc_tree.specs.declared.hooks.Transformed.{Transformed as TheTransformed}
 use Rattle.rc_tree.specs.declared.value.ReactiveInstruction.{ReactiveInstruction as TheReactiveInstruction}
 use Rattle.rc_tree.specs.declared.value.ReactiveValue.{ReactiveValue as TheReactiveValue}
-use Rattle.rc_tree.specs.declared.visitor.Enter.{Enter as TheEnter}
+use Rattle.rc_tree.specs.declared.hooks.Enter.{Enter as TheEnter}
 
 abbrev pub ReactiveFunction : Type 0
 ReactiveFunction = TheReactiveFunction

@@ -7,7 +7,7 @@ use Rattle.rc_tree.specs.Step.{Step, Walk}
 use Rattle.rc_tree.specs.Model.{PrunedReactiveScopeBlock, ReactiveScopeBlock, ReactiveBlock, ReactiveTerminalStatement}
 use Rattle.rc_tree.specs.Model.{ReactiveInstruction, ReactiveValue, Enter}
 use Rattle.rc_tree.specs.declared.value.ReactiveValue.TheVariants as reactive_values
-use Rattle.rc_tree.specs.declared.visitor.Enter.TheVariants.{Inside}
+use Rattle.rc_tree.specs.declared.hooks.Enter.TheVariants.{Inside}
 
 -- the step of each hook of a visitor
 pub record ReadSteps (S : Type 0) : Type 0 where

@@ -21,7 +21,7 @@ use Rattle.rc_tree.specs.declared.statement.ReactiveStatement.{size-ReactiveStat
 use Rattle.rc_tree.specs.declared.statement.ReactiveStatement.TheOpen as layer
 use Rattle.rc_tree.specs.declared.statement.ReactiveStatement.TheVariants as reactive
 use Rattle.rc_tree.specs.declared.terminal.ReactiveTerminalStatement.{size-ReactiveTerminalStatement}
-use Rattle.rc_tree.specs.declared.transform.Transformed.TheVariants.{Keep, Remove, Replace, ReplaceMany}
+use Rattle.rc_tree.specs.declared.hooks.Transformed.TheVariants.{Keep, Remove, Replace, ReplaceMany}
 use Rattle.rc_tree.specs.Rewrite.Values.{rewrite_instruction}
 use Rattle.rc_tree.specs.Rewrite.Terminals.{terminal_inside, terminal_at}
 

@@ -11,10 +11,10 @@ use Rattle.rc_tree.specs.declared.scope.PrunedReactiveScopeBlock.{size-PrunedRea
 use Rattle.rc_tree.specs.declared.scope.ReactiveScopeBlock.{ReactiveScopeBlock, size-ReactiveScopeBlock}
 use Rattle.rc_tree.specs.declared.statement.ReactiveBlock.{ReactiveBlock, size-ReactiveBlock}
 use Rattle.rc_tree.specs.declared.terminal.ReactiveTerminalStatement.{size-ReactiveTerminalStatement}
-use Rattle.rc_tree.specs.declared.transform.Transformed.TheVariants.{Keep}
+use Rattle.rc_tree.specs.declared.hooks.Transformed.TheVariants.{Keep}
 use Rattle.rc_tree.specs.declared.value.ReactiveInstruction.{ReactiveInstruction, size-ReactiveInstruction}
 use Rattle.rc_tree.specs.declared.value.ReactiveValue.{ReactiveValue, size-ReactiveValue}
-use Rattle.rc_tree.specs.declared.visitor.Enter.TheVariants.{Inside, Skip}
+use Rattle.rc_tree.specs.declared.hooks.Enter.TheVariants.{Inside, Skip}
 
 -- the step of each hook of a transform; the world is the transform with the state
 pub record RewriteSteps (W : Type 0) : Type 0 where

@@ -7,7 +7,7 @@ use Rattle.rc_tree.specs.Step.{Walk, bind}
 use Rattle.rc_tree.specs.Fuel.{Hook}
 use Rattle.rc_tree.specs.RewriteSteps.{RewriteSteps, skips, idle}
 use Rattle.rc_tree.specs.Model.{ReactiveScopeBlock, ReactiveStatement, ReactiveTerminalStatement, Transformed, Enter}
-use Rattle.rc_tree.specs.declared.visitor.Enter.TheVariants.{Inside}
+use Rattle.rc_tree.specs.declared.hooks.Enter.TheVariants.{Inside}
 
 -- the step of each hook of a pass over statements
 pub record StatementSteps (S : Type 0) : Type 0 where

@@ -7,7 +7,7 @@ use Rattle.rc_tree.specs.RewriteSteps.{EntersNoDeeper, NoDeeper}
 use Rattle.rc_tree.specs.StatementSteps.{StatementSteps, enters_scope, over_statements}
 use Rattle.rc_tree.specs.declared.scope.ReactiveScopeBlock.{ReactiveScopeBlock, size-ReactiveScopeBlock}
 use Rattle.rc_tree.specs.Model.{Enter}
-use Rattle.rc_tree.specs.declared.visitor.Enter.TheVariants.{Inside}
+use Rattle.rc_tree.specs.declared.hooks.Enter.TheVariants.{Inside}
 
 module _ {T S : Type 0} (steps : T → StatementSteps S) where
   enters_scope_no_deeper : NoDeeper size-ReactiveScopeBlock (enters_scope steps)

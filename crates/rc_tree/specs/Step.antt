@@ -3,7 +3,7 @@ use Rattle.std.specs.Prelude.{◌≡◌, ◌⊎◌, List, [], ◌∷◌, Option,
 use Rattle.rc_hir.specs.Model.{Fault}
 use Rattle.rc_hir.specs.declared.fault.Fault.TheVariants.{NoMemory}
 use Rattle.rc_tree.specs.Model.{Enter}
-use Rattle.rc_tree.specs.declared.visitor.Enter.TheVariants.{Inside, Skip}
+use Rattle.rc_tree.specs.declared.hooks.Enter.TheVariants.{Inside, Skip}
 
 -- a step takes a state to a result and the new state, or to a fault
 abbrev pub Step : Type 0 → Type 0 → Type 0

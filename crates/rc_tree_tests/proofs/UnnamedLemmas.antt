@@ -14,7 +14,7 @@ use Rattle.rc_tree.specs.Model.{ReactiveBlock, ReactiveTerminal, ReactiveTermina
 use Rattle.rc_tree.specs.declared.statement.ReactiveStatement.{ReactiveStatement, size-ReactiveStatement}
 use Rattle.rc_tree.specs.declared.statement.ReactiveStatement.TheVariants as reactive
 use Rattle.rc_tree.specs.declared.terminal.ReactiveTerminal.TheVariants as tree
-use Rattle.rc_tree.specs.declared.transform.Transformed.TheVariants.{ReplaceMany}
+use Rattle.rc_tree.specs.declared.hooks.Transformed.TheVariants.{ReplaceMany}
 
 module _ {T S : Type 0} (v : RewriteSteps (T × S)) (functions : T → List HirFunction) where
   module _ (steps : TakesOut v) where

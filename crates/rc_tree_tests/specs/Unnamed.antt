@@ -9,8 +9,8 @@ use Rattle.rc_tree.specs.declared.statement.ReactiveStatement.TheOpen as layer
 use Rattle.rc_tree.specs.declared.statement.ReactiveStatement.TheVariants as reactive
 use Rattle.rc_tree.specs.declared.terminal.ReactiveTerminal.{out-ReactiveTerminal}
 use Rattle.rc_tree.specs.declared.terminal.ReactiveTerminal.TheVariants as tree
-use Rattle.rc_tree.specs.declared.transform.Transformed.TheVariants.{Keep, ReplaceMany}
-use Rattle.rc_tree.specs.declared.visitor.Enter.TheVariants.{Inside}
+use Rattle.rc_tree.specs.declared.hooks.Transformed.TheVariants.{Keep, ReplaceMany}
+use Rattle.rc_tree.specs.declared.hooks.Enter.TheVariants.{Inside}
 
 -- the `Label`
 abbrev pub unnamed : ReactiveBlock → EvaluationOrder → ReactiveTerminalStatement

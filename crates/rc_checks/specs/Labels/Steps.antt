@@ -6,7 +6,7 @@ use Rattle.rc_tree.specs.Rewrite.{rewrite_block}
 use Rattle.rc_tree.specs.StatementSteps.{StatementSteps, over_statements}
 use Rattle.rc_tree.specs.Model.{ReactiveBlock, ReactiveStatement, ReactiveTerminalStatement, Transformed}
 use Rattle.rc_tree.specs.declared.terminal.ReactiveTerminal.{out-ReactiveTerminal}
-use Rattle.rc_tree.specs.declared.transform.Transformed.TheVariants.{Keep, ReplaceMany}
+use Rattle.rc_tree.specs.declared.hooks.Transformed.TheVariants.{Keep, ReplaceMany}
 
 -- the targets behind a terminal
 abbrev pub targets_after : ReactiveTerminalStatement → Targets → Targets

@@ -4,7 +4,7 @@ use Rattle.rc_hir.specs.Model.{Environment, Fault}
 use Rattle.rc_names.specs.Numbers.{EvaluationOrder, ScopeId}
 use Rattle.rc_tree.specs.Step.{bind}
 use Rattle.rc_tree.specs.ReadSteps.{ReadSteps, idle}
-use Rattle.rc_tree.specs.declared.visitor.Enter.TheVariants.{Inside}
+use Rattle.rc_tree.specs.declared.hooks.Enter.TheVariants.{Inside}
 use Rattle.rc_checks.specs.declared.membership.visitor.Outside.{Outside}
 use Rattle.rc_checks.specs.declared.membership.visitor.Seen.{Seen}
 use Rattle.rc_checks.specs.Membership.{operand_outside}

@@ -12,7 +12,7 @@ use Rattle.rc_tree.specs.StatementSteps.{StatementSteps}
 use Rattle.rc_tree.specs.Model.{ReactiveScopeBlock, ReactiveStatement, Transformed}
 use Rattle.rc_tree.specs.declared.statement.ReactiveStatement.TheVariants as reactive
 use Rattle.rc_tree.specs.declared.terminal.ReactiveTerminal.{out-ReactiveTerminal}
-use Rattle.rc_tree.specs.declared.transform.Transformed.TheVariants.{Keep, Replace}
+use Rattle.rc_tree.specs.declared.hooks.Transformed.TheVariants.{Keep, Replace}
 
 -- the flags behind a terminal that is a `Return` or isn't
 abbrev pub after_terminal : Bool → Returns → Returns

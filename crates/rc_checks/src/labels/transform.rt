@@ -7,9 +7,9 @@ use crate::labels::targets::{mark, names_label, note_target};
 use rc_hir::Fault;
 use rc_names::{BlockId, KeySet, List};
 use rc_tree::{
-    ReactiveScopeBlock, ReactiveStatement, ReactiveTerminal, ReactiveTerminalStatement,
-    StatementTransform, Transformed,
+    ReactiveScopeBlock, ReactiveStatement, ReactiveTerminal, ReactiveTerminalStatement, Transformed,
 };
+use rc_walk::StatementTransform;
 
 /// Label pruning as a pass over statements; its state is the set of targets. The rewriting walk with it, from no
 /// targets on, gives the same tree as `prune_unused_labels`. Where unused labels stand one in the other, the walk moves

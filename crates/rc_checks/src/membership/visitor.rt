@@ -8,9 +8,10 @@ use crate::membership::open_scopes::OpenScopes;
 use rc_hir::{Environment, Fault, MutableRange, Place, TableName};
 use rc_names::{EvaluationOrder, IdentifierId, KeySet, ScopeId};
 use rc_tree::{
-    Enter, PrunedReactiveScopeBlock, ReactiveBlock, ReactiveFunctionVisitor, ReactiveInstruction,
-    ReactiveScopeBlock, ReactiveTerminalStatement, ReactiveValue,
+    Enter, PrunedReactiveScopeBlock, ReactiveBlock, ReactiveInstruction, ReactiveScopeBlock,
+    ReactiveTerminalStatement, ReactiveValue,
 };
+use rc_walk::ReactiveFunctionVisitor;
 
 /// An operand outside the blocks of its scope.
 #[derive(Clone, Copy)]

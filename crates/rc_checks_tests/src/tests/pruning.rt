@@ -7,10 +7,9 @@ use rc_checks::UnusedLabels;
 use rc_hir::{Environment, Fault};
 use rc_names::{KeySet, List};
 use rc_tree::ReactiveTerminalTargetKind::{Implicit, Labeled};
-use rc_tree::rewrite::transform_stmt;
-use rc_tree::{
-    OverStatements, ReactiveFunction, ReactiveStatement, Transformed, transform_reactive_function,
-};
+use rc_tree::{ReactiveFunction, ReactiveStatement, Transformed};
+use rc_walk::rewrite::transform_stmt;
+use rc_walk::{OverStatements, transform_reactive_function};
 use std::alloc::Global;
 use std::test::Fail;
 

@@ -9,9 +9,10 @@ use crate::not_escaping::rows::{set_flag_of_row, stored_by_row};
 use rc_hir::{Environment, Fault, Place};
 use rc_names::EvaluationOrder;
 use rc_tree::{
-    Enter, PrunedReactiveScopeBlock, ReactiveBlock, ReactiveFunctionTransform, ReactiveInstruction,
-    ReactiveScopeBlock, ReactiveStatement, ReactiveTerminalStatement, ReactiveValue, Transformed,
+    Enter, PrunedReactiveScopeBlock, ReactiveBlock, ReactiveInstruction, ReactiveScopeBlock,
+    ReactiveStatement, ReactiveTerminalStatement, ReactiveValue, Transformed,
 };
+use rc_walk::ReactiveFunctionTransform;
 use std::alloc::Global;
 
 /// The pass, with the memoized names; its state is what it has met so far.

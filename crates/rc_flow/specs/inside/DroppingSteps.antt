@@ -5,7 +5,7 @@ use Rattle.rc_flow.specs.AlwaysInvalidating.{as_pruned}
 use Rattle.rc_tree.specs.Model.{ReactiveScopeBlock, ReactiveStatement, Transformed}
 use Rattle.rc_tree.specs.StatementSteps.{StatementSteps}
 use Rattle.rc_tree.specs.declared.statement.ReactiveStatement.TheVariants as reactive
-use Rattle.rc_tree.specs.declared.transform.Transformed.TheVariants.{Keep, Replace}
+use Rattle.rc_tree.specs.declared.hooks.Transformed.TheVariants.{Keep, Replace}
 
 -- the last answer; false where there is none, which no walk comes to
 abbrev pub last_answer : List Bool → Bool

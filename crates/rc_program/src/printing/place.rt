@@ -3,18 +3,18 @@
 ghost use Rattle.std.specs.Prelude.{◌≡◌, ◌++◌, OnOk, codes, true};
 ghost use Rattle.serde_json.specs.Data.{string};
 ghost use Rattle.serde_json.specs.Written.{compact_text, items_text};
-ghost use Rattle.rc_doc.specs.ShownParts.Places.{long_form, effect_name, span_items};
+ghost use Rattle.rc_show.specs.ShownParts.Places.{long_form, effect_name, span_items};
 ghost use Rattle.rc_program.specs.LineText.{place_text};
 
 use crate::printing::page::Page;
 use crate::printing::text::write_bool;
-use rc_doc::is_short;
 use rc_hir::{Effect, Place};
 use rc_names::Span;
+use rc_show::is_short;
 use std::alloc::AllocError;
 
 /// A place, in the shortest of its three forms.
-#[tactic(auto, using(rc_doc::proofs::ReadsBack::placing))]
+#[tactic(auto, using(rc_show::proofs::ReadsBack::placing))]
 pub fn write_place(page: &mut Page, place: &Place) -> Result<(), AllocError>
     ensures { OnOk result (page.new ≡ page.old ++ place_text place.now) }
 {

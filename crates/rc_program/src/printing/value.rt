@@ -2,16 +2,16 @@
 
 ghost use Rattle.std.specs.Prelude.{◌≡◌, ◌++◌, OnOk, false, map};
 ghost use Rattle.serde_json.specs.Written.{compact_text};
-ghost use Rattle.rc_doc.specs.ShownKinds.{value_data};
+ghost use Rattle.rc_show.specs.ShownKinds.{value_data};
 ghost use Rattle.rc_program.specs.ValueLines.{operator_text, next_text, joined, rows_text, target_text, value_text};
 ghost use Rattle.rc_program.specs.ValueLines.{row_text};
 
 use crate::printing::page::Page;
 use crate::printing::place::write_place;
 use crate::printing::text::{write_bool, write_span};
-use rc_doc::value_json;
 use rc_hir::{InstructionValue, LogicalOperator, Place};
 use rc_names::EvaluationOrder;
+use rc_show::value_json;
 use rc_tree::{ReactiveInstruction, ReactiveValue};
 use std::alloc::AllocError;
 

@@ -21,7 +21,7 @@ use Rattle.rc_tree.specs.ReadFunction.{basic_block, inside_function, numbered_fu
 use Rattle.rc_tree.specs.ReadSteps.{ReadSteps, targets_of}
 use Rattle.rc_tree.specs.declared.value.ReactiveValue.TheVariants as reactive_values
 use Rattle.rc_tree.specs.Model.{Enter}
-use Rattle.rc_tree.specs.declared.visitor.Enter.TheVariants.{Inside, Skip}
+use Rattle.rc_tree.specs.declared.hooks.Enter.TheVariants.{Inside, Skip}
 
 -- if two steps succeed, each of them does
 bind_answers : {A B : Type 0} (first : Result A Fault) (next : A → Result B Fault) (b : B) → bind first next ≡ Ok b

@@ -9,7 +9,7 @@ use Rattle.rc_tree.specs.Fuel.{Fueled, OutOfFuel, Failed, Done, bind, after, las
 use Rattle.rc_tree.specs.Fuel.{kept_into, around, by_answer}
 use Rattle.rc_tree.specs.inside.RewriteKeeps.{KeepsAtStep}
 use Rattle.rc_tree.specs.Model.{Enter}
-use Rattle.rc_tree.specs.declared.visitor.Enter.TheVariants.{Inside, Skip}
+use Rattle.rc_tree.specs.declared.hooks.Enter.TheVariants.{Inside, Skip}
 
 -- the computation's result, if there is one, has the property
 unfoldable pub Always : {A : Type 0} → Fueled A → (A → Type 0) → Type 0

@@ -11,7 +11,7 @@ use Rattle.rc_tree.specs.RewriteSteps.{RewriteSteps, goes_inside, skips, does_no
 use Rattle.rc_tree.specs.Model.{PrunedReactiveScopeBlock, ReactiveScopeBlock, ReactiveBlock, ReactiveStatement}
 use Rattle.rc_tree.specs.Model.{ReactiveTerminalStatement, Transformed, ReactiveInstruction}
 use Rattle.rc_tree.specs.declared.statement.ReactiveStatement.TheVariants as reactive
-use Rattle.rc_tree.specs.declared.visitor.Enter.TheVariants.{Inside}
+use Rattle.rc_tree.specs.declared.hooks.Enter.TheVariants.{Inside}
 
 -- a `transform_` step agrees with the rule: it gives the same replacement and the world that represents the state
 -- after it, or the same fault

@@ -7,7 +7,7 @@ use rc_hir::{
     LoweredFunction, ParamPattern, SpreadPattern, TableName, Terminal,
 };
 use rc_names::{BlockId, EvaluationOrder, FunctionId, InstructionId, Keyed, List};
-use rc_tree::visit_hir_function;
+use rc_walk::visit_hir_function;
 use std::alloc::{AllocError, Global};
 use std::test::Fail;
 

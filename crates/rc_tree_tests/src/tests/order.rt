@@ -11,8 +11,8 @@ use crate::tests::recorder::{Part, Recorder, Visit, visits};
 use crate::tests::trees::{empty, function, load, note, row, statement};
 use rc_hir::{Environment, Fault};
 use rc_names::List;
-use rc_tree::read::traverse_terminal;
 use rc_tree::{ReactiveBlock, ReactiveStatement, ReactiveTerminalStatement};
+use rc_walk::read::traverse_terminal;
 use std::alloc::{AllocError, Global};
 use std::test::Fail;
 

@@ -2,17 +2,17 @@
 
 ghost use Rattle.std.specs.Prelude.{◌≡◌, [], ◌∷◌, ◌++◌, Ok, IfOk};
 ghost use Rattle.rc_tree.specs.Read.{read_block};
-ghost use Rattle.rc_tree.specs.declared.visitor.Enter.TheVariants as enter;
+ghost use Rattle.rc_tree.specs.declared.hooks.Enter.TheVariants as enter;
 ghost use Rattle.rc_tree_tests.specs.declared.tests.recorder.Part.TheVariants as part;
 ghost use Rattle.rc_tree_tests.specs.declared.tests.recorder.Visit.TheVariants as visit;
 
 use rc_hir::{Environment, Fault, Place};
 use rc_names::{EvaluationOrder, List};
 use rc_tree::{
-    Enter, PrunedReactiveScopeBlock, ReactiveBlock, ReactiveFunction, ReactiveFunctionVisitor,
-    ReactiveInstruction, ReactiveScopeBlock, ReactiveTerminalStatement, ReactiveValue,
-    visit_reactive_function,
+    Enter, PrunedReactiveScopeBlock, ReactiveBlock, ReactiveFunction, ReactiveInstruction,
+    ReactiveScopeBlock, ReactiveTerminalStatement, ReactiveValue,
 };
+use rc_walk::{ReactiveFunctionVisitor, visit_reactive_function};
 use std::alloc::Global;
 
 /// A part that is entered and left, by its number.

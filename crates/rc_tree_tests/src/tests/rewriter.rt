@@ -10,18 +10,19 @@ ghost use Rattle.rc_tree_tests.specs.Unnamed.{GivesWay, without_name};
 ghost use Rattle.rc_tree.specs.declared.statement.ReactiveStatement.TheVariants as reactive;
 ghost use Rattle.rc_tree_tests.specs.declared.tests.recorder.Part.TheVariants as part;
 ghost use Rattle.rc_tree_tests.specs.declared.tests.recorder.Visit.TheVariants as visit;
-ghost use Rattle.rc_tree.specs.declared.transform.Transformed.TheVariants as answer;
-ghost use Rattle.rc_tree.specs.declared.visitor.Enter.TheVariants as enter;
+ghost use Rattle.rc_tree.specs.declared.hooks.Transformed.TheVariants as answer;
+ghost use Rattle.rc_tree.specs.declared.hooks.Enter.TheVariants as enter;
 
 use crate::tests::recorder::{Part, Visit};
 use rc_hir::{Environment, Fault, Place, TableName};
 use rc_names::{EvaluationOrder, List};
-use rc_tree::rewrite::{transform_reactive_function, transform_stmt};
 use rc_tree::{
-    Enter, PrunedReactiveScopeBlock, ReactiveBlock, ReactiveFunction, ReactiveFunctionTransform,
-    ReactiveInstruction, ReactiveScopeBlock, ReactiveStatement, ReactiveTerminal,
-    ReactiveTerminalStatement, ReactiveValue, Transformed,
+    Enter, PrunedReactiveScopeBlock, ReactiveBlock, ReactiveFunction, ReactiveInstruction,
+    ReactiveScopeBlock, ReactiveStatement, ReactiveTerminal, ReactiveTerminalStatement,
+    ReactiveValue, Transformed,
 };
+use rc_walk::ReactiveFunctionTransform;
+use rc_walk::rewrite::{transform_reactive_function, transform_stmt};
 use std::alloc::Global;
 
 /// Writes each visit down, in order. It replaces a `Label` without a name by its statements and a scope block by a

@@ -9,11 +9,11 @@ use crate::tests::trees::{
 };
 use rc_hir::{Environment, Fault, TableName};
 use rc_names::{BlockId, Boxed, EvaluationOrder, List, ScopeId};
-use rc_tree::rewrite::traverse_terminal;
 use rc_tree::{
     ReactiveBlock, ReactiveInstruction, ReactiveLabel, ReactiveScopeBlock, ReactiveStatement,
     ReactiveTerminal, ReactiveTerminalStatement, Transformed,
 };
+use rc_walk::rewrite::traverse_terminal;
 use std::alloc::{AllocError, Global};
 use std::test::Fail;
 

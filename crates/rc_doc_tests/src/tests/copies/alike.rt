@@ -1,12 +1,12 @@
 //! Whether two graphs, or two environments, are alike in each of their parts.
 
-use rc_doc::value_json;
 use rc_hir::{
     BasicBlock, DependencyPathEntry, Environment, Hir, HirFunction, Identifier, IdentifierName,
     Instruction, InstructionValue, PropertyLiteral, ReactiveScope, ReactiveScopeDependency,
     Terminal,
 };
 use rc_names::Text;
+use rc_show::value_json;
 use std::alloc::{AllocError, Global};
 
 /// A type whose values are compared part by part.

@@ -1,6 +1,7 @@
 //! Places alone: each form is read, and printed in the shortest form of the same place.
 
-use rc_doc::{place_json, read_place};
+use rc_doc::read_place;
+use rc_show::place_json;
 use serde_json::Value;
 use std::alloc::Global;
 use std::test::Fail;

@@ -1,0 +1,5 @@
+mod KindsReadBack
+mod NoFloats
+mod PartsReadBack
+pub mod ReadsBack
+mod ShownLists

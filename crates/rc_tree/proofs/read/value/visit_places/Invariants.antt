@@ -1,8 +1,0 @@
-use Rattle.std.proofs.Common.{◌≡◌, drop}
-use Rattle.rc_tree.specs.Step.{each}
-use Rattle.rc_tree.proofs.read.value.visit_places.Given as goal
-
-abbrev pub invariant-loop-place : goal.invariant-loop-place
-invariant-loop-place g l =
-    let step = (g.V.ReactiveFunctionVisitor.steps l.visitor).visit_place l.id in
-    each step l.place-items l.initial.state ≡ each step (drop l.place-index l.place-items) l.state

@@ -1,0 +1,219 @@
+//! The read walk of rows and values.
+#![tactic(auto, using(rc_tree::proofs::ReadLemmas::reading))]
+
+ghost use Rattle.rc_tree.specs.Step.{IsStep, each, perhaps};
+ghost use Rattle.rc_tree.specs.Read.Values.{inside_base, inside_instruction, inside_value, read_instruction};
+ghost use Rattle.rc_tree.specs.Read.Values.{read_value};
+ghost use Rattle.rc_tree.specs.ReadSteps.{targets_of};
+
+use crate::visitor::ReactiveFunctionVisitor;
+use rc_hir::{
+    Fault, InstructionValue, Place, each_instruction_value_lvalue, each_instruction_value_operand,
+};
+use rc_names::{EvaluationOrder, List};
+use rc_tree::{Enter, ReactiveInstruction, ReactiveValue};
+use std::alloc::Global;
+
+/// Walks the inside of a value. Returns the fault of a hook, `BadName` if a nested function is outside its table, and
+/// `NoMemory` when out of memory.
+#[cycle(read_value)]
+pub fn traverse_value<V: ReactiveFunctionVisitor>(
+    alloc: Global,
+    visitor: &V,
+    id: EvaluationOrder,
+    value: &ReactiveValue,
+    state: &mut V::State,
+) -> Result<(), Fault>
+    ensures { IsStep (inside_value (V.steps visitor.now) (V.functions visitor.now) value.now id state.old) result
+        state.new }
+{
+    match value {
+        ReactiveValue::Instruction(value) => visit_operands(alloc, visitor, id, value, state),
+        ReactiveValue::LogicalExpression {
+            operator: _,
+            left,
+            right,
+        } => {
+            walk_value(alloc, visitor, id, left.get(), state)?;
+            walk_value(alloc, visitor, id, right.get(), state)
+        }
+        ReactiveValue::ConditionalExpression {
+            test,
+            consequent,
+            alternate,
+        } => {
+            walk_value(alloc, visitor, id, test.get(), state)?;
+            walk_value(alloc, visitor, id, consequent.get(), state)?;
+            walk_value(alloc, visitor, id, alternate.get(), state)
+        }
+        ReactiveValue::SequenceExpression {
+            instructions,
+            id: own,
+            value,
+        } => {
+            walk_rows(alloc, visitor, instructions, state)?;
+            walk_value(alloc, visitor, *own, value.get(), state)
+        }
+        ReactiveValue::OptionalExpression { value, optional: _ } => {
+            walk_value(alloc, visitor, id, value.get(), state)
+        }
+    }
+}
+
+/// Walks the inside of a row. Returns the fault of a hook, `BadName` if a nested function is outside its table, and
+/// `NoMemory` when out of memory.
+#[cycle(read_value)]
+pub fn traverse_instruction<V: ReactiveFunctionVisitor>(
+    alloc: Global,
+    visitor: &V,
+    instruction: &ReactiveInstruction,
+    state: &mut V::State,
+) -> Result<(), Fault>
+    ensures { IsStep (inside_instruction (V.steps visitor.now) (V.functions visitor.now) instruction.now state.old)
+        result state.new }
+{
+    visitor.visit_id(instruction.id, state)?;
+    visit_target(visitor, instruction.id, &instruction.lvalue, state)?;
+    visit_value_targets(alloc, visitor, instruction.id, &instruction.value, state)?;
+    walk_value(alloc, visitor, instruction.id, &instruction.value, state)
+}
+
+/// Walks a value.
+#[cycle(read_value)]
+pub(crate) fn walk_value<V: ReactiveFunctionVisitor>(
+    alloc: Global,
+    visitor: &V,
+    id: EvaluationOrder,
+    value: &ReactiveValue,
+    state: &mut V::State,
+) -> Result<(), Fault>
+    ensures { IsStep (read_value (V.steps visitor.now) (V.functions visitor.now) value.now id state.old) result
+        state.new }
+{
+    match visitor.enter_value(id, value, state)? {
+        Enter::Inside => {
+            traverse_value(alloc, visitor, id, value, state)?;
+            visitor.leave_value(id, value, state)
+        }
+        Enter::Skip => Ok(()),
+    }
+}
+
+/// Walks a row.
+#[cycle(read_value)]
+pub(crate) fn walk_instruction<V: ReactiveFunctionVisitor>(
+    alloc: Global,
+    visitor: &V,
+    instruction: &ReactiveInstruction,
+    state: &mut V::State,
+) -> Result<(), Fault>
+    ensures { IsStep (read_instruction (V.steps visitor.now) (V.functions visitor.now) instruction.now state.old) result
+        state.new }
+{
+    match visitor.enter_instruction(instruction, state)? {
+        Enter::Inside => {
+            traverse_instruction(alloc, visitor, instruction, state)?;
+            visitor.leave_instruction(instruction, state)
+        }
+        Enter::Skip => Ok(()),
+    }
+}
+
+/// Walks the rows of a sequence.
+#[cycle(read_value)]
+fn walk_rows<V: ReactiveFunctionVisitor>(
+    alloc: Global,
+    visitor: &V,
+    rows: &List<ReactiveInstruction>,
+    state: &mut V::State,
+) -> Result<(), Fault>
+    ensures { IsStep (each (read_instruction (V.steps visitor.now) (V.functions visitor.now)) rows.now state.old) result
+        state.new }
+{
+    for row in rows.as_slice() {
+        walk_instruction(alloc, visitor, row, state)?;
+    }
+    Ok(())
+}
+
+/// Visits the operands of an instruction.
+fn visit_operands<V: ReactiveFunctionVisitor>(
+    alloc: Global,
+    visitor: &V,
+    id: EvaluationOrder,
+    value: &InstructionValue,
+    state: &mut V::State,
+) -> Result<(), Fault>
+    ensures { IsStep (inside_base (V.steps visitor.now) (V.functions visitor.now) value.now id state.old) result
+        state.new }
+{
+    let places = each_instruction_value_operand(alloc, value, visitor.env())?;
+    visit_places(visitor, id, &places, state)
+}
+
+/// Visits a row's target, if it has one.
+fn visit_target<V: ReactiveFunctionVisitor>(
+    visitor: &V,
+    id: EvaluationOrder,
+    target: &Option<Place>,
+    state: &mut V::State,
+) -> Result<(), Fault>
+    ensures { IsStep (perhaps ((V.steps visitor.now).visit_lvalue id) target.now state.old) result state.new }
+{
+    match target {
+        Some(target) => visitor.visit_lvalue(id, target, state),
+        None => Ok(()),
+    }
+}
+
+/// Visits the places that a row writes besides its target.
+fn visit_value_targets<V: ReactiveFunctionVisitor>(
+    alloc: Global,
+    visitor: &V,
+    id: EvaluationOrder,
+    value: &ReactiveValue,
+    state: &mut V::State,
+) -> Result<(), Fault>
+    ensures { IsStep (each ((V.steps visitor.now).visit_lvalue id) (targets_of value.now) state.old) result state.new }
+{
+    match value {
+        ReactiveValue::Instruction(value) => {
+            let targets = each_instruction_value_lvalue(alloc, value)?;
+            visit_lvalues(visitor, id, &targets, state)
+        }
+        ReactiveValue::LogicalExpression { .. }
+        | ReactiveValue::ConditionalExpression { .. }
+        | ReactiveValue::SequenceExpression { .. }
+        | ReactiveValue::OptionalExpression { .. } => Ok(()),
+    }
+}
+
+/// Visits places as operands, in order.
+pub(crate) fn visit_places<V: ReactiveFunctionVisitor>(
+    visitor: &V,
+    id: EvaluationOrder,
+    places: &List<Place>,
+    state: &mut V::State,
+) -> Result<(), Fault>
+    ensures { IsStep (each ((V.steps visitor.now).visit_place id) places.now state.old) result state.new }
+{
+    for place in places.as_slice() {
+        visitor.visit_place(id, place, state)?;
+    }
+    Ok(())
+}
+
+/// Visits places as targets, in order.
+fn visit_lvalues<V: ReactiveFunctionVisitor>(
+    visitor: &V,
+    id: EvaluationOrder,
+    places: &List<Place>,
+    state: &mut V::State,
+) -> Result<(), Fault>
+    ensures { IsStep (each ((V.steps visitor.now).visit_lvalue id) places.now state.old) result state.new }
+{
+    for place in places.as_slice() {
+        visitor.visit_lvalue(id, place, state)?;
+    }
+    Ok(())
+}
