@@ -1,6 +1,6 @@
 -- What one step of the stack does to the walk.
 use Rattle.std.proofs.Common.{◌≡◌, ◌∙◌, ◌+◌, ◌++◌, ◌<◌, ℕ, Bool, true, false, List, [], ◌∷◌}
-use Rattle.std.proofs.Common.{Option, Some, None, ap, drop, length, refl, reverse, subst, sym}
+use Rattle.std.proofs.Common.{Some, None, ap, drop, length, refl, reverse, subst, sym}
 use Rattle.std.specs.Prelude.{◌||◌, slice_get, slice_set}
 use Rattle.rc_names.specs.Numbers.{DeclarationId, ScopeId}
 use Rattle.rc_memo.specs.declared.record.MemoNode.{MemoNode}
@@ -13,103 +13,18 @@ use Rattle.rc_escape.specs.MemoWalk.{memoizes, node_of, dependencies_of, Progres
 use Rattle.rc_escape.specs.MemoWalk.{VisitsName, absent, again, first_time, VisitsNames, no_names, next_name}
 use Rattle.rc_escape.specs.MemoWalk.{DecidesNode, passes, memoizes_it}
 use Rattle.rc_escape.specs.MemoWalk.{TakesScopes, no_scopes, without_record, taken_before, takes_it}
-use Rattle.rc_escape.specs.inside.WalkFrames.{is_set, is_set_at, node_place, scope_place, progress}
+use Rattle.rc_escape.specs.inside.WalkFrames.{is_set, progress}
 use Rattle.rc_escape.specs.inside.WalkFrames.{IsNodeAt, IsScopeAt, FitsRecord}
 use Rattle.rc_escape.specs.inside.WalkFrames.{FinishesFrame, escaping, dependencies, scopes, scope_dependencies}
 use Rattle.rc_escape.specs.inside.WalkFrames as frames
-use Rattle.rc_escape.specs.inside.WalkFrames.{with_answer, Finishes, ResumesFrame, BeginsVisit}
+use Rattle.rc_escape.specs.inside.WalkFrames.{Finishes, ResumesFrame, BeginsVisit}
 use Rattle.rc_escape.specs.inside.WalkFrames.{BeginsDecision, TakesOne, BeginsScope}
-use Rattle.rc_escape.proofs.ListLemmas.{drop-at, drop-past, one_value, reverse-push}
-use Rattle.rc_escape.proofs.PlaceLemmas.{key_at_place, place_of_distinct, set_puts, value_at_place}
-
-or_assoc : (a b c : Bool) → ((a || b) || c) ≡ (a || (b || c))
-or_assoc true b c = refl
-or_assoc false b c = refl
-
-or_false : (a : Bool) → (a || false) ≡ a
-or_false true = refl
-or_false false = refl
-
--- one entry has one name and one value
-same_entry : {X Y : Type 0} {o : Option (X × Y)} (x x' : X) (y y' : Y) → o ≡ Some (x, y) → o ≡ Some (x', y')
-    → (x' ≡ x) × (y' ≡ y)
-same_entry {X} {Y} x x' y y' f g =
-    let same : ◌≡◌ {A = X × Y} (x', y') (x, y) = one_value f g in (ap (λ e. e.0) same, ap (λ e. e.1) same)
+use Rattle.rc_escape.proofs.ListLemmas.{drop-at, drop-past, reverse-push}
+use Rattle.rc_escape.proofs.PlaceLemmas.{place_of_distinct}
+use Rattle.rc_escape.proofs.RecordPlaces.{or_assoc, or_false, same_entry, seen_more, memoized_more, taken_more, seen_is}
+use Rattle.rc_escape.proofs.RecordPlaces.{memoized_is, taken_is}
 
 module _ (r : MemoRecord) where
-  -- a row with one place set means one more name or scope
-  pub seen_more : (s : WalkState) (d : DeclarationId) (p : ℕ) → node_place r d ≡ Some p → p < length s.seen
-      → progress r (record s { seen = slice_set s.seen p true }) ≡ with_seen (progress r s) d
-  unfolding progress
-  seen_more s d p at lt =
-      (λ i. record {
-        seen = λ e. set_puts r.nodes s.seen d p at lt e i;
-        memoized =
-            λ e. is_set_at s.memoized (node_place r e);
-        taken = λ c. is_set_at s.taken (scope_place r c);
-      })
-
-  pub memoized_more : (s : WalkState) (d : DeclarationId) (p : ℕ) → node_place r d ≡ Some p → p < length s.memoized
-      → progress r (record s { memoized = slice_set s.memoized p true }) ≡ with_memoized (progress r s) d
-  unfolding progress
-  memoized_more s d p at lt =
-      (λ i. record {
-        seen = λ e. is_set_at s.seen (node_place r e);
-        memoized =
-            λ e. set_puts r.nodes s.memoized d p at lt e i;
-        taken = λ c. is_set_at s.taken (scope_place r c);
-      })
-
-  pub taken_more : (s : WalkState) (c : ScopeId) (p : ℕ) → scope_place r c ≡ Some p → p < length s.taken
-      → progress r (record s { taken = slice_set s.taken p true }) ≡ with_taken (progress r s) c
-  unfolding progress
-  taken_more s c p at lt =
-      (λ i. record {
-        seen = λ e. is_set_at s.seen (node_place r e);
-        memoized =
-            λ e. is_set_at s.memoized (node_place r e);
-        taken = λ e. set_puts r.scopes s.taken c p at lt e i;
-      })
-
-  -- what a row says at the position of a name is what is met of that name
-  pub seen_is : (s : WalkState) (d : DeclarationId) (p : ℕ) → node_place r d ≡ Some p
-      → (progress r s).seen d ≡ is_set s.seen p
-  unfolding progress
-  seen_is s d p at = ap (is_set_at s.seen) at
-
-  pub memoized_is : (s : WalkState) (d : DeclarationId) (p : ℕ) → node_place r d ≡ Some p
-      → (progress r s).memoized d ≡ is_set s.memoized p
-  unfolding progress
-  memoized_is s d p at = ap (is_set_at s.memoized) at
-
-  pub taken_is : (s : WalkState) (c : ScopeId) (p : ℕ) → scope_place r c ≡ Some p
-      → (progress r s).taken c ≡ is_set s.taken p
-  unfolding progress
-  taken_is s c p at = ap (is_set_at s.taken) at
-
-  -- a name with its position and its node
-  pub node_at : (d k : DeclarationId) (p : ℕ) (n : MemoNode) → node_place r d ≡ Some p
-      → slice_get r.nodes p ≡ Some (k, n) → IsNodeAt r d p n
-  node_at d k p n at entry =
-      let same = key_at_place r.nodes d p (k, n) at entry in
-      record {
-        place_is = at;
-        entry = subst (λ w. slice_get r.nodes p ≡ Some (w, n)) (sym same) entry;
-        node_is =
-            value_at_place r.nodes d p (k, n) at entry;
-      }
-
-  pub scope_at : (c k : ScopeId) (p : ℕ) (ds : List DeclarationId) → scope_place r c ≡ Some p
-      → slice_get r.scopes p ≡ Some (k, ds) → IsScopeAt r c p ds
-  scope_at c k p ds at entry =
-      let same = key_at_place r.scopes c p (k, ds) at entry in
-      record {
-        place_is = at;
-        entry = subst (λ w. slice_get r.scopes p ≡ Some (w, ds)) (sym same) entry;
-        names_are =
-            value_at_place r.scopes c p (k, ds) at entry;
-      }
-
   -- the visit of a name
   pub visited_absent : (d : DeclarationId) (f : Bool) (s : Progress) (rest : List VisitFrame) → node_of r d ≡ None
       → BeginsVisit r rest s false d f rest s
@@ -123,8 +38,8 @@ module _ (r : MemoRecord) where
   visited_again d f a s p n rest at seen is t e = (
     progress r s,
     a,
-    again at.node_is (seen_is s d p at.place_is ∙ seen)
-        (is ∙ sym (memoized_is s d p at.place_is)),
+    again at.node_is (seen_is r s d p at.place_is ∙ seen)
+        (is ∙ sym (memoized_is r s d p at.place_is)),
     e,
   )
 
@@ -146,11 +61,11 @@ module _ (r : MemoRecord) where
       (progress r s)
   unfolding BeginsVisit Finishes
   entered d f s p n old new fits at unseen lt push t e =
-      let more = seen_more s d p at.place_is (subst (λ w. p < w) (sym fits.seen) lt) in
+      let more = seen_more r s d p at.place_is (subst (λ w. p < w) (sym fits.seen) lt) in
       let k = subst (λ w. Finishes r (reverse new) w false t) more e in
       let k = subst (λ w. Finishes r w (with_seen (progress r s) d) false t)
       (reverse-push old new (Dependencies p f 0 false) push) k in
-      (k.0, k.1, first_time_by at (seen_is s d p at.place_is ∙ unseen) k.2, k.3)
+      (k.0, k.1, first_time_by at (seen_is r s d p at.place_is ∙ unseen) k.2, k.3)
 
   -- the escaping names
   escaping_more : {i j : ℕ} {d : DeclarationId} {b c : Bool} {s s1 s2 : Progress} → slice_get r.escaping i ≡ Some d
@@ -247,7 +162,7 @@ module _ (r : MemoRecord) where
   unfolding BeginsDecision Finishes
   decided d p n s old new fits at lt push t e =
       let place = place_of_distinct r.nodes p (d, n) fits.distinct at in
-      let more = memoized_more s d p place (subst (λ w. p < w) (sym fits.memoized) lt) in
+      let more = memoized_more r s d p place (subst (λ w. p < w) (sym fits.memoized) lt) in
       let k = subst (λ w. Finishes r (reverse new) w false t) more e in
       let k = subst (λ w. Finishes r w (with_memoized (progress r s) d) false t)
       (reverse-push old new (Scopes p 0) push) k in
@@ -300,7 +215,7 @@ module _ (r : MemoRecord) where
   taken_earlier c q ds s rest at taken t e = (
     progress r s,
     false,
-    (λ cs end takes. taken_before at.names_are (taken_is s c q at.place_is ∙ taken) takes, refl),
+    (λ cs end takes. taken_before at.names_are (taken_is r s c q at.place_is ∙ taken) takes, refl),
     e,
   )
 
@@ -321,11 +236,11 @@ module _ (r : MemoRecord) where
       (progress r s)
   unfolding BeginsScope Finishes
   taken c q ds s old new fits at untaken lt push t e =
-      let more = taken_more s c q at.place_is (subst (λ w. q < w) (sym fits.taken) lt) in
+      let more = taken_more r s c q at.place_is (subst (λ w. q < w) (sym fits.taken) lt) in
       let k = subst (λ w. Finishes r (reverse new) w false t) more e in
       let k = subst (λ w. Finishes r w (with_taken (progress r s) c) false t)
       (reverse-push old new (ScopeDependencies q 0) push) k in
-      (k.0, k.1, takes_by at (taken_is s c q at.place_is ∙ untaken) k.2, k.3)
+      (k.0, k.1, takes_by at (taken_is r s c q at.place_is ∙ untaken) k.2, k.3)
 
   -- the dependencies of a scope
   names_more : {q i j : ℕ} {k : ScopeId} {ds : List DeclarationId} {d : DeclarationId} {b c : Bool} {s s1 s2 : Progress}

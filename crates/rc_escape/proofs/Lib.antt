@@ -1,5 +1,6 @@
 pub mod ListLemmas
 pub mod PlaceLemmas
+pub mod RecordPlaces
 pub mod FrameLemmas
 pub mod WorkLemmas
 pub mod StepRules

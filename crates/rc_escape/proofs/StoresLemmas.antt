@@ -8,7 +8,7 @@ use Rattle.std.specs.Map.{lookup, set_value}
 use Rattle.indexmap.specs.IndexMap.{insert_entry}
 use Rattle.indexmap.specs.IndexSet.{insert_key}
 use Rattle.rc_escape.proofs.ListLemmas.{drop-at, drop-past}
-use Rattle.rc_escape.specs.NotEscaping.{Stores, with_store}
+use Rattle.rc_escape.specs.Met.{Stores, with_store}
 use Rattle.rc_escape.specs.declared.not_escaping.met.Store.{Store}
 use Rattle.rc_names.specs.Numbers.{ScopeId, same_id}
 

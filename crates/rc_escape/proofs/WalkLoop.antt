@@ -4,7 +4,8 @@ use Rattle.rc_escape.specs.MemoWalk.{Progress}
 use Rattle.rc_memo.specs.declared.record.MemoRecord.{MemoRecord}
 use Rattle.rc_escape.specs.declared.walk_state.WalkState.{WalkState}
 use Rattle.rc_escape.specs.declared.walk_state.VisitFrame.{VisitFrame}
-use Rattle.rc_escape.specs.inside.WalkFrames.{Continues, Finishes, ResumesFrame, steps_left, with_answer, work}
+use Rattle.rc_escape.specs.inside.WalkFrames.{Continues, Finishes, ResumesFrame, with_answer}
+use Rattle.rc_escape.specs.inside.WalkWork.{steps_left, work}
 use Rattle.rc_escape.proofs.ListLemmas.{reverse-push}
 use Rattle.rc_escape.proofs.WorkLemmas.{work-push}
 

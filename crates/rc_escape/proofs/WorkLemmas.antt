@@ -12,8 +12,9 @@ use Rattle.rc_escape.specs.declared.walk_state.WalkState.{WalkState}
 use Rattle.rc_escape.specs.declared.walk_state.VisitFrame.{VisitFrame}
 use Rattle.rc_escape.specs.declared.walk_state.VisitFrame.TheVariants.{Escaping, Dependencies, Scopes}
 use Rattle.rc_escape.specs.declared.walk_state.VisitFrame.TheVariants.{ScopeDependencies}
-use Rattle.rc_escape.specs.inside.WalkFrames.{is_set, FitsRecord, unset_costs, node_cost, scope_cost}
-use Rattle.rc_escape.specs.inside.WalkFrames.{dependencies_left, scopes_left, names_left, steps_left, work}
+use Rattle.rc_escape.specs.inside.WalkFrames.{is_set, FitsRecord}
+use Rattle.rc_escape.specs.inside.WalkWork.{unset_costs, node_cost, scope_cost}
+use Rattle.rc_escape.specs.inside.WalkWork.{dependencies_left, scopes_left, names_left, steps_left, work}
 
 pub work-push : (r : MemoRecord) (s : WalkState) (old new : List VisitFrame) (f : VisitFrame) → new ≡ old ++ f ∷ []
     → work r s new ≡ work r s old + steps_left r f

@@ -3,5 +3,6 @@
 pub mod MemoWalk
 pub mod MemoBounds
 pub mod MemoSet
+pub mod Met
 pub mod NotEscaping
 pub mod inside

@@ -4,16 +4,14 @@
 -- an output, none of them is memoized, and no early return is set. Blocks are judged from the inside. A `FinishMemoize`
 -- is pruned where its name, or each name that was stored into it, is computed in no scope block that stays so far.
 use Rattle.std.specs.Prelude.{◌≡◌, ◌&&◌, not, ⊤, Bool, true, false, List, [], ◌∷◌, ◌++◌, Option, None, Some, Ok, map}
-use Rattle.std.specs.Prelude.{is_none, option_and_then, option_map, slice_get, unwrap_or, if◌then◌else◌, Contains}
-use Rattle.std.specs.List.{filter, list_all, list_any}
-use Rattle.std.specs.Map.{lookup}
+use Rattle.std.specs.Prelude.{is_none, option_and_then, option_map, slice_get, if◌then◌else◌, Contains}
+use Rattle.std.specs.List.{filter, list_any}
 use Rattle.std.specs.Option.{option_map_or}
-use Rattle.indexmap.specs.IndexSet.{insert_key}
 use Rattle.rc_hir.specs.Model.{Environment, Fault, InstructionKind, InstructionValue, LValue, Place, ReactiveScope}
 use Rattle.rc_hir.specs.declared.fault.Fault.TheVariants as faults
 use Rattle.rc_hir.specs.declared.instruction.InstructionValue.TheVariants as kinds
 use Rattle.rc_hir.specs.declared.pattern.InstructionKind.TheVariants.{Reassign}
-use Rattle.rc_names.specs.Numbers.{DeclarationId, IdentifierId, ScopeId, is_among, same_id}
+use Rattle.rc_names.specs.Numbers.{DeclarationId, IdentifierId, ScopeId, is_among}
 use Rattle.rc_tree.specs.Collected.{Contributions, collected}
 use Rattle.rc_tree.specs.Joining.{lists}
 use Rattle.rc_tree.specs.Rebuilt.{Rules, rebuilt_block}
@@ -31,6 +29,7 @@ use Rattle.rc_escape.specs.MemoBounds.{IsInLeastSet}
 use Rattle.rc_escape.specs.MemoSet.{IsLowest, IsMemoSet, scopes_without_record}
 use Rattle.rc_escape.specs.declared.not_escaping.met.Met.{Met}
 use Rattle.rc_escape.specs.declared.not_escaping.met.Store.{Store}
+use Rattle.rc_escape.specs.Met.{nothing_met, with_store_if, with_dissolved_if, are_dissolved, stored_into}
 
 -- a scope block comes before those in it; a pruned one isn't a scope block
 abbrev pub block_parts : Contributions (List ScopeId)
@@ -54,39 +53,6 @@ block_scopes = collected block_parts
 abbrev pub has_output : List DeclarationId → Bool
 has_output [] = false
 has_output (name ∷ names) = true
-
--- each declaration into which a name with a scope was stored, with the scopes of these names
-abbrev pub Stores : Type 0
-Stores = List (DeclarationId × List ScopeId)
-
--- one more name is stored
-abbrev pub with_store : Store → Stores → Stores
-with_store store [] = (store.declaration, store.scope ∷ []) ∷ []
-with_store store (entry ∷ entries) =
-    if same_id store.declaration entry.0 then (entry.0, insert_key same_id entry.1 store.scope) ∷ entries
-    else entry ∷ with_store store entries
-
--- nothing is met yet
-abbrev pub nothing_met : Met
-nothing_met = record { dissolved = []; stored = [] }
-
--- a name is stored, where there is one
-abbrev pub with_store_if : Option Store → Met → Met
-with_store_if None met = met
-with_store_if (Some store) met = record met { stored = with_store store met.stored }
-
--- one more scope block gave way, or stays
-abbrev pub with_dissolved_if : Bool → ScopeId → Met → Met
-with_dissolved_if dissolved scope met =
-    if dissolved then record met { dissolved = insert_key same_id met.dissolved scope } else met
-
--- the block of each of these scopes gave way
-abbrev pub are_dissolved : Met → List ScopeId → Bool
-are_dissolved met scopes = list_all (is_among met.dissolved) scopes
-
--- the scopes of the names that were stored into a declaration
-abbrev pub stored_into : Met → DeclarationId → List ScopeId
-stored_into met declaration = unwrap_or (lookup (same_id declaration) met.stored) []
 
 -- the row is a reassignment
 abbrev pub is_reassignment : InstructionKind → Bool

@@ -9,7 +9,8 @@ ghost use Rattle.rc_escape.specs.MemoWalk.{dependencies_of, memoizes, node_of, n
 ghost use Rattle.rc_escape.specs.inside.WalkFrames.{BeginsDecision, BeginsScope, BeginsVisit};
 ghost use Rattle.rc_escape.specs.inside.WalkFrames.{Finishes, FitsRecord, IsNodeAt};
 ghost use Rattle.rc_escape.specs.inside.WalkFrames.{IsScopeAt, ResumesFrame, is_set};
-ghost use Rattle.rc_escape.specs.inside.WalkFrames.{progress, steps_left, with_answer, work};
+ghost use Rattle.rc_escape.specs.inside.WalkFrames.{progress, with_answer};
+ghost use Rattle.rc_escape.specs.inside.WalkWork.{steps_left, work};
 ghost use Rattle.rc_escape.specs.declared.walk_state.VisitFrame.TheVariants as frames;
 
 use crate::bit_row::BitRow;
@@ -19,7 +20,7 @@ use rc_names::{DeclarationId, KeySet, List, Name, ScopeId};
 use std::alloc::{AllocError, Global};
 
 /// Returns the node of a name with its position, and `None` if the name has no node.
-#[tactic(auto, using(crate::proofs::FrameLemmas::node_at, crate::proofs::PlaceLemmas::absent_without_place))]
+#[tactic(auto, using(crate::proofs::RecordPlaces::node_at, crate::proofs::PlaceLemmas::absent_without_place))]
 fn find_node(rec: &MemoRecord, name: DeclarationId) -> Option<(usize, &MemoNode)>
     ensures { MatchOption result (node_of rec.now name ≡ None) (λ found. IsNodeAt rec.now name found.0 found.1.now) }
 {
@@ -33,7 +34,7 @@ fn find_node(rec: &MemoRecord, name: DeclarationId) -> Option<(usize, &MemoNode)
 }
 
 /// Returns the names that a scope depends on with the position of its record, and `None` if the scope has no record.
-#[tactic(auto, using(crate::proofs::FrameLemmas::scope_at, crate::proofs::PlaceLemmas::absent_without_place))]
+#[tactic(auto, using(crate::proofs::RecordPlaces::scope_at, crate::proofs::PlaceLemmas::absent_without_place))]
 fn find_scope(rec: &MemoRecord, scope: ScopeId) -> Option<(usize, &List<DeclarationId>)>
     ensures { MatchOption result (dependencies_of rec.now scope ≡ None)
         (λ found. IsScopeAt rec.now scope found.0 found.1.now) }

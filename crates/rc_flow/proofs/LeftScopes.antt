@@ -10,7 +10,8 @@ use Rattle.rc_names.proofs.NumbersLemmas.{ids_equivalence, same_id-eq}
 use Rattle.rc_tree.proofs.CollectedRelated.{RelatedParts, collected_related}
 use Rattle.rc_tree.specs.Model.{ReactiveBlock, ReactiveValue}
 use Rattle.rc_tree.specs.declared.value.ReactiveValue.TheVariants as reactive_values
-use Rattle.rc_flow.proofs.StayingBlocks.{rebuilt_staying, staying, with_left}
+use Rattle.rc_flow.proofs.StayingBlocks.{rebuilt_staying}
+use Rattle.rc_flow.proofs.StayingParts.{staying, with_left}
 use Rattle.rc_flow.specs.AlwaysInvalidating.{ended_in, ended_parts, first_answer, IsWithoutInvalidating, LeavesOthers}
 use Rattle.rc_flow.specs.Unmemoized.{AreAnswers, no_more, makes, copies, ends, HasUnmemoized}
 use Rattle.rc_flow.specs.ValueSteps.{Steps, copied, listed, made, step_of, step_of_instruction, value_step_parts}

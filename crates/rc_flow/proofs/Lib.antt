@@ -1,11 +1,14 @@
 mod ListLemmas
 mod SetLemmas
+mod SpreadSteps
 mod SpreadLemmas
 mod PositionLemmas
 mod FlowsLemmas
 mod ValuesLemmas
 mod ValueStepsLemmas
+mod GrowingSets
 mod InvalidatingLemmas
+mod StayingParts
 mod StayingBlocks
 mod LeftScopes
 mod DroppingLemmas

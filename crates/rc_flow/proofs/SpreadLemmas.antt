@@ -1,104 +1,28 @@
 -- The names that grow over the steps are those that chains of steps reach, and a dependency stays where it was reached
 -- at each end of a block of its scope.
-use Rattle.std.proofs.Common.{◌≡◌, ◌∙◌, ◌<◌, ◌≤◌, ◌+◌, ℕ, zero, suc, Bool, true, false, ◌||◌, List, [], ◌∷◌, ◌++◌, ◌⊎◌}
-use Rattle.std.proofs.Common.{◌↔◌, inl, inr, Option, None, Some, map, take, length, slice_get, refl, sym, ap, subst}
-use Rattle.std.proofs.Common.{if◌then◌else◌, true≢false, arith, add-zero, add_assoc, take_all, length-append}
+use Rattle.std.proofs.Common.{◌≡◌, ◌∙◌, ◌<◌, ◌≤◌, ◌+◌, ℕ, zero, suc, Bool, true, false, List, [], ◌∷◌, ◌++◌, ◌⊎◌}
+use Rattle.std.proofs.Common.{◌↔◌, inl, inr, Option, None, Some, take, length, slice_get, refl, sym, ap, subst}
+use Rattle.std.proofs.Common.{if◌then◌else◌, true≢false, arith, add-zero, take_all, length-append}
 use Rattle.std.specs.List.{list_any}
 use Rattle.std.specs.Map.{lookup}
 use Rattle.std.proofs.lemmas.Bool.{cases_lt, or_cases, or_left, or_right}
 use Rattle.std.proofs.lemmas.List.{take-append-le}
 use Rattle.indexmap.specs.IndexMap.{insert_entry}
-use Rattle.rc_hir.specs.Model.{DeclarationEntry, Environment, ReactiveScope, ReactiveScopeDependency}
+use Rattle.rc_hir.specs.Model.{Environment}
 use Rattle.rc_names.specs.Numbers.{IdentifierId, ScopeId, is_among, same_id}
 use Rattle.rc_names.proofs.KeyedLemmas.{lookup-insert_there, lookup-insert_other}
 use Rattle.rc_names.proofs.NumbersLemmas.{ids_equivalence, same_id-eq}
 use Rattle.rc_flow.specs.declared.spread.Spread.{Spread}
 use Rattle.rc_flow.specs.declared.step.Step.{Step}
 use Rattle.rc_flow.specs.declared.step.Step.TheVariants.{Marks, Carries, Ends}
-use Rattle.rc_flow.specs.Reached.{IsReached, marked, carried, dependencies_if, outputs_if, sources, targets}
-use Rattle.rc_flow.specs.inside.Spread.{after_step, after_steps, ended, is_early, is_of, noted, noted_if, nothing}
-use Rattle.rc_flow.specs.inside.Spread.{with_all, with_declared, with_names, with_outputs}
-use Rattle.rc_flow.proofs.SetLemmas.{Names, In, carried_set, carried_cases, carried_grows, carried_new, carried_old}
-use Rattle.rc_flow.proofs.SetLemmas.{all-append, insert_cases, insert_grows, insert_new, insert_old}
-
-some_same : {A : Type 0} {x y : A} → Some x ≡ Some y → x ≡ y
-some_same e = cc
-
--- the ends of scope blocks as steps from names to names
-
-any_of : (set : Names) (all : List ReactiveScopeDependency)
-    → list_any (is_of set) all ≡ list_any (is_among set) (map (λ (d : ReactiveScopeDependency). d.identifier) all)
-any_of set [] = refl
-any_of set (x ∷ xs) = ap (λ b. is_among set x.identifier || b) (any_of set xs)
-
-declared_all : (all : List DeclarationEntry) (set : Names)
-    → with_declared all set ≡ with_all (map (λ (e : DeclarationEntry). e.value.identifier) all) set
-declared_all [] set = refl
-declared_all (x ∷ xs) set = declared_all xs _
-
-outputs_all : (scope : ReactiveScope) (set : Names)
-    → with_outputs scope set ≡ with_all (outputs_if (Some scope)) set
-outputs_all scope set = ap (with_all scope.reassignments) (declared_all scope.declarations set)
-    ∙ sym (all-append (map (λ (e : DeclarationEntry). e.value.identifier) scope.declarations) scope.reassignments set)
-
-names_of_if : (b : Bool) (s : Spread) (names : Names)
-    → (if b then with_names s names else s).names ≡ (if b then names else s.names)
-names_of_if true s names = refl
-names_of_if false s names = refl
-
-ends_of_if : (b : Bool) (s : Spread) (names : Names) → (if b then with_names s names else s).ends ≡ s.ends
-ends_of_if true s names = refl
-ends_of_if false s names = refl
-
-ended_names : (o : Option ReactiveScope) (s : Spread)
-    → (ended o s).names ≡ carried_set (dependencies_if o) (outputs_if o) s.names
-ended_names None s = refl
-ended_names (Some scope) s =
-    names_of_if (list_any (is_of s.names) scope.dependencies) s (with_outputs scope s.names)
-    ∙ ap (λ b. if b then with_outputs scope s.names else s.names) (any_of s.names scope.dependencies)
-    ∙ ap (λ names. if list_any (is_among s.names) (dependencies_if (Some scope)) then names else s.names)
-    (outputs_all scope s.names)
-
-ended_ends : (o : Option ReactiveScope) (s : Spread) → (ended o s).ends ≡ s.ends
-ended_ends None s = refl
-ended_ends (Some scope) s = ends_of_if (list_any (is_of s.names) scope.dependencies) s (with_outputs scope s.names)
-
-noted_names : (o : Option ℕ) (scope : ScopeId) (s : Spread) → (noted_if o scope s).names ≡ s.names
-noted_names None scope s = refl
-noted_names (Some size) scope s = refl
+use Rattle.rc_flow.specs.Reached.{IsReached, marked, carried, sources, targets}
+use Rattle.rc_flow.specs.inside.Spread.{after_step, after_steps, ended, is_early, noted, noted_if, nothing}
+use Rattle.rc_flow.specs.inside.Spread.{with_all, with_names}
+use Rattle.rc_flow.proofs.SetLemmas.{Names, In, carried_cases}
+use Rattle.rc_flow.proofs.SetLemmas.{insert_cases, insert_new}
+use Rattle.rc_flow.proofs.SpreadSteps.{some_same, ended_ends, next_names, after_names, next_grows, next_old, next_new}
 
 module _ (env : Environment) where
-  -- the set behind a step
-  abbrev next_names : Step → Names → Names
-  next_names (Marks name) set = with_all (name ∷ []) set
-  next_names (Carries from to) set = carried_set from to set
-  next_names (Ends scope) set = carried_set (sources env (Ends scope)) (targets env (Ends scope)) set
-
-  after_names : (step : Step) (s : Spread) → (after_step env step s).names ≡ next_names step s.names
-  after_names (Marks name) s = refl
-  after_names (Carries from to) s = names_of_if (list_any (is_among s.names) from) s (with_all to s.names)
-  after_names (Ends scope) s =
-      ended_names (slice_get env.scopes scope.0) (noted scope s)
-      ∙ ap (carried_set (sources env (Ends scope)) (targets env (Ends scope)))
-      (noted_names (lookup (same_id scope) s.ends) scope s)
-
-  next_grows : (step : Step) (set : Names) → (more : Names) × (next_names step set ≡ set ++ more)
-  next_grows (Marks name) set = insert_grows set name
-  next_grows (Carries from to) set = carried_grows from to set
-  next_grows (Ends scope) set = carried_grows (sources env (Ends scope)) (targets env (Ends scope)) set
-
-  next_old : (step : Step) (set : Names) (n : IdentifierId) → In n set → In n (next_names step set)
-  next_old (Marks name) set n h = insert_old set name n h
-  next_old (Carries from to) set n h = carried_old from to set n h
-  next_old (Ends scope) set n h = carried_old (sources env (Ends scope)) (targets env (Ends scope)) set n h
-
-  next_new : (step : Step) (set : Names) (n a : IdentifierId) → In a (sources env step) → In a set
-      → In n (targets env step) → In n (next_names step set)
-  next_new (Marks name) set n a f s t = absurd (true≢false (sym f))
-  next_new (Carries from to) set n a f s t = carried_new from to set n a f s t
-  next_new (Ends scope) set n a f s t =
-      carried_new (sources env (Ends scope)) (targets env (Ends scope)) set n a f s t
-
   module _ (steps : List Step) where
     abbrev Reached : ℕ → IdentifierId → Type 0
     Reached = IsReached env steps
@@ -112,7 +36,7 @@ module _ (env : Environment) where
     Agrees k set = (n : IdentifierId) → In n set ↔ Reached k n
 
     reached_now : (k : ℕ) (step : Step) (set : Names) (n : IdentifierId) → slice_get steps k ≡ Some step
-        → Agrees k set → In n (next_names step set) → Reached (k + 1) n
+        → Agrees k set → In n (next_names env step set) → Reached (k + 1) n
     reached_now k (Marks name) set n at inv h = elim (insert_cases set name n h) [
       | inl o ↦ reached_later ((inv n).0 o) (omega arith)
       | inr e ↦ subst (Reached (k + 1)) (sym e) (marked at (omega arith))
@@ -131,27 +55,27 @@ module _ (env : Environment) where
     same_step {x = x} {y = y} e f g = some_same (sym f ∙ ap (slice_get steps) e ∙ g)
 
     now_reached : (k j : ℕ) (step : Step) (set : Names) (n : IdentifierId) → slice_get steps k ≡ Some step
-        → Agrees k set → j ≡ k + 1 → Reached j n → In n (next_names step set)
+        → Agrees k set → j ≡ k + 1 → Reached j n → In n (next_names env step set)
     now_reached k j step set n at inv is (marked {earlier = p} f below) = go (cases_lt p k)
       where
-        go : (p < k) ⊎ (k ≤ p) → In n (next_names step set)
-        go (inl lt) = next_old step set n ((inv n).1 (marked f lt))
+        go : (p < k) ⊎ (k ≤ p) → In n (next_names env step set)
+        go (inl lt) = next_old env step set n ((inv n).1 (marked f lt))
         go (inr ge) =
             let here : p ≡ k = omega arith in
-            subst (λ x. In n (next_names x set)) (same_step here f at) (insert_new set n)
+            subst (λ x. In n (next_names env x set)) (same_step here f at) (insert_new set n)
     now_reached k j step set n at inv is (carried {earlier = p} {step = other} {source = a} f below from r to) =
         go (cases_lt p k)
       where
-        go : (p < k) ⊎ (k ≤ p) → In n (next_names step set)
-        go (inl lt) = next_old step set n ((inv n).1 (carried f lt from r to))
+        go : (p < k) ⊎ (k ≤ p) → In n (next_names env step set)
+        go (inl lt) = next_old env step set n ((inv n).1 (carried f lt from r to))
         go (inr ge) =
             let here : p ≡ k = omega arith in
             let same : other ≡ step = same_step here f at in
-            next_new step set n a (subst (λ x. In a (sources env x)) same from)
+            next_new env step set n a (subst (λ x. In a (sources env x)) same from)
             ((inv a).1 (subst (λ q. Reached q a) here r)) (subst (λ x. In n (targets env x)) same to)
 
     agrees_next : (k : ℕ) (step : Step) (set : Names) → slice_get steps k ≡ Some step → Agrees k set
-        → Agrees (k + 1) (next_names step set)
+        → Agrees (k + 1) (next_names env step set)
     agrees_next k step set at inv n =
         (reached_now k step set n at inv, now_reached k (k + 1) step set n at inv refl)
 
@@ -184,10 +108,10 @@ module _ (env : Environment) where
         ap (λ names. is_among names n) (take-append-le size set more (within size refl))
 
     good_row : (k : ℕ) (s : Spread) (step : Step) (names : Names) → slice_get steps k ≡ Some step
-        → ((scope : ScopeId) → step ≡ Ends scope → ⊥) → names ≡ next_names step s.names → Good k s
+        → ((scope : ScopeId) → step ≡ Ends scope → ⊥) → names ≡ next_names env step s.names → Good k s
         → Good (k + 1) (with_names s names)
     good_row k s step names at no_end is good =
-        let grown = next_grows step s.names in
+        let grown = next_grows env step s.names in
         let whole : names ≡ s.names ++ grown.0 = is ∙ grown.1 in
         record {
           agrees = subst (Agrees (k + 1)) (sym is) (agrees_next k step s.names at good.agrees);
@@ -309,8 +233,8 @@ module _ (env : Environment) where
         let t = noted scope s in
         let after = after_step env (Ends scope) s in
         let well = noted_well k scope s at good (lookup (same_id scope) s.ends) refl in
-        let names : after.names ≡ next_names (Ends scope) s.names = after_names (Ends scope) s in
-        let grown = next_grows (Ends scope) s.names in
+        let names : after.names ≡ next_names env (Ends scope) s.names = after_names env (Ends scope) s in
+        let grown = next_grows env (Ends scope) s.names in
         let whole : after.names ≡ s.names ++ grown.0 = names ∙ grown.1 in
         let ends : after.ends ≡ t.ends = ended_ends (slice_get env.scopes scope.0) t in
         record {

@@ -28,7 +28,8 @@ use Rattle.rc_tree.specs.declared.statement.ReactiveStatement.TheVariants as rea
 use Rattle.rc_tree.specs.declared.value.ReactiveValue.TheVariants as reactive_values
 use Rattle.rc_escape.proofs.RebuiltRelated.{RelatesRules, rebuilt_related, stands}
 use Rattle.rc_escape.specs.NotEscaping.{IsRebuiltFor, flagged, flagged_row, flagged_value, in_place_of, is_dissolved}
-use Rattle.rc_escape.specs.NotEscaping.{not_escaping_rules, nothing_met}
+use Rattle.rc_escape.specs.NotEscaping.{not_escaping_rules}
+use Rattle.rc_escape.specs.Met.{nothing_met}
 use Rattle.rc_escape.specs.declared.not_escaping.met.Met.{Met}
 
 module _ (env : Environment) (set : List DeclarationId) where

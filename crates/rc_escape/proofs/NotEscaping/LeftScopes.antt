@@ -15,7 +15,8 @@ use Rattle.rc_escape.proofs.RebuiltRelated.{RelatesRules, rebuilt_related, stand
 use Rattle.rc_escape.specs.NotEscaping.{block_parts, block_scopes}
 use Rattle.rc_escape.specs.NotEscaping.{AreMemoized, IsRebuiltFor, IsWithoutNotEscaping}
 use Rattle.rc_escape.specs.NotEscaping.{flagged_row, in_place_of, is_dissolved, not_escaping_rules}
-use Rattle.rc_escape.specs.NotEscaping.{nothing_met, staying_scopes}
+use Rattle.rc_escape.specs.NotEscaping.{staying_scopes}
+use Rattle.rc_escape.specs.Met.{nothing_met}
 
 -- the scopes in one statement
 alone : (x : ReactiveStatement) (it : List ScopeId) → collected_statement block_parts x ≡ it

@@ -1,7 +1,7 @@
 -- What the walk by a stack has met, and what its frames still do.
-use Rattle.std.specs.Prelude.{◌≡◌, ◌||◌, ◌+◌, ◌-◌, ℕ, Bool, true, false, List}
+use Rattle.std.specs.Prelude.{◌≡◌, ◌||◌, ℕ, Bool, true, false, List}
 use Rattle.std.specs.Prelude.{[], ◌∷◌, Option, None, Some, drop, length}
-use Rattle.std.specs.Prelude.{map, position, slice_get, sum_by, unwrap_or, if◌then◌else◌}
+use Rattle.std.specs.Prelude.{position, slice_get, unwrap_or}
 use Rattle.std.specs.List.{IsDistinct}
 use Rattle.std.specs.Map.{keys_of}
 use Rattle.rc_names.specs.Numbers.{DeclarationId, ScopeId, same_id}
@@ -138,41 +138,3 @@ BeginsScope r later met scope frames before =
 unfoldable pub Continues : MemoRecord → List VisitFrame → Progress → Bool → List VisitFrame → Progress → Bool → Type 0
 Continues r later met answer earlier before first =
     (end : Progress) → Finishes r later met answer end → Finishes r earlier before first end
-
--- the sum of the costs whose places aren't set
-abbrev pub unset_costs : List Bool → List ℕ → ℕ
-unset_costs [] costs = 0
-unset_costs (bit ∷ bits) [] = 0
-unset_costs (bit ∷ bits) (cost ∷ costs) = (if bit then 0 else cost) + unset_costs bits costs
-
--- how many steps a node brings, and a scope
-abbrev pub node_cost : DeclarationId × MemoNode → ℕ
-node_cost entry = length entry.1.dependencies + (length entry.1.scopes + 2)
-
-abbrev pub scope_cost : ScopeId × List DeclarationId → ℕ
-scope_cost entry = length entry.1 + 1
-
--- how many steps a frame has left
-abbrev pub dependencies_left : Option (DeclarationId × MemoNode) → ℕ → ℕ
-dependencies_left None i = 1
-dependencies_left (Some entry) i = (length entry.1.dependencies - i) + (length entry.1.scopes + 2)
-
-abbrev pub scopes_left : Option (DeclarationId × MemoNode) → ℕ → ℕ
-scopes_left None i = 1
-scopes_left (Some entry) i = (length entry.1.scopes - i) + 1
-
-abbrev pub names_left : Option (ScopeId × List DeclarationId) → ℕ → ℕ
-names_left None i = 1
-names_left (Some entry) i = (length entry.1 - i) + 1
-
-abbrev pub steps_left : MemoRecord → VisitFrame → ℕ
-steps_left r (Escaping i) = (length r.escaping - i) + 1
-steps_left r (Dependencies p forced i answered) = dependencies_left (slice_get r.nodes p) i
-steps_left r (Scopes p i) = scopes_left (slice_get r.nodes p) i
-steps_left r (ScopeDependencies q i) = names_left (slice_get r.scopes q) i
-
--- how many steps a walk has left
-unfoldable pub work : MemoRecord → WalkState → List VisitFrame → ℕ
-work r state frames =
-    unset_costs state.seen (map node_cost r.nodes)
-    + (unset_costs state.taken (map scope_cost r.scopes) + sum_by (steps_left r) frames)

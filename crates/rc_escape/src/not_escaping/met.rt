@@ -1,7 +1,7 @@
 //! What the pass has met so far.
 
 ghost use Rattle.std.specs.Prelude.{◌≡◌, Some, slice_get, IfOk, OnOk};
-ghost use Rattle.rc_escape.specs.NotEscaping as spec;
+ghost use Rattle.rc_escape.specs.Met as spec;
 ghost use Rattle.rc_escape.specs.inside.NotEscapingSteps.{PutsScope};
 ghost use Rattle.rc_names.specs.Numbers.{ScopeId as Scope, is_among};
 

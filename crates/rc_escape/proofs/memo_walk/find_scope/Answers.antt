@@ -1,5 +1,5 @@
 use Rattle.std.proofs.Common.{sym}
-use Rattle.rc_escape.proofs.FrameLemmas.{scope_at}
+use Rattle.rc_escape.proofs.RecordPlaces.{scope_at}
 use Rattle.rc_escape.proofs.PlaceLemmas.{absent_without_place, place_has_entry}
 use Rattle.rc_escape.proofs.memo_walk.find_scope.Goals as goal
 

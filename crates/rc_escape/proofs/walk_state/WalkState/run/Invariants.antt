@@ -1,5 +1,6 @@
 use Rattle.std.proofs.Common.{false, reverse}
-use Rattle.rc_escape.specs.inside.WalkFrames.{Continues, FitsRecord, progress, work}
+use Rattle.rc_escape.specs.inside.WalkFrames.{Continues, FitsRecord, progress}
+use Rattle.rc_escape.specs.inside.WalkWork.{work}
 use Rattle.rc_escape.proofs.walk_state.WalkState.run.Given as goal
 
 -- each way in which the frames now end the walk is one in which those at the start end it

@@ -1,7 +1,7 @@
 use Rattle.std.proofs.Common.{◌∙◌, ap, sym}
 use Rattle.rc_memo.proofs.EntryLemmas.{at_none, at_some, found_none, found_some}
 use Rattle.rc_memo.specs.inside.Gathering.{with_level}
-use Rattle.rc_memo.proofs.nodes.join_level.Goals as goal
+use Rattle.rc_memo.proofs.nodes.facts.join_level.Goals as goal
 
 pub returns-in-Some-clause-nodes : goal.returns-in-Some-clause-nodes
 returns-in-Some-clause-nodes c =
