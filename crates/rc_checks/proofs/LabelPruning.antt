@@ -1,5 +1,7 @@
 -- Why label pruning follows its rule, and that it keeps runs, numbers and scope blocks.
 pub mod PruningLemmas
+pub mod FrontPruned
+pub mod Depths
 pub mod Opened
 pub mod Judged
 pub mod WalkLemmas

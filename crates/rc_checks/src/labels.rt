@@ -4,16 +4,15 @@
 //! One pass notes the targets of labeled breaks and continues. A terminal is judged behind its inside, so that the
 //! jumps to its label are noted by then. The statements of a `Label` are put where the `Label` stands before it is
 //! judged: one that gives way has nothing left to move, and one that stays takes them back. So no statement is moved
-//! once for each level around it.
+//! once for each level around it. Of other blocks only the statements behind the first one that gives way are moved.
 //!
 //! After oxc's prune_unused_labels.
 
-ghost use Rattle.std.specs.Prelude.{◌≡◌, ◌↔◌, ◌++◌, ◌∷◌, ◌<◌, [], drop, is_some, length, map, option_map, reverse};
-ghost use Rattle.std.specs.Prelude.{take, IfErr, IfOk, IsOk, OnOk, List as Events};
+ghost use Rattle.std.specs.Prelude.{◌≡◌, ◌↔◌, ◌+◌, ◌-◌, ◌++◌, ◌∷◌, ◌<◌, [], drop, is_some, length, map, option_map};
+ghost use Rattle.std.specs.Prelude.{reverse, take, IfErr, IfOk, IsOk, IsTrue, OnOk, List as Events};
 ghost use Rattle.rc_checks.specs.Labels.{IsWithoutUnusedLabels, flattened, label_rules};
-ghost use Rattle.rc_checks.specs.inside.LabelPruning.{IsLastPut, TreeStatements, added_if, put_behind, done_before};
-ghost use Rattle.rc_checks.specs.inside.LabelPruning.{label_in};
-ghost use Rattle.rc_checks.specs.inside.LabelPruning.{opened, refilled};
+ghost use Rattle.rc_checks.specs.inside.LabelPruning.{IsFrontPruned, IsLastPut, TreeStatements, added_if, done_before};
+ghost use Rattle.rc_checks.specs.inside.LabelPruning.{label_in, opened, put_behind, refilled};
 ghost use Rattle.rc_checks.specs.Labels.Steps.{IsAfterLabelWalk};
 ghost use Rattle.rc_checks.specs.ScopeBlocks.{scope_blocks, HasScopesOnce, scopes_in};
 ghost use Rattle.rc_checks.specs.Membership.Visits.{visits_of};
@@ -70,27 +69,54 @@ pub fn prune_unused_labels(
     Ok(())
 }
 
-/// Prunes a block in its place.
+/// Prunes a block in its place. The statements in front of the first one that gives way aren't moved.
 #[cycle(prune_labels)]
 fn prune_block(block: &mut ReactiveBlock, targets: &mut KeySet<BlockId>) -> Result<(), AllocError>
     ensures { OnOk result (rebuilt_block label_rules block.old targets.old ≡ Ok (targets.new, block.new)) }
 {
-    let mut left = block.statements.take();
-    prune_into(&mut left, &mut block.statements, targets)
+    let mut statements = block.statements.take();
+    let staying = prune_front(&mut statements, &mut block.statements, targets)?;
+    replace_at(&mut statements, staying, &mut block.statements)?;
+    prune_reversed(&mut block.statements, &mut statements, targets)?;
+    block.statements.take_from(&mut statements)
 }
 
-/// Prunes statements and puts their replacements at the end of those that are done.
+/// Prunes statements in their place up to the first one that gives way, and returns how many stay in front of it. Its
+/// own statements are those that are done.
 #[cycle(prune_labels)]
-fn prune_into(
+fn prune_front(
+    statements: &mut List<ReactiveStatement>,
+    done: &mut List<ReactiveStatement>,
+    targets: &mut KeySet<BlockId>,
+) -> Result<usize, AllocError>
+    requires { done.old ≡ [] }
+    ensures { IfOk result (λ staying.
+        IsFrontPruned statements.old targets.old staying statements.new targets.new done.new) }
+{
+    for i in 0..statements.len() {
+        let Some(statement) = statements.get_mut(i) else {
+            return Ok(i);
+        };
+        let stays = prune_statement(statement, done, targets)?;
+        if !stays {
+            return Ok(i);
+        }
+    }
+    Ok(statements.len())
+}
+
+/// Prunes reversed statements, from the end on, and puts their replacements at the end of those that are done.
+#[cycle(prune_labels)]
+fn prune_reversed(
     left: &mut List<ReactiveStatement>,
     done: &mut List<ReactiveStatement>,
     targets: &mut KeySet<BlockId>,
 ) -> Result<(), AllocError>
-    ensures put { OnOk result (put_behind done.old (joined (map (rebuilt_statement label_rules) left.old) targets.old)
+    ensures put { OnOk result
+        (put_behind done.old (joined (map (rebuilt_statement label_rules) (reverse left.old)) targets.old)
         ≡ Ok (targets.new, done.new)) }
     ensures none_left { OnOk result (left.new ≡ []) }
 {
-    left.reverse();
     while !left.is_empty() {
         prune_last(left, done, targets)?;
     }
@@ -124,8 +150,9 @@ fn prune_statement(
     done: &mut List<ReactiveStatement>,
     targets: &mut KeySet<BlockId>,
 ) -> Result<bool, AllocError>
-    ensures { IfOk result (λ stays. put_behind done.old (rebuilt_statement label_rules statement.old targets.old)
+    ensures put { IfOk result (λ stays. put_behind done.old (rebuilt_statement label_rules statement.old targets.old)
         ≡ Ok (targets.new, done.new ++ added_if stays statement.new)) }
+    ensures alone { IfOk result (λ stays. IsTrue stays → done.new ≡ done.old) }
 {
     match statement {
         ReactiveStatement::Instruction(_) => Ok(true),
@@ -148,9 +175,10 @@ fn prune_labeled(
     done: &mut List<ReactiveStatement>,
     targets: &mut KeySet<BlockId>,
 ) -> Result<bool, AllocError>
-    ensures { IfOk result (λ stays.
+    ensures put { IfOk result (λ stays.
         put_behind done.old (rebuilt_statement label_rules (reactive.Terminal stmt.old) targets.old)
         ≡ Ok (targets.new, done.new ++ added_if stays (reactive.Terminal stmt.new))) }
+    ensures alone { IfOk result (λ stays. IsTrue stays → done.new ≡ done.old) }
 {
     let start = done.len();
     prune_terminal(&mut stmt.terminal, done, targets)?;
@@ -193,7 +221,10 @@ fn prune_terminal(
             prune_block(consequent, targets)?;
             prune_block_if(alternate, targets)
         }
-        ReactiveTerminal::Label { block, .. } => prune_into(&mut block.statements, done, targets),
+        ReactiveTerminal::Label { block, .. } => {
+            block.statements.reverse();
+            prune_reversed(&mut block.statements, done, targets)
+        }
         ReactiveTerminal::Try { block, handler, .. } => {
             prune_block(block, targets)?;
             prune_block(handler, targets)
@@ -274,7 +305,6 @@ fn refill(
 }
 
 /// Takes the statements from the start on off the end of those that are done, in front of the others turned round.
-#[inline(never)]
 fn take_back(
     statements: &mut List<ReactiveStatement>,
     done: &mut List<ReactiveStatement>,
@@ -283,12 +313,54 @@ fn take_back(
     ensures taken { OnOk result (statements.new ≡ drop start done.old ++ reverse statements.old) }
     ensures left { OnOk result (done.new ≡ take start done.old) }
 {
-    while done.len() > start {
-        if let Some(last) = done.pop() {
-            statements.push(last)?;
+    take_off(statements, done, start)?;
+    statements.reverse();
+    Ok(())
+}
+
+/// Puts a replacement in the place of the statement at an index. The list of the replacement has the statements behind
+/// that one then, reversed.
+#[inline(never)]
+fn replace_at(
+    statements: &mut List<ReactiveStatement>,
+    place: usize,
+    replacement: &mut List<ReactiveStatement>,
+) -> Result<(), AllocError>
+    ensures front { OnOk result (statements.new ≡ take place statements.old ++ replacement.old) }
+    ensures behind { OnOk result (replacement.new ≡ reverse (drop (place + 1) statements.old)) }
+{
+    let mut put = replacement.take();
+    take_off(replacement, statements, place)?;
+    drop_last(replacement)?;
+    statements.take_from(&mut put)
+}
+
+/// Takes the last statement off, where there is one, and lets it go.
+#[tactic(auto, using(crate::proofs::LabelPruning::FrontPruned::before_last))]
+fn drop_last(statements: &mut List<ReactiveStatement>) -> Result<(), AllocError>
+    ensures { OnOk result (statements.new ≡ take (length statements.old - 1) statements.old) }
+{
+    match statements.pop() {
+        Some(statement) => let_go(statement),
+        None => Ok(()),
+    }
+}
+
+/// Moves the statements from the start on to the end of those that are taken, reversed.
+#[inline(never)]
+fn take_off(
+    taken: &mut List<ReactiveStatement>,
+    all: &mut List<ReactiveStatement>,
+    start: usize,
+) -> Result<(), AllocError>
+    ensures taken { OnOk result (taken.new ≡ taken.old ++ reverse (drop start all.old)) }
+    ensures left { OnOk result (all.new ≡ take start all.old) }
+{
+    while all.len() > start {
+        if let Some(last) = all.pop() {
+            taken.push(last)?;
         }
     }
-    statements.reverse();
     Ok(())
 }
 

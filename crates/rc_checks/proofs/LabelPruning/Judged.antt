@@ -131,6 +131,13 @@ module _ (label : Option ReactiveLabel) (done : List ReactiveStatement) (whole :
       by true h = refl
       by false h = let bad : ◌≡◌ {A = Bool} true false = h in absurd cc
 
+-- a `Label` takes back all that its inside has put, and others have put nothing
+taken_back : (done : List ReactiveStatement) (whole : ReactiveTerminal) (l : Option OpenLabel) → label_in whole ≡ l
+    → done_before (done ++ moved l) (length done) (label_in (emptied_label l whole)) ≡ done
+taken_back done whole None k = rw (k, append-nil done) refl
+taken_back done whole (Some l) k =
+    rw (tree.outs-Label (record { statements = [] }) l.1, take_at done l.0.statements (length done) refl) refl
+
 -- a terminal with its label
 abbrev with_label : Option ReactiveLabel → Targets × ReactiveTerminal
     → Result (Targets × ReactiveTerminalStatement) Fault
@@ -194,4 +201,17 @@ module _ (x : ReactiveTerminalStatement) (t t1 t2 : Targets) (done done1 : List 
             let rest : left ≡ emptied_label (label_in a.1) a.1 = ap (λ (l : Left). l.1.0) same in
             let put : done1 ≡ done ++ moved (label_in a.1) = ap (λ (l : Left). l.1.1) same in
             rw (noted, met, rest, put) (stays x.label done a.1 a.0 (label_in a.1) refl (rw (noted, met, rest) at h))
+        by (Err fault) e = let bad : ⊥ = cc in absurd bad
+
+    -- it takes back all that its inside has put
+    pub stayed_alone : done2 ≡ done
+    stayed_alone = before ∙ by (rebuilt_terminal label_rules x.terminal t) inside
+      where
+        by : (r : Result (Targets × ReactiveTerminal) Fault) → opened done r ≡ Ok (t1, (left, done1))
+            → done_before done1 (length done) (label_in left) ≡ done
+        by (Ok a) e =
+            let same = whole_left a e in
+            let rest : left ≡ emptied_label (label_in a.1) a.1 = ap (λ (l : Left). l.1.0) same in
+            let put : done1 ≡ done ++ moved (label_in a.1) = ap (λ (l : Left). l.1.1) same in
+            rw (rest, put) (taken_back done a.1 (label_in a.1) refl)
         by (Err fault) e = let bad : ⊥ = cc in absurd bad

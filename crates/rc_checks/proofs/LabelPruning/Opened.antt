@@ -1,6 +1,6 @@
 -- A terminal whose inside is pruned, from the results of the calls on its parts: one lemma for each form.
-use Rattle.std.proofs.Common.{◌≡◌, List, [], ◌++◌, Option, Result, Ok, Err, OnOk, option_map, refl, ap}
-use Rattle.std.proofs.lemmas.List.{append-nil}
+use Rattle.std.proofs.Common.{◌≡◌, List, [], ◌++◌, Option, Result, Ok, Err, OnOk, option_map, reverse, refl, ap}
+use Rattle.std.proofs.lemmas.List.{append-nil, reverse-reverse}
 use Rattle.std.proofs.lemmas.Result.{on_ok_weaker}
 use Rattle.rc_checks.proofs.LabelPruning.PruningLemmas.{all_cases, all_of, as_block, same_if}
 use Rattle.rc_tree.proofs.StepLemmas.{Ok-injective}
@@ -63,10 +63,11 @@ module _ (done : List ReactiveStatement) (t : Targets) where
 
     -- the statements of a `Label` are put behind those that are done, and none are left in it
     pub opened-Label : (body : ReactiveBlock) (id : EvaluationOrder) (left done1 : List ReactiveStatement)
-        → OnOk r (put_behind done (all_of body.statements t) ≡ Ok (t1, done1)) → OnOk r (left ≡ [])
+        → OnOk r (put_behind done (all_of (reverse (reverse body.statements)) t) ≡ Ok (t1, done1)) → OnOk r (left ≡ [])
         → OnOk r (Opens (tree.Label body id) t1 (tree.Label (record { statements = left }) id) done1)
     opened-Label body id left done1 = on_ok_both r (λ h k.
-        rw (rebuilt-Label label_rules body id t, rebuilt-block label_rules body t, k) (by (all_of body.statements t) h))
+        rw (rebuilt-Label label_rules body id t, rebuilt-block label_rules body t, k)
+        (by (all_of body.statements t) (rw (reverse-reverse body.statements) at h)))
       where
         by : (part : Result (Targets × List ReactiveStatement) Fault) → put_behind done part ≡ Ok (t1, done1)
             → opened done (bind (bind part as_block) (as_terminal id)) ≡ Ok (t1, (empty_label id, done1))

@@ -42,21 +42,27 @@ turned : {X : Type 0} (left rest : List X) (x : X) → left ≡ rest ++ x ∷ []
 turned left rest x e = ap reverse e ∙ reverse-append rest (x ∷ [])
 
 -- the replacement of the next statement
-module _ (left rest : List ReactiveStatement) (last : ReactiveStatement) (t t1 : Targets)
-    (done done1 : List ReactiveStatement) (is_last : left ≡ rest ++ last ∷ [])
-    (put : put_behind done (rebuilt_statement label_rules last t) ≡ Ok (t1, done1)) where
-  next_behind : (part : Result (Targets × List ReactiveStatement) Fault) → put_behind done part ≡ Ok (t1, done1)
-      → put_behind done (bind part (λ a. bind (all_of (reverse rest) a.0) (λ b. Ok (b.0, a.1 ++ b.1))))
-      ≡ put_behind done1 (all_of (reverse rest) t1)
-  next_behind (Ok a) e =
+module _ (x : ReactiveStatement) (t t1 : Targets) (done done1 : List ReactiveStatement)
+    (put : put_behind done (rebuilt_statement label_rules x t) ≡ Ok (t1, done1)) where
+  next_behind : (rest : List ReactiveStatement) (part : Result (Targets × List ReactiveStatement) Fault)
+      → put_behind done part ≡ Ok (t1, done1)
+      → put_behind done (bind part (λ a. bind (all_of rest a.0) (λ b. Ok (b.0, a.1 ++ b.1))))
+      ≡ put_behind done1 (all_of rest t1)
+  next_behind rest (Ok a) e =
       let same : (a.0, done ++ a.1) ≡ (t1, done1) = Ok-injective (a.0, done ++ a.1) (t1, done1) e in
-      behind_front done a.1 (all_of (reverse rest) a.0)
-      ∙ ap (λ (p : Targets × List ReactiveStatement). put_behind p.1 (all_of (reverse rest) p.0)) same
-  next_behind (Err fault) e = let bad : ⊥ = cc in absurd bad
+      behind_front done a.1 (all_of rest a.0)
+      ∙ ap (λ (p : Targets × List ReactiveStatement). put_behind p.1 (all_of rest p.0)) same
+  next_behind rest (Err fault) e = let bad : ⊥ = cc in absurd bad
 
-  pub next_put : put_behind done (all_of (reverse left) t) ≡ put_behind done1 (all_of (reverse rest) t1)
-  next_put = ap (λ l. put_behind done (all_of l t)) (turned left rest last is_last)
-      ∙ next_behind (rebuilt_statement label_rules last t) put
+  pub first_put : (rest : List ReactiveStatement)
+      → put_behind done (all_of (x ∷ rest) t) ≡ put_behind done1 (all_of rest t1)
+  first_put rest = next_behind rest (rebuilt_statement label_rules x t) put
+
+  -- the same from the other end of those that are left
+  pub next_put : (left rest : List ReactiveStatement) → left ≡ rest ++ x ∷ []
+      → put_behind done (all_of (reverse left) t) ≡ put_behind done1 (all_of (reverse rest) t1)
+  next_put left rest is_last =
+      ap (λ l. put_behind done (all_of l t)) (turned left rest x is_last) ∙ first_put (reverse rest)
 
 -- a block that may be left out
 pub same_if : (block : Option ReactiveBlock) (t : Targets)

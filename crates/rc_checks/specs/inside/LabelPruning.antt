@@ -2,14 +2,14 @@
 --
 -- A part is pruned in its place, but for a `Label`: its statements are put where it stands, at the end of those done,
 -- before it is judged. One that stays takes them back.
-use Rattle.std.specs.Prelude.{◌≡◌, ℕ, Bool, true, false, List, [], ◌∷◌, ◌++◌, Option, None, Some, Result, Ok}
-use Rattle.std.specs.Prelude.{drop, reverse, take}
+use Rattle.std.specs.Prelude.{◌≡◌, ◌+◌, ℕ, Bool, true, false, List, [], ◌∷◌, ◌++◌, Option, None, Some, Result, Ok}
+use Rattle.std.specs.Prelude.{drop, map, reverse, take}
 use Rattle.rc_checks.specs.Labels.{Targets, label_rules}
 use Rattle.rc_hir.specs.Model.{Fault}
 use Rattle.rc_names.specs.Numbers.{EvaluationOrder}
 use Rattle.rc_tree.specs.Unrolled.{UnrolledTerminal}
 use Rattle.rc_tree.specs.Step.{bind}
-use Rattle.rc_tree.specs.Rebuilt.{rebuilt_statement}
+use Rattle.rc_tree.specs.Rebuilt.{joined, rebuilt_statement}
 use Rattle.rc_tree.specs.Model.{ReactiveBlock, ReactiveStatement}
 use Rattle.rc_tree.specs.declared.statement.ReactiveStatement.TheOpen as layer
 use Rattle.rc_tree.specs.declared.terminal.ReactiveTerminal.{ReactiveTerminal, out-ReactiveTerminal}
@@ -34,6 +34,15 @@ pub record IsLastPut (left : TreeStatements) (targets : Targets) (done left1 : T
   pub last : ReactiveStatement
   pub is_last : left ≡ left1 ++ last ∷ []
   pub put : put_behind done (rebuilt_statement label_rules last targets) ≡ Ok (targets1, done1)
+
+-- statements are pruned in their place up to the first one that gives way, and those behind it are as they were: the
+-- ones that stay, the statements of that one, and the replacements of the others are the replacements of all
+pub record IsFrontPruned (statements : TreeStatements) (targets : Targets) (staying : ℕ) (statements1 : TreeStatements)
+    (targets1 : Targets) (done1 : TreeStatements) : Type 0 where
+  pub behind : drop (staying + 1) statements1 ≡ drop (staying + 1) statements
+  pub put : put_behind (take staying statements1 ++ done1)
+      (joined (map (rebuilt_statement label_rules) (drop (staying + 1) statements)) targets1)
+      ≡ joined (map (rebuilt_statement label_rules) statements) targets
 
 -- a `Label`: its body, and its place in the order
 abbrev pub OpenLabel : Type 0

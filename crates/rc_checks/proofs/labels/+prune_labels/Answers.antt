@@ -1,7 +1,10 @@
-use Rattle.std.proofs.Common.{◌∙◌, refl, sym, arith}
+use Rattle.std.proofs.Common.{◌≡◌, ◌≤◌, ◌∙◌, ◌+◌, suc, Ok, ap, drop, refl, sym, arith, rules}
+use denote.Param.Weighed.{most}
 use Rattle.std.proofs.lemmas.List.{reverse-reverse}
 use Rattle.std.proofs.lemmas.Result.{on_ok_weaker}
-use Rattle.rc_checks.proofs.LabelPruning.Judged.{given_way, stayed}
+use Rattle.rc_checks.proofs.LabelPruning.Depths.{most_drop, size_label}
+use Rattle.rc_checks.proofs.LabelPruning.FrontPruned.{all_put, front_begins, one_gives_way, one_stays}
+use Rattle.rc_checks.proofs.LabelPruning.Judged.{given_way, stayed, stayed_alone}
 use Rattle.rc_checks.proofs.LabelPruning.PruningLemmas.{all_cases, behind_nothing, block_pruned, next_case, next_put}
 use Rattle.rc_checks.proofs.LabelPruning.PruningLemmas.{no_last}
 use Rattle.rc_checks.proofs.LabelPruning.PruningLemmas.{pruned_scope_stays, puts_last, row_stays, scope_stays}
@@ -9,19 +12,45 @@ use Rattle.rc_checks.proofs.LabelPruning.Opened.{opened-Break, opened-Continue, 
 use Rattle.rc_checks.proofs.LabelPruning.Opened.{opened-Switch}
 use Rattle.rc_checks.proofs.LabelPruning.Opened.{opened-DoWhile, opened-While, opened-For, opened-ForOf, opened-ForIn}
 use Rattle.rc_checks.proofs.LabelPruning.Opened.{opened-If, opened-Label, opened-Try}
-use Rattle.rc_tree.proofs.PlaceLemmas.{most_pop}
+use Rattle.rc_tree.proofs.PlaceLemmas.{most_place, most_pop}
 use Rattle.rc_tree.proofs.FuelLemmas.{most-reverse}
+use Rattle.rc_tree.proofs.statement.ReactiveBlock.TheLaws as block
 use Rattle.rc_tree.proofs.statement.ReactiveStatement.TheLaws as statement
+use Rattle.rc_tree.proofs.terminal.ReactiveTerminal.TheLaws as terminal
 use Rattle.rc_tree.proofs.terminal.ReactiveSwitchCase.TheLaws as switch_case
+use Rattle.rc_tree.specs.declared.statement.ReactiveBlock.{size_is-ReactiveBlock}
 use Rattle.rc_tree.specs.declared.statement.ReactiveStatement.TheVariants as reactive
 use Rattle.rc_tree.specs.declared.terminal.ReactiveTerminal.TheVariants as tree
 use Rattle.rc_checks.proofs.labels.+prune_labels.Goals as goal
 use Rattle.rc_checks.proofs.labels.+prune_labels.Goals.{prune_last-in-Some+in_ok-stays, prune_last-in_default}
 
+-- the statements behind the first one that gives way are no deeper than all
+pub prune_block-prune_reversed-requires : goal.prune_block-prune_reversed-requires
+prune_block-prune_reversed-requires t c =
+    let h : most statement.the_size c.replace_at.new.replacement
+    ≤ most statement.the_size c.args.block.now.statements =
+    rw (
+      c.in_ok-replace_at.ensures.behind,
+      most-reverse statement.the_size (drop (c.in_ok-staying.staying + 1) c.prune_front.new.statements),
+      c.in_ok-staying.ensures.behind,
+      c.take-statements.ensures.list,
+    ) (most_drop statement.the_size (c.in_ok-staying.staying + 1) c.args.block.now.statements) in
+    (omega (arith, h, size_is-ReactiveBlock c.args.block.now, c.decreases), tt)
+
 pub prune_block-returns : goal.prune_block-returns
-prune_block-returns t c = on_ok_weaker c.prune_into.result
-    (block_pruned c.args.block.now c.args.targets.now c.prune_into.new.targets c.prune_into.new.done)
-    (rw (c.take-left.ensures.list, c.take-left.ensures.left) at c.prune_into.ensures.put)
+prune_block-returns t c = on_ok_weaker c.take_from.result
+    (λ e. block_pruned c.args.block.now c.args.targets.now c.prune_reversed.new.targets c.take_from.new.self
+    (sym (all_put c.args.block.now.statements c.prune_front.new.statements c.prune_front.new.done c.args.targets.now
+    c.prune_front.new.targets c.in_ok-staying.staying
+    (rw c.take-statements.ensures.list at c.in_ok-staying.ensures))
+    ∙ (rw (c.in_ok-replace_at.ensures.front, c.in_ok-replace_at.ensures.behind) at c.in_ok-prune_reversed.ensures.put)
+    ∙ ap (λ l. Ok (c.prune_reversed.new.targets, l)) (sym (rw c.in_ok-prune_reversed.ensures.none_left at e))))
+    c.take_from.ensures.ok
+
+-- at first all statements are as they were
+pub prune_front-loop-i-init : goal.prune_front-loop-i-init
+prune_front-loop-i-init t c =
+    front_begins c.args.statements.now c.args.done.now c.args.targets.now c.requires
 
 pub prune_cases-loop-case-init : goal.prune_cases-loop-case-init
 prune_cases-loop-case-init t c = record {
@@ -51,14 +80,37 @@ prune_cases-loop-case-preserved t c =
           ∙ c.loop-case.invariant.put);
     }
 
-pub prune_into-loop-left-init : goal.prune_into-loop-left-init
-prune_into-loop-left-init t c = record {
-  no_deeper = rw c.reverse.ensures (omega (arith, most-reverse statement.the_size c.args.left.now));
-  put = rw (c.reverse.ensures, reverse-reverse c.args.left.now) refl;
-}
+-- a statement that wasn't looked at is no deeper than all
+pub prune_front-prune_statement-requires : goal.prune_front-prune_statement-requires
+prune_front-prune_statement-requires t c =
+    let left : most statement.the_size (drop c.loop-i.i c.loop-i.statements)
+    ≤ most statement.the_size c.args.statements.now =
+    rw c.loop-i.invariant.behind (most_drop statement.the_size c.loop-i.i c.args.statements.now) in
+    let h : statement.the_size c.in-Some.statement.now ≤ most statement.the_size c.args.statements.now =
+    omega (
+      arith,
+      left,
+      (most_place statement.the_size c.loop-i.statements c.loop-i.i c.in-Some.statement.now c.in-Some.statement.now
+          (sym c.in-Some.ensures.value)).0,
+    ) in
+    search (rules, h)
 
-pub prune_into-loop-left-preserved : goal.prune_into-loop-left-preserved
-prune_into-loop-left-preserved t c =
+pub prune_front-loop-i-preserved : goal.prune_front-loop-i-preserved
+prune_front-loop-i-preserved t c =
+    one_stays c.args.statements.now c.loop-i.statements c.loop-i.done c.prune_statement.new.done c.args.targets.now
+    c.loop-i.targets c.prune_statement.new.targets c.loop-i.i c.in-Some.statement.now
+    c.prune_statement.new.statement c.loop-i.invariant (sym c.in-Some.ensures.value) c.in_ok-stays.stays
+    c.if-not-stays.false c.in_ok-stays.ensures.put c.in_ok-stays.ensures.alone
+
+pub prune_front-returns-then-not-stays : goal.prune_front-returns-then-not-stays
+prune_front-returns-then-not-stays t c =
+    one_gives_way c.args.statements.now c.loop-i.statements c.loop-i.done c.prune_statement.new.done
+    c.args.targets.now c.loop-i.targets c.prune_statement.new.targets c.loop-i.i c.in-Some.statement.now
+    c.prune_statement.new.statement c.loop-i.invariant (sym c.in-Some.ensures.value) c.in_ok-stays.stays
+    c.if-not-stays.true c.in_ok-stays.ensures.put
+
+pub prune_reversed-loop-left-preserved : goal.prune_reversed-loop-left-preserved
+prune_reversed-loop-left-preserved t c =
     let puts = c.in_ok-prune_last.ensures in
     record {
       no_deeper = omega (
@@ -66,8 +118,8 @@ prune_into-loop-left-preserved t c =
         c.loop-left.invariant.no_deeper,
         (most_pop statement.the_size c.loop-left.left c.prune_last.new.left puts.last puts.is_last).1,
       );
-      put = sym (next_put c.loop-left.left c.prune_last.new.left puts.last c.loop-left.targets
-          c.prune_last.new.targets c.loop-left.done c.prune_last.new.done puts.is_last puts.put)
+      put = sym (next_put puts.last c.loop-left.targets c.prune_last.new.targets c.loop-left.done
+          c.prune_last.new.done puts.put c.loop-left.left c.prune_last.new.left puts.is_last)
           ∙ c.loop-left.invariant.put;
     }
 
@@ -77,45 +129,61 @@ prune_last-returns t c = elim c.match-get_mut.branch [
       c.put_last.new.left c.args.done.now c.match-get_mut.done c.put_last.new.done c.args.targets.now
       c.match-get_mut.targets c.match-get_mut.stays c.put_last.ensures c.len-last.result
       w.in-Some.statement.now w.prune_statement.new.statement c.len-last.ensures w.in-Some.ensures.value w.left-is
-      (rw (w.done-is, w.targets-is, w.stays-is) w.in_ok-stays.ensures)
+      (rw (w.done-is, w.targets-is, w.stays-is) w.in_ok-stays.ensures.put)
   | prune_last-in_default w ↦
       absurd (no_last c.args.left.now c.len-last.result c.len-last.ensures c.requires w.in_default.ensures.value)
 ]
 
 pub prune_statement-returns-in-Instruction : goal.prune_statement-returns-in-Instruction
-prune_statement-returns-in-Instruction t c =
-    rw c.in-Instruction.is (row_stays c.args.done.now c.args.targets.now c.args.targets.now c.in-Instruction.field-0)
+prune_statement-returns-in-Instruction t c = record {
+  put = rw c.in-Instruction.is
+      (row_stays c.args.done.now c.args.targets.now c.args.targets.now c.in-Instruction.field-0);
+  alone = λ stays. refl;
+}
 
 pub prune_statement-returns-in_ok-prune_block-in-Scope : goal.prune_statement-returns-in_ok-prune_block-in-Scope
-prune_statement-returns-in_ok-prune_block-in-Scope t c =
-    rw (c.in-Scope.is, reactive.outs-Scope c.in-Scope.scope)
-    (scope_stays c.args.done.now c.args.targets.now c.prune_block.new.targets c.in-Scope.scope c.prune_block.new.block
-    (rw c.in-Scope.scope-is at c.in_ok-prune_block-in-Scope.ensures))
+prune_statement-returns-in_ok-prune_block-in-Scope t c = record {
+  put = rw (c.in-Scope.is, reactive.outs-Scope c.in-Scope.scope)
+      (scope_stays c.args.done.now c.args.targets.now c.prune_block.new.targets c.in-Scope.scope
+      c.prune_block.new.block (rw c.in-Scope.scope-is at c.in_ok-prune_block-in-Scope.ensures));
+  alone = λ stays. refl;
+}
 
 pub prune_statement-returns-in_ok-prune_block-in-PrunedScope :
     goal.prune_statement-returns-in_ok-prune_block-in-PrunedScope
-prune_statement-returns-in_ok-prune_block-in-PrunedScope t c =
-    rw (c.in-PrunedScope.is, reactive.outs-PrunedScope c.in-PrunedScope.scope)
-    (pruned_scope_stays c.args.done.now c.args.targets.now c.prune_block-in-PrunedScope.new.targets
-    c.in-PrunedScope.scope c.prune_block-in-PrunedScope.new.block
-    (rw c.in-PrunedScope.scope-is at c.in_ok-prune_block-in-PrunedScope.ensures))
+prune_statement-returns-in_ok-prune_block-in-PrunedScope t c = record {
+  put = rw (c.in-PrunedScope.is, reactive.outs-PrunedScope c.in-PrunedScope.scope)
+      (pruned_scope_stays c.args.done.now c.args.targets.now c.prune_block-in-PrunedScope.new.targets
+      c.in-PrunedScope.scope c.prune_block-in-PrunedScope.new.block
+      (rw c.in-PrunedScope.scope-is at c.in_ok-prune_block-in-PrunedScope.ensures));
+  alone = λ stays. refl;
+}
 
 -- a `Label` that nothing names gives way
 pub prune_labeled-returns-then-gives_way : goal.prune_labeled-returns-then-gives_way
-prune_labeled-returns-then-gives_way t c =
-    given_way c.args.stmt.now c.args.targets.now c.prune_terminal.new.targets c.note_target.new.targets
-    c.args.done.now c.prune_terminal.new.done c.prune_terminal.new.terminal c.in_ok-prune_terminal.ensures
-    c.in_ok-note_target.ensures (sym c.gives_way.ensures ∙ c.if-gives_way.true)
+prune_labeled-returns-then-gives_way t c = record {
+  put = given_way c.args.stmt.now c.args.targets.now c.prune_terminal.new.targets c.note_target.new.targets
+      c.args.done.now c.prune_terminal.new.done c.prune_terminal.new.terminal c.in_ok-prune_terminal.ensures
+      c.in_ok-note_target.ensures (sym c.gives_way.ensures ∙ c.if-gives_way.true);
+  alone = λ stays. let bad : ⊥ = cc in absurd bad;
+}
 
 -- any other terminal stays
 pub prune_labeled-returns : goal.prune_labeled-returns
 prune_labeled-returns t c =
-    rw c.mark.ensures
-    (stayed c.args.stmt.now c.args.targets.now c.prune_terminal.new.targets c.note_target.new.targets c.args.done.now
-    c.prune_terminal.new.done c.prune_terminal.new.terminal c.in_ok-prune_terminal.ensures
-    c.in_ok-note_target.ensures c.refill.new.terminal c.refill.new.done
-    (rw c.len-start.ensures at c.in_ok-refill.ensures.whole) (rw c.len-start.ensures at c.in_ok-refill.ensures.left)
-    (sym c.gives_way.ensures ∙ c.if-gives_way.false))
+    let whole = rw c.len-start.ensures at c.in_ok-refill.ensures.whole in
+    let before = rw c.len-start.ensures at c.in_ok-refill.ensures.left in
+    record {
+      put = rw c.mark.ensures
+          (stayed c.args.stmt.now c.args.targets.now c.prune_terminal.new.targets c.note_target.new.targets
+          c.args.done.now c.prune_terminal.new.done c.prune_terminal.new.terminal c.in_ok-prune_terminal.ensures
+          c.in_ok-note_target.ensures c.refill.new.terminal c.refill.new.done whole before
+          (sym c.gives_way.ensures ∙ c.if-gives_way.false));
+      alone = λ stays.
+          stayed_alone c.args.stmt.now c.args.targets.now c.prune_terminal.new.targets c.note_target.new.targets
+          c.args.done.now c.prune_terminal.new.done c.prune_terminal.new.terminal c.in_ok-prune_terminal.ensures
+          c.in_ok-note_target.ensures c.refill.new.terminal c.refill.new.done whole before;
+    }
 
 pub prune_terminal-returns-in-Break : goal.prune_terminal-returns-in-Break
 prune_terminal-returns-in-Break t c =
@@ -188,12 +256,23 @@ prune_terminal-returns-in_ok-prune_block-in-If t c =
     (rw c.in-If.consequent-is at c.in_ok-prune_block-in-If.ensures)
     (rw c.in-If.alternate-is at c.prune_block_if.ensures))
 
+-- the statements of a `Label` are as deep reversed
+pub prune_terminal-prune_reversed-requires : goal.prune_terminal-prune_reversed-requires
+prune_terminal-prune_reversed-requires t c =
+    let h : most statement.the_size c.reverse.new.self ≤ most statement.the_size c.in-Label.block.statements =
+    rw (c.reverse.ensures, c.in-Label.block-is)
+    (omega (arith, most-reverse statement.the_size c.in-Label.block.statements)) in
+    let deep : terminal.the_size c.args.terminal.now ≡ suc (block.the_size c.in-Label.block) =
+    rw c.in-Label.is (size_label c.in-Label.block c.in-Label.id) in
+    (omega (arith, h, deep, size_is-ReactiveBlock c.in-Label.block, c.decreases), tt)
+
 pub prune_terminal-returns-in-Label : goal.prune_terminal-returns-in-Label
 prune_terminal-returns-in-Label t c =
     rw (c.in-Label.is, tree.outs-Label c.in-Label.block c.in-Label.id)
-    (opened-Label c.args.done.now c.args.targets.now c.prune_into.result c.prune_into.new.targets c.in-Label.block
-    c.in-Label.id c.prune_into.new.left c.prune_into.new.done (rw c.in-Label.block-is at c.prune_into.ensures.put)
-    c.prune_into.ensures.none_left)
+    (opened-Label c.args.done.now c.args.targets.now c.prune_reversed.result c.prune_reversed.new.targets c.in-Label.block
+    c.in-Label.id c.prune_reversed.new.left c.prune_reversed.new.done
+    (rw (c.reverse.ensures, c.in-Label.block-is) at c.prune_reversed.ensures.put)
+    c.prune_reversed.ensures.none_left)
 
 pub prune_terminal-returns-in_ok-prune_block-in-Try : goal.prune_terminal-returns-in_ok-prune_block-in-Try
 prune_terminal-returns-in_ok-prune_block-in-Try t c =

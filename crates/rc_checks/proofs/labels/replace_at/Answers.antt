@@ -1,0 +1,8 @@
+use Rattle.rc_checks.proofs.LabelPruning.FrontPruned.{popped_behind}
+use Rattle.rc_tree.proofs.StepLemmas.{any_case}
+use Rattle.rc_checks.proofs.labels.replace_at.Goals as goal
+
+pub returns-clause-behind : goal.returns-clause-behind
+returns-clause-behind c = any_case c.take_from.result
+    (popped_behind c.args.statements.now c.take_off.new.taken c.drop_last.new.statements c.args.place
+    (rw c.take-put.ensures.left at c.in_ok-take_off.ensures.taken) c.in_ok-drop_last.ensures)
