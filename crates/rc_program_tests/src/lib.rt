@@ -1,4 +1,5 @@
-//! Tests of the whole program over devices in memory, and of its printed lines.
+//! Tests of what no document shows: devices that fail, calls of the libraries, and printed lines of trees that no graph
+//! has. The documents stand in `tests/` of the repository.
 #![tactic(auto)]
 
 #[cfg(test)]

@@ -2,15 +2,44 @@
 
 ghost use Rattle.std.specs.Prelude.{None};
 
-use super::{DOCUMENT, TEXT, is_answered_from, list, words};
-use rc_names::List;
+use super::{DOCUMENT, TEXT};
+use rc_names::{List, Text};
 use rc_program::{
-    Failed, MemorySink, MemorySource, Sink, Source, Status, StdSink, StdSource, program,
+    Failed, MemorySink, MemorySource, Sink, Source, Status, StdSink, StdSource, Words, program,
 };
 use std::alloc::{AllocError, Global};
 use std::io;
 use std::io::{Cursor, Read, Write};
 use std::test::Fail;
+
+/// A list of these entries.
+fn list<T: Copy + Drop>(alloc: Global, entries: &[T]) -> Result<List<T>, AllocError> {
+    let mut list = List::new(alloc);
+    for entry in entries {
+        list.push(*entry)?;
+    }
+    Ok(list)
+}
+
+/// The command line of the one word `tree`.
+fn tree(alloc: Global) -> Result<Words, AllocError> {
+    let mut words = List::new(alloc);
+    words.push(Text::from_str(alloc, "tree")?)?;
+    Ok(words)
+}
+
+/// Whether the program ends with that status on a source, and writes that text.
+fn is_answered_over<S: Source>(
+    alloc: Global,
+    source: &mut S,
+    due: Status,
+    text: &str,
+) -> Result<bool, AllocError> {
+    let words = tree(alloc)?;
+    let mut sink = MemorySink::new(alloc, 1000, 10, List::new(alloc))?;
+    let status = program(alloc, &words, source, &mut sink, &mut None);
+    Ok(status == due && sink.bytes() == text.as_bytes())
+}
 
 /// A source of the document, of which one call fails.
 fn source_failing_at(alloc: Global, call: u64) -> Result<MemorySource, AllocError> {
@@ -29,9 +58,9 @@ fn a_read_that_fails_stops_the_program_and_nothing_is_written(rt: HostRuntime) -
         (3, Status::Done, TEXT),
     ];
     for (call, due, text) in cases {
-        let source = source_failing_at(alloc, call)?;
+        let mut source = source_failing_at(alloc, call)?;
         assert!(rt;
-            is_answered_from(alloc, source, due, text)?,
+            is_answered_over(alloc, &mut source, due, text)?,
             "where call {call} fails"
         );
     }
@@ -46,7 +75,7 @@ fn source(alloc: Global) -> Result<MemorySource, AllocError> {
 
 /// Whether a sink with that room, of which these calls fail, makes the program fail and then has these bytes.
 fn holds(alloc: Global, room: usize, failing: &[u64], written: &[u8]) -> Result<bool, AllocError> {
-    let words = words(alloc, &["tree"])?;
+    let words = tree(alloc)?;
     let mut sink = MemorySink::new(alloc, room, 10, list(alloc, failing)?)?;
     let status = program(alloc, &words, &mut source(alloc)?, &mut sink, &mut None);
     Ok(status == Status::WriteFault && sink.bytes() == written)
@@ -86,19 +115,6 @@ impl Source for Endless {
         }
         Ok(buf.len())
     }
-}
-
-/// Whether the program ends with that status on a source, and writes that text.
-fn is_answered_over<S: Source>(
-    alloc: Global,
-    source: &mut S,
-    due: Status,
-    text: &str,
-) -> Result<bool, AllocError> {
-    let words = words(alloc, &["tree"])?;
-    let mut sink = MemorySink::new(alloc, 1000, 10, List::new(alloc))?;
-    let status = program(alloc, &words, source, &mut sink, &mut None);
-    Ok(status == due && sink.bytes() == text.as_bytes())
 }
 
 #[test]
@@ -153,7 +169,7 @@ fn a_reader_of_std_is_a_source(rt: HostRuntime) -> Result<(), Fail> {
 
 /// The status with which the program ends over a sink.
 fn status_over<K: Sink>(alloc: Global, sink: &mut K) -> Result<Status, AllocError> {
-    let words = words(alloc, &["tree"])?;
+    let words = tree(alloc)?;
     Ok(program(alloc, &words, &mut source(alloc)?, sink, &mut None))
 }
 

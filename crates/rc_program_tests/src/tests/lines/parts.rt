@@ -1,17 +1,12 @@
-//! Small parts of the trees that are printed.
+//! Small parts of the tree that is printed.
 
 use rc_hir::{Effect, InstructionValue, Place};
-use rc_names::{BlockId, Boxed, EvaluationOrder, IdentifierId, List, Span};
+use rc_names::{BlockId, Boxed, EvaluationOrder, IdentifierId, List};
 use rc_tree::{
     ReactiveBlock, ReactiveFunction, ReactiveInstruction, ReactiveLabel, ReactiveStatement,
     ReactiveTerminal, ReactiveTerminalStatement, ReactiveValue,
 };
 use std::alloc::{AllocError, Global};
-
-/// A part of the source.
-pub fn span(start: u32, end: u32) -> Option<Span> {
-    Some(Span { start, end })
-}
 
 /// A place that is determined by its number.
 pub fn place(number: u32) -> Place {
@@ -20,16 +15,6 @@ pub fn place(number: u32) -> Place {
         effect: Effect::Read,
         reactive: false,
         span: None,
-    }
-}
-
-/// A reactive place with an effect.
-pub fn reactive(number: u32, effect: Effect, span: Option<Span>) -> Place {
-    Place {
-        identifier: IdentifierId::new(number),
-        effect,
-        reactive: true,
-        span,
     }
 }
 
@@ -57,7 +42,7 @@ pub fn load(number: u32) -> ReactiveValue {
     })
 }
 
-/// A row without a target and without a span.
+/// A row without a target.
 pub fn row(id: u32, value: ReactiveValue) -> ReactiveInstruction {
     ReactiveInstruction {
         id: EvaluationOrder::new(id),
@@ -90,17 +75,6 @@ pub fn empty(alloc: Global) -> ReactiveBlock {
     ReactiveBlock {
         statements: List::new(alloc),
     }
-}
-
-/// A block that returns a place.
-pub fn returning(alloc: Global, number: u32, id: u32) -> Result<ReactiveBlock, AllocError> {
-    let mut block = empty(alloc);
-    let terminal = ReactiveTerminal::Return {
-        value: place(number),
-        id: EvaluationOrder::new(id),
-    };
-    put(alloc, &mut block, terminal, None)?;
-    Ok(block)
 }
 
 /// An async function with that body and nothing else.
