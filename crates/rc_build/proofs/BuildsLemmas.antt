@@ -1,5 +1,6 @@
 -- What a function of the builder ensures where a fault ends it, and where it goes on with another one.
-use Rattle.std.proofs.Common.{◌≡◌, List, Result, Ok, Err, Option, Some, None, IfOk, IfErr, IsErrAnd, sym, ap, ◌∙◌, subst}
+use Rattle.std.proofs.Common.{◌≡◌, List, Result, Ok, Err, Option, Some, None, IfOk, IfErr, IsErrAnd, sym, ap, ◌∙◌}
+use Rattle.std.proofs.Common.{subst}
 use Rattle.std.proofs.lemmas.Result.{err_from_is_err_and}
 use Rattle.rc_names.specs.Numbers.{BlockId}
 use Rattle.rc_names.specs.declared.span.Span.{Span}
@@ -10,9 +11,29 @@ use Rattle.rc_build.specs.declared.builder.Builder.{Builder}
 use Rattle.rc_build.specs.declared.builder.Site.{Site}
 use Rattle.rc_build.specs.RuleFacts.{FaultFact, RuleFact}
 use Rattle.rc_build.specs.inside.Setting.{Setting, setting_of, site_at}
-use Rattle.rc_build.specs.inside.Task.{FromBlock, FromTerminal, Spells, Task, left, progress_of}
-use Rattle.rc_build.specs.inside.Built.{Builds, BuildsList, BuildsTask, BuiltPrefix, Refused, refusal}
+use Rattle.rc_build.specs.inside.Task.{FromBlock, FromTerminal, Progress, Spells, Task, left, progress_of}
+use Rattle.rc_build.specs.inside.Built.{Builds, BuildsList, BuildsTask, BuiltPart, BuiltPrefix, Refused, refusal}
 use Rattle.rc_build.proofs.BuiltLemmas.{prefix_then, prefix_refused}
+
+-- any site serves to speak of the same graph
+abbrev pub any_site : BlockId → Site
+any_site key = record { block = key; next = None; handler = None }
+
+-- the graph is the same, where the setting is
+pub same_graph : {s t : Setting} → s ≡ t → s.hir ≡ t.hir
+same_graph same = ap (λ (z : Setting). z.hir) same
+
+-- what is refused in the same setting
+pub refused_in : {A : Type 0} {s t : Setting} (S : Setting → A → List BlockId → Type 0) (used : List BlockId) → s ≡ t
+    → Refused s.hir (S s) used → Refused t.hir (S t) used
+refused_in S used same none = subst (λ (z : Setting). Refused z.hir (S z) used) same none
+
+-- what is built in the same setting
+pub built_in : {A C : Type 0} {view : A → C} {s t : Setting} (S : Setting → A → List BlockId → Type 0)
+    {before : List BlockId} {built : C} {old new : Progress} → s ≡ t
+    → BuiltPart view (S s) s.hir before built old new → BuiltPart view (S t) t.hir before built old new
+built_in {view = view} S {before} {built} {old} {new} same b =
+    subst (λ (z : Setting). BuiltPart view (S z) z.hir before built old new) same b
 
 -- the fault that a `?` passes on is that of its call
 pub passed_on : {A B : Type 0} {inner fault : Fault} {result : Result A Fault}
@@ -98,7 +119,7 @@ pub builds_then : {A : Type 0} {old mid new : Builder} {site : Site} {task betwe
 builds_then {A = A} {old} {mid} {new} {site} {task} {between} {rest} {result} same first later = record {
   ok = go result later.ok;
   refused = λ named rule e. prefix_refused first
-      (subst (λ (z : Setting). Refused z.hir (Spells z between) mid.marks.used) same (later.refused named rule e));
+      (refused_in (λ z. Spells z between) mid.marks.used same (later.refused named rule e));
   facts = facts result later.facts;
   frames = frames result later.frames;
 }

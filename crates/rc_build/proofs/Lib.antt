@@ -1,4 +1,5 @@
 mod DepthsLemmas
+mod StackLemmas
 mod SuccessorsLemmas
 mod RowsLemmas
 mod ValueRowsLemmas
@@ -15,8 +16,10 @@ mod ShortArmLemmas
 mod SilentValueLemmas
 mod ValueRowLemmas
 mod ValueLoopLemmas
+mod ValueKindLemmas
 mod TestPartLemmas
 mod NestedLemmas
+mod TestedLemmas
 mod ValueEndLemmas
 mod ValueStatementLemmas
 mod FlattenLemmas

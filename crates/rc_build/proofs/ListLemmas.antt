@@ -1,6 +1,6 @@
 -- The loop over the blocks of a list: how far it has come, and what its ends give.
-use Rattle.std.proofs.Common.{◌≡◌, ◌+◌, List, Option, Some, None, refl, sym, ap, ◌∙◌, subst, arith, length}
-use Rattle.std.proofs.Common.{length-append}
+use Rattle.std.proofs.Common.{◌≡◌, ◌<◌, ◌≤◌, ◌+◌, ◌-◌, List, Ok, Option, Some, None, refl, sym, ap, ◌∙◌, subst, arith}
+use Rattle.std.proofs.Common.{length, length-append}
 use Rattle.rc_names.specs.Numbers.{BlockId}
 use Rattle.rc_hir.specs.Model.{HirFunction}
 use Rattle.rc_build.specs.declared.builder.Builder.{Builder}
@@ -10,8 +10,10 @@ use Rattle.rc_build.specs.inside.CanBuild.{AreMarked, CanBuildList}
 use Rattle.rc_build.specs.inside.Marks.{MarksBlocks}
 use Rattle.rc_build.specs.inside.Setting.{Setting, setting_of}
 use Rattle.rc_build.specs.inside.Task.{FromBlock, Nothing, Spells, left, progress_of}
-use Rattle.rc_build.specs.inside.Built.{BuiltPrefix, ListSoFar, Refused}
+use Rattle.rc_build.specs.inside.Built.{Builds, BuiltPrefix, ListSoFar, Refused}
+use Rattle.rc_build.proofs.BuildsLemmas.{refused_in}
 use Rattle.rc_build.proofs.BuiltLemmas.{prefix_none, prefix_refused, prefix_then}
+use Rattle.rc_build.proofs.MarksLemmas.{room}
 use Rattle.rc_build.proofs.WalkLemmas.{at_next}
 
 -- the graph is the same, where the setting is
@@ -23,6 +25,21 @@ same_blocks old now site same = ap (λ (z : Setting). length z.hir.body.blocks) 
 pub used_longer : {hir : HirFunction} {old new : Marks} {before after blocks : List BlockId}
     → MarksBlocks hir before after old new blocks → length old.used + length blocks ≡ length new.used
 used_longer {old = old} {blocks = blocks} m = omega (arith, ap length m.used, length-append old.used blocks)
+
+-- no more blocks of the graph are left than before
+pub as_few_left : {A : Type 0} {old new : Builder} {site : Site} {Built : A → Type 0} {N : Type 0} {answer : A}
+    {hir : HirFunction} {before after blocks : List BlockId} → Builds old new site Built N (Ok answer)
+    → MarksBlocks hir before after old.marks new.marks blocks
+    → length new.hir.now.body.blocks - length new.marks.used ≤ length old.hir.now.body.blocks - length old.marks.used
+as_few_left {old = old} {new} {site} b m = omega (arith, same_blocks old new site b.frames, used_longer m)
+
+-- fewer are left, where more are used
+pub fewer_left : {A : Type 0} {old new : Builder} {site : Site} {Built : A → Type 0} {N : Type 0} {answer : A}
+    → Builds old new site Built N (Ok answer) → AreMarked old.hir.now new.marks
+    → length old.marks.used < length new.marks.used
+    → length new.hir.now.body.blocks - length new.marks.used < length old.hir.now.body.blocks - length old.marks.used
+fewer_left {old = old} {new} {site} b marked more =
+    omega (arith, room old.hir.now new.marks marked, same_blocks old new site b.frames, more)
 
 pub list_start : (old : Builder) (site : Site) → AreMarked old.hir.now old.marks
     → ListSoFar old old site (Some site.block)
@@ -59,7 +76,7 @@ module _ {old now : Builder} {site : Site} where
       → Refused now.hir.now (Spells (setting_of now site) (FromBlock block)) now.marks.used
       → Refused old.hir.now (Spells (setting_of old site) (FromBlock site.block)) old.marks.used
   list_refused {block = block} is so_far none = prefix_refused (here is so_far)
-      (subst (λ (z : Setting). Refused z.hir (Spells z (FromBlock block)) now.marks.used) so_far.setting none)
+      (refused_in (λ z. Spells z (FromBlock block)) now.marks.used so_far.setting none)
 
   -- the list is at its end
   pub list_done : {at : Option BlockId} → at ≡ None → ListSoFar old now site at

@@ -23,20 +23,17 @@ use Rattle.rc_build.specs.declared.loops.LoopTerminal.{LoopTerminal}
 use Rattle.rc_build.specs.References.{referenced_blocks, value_references}
 use Rattle.rc_build.specs.RuleFacts.{BlockIs}
 use Rattle.rc_build.specs.inside.CanBuild.{AreMarked, AreReferenced, CanBuildList, CanBuildTerminal, IsUsed}
-use Rattle.rc_build.specs.inside.CanBuild.{IsUsedApart}
-use Rattle.rc_build.specs.inside.CanBuild.{pending_blocks}
+use Rattle.rc_build.specs.inside.CanBuild.{IsUsedApart, pending_blocks}
 use Rattle.rc_build.specs.inside.Loops.{BuildsBefore, CanBuildBefore, CanBuildTurns, SpellsTurnsOf, TurnsBuilt}
-use Rattle.rc_build.specs.inside.Loops.{before_of, blocks_of, init_of}
-use Rattle.rc_build.specs.inside.Loops.{is_flat, terminal_of, value_blocks}
+use Rattle.rc_build.specs.inside.Loops.{before_of, blocks_of, init_of, is_flat, terminal_of, value_blocks}
 use Rattle.rc_build.specs.inside.Marks.{MarksBlocks}
 use Rattle.rc_build.specs.inside.Setting.{Setting, part_setting, setting_of}
 use Rattle.rc_build.specs.inside.Task.{FromBlock, Progress, Spells, progress_of}
-use Rattle.rc_build.specs.inside.Built.{Builds, BuiltList, BuiltPart, Refused}
-use Rattle.rc_build.specs.inside.Values.{CanBuildValue}
+use Rattle.rc_build.specs.inside.Built.{BuiltList, BuiltPart, Refused}
+use Rattle.rc_build.specs.inside.Values.{BuildsShown, CanBuildValue}
 use Rattle.rc_build.proofs.BuiltLemmas.{marking_beside, marking_none, marking_then, refused_back, refused_front}
 use Rattle.rc_build.proofs.LoopKindLemmas.{among_first, falls_with, parts_le, tests_before, tests_init, tests_start}
-use Rattle.rc_build.proofs.LoopKindLemmas.{tests_test}
-use Rattle.rc_build.proofs.LoopKindLemmas.{valued_with}
+use Rattle.rc_build.proofs.LoopKindLemmas.{tests_test, valued_with}
 use Rattle.rc_build.proofs.MarksLemmas.{among_back, among_front, referenced_fewer, times_append}
 use Rattle.rc_build.proofs.OwnersLemmas.{owned_weaker}
 use Rattle.rc_build.proofs.ValueLemmas.{value_starts}
@@ -218,11 +215,8 @@ before_at t {old} {new} {site} {a} {b} {flat} {other} {result} e f built =
 
 -- what `build_test` ensures of a loop's test, flattened or not
 abbrev pub BuildsTest : Builder → Builder → Site → LoopTerminal → Bool → Result ReactiveValue Fault → Type 0
-BuildsTest old new site t flat result = Builds old new site
-    (λ built. BuiltPart value_of (SpellsTest old.hir.now old.env.now flat t.test (value_context t.span (setting_of old site).context) t.body
-    t.fallthrough) old.hir.now (t.test ∷ []) built (progress_of old) (progress_of new))
-    (Refused old.hir.now (SpellsTest old.hir.now old.env.now flat t.test (value_context t.span (setting_of old site).context) t.body
-    t.fallthrough) old.marks.used) result
+BuildsTest old new site t flat result = BuildsShown old new site t.test (SpellsTest old.hir.now old.env.now flat t.test
+    (value_context t.span (setting_of old site).context) t.body t.fallthrough) result
 
 pub test_at : (t : LoopTerminal) {old new : Builder} {site : Site} {flat other : Bool}
     {result : Result ReactiveValue Fault}

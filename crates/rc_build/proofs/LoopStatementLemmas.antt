@@ -1,7 +1,7 @@
 -- What a loop is: what runs before all turns, and its turns, in the statement of its kind.
 use Rattle.std.proofs.Common.{◌≡◌, Bool, true, false, List, [], ◌∷◌, ◌++◌, ◌&&◌, ◌||◌, Option, Some, None, refl, sym}
-use Rattle.std.proofs.Common.{ap, ◌∙◌}
-use Rattle.std.proofs.Common.{subst, arith, inl, inr}
+use Rattle.std.proofs.Common.{ap, ◌∙◌, subst, arith, inl, inr}
+use Rattle.std.proofs.lemmas.Bool.{false≢true}
 use Rattle.std.specs.Prelude.{◌⊎◌, IsSome, is_some, option_map}
 use Rattle.std.specs.Option.{option_to_list}
 use Rattle.rc_names.specs.Numbers.{BlockId, same_id}
@@ -18,10 +18,9 @@ use Rattle.rc_runs.specs.PlainTree.{Value, Statements, TreeTerminal, TerminalSta
 use Rattle.rc_runs.specs.PlainTree.{ForIn}
 use Rattle.rc_runs.specs.TreeOf.{value_of, statements_of}
 use Rattle.rc_runs.specs.TreeOf as plain
-use Rattle.rc_runs.specs.Grammar.{value_statement}
-use Rattle.rc_runs.specs.Grammar.{SpellsBefore, SpellsStatement, SpellsTerminal, SpellsTurns, and_rest, label_of}
-use Rattle.rc_runs.specs.Grammar.{no_value, some_value, turns, while_loop, do_while_loop, for_loop, for_of_loop}
-use Rattle.rc_runs.specs.Grammar.{for_in_loop}
+use Rattle.rc_runs.specs.Grammar.{value_statement, SpellsBefore, SpellsStatement, SpellsTerminal, SpellsTurns, and_rest}
+use Rattle.rc_runs.specs.Grammar.{label_of, no_value, some_value, turns, while_loop, do_while_loop, for_loop}
+use Rattle.rc_runs.specs.Grammar.{for_of_loop, for_in_loop}
 use Rattle.rc_runs.proofs.OneTree.{one_before}
 use Rattle.rc_build.specs.declared.builder.Marks.{Marks}
 use Rattle.rc_build.specs.declared.loops.BuiltTurns.{BuiltTurns}
@@ -32,9 +31,8 @@ use Rattle.rc_build.specs.References.{fallthrough_of, is_while, turn_block}
 use Rattle.rc_build.specs.RuleFacts.{IsFramedApart, RuleFact}
 use Rattle.rc_build.specs.inside.CanBuild.{CanBuildTerminal}
 use Rattle.rc_build.specs.inside.Loops.{SpellsTurnsOf, TurnsBuilt, blocks_of, blocks_with, init_of, is_flat}
-use Rattle.rc_build.specs.inside.Loops.{is_while_kind}
-use Rattle.rc_build.specs.inside.Loops.{shown_blocks, terminal_of, terminal_with, tree_of, tree_with, turns_of}
-use Rattle.rc_build.specs.inside.Loops.{value_blocks}
+use Rattle.rc_build.specs.inside.Loops.{is_while_kind, shown_blocks, terminal_of, terminal_with, tree_of, tree_with}
+use Rattle.rc_build.specs.inside.Loops.{turns_of, value_blocks}
 use Rattle.rc_build.specs.inside.Setting.{Setting, label_at, terminal_statement}
 use Rattle.rc_build.specs.inside.Task.{FromTerminal, Progress, Spells, left}
 use Rattle.rc_build.specs.inside.Built.{BuiltPart, BuiltPrefix, Refused}
@@ -121,6 +119,25 @@ record IsLoopSpelled (s : Setting) (kind : LoopKind) (t : LoopTerminal) (used : 
   whole : used ≡ (init_used ++ turns_used) ++ rest_used
 
 module _ {s : Setting} {t : LoopTerminal} where
+  -- nothing runs before all turns
+  without_init : {kind : LoopKind} {parts : LoopParts} {used front : List BlockId}
+      (back : List BlockId)
+      → SpellsBefore s.hir s.env (blocks_with kind true t) s.context (init_of kind) None []
+      → (is_while_kind kind ≡ true → ends_unreachable s.hir t.fallthrough ≡ false)
+      → SpellsTurns s.hir s.env (blocks_with kind (is_flat kind) t) s.context parts front → used ≡ front ++ back
+      → IsLoopSpelled s kind t used
+  without_init {parts = parts} {front = front} back before e d w = record {
+    init = None;
+    parts = parts;
+    init_used = [];
+    turns_used = front;
+    rest_used = back;
+    reached = e;
+    init_spelled = before;
+    turns_spelled = d;
+    whole = w;
+  }
+
   loop_parts : (kind : LoopKind) {all : Statements} {used : List BlockId}
       → SpellsTerminal s.hir s.env (terminal_with kind t) s.context all used → IsLoopSpelled s kind t used
   loop_parts kinds.While (and_rest (value_statement i j n a u) r w) = elim n [ ]
@@ -128,30 +145,8 @@ module _ {s : Setting} {t : LoopTerminal} where
   loop_parts (kinds.For init update) (and_rest (value_statement i j n a u) r w) = elim n [ ]
   loop_parts (kinds.ForOf init) (and_rest (value_statement i j n a u) r w) = elim n [ ]
   loop_parts kinds.ForIn (and_rest (value_statement i j n a u) r w) = elim n [ ]
-  loop_parts kinds.While (and_rest {part_used = front} {rest_used = back} (while_loop {parts = parts} e d) r w) =
-      record {
-        init = None;
-        parts = parts;
-        init_used = [];
-        turns_used = front;
-        rest_used = back;
-        reached = λ h. e;
-        init_spelled = no_value;
-        turns_spelled = d;
-        whole = w;
-      }
-  loop_parts kinds.DoWhile (and_rest {part_used = front} {rest_used = back} (do_while_loop {parts = parts} d) r w) =
-      record {
-        init = None;
-        parts = parts;
-        init_used = [];
-        turns_used = front;
-        rest_used = back;
-        reached = λ h. let bad : ⊥ = cc in absurd bad;
-        init_spelled = no_value;
-        turns_spelled = d;
-        whole = w;
-      }
+  loop_parts kinds.While (and_rest (while_loop e d) r w) = without_init _ no_value (λ h. e) d w
+  loop_parts kinds.DoWhile (and_rest (do_while_loop d) r w) = without_init _ no_value (λ h. absurd (false≢true h)) d w
   loop_parts (kinds.For init update) (and_rest {rest_used = back}
       (for_loop {init_value = value} {parts = parts} {init_used = first} {turns_used = second} g d q) r w) =
       record {
@@ -160,35 +155,13 @@ module _ {s : Setting} {t : LoopTerminal} where
         init_used = first;
         turns_used = second;
         rest_used = back;
-        reached = λ h. let bad : ⊥ = cc in absurd bad;
+        reached = λ h. absurd (false≢true h);
         init_spelled = some_value g;
         turns_spelled = d;
         whole = w ∙ ap (λ z. z ++ back) q;
       }
-  loop_parts (kinds.ForOf init) (and_rest {part_used = front} {rest_used = back} (for_of_loop {parts = parts} e d) r w) =
-      record {
-        init = None;
-        parts = parts;
-        init_used = [];
-        turns_used = front;
-        rest_used = back;
-        reached = λ h. let bad : ⊥ = cc in absurd bad;
-        init_spelled = no_value;
-        turns_spelled = d;
-        whole = w;
-      }
-  loop_parts kinds.ForIn (and_rest {part_used = front} {rest_used = back} (for_in_loop {parts = parts} d) r w) =
-      record {
-        init = None;
-        parts = parts;
-        init_used = [];
-        turns_used = front;
-        rest_used = back;
-        reached = λ h. let bad : ⊥ = cc in absurd bad;
-        init_spelled = no_value;
-        turns_spelled = d;
-        whole = w;
-      }
+  loop_parts (kinds.ForOf init) (and_rest (for_of_loop e d) r w) = without_init _ no_value (λ h. absurd (false≢true h)) d w
+  loop_parts kinds.ForIn (and_rest (for_in_loop d) r w) = without_init _ no_value (λ h. absurd (false≢true h)) d w
 
 -- the statement of a loop that these parts give
 record IsLoopTree (s : Setting) (kind : LoopKind) (t : LoopTerminal) (init : Option Value) (parts : LoopParts)

@@ -1,6 +1,6 @@
 -- What the builder ensures of the four value terminals, once their parts are built.
-use Rattle.std.proofs.Common.{◌≡◌, Bool, true, false, List, [], ◌∷◌, ◌++◌, Option, Some, None, refl, sym, ap, ◌∙◌, subst}
-use Rattle.std.proofs.Common.{Result, arith}
+use Rattle.std.proofs.Common.{◌≡◌, Bool, true, false, List, [], ◌∷◌, ◌++◌, Option, Some, None, refl, sym, ap, ◌∙◌}
+use Rattle.std.proofs.Common.{subst, Result, arith}
 use Rattle.rc_names.specs.Numbers.{BlockId, EvaluationOrder}
 use Rattle.rc_names.specs.declared.span.Span.{Span}
 use Rattle.rc_hir.specs.Model.{LogicalOperator, Fault, HirFunction, Environment}
@@ -9,10 +9,9 @@ use Rattle.rc_tree.specs.Model.{ReactiveValue}
 use Rattle.rc_tree.specs.declared.value.ReactiveValue.TheVariants as reactive_values
 use Rattle.rc_runs.specs.PlainTree.{Conditional, Logical, Optional, Sequence, Row, NoRows}
 use Rattle.rc_runs.specs.TreeOf.{value_of}
-use Rattle.rc_runs.specs.ValueGrammar.{SpellsNested, shares_alternate}
-use Rattle.rc_runs.specs.ValueGrammar.{sequence_value, ternary_value, logical_value, optional_value}
+use Rattle.rc_runs.specs.ValueGrammar.{SpellsNested, shares_alternate, sequence_value, ternary_value, logical_value}
+use Rattle.rc_runs.specs.ValueGrammar.{optional_value}
 use Rattle.rc_build.specs.declared.builder.Builder.{Builder}
-use Rattle.rc_build.specs.declared.builder.Marks.{Marks}
 use Rattle.rc_build.specs.declared.builder.Site.{Site}
 use Rattle.rc_build.specs.declared.values.Around.{Around}
 use Rattle.rc_build.specs.declared.values.BuiltValue.{BuiltValue}
@@ -27,40 +26,13 @@ use Rattle.rc_build.specs.inside.Task.{Progress}
 use Rattle.rc_build.specs.inside.SilentArms.{AreArmBlocks}
 use Rattle.rc_build.specs.inside.ValueKinds.{with_kind}
 use Rattle.rc_build.specs.inside.ValueSteps.{around_parts}
-use Rattle.rc_build.specs.inside.ValueTerminals.{BuildsNested, CanBuildNested, NestedBuilt}
-use Rattle.rc_build.specs.inside.Values.{CanBuildValue, alternate_of}
+use Rattle.rc_build.specs.inside.ValueTerminals.{BuildsNested, NestedBuilt}
+use Rattle.rc_build.specs.inside.Values.{alternate_of}
 use Rattle.rc_build.proofs.BuiltLemmas.{marking_beside, marking_drop, marking_then}
-use Rattle.rc_build.proofs.LoopKindLemmas.{among_first}
-use Rattle.rc_build.proofs.LoopLemmas.{value_can}
-use Rattle.rc_build.proofs.TestPartLemmas.{ArmBuilt, ConditionBuilt, HasNoArm, arm_marking, choice_of, condition_marking}
-use Rattle.rc_build.proofs.TestPartLemmas.{short_arm}
+use Rattle.rc_build.proofs.TestPartLemmas.{ArmBuilt, ConditionBuilt, HasNoArm, arm_marking, choice_of}
+use Rattle.rc_build.proofs.TestPartLemmas.{condition_marking, short_arm}
 use Rattle.rc_build.proofs.SilentValueLemmas.{silent_arm}
 use Rattle.rc_build.proofs.ValueLoopLemmas.{marking_kept}
-
-module _ {hir : HirFunction} {marks : Marks} {fallthrough : BlockId} {id : EvaluationOrder} {span : Option Span} where
-  -- the one value of a sequence
-  pub sequence_can : {block : BlockId} → CanBuildNested hir marks (with_kind (kinds.Sequence block) fallthrough id span)
-      → CanBuildValue hir marks block
-  sequence_can {block} can = value_can block (block ∷ fallthrough ∷ []) can.marked can.referenced
-      (λ other. omega arith) can.here (among_first block (fallthrough ∷ []))
-
-  -- the test of the other three
-  pub ternary_can : {test : BlockId} → CanBuildNested hir marks (with_kind (kinds.Ternary test) fallthrough id span)
-      → CanBuildValue hir marks test
-  ternary_can {test} can = value_can test (test ∷ fallthrough ∷ []) can.marked can.referenced
-      (λ other. omega arith) can.here (among_first test (fallthrough ∷ []))
-
-  pub logical_can : {operator : LogicalOperator} {test : BlockId}
-      → CanBuildNested hir marks (with_kind (kinds.Logical operator test) fallthrough id span)
-      → CanBuildValue hir marks test
-  logical_can {test = test} can = value_can test (test ∷ fallthrough ∷ []) can.marked can.referenced
-      (λ other. omega arith) can.here (among_first test (fallthrough ∷ []))
-
-  pub optional_can : {optional : Bool} {test : BlockId}
-      → CanBuildNested hir marks (with_kind (kinds.Optional optional test) fallthrough id span)
-      → CanBuildValue hir marks test
-  optional_can {test = test} can = value_can test (test ∷ fallthrough ∷ []) can.marked can.referenced
-      (λ other. omega arith) can.here (among_first test (fallthrough ∷ []))
 
 module _ {hir : HirFunction} {env : Environment} {fallthrough test : BlockId} {span : Option Span} {handler : Option BlockId} {is_test : Bool}
     {arms : TestArms} {tested first second : BuiltValue} {old mid late new : Progress}
@@ -195,6 +167,14 @@ module _ {hir : HirFunction} {env : Environment} {fallthrough : BlockId} {id : E
             (marking_drop hir (λ other. omega arith) (marking_beside hir (arm_marking f)));
         kept = f.kept ∙ b.kept;
       }
+
+-- what is built of a value terminal, by its kind
+pub nested_of : {old new : Builder} {site : Site} {handler : Option BlockId} {kind : ValueKind}
+    {result : Result NestedValue Fault} (terminal : ValueTerminal) → terminal.kind ≡ kind
+    → BuildsNested old new site handler (record terminal { kind = kind }) result
+    → BuildsNested old new site handler terminal result
+nested_of {old} {new} {site} {handler} {result = result} terminal is built =
+    subst (λ k. BuildsNested old new site handler (record terminal { kind = k }) result) (sym is) built
 
 -- what is built with that around its parts, said of the value terminal itself
 pub nested_around : {old new : Builder} {site : Site} {result : Result NestedValue Fault} {around : Around}

@@ -1,6 +1,6 @@
 -- The frames around a list: their blocks are pending or used, and other blocks opened them.
-use Rattle.std.proofs.Common.{◌≡◌, Bool, true, false, List, [], ◌∷◌, ◌++◌, Some, ◌||◌, refl, sym, ap, ◌∙◌}
-use Rattle.std.proofs.Common.{subst, inl, inr}
+use Rattle.std.proofs.Common.{◌≡◌, Bool, true, false, List, [], ◌∷◌, ◌++◌, Some, ◌||◌, refl, sym, ap, ◌∙◌, subst, inl}
+use Rattle.std.proofs.Common.{inr}
 use Rattle.std.specs.Prelude.{if◌then◌else◌, ◌⊎◌}
 use Rattle.std.proofs.lemmas.Bool.{or_cases}
 use Rattle.rc_names.specs.Numbers.{BlockId, same_id, is_among}
@@ -8,13 +8,15 @@ use Rattle.rc_hir.specs.Model.{Terminal, HirFunction}
 use Rattle.rc_hir.specs.declared.terminal.Terminal.TheVariants as terminals
 use Rattle.rc_runs.specs.declared.frames.Frame.{Frame}
 use Rattle.rc_runs.specs.declared.frames.Frame.TheVariants as frame_kinds
-use Rattle.rc_runs.specs.declared.frames.BreakResult.TheVariants.{LeavesScope, LeavesCase}
+use Rattle.rc_runs.specs.declared.frames.BreakResult.{BreakResult}
+use Rattle.rc_runs.specs.declared.frames.BreakResult.TheVariants.{NoFrame, LeavesScope, LeavesCase}
 use Rattle.rc_runs.specs.Frames.{break_block, is_jump_target, is_jump_target_at, is_loop, resolve_at, resolve_from}
 use Rattle.std.specs.Option.{option_to_list}
 use Rattle.rc_hir.specs.Successors.{case_blocks}
 use Rattle.rc_build.specs.References.{framed_blocks, tested_blocks, fallthrough_of, scope_fallthrough, cases_of}
 use Rattle.rc_build.specs.RuleFacts.{BlockIs, IsScopeFallthrough, IsCaseBlock}
-use Rattle.rc_build.specs.inside.CanBuild.{pending_at, used_at, pending_blocks, used_blocks, IsFrameOf, HasOwner, AreOwned}
+use Rattle.rc_build.specs.inside.CanBuild.{pending_at, used_at, pending_blocks, used_blocks, IsFrameOf, HasOwner}
+use Rattle.rc_build.specs.inside.CanBuild.{AreOwned}
 use Rattle.rc_names.proofs.NumbersLemmas.{same_id-eq}
 use Rattle.rc_build.proofs.MarksLemmas.{among_front, among_back, among_alone, among_same}
 
@@ -135,6 +137,24 @@ target_framed hir P (frame ∷ frames) key o e = go (is_jump_target_at frame key
     }
     go false h r f = f r
 
+-- what follows of how a break to a block resolves, where it follows at the frame with that break block
+at_owner : (hir : HirFunction) (P : BlockId → Type 0) (way : BreakResult) (key : BlockId) {Q : Type 0}
+    → (NoFrame ≡ way → ⊥)
+    → ((innermost in_loop : Bool) (frame : Frame) → HasOwner hir P frame → same_id (break_block frame) key ≡ true
+    → resolve_at innermost in_loop frame ≡ way → Q)
+    → (innermost in_loop : Bool) (frames : List Frame) → AreOwned hir P frames
+    → resolve_from innermost in_loop frames key ≡ way → Q
+at_owner hir P way key none at innermost in_loop [] o e = absurd (none e)
+at_owner hir P way key {Q} none at innermost in_loop (frame ∷ frames) o e =
+    go (same_id (break_block frame) key) refl e
+    (at_owner hir P way key none at false (in_loop || is_loop frame) frames o.1)
+  where
+    go : (b : Bool) → same_id (break_block frame) key ≡ b
+        → (if b then resolve_at innermost in_loop frame else resolve_from false (in_loop || is_loop frame) frames key) ≡ way
+        → (resolve_from false (in_loop || is_loop frame) frames key ≡ way → Q) → Q
+    go true s h f = at innermost in_loop frame o.0 s h
+    go false s h f = f h
+
 -- a break that leaves a scope names a scope's fallthrough
 leaves_scope_at : (hir : HirFunction) (P : BlockId → Type 0) (innermost in_loop : Bool) (frame : Frame) (key : BlockId)
     → HasOwner hir P frame → same_id (break_block frame) key ≡ true →
@@ -156,17 +176,9 @@ leaves_scope_at hir P innermost in_loop (frame_kinds.Loop block continue_block) 
 pub leaves_scope : (hir : HirFunction) (P : BlockId → Type 0) (innermost in_loop : Bool) (frames : List Frame)
     (key : BlockId) → AreOwned hir P frames →
     resolve_from innermost in_loop frames key ≡ LeavesScope → IsScopeFallthrough hir key
-leaves_scope hir P innermost in_loop [] key o e = let bad : ⊥ = cc in absurd bad
-leaves_scope hir P innermost in_loop (frame ∷ frames) key o e =
-    go (same_id (break_block frame) key) refl e (leaves_scope hir P false (in_loop || is_loop frame) frames key o.1)
-  where
-    go : (b : Bool) → same_id (break_block frame) key ≡ b
-        → (if b then resolve_at innermost in_loop frame else resolve_from false (in_loop || is_loop frame) frames key)
-        ≡ LeavesScope →
-        (resolve_from false (in_loop || is_loop frame) frames key ≡ LeavesScope → IsScopeFallthrough hir key)
-        → IsScopeFallthrough hir key
-    go true s h f = leaves_scope_at hir P innermost in_loop frame key o.0 s h
-    go false s h f = f h
+leaves_scope hir P innermost in_loop frames key =
+    at_owner hir P LeavesScope key (λ bad. let no : ⊥ = cc in no)
+    (λ i l frame. leaves_scope_at hir P i l frame key) innermost in_loop frames
 
 -- a break that leaves a case names a case's block
 leaves_case_at : (hir : HirFunction) (P : BlockId → Type 0) (innermost in_loop : Bool) (frame : Frame) (key : BlockId)
@@ -189,13 +201,6 @@ leaves_case_at hir P innermost in_loop (frame_kinds.Loop block continue_block) k
 pub leaves_case : (hir : HirFunction) (P : BlockId → Type 0) (innermost in_loop : Bool) (frames : List Frame)
     (key : BlockId) → AreOwned hir P frames →
     resolve_from innermost in_loop frames key ≡ LeavesCase → IsCaseBlock hir key
-leaves_case hir P innermost in_loop [] key o e = let bad : ⊥ = cc in absurd bad
-leaves_case hir P innermost in_loop (frame ∷ frames) key o e =
-    go (same_id (break_block frame) key) refl e (leaves_case hir P false (in_loop || is_loop frame) frames key o.1)
-  where
-    go : (b : Bool) → same_id (break_block frame) key ≡ b
-        → (if b then resolve_at innermost in_loop frame else resolve_from false (in_loop || is_loop frame) frames key)
-        ≡ LeavesCase →
-        (resolve_from false (in_loop || is_loop frame) frames key ≡ LeavesCase → IsCaseBlock hir key) → IsCaseBlock hir key
-    go true s h f = leaves_case_at hir P innermost in_loop frame key o.0 s h
-    go false s h f = f h
+leaves_case hir P innermost in_loop frames key =
+    at_owner hir P LeavesCase key (λ bad. let no : ⊥ = cc in no)
+    (λ i l frame. leaves_case_at hir P i l frame key) innermost in_loop frames

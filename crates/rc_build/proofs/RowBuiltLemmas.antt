@@ -1,6 +1,6 @@
 -- A value terminal as a row of a value: its block, its parts, and why it is refused.
-use Rattle.std.proofs.Common.{◌≡◌, Bool, true, false, List, [], ◌∷◌, ◌++◌, Option, Some, None, refl, sym, ap, ◌∙◌, subst}
-use Rattle.std.proofs.Common.{inr, map, not, ◌&&◌}
+use Rattle.std.proofs.Common.{◌≡◌, Bool, true, false, List, [], ◌∷◌, ◌++◌, Option, Some, refl, sym, ap, ◌∙◌, subst, inr}
+use Rattle.std.proofs.Common.{map, not, ◌&&◌}
 use Rattle.std.proofs.lemmas.List.{append-nil}
 use Rattle.rc_names.specs.Numbers.{BlockId, EvaluationOrder, same_id, is_among}
 use Rattle.rc_names.specs.declared.span.Span.{Span}
@@ -15,13 +15,12 @@ use Rattle.rc_runs.specs.PlainTree.{Rows, NoRows, Row}
 use Rattle.rc_runs.specs.Silent.{is_unset}
 use Rattle.rc_runs.specs.Spelled.{scope_named}
 use Rattle.rc_runs.specs.TreeOf.{instructions_of}
-use Rattle.rc_runs.specs.ValueGrammar.{SpellsNested, named_test, last_block, last_throw, may_throw as throws_on, value_row}
+use Rattle.rc_runs.specs.ValueGrammar.{SpellsNested, named_test, last_block, last_throw, may_throw as throws_on}
+use Rattle.rc_runs.specs.ValueGrammar.{value_row}
 use Rattle.rc_runs.proofs.SetIds.{usable_block-set}
 use Rattle.rc_build.specs.declared.builder.Marks.{Marks}
 use Rattle.rc_build.specs.declared.values.Around.{Around}
 use Rattle.rc_build.specs.declared.value_terminals.NestedValue.{NestedValue}
-use Rattle.rc_build.specs.declared.value_terminals.ValueKind.{ValueKind}
-use Rattle.rc_build.specs.declared.value_terminals.ValueKind.TheVariants as kinds
 use Rattle.rc_build.specs.declared.value_terminals.ValueTerminal.{ValueTerminal}
 use Rattle.rc_build.specs.References.{referenced_blocks, value_references}
 use Rattle.rc_build.specs.RuleFacts.{RuleFact}
@@ -30,7 +29,7 @@ use Rattle.rc_build.specs.inside.CanBuild.{AreReferenced}
 use Rattle.rc_build.specs.inside.Marks.{MarksBlocks}
 use Rattle.rc_build.specs.inside.Task.{Progress}
 use Rattle.rc_build.specs.inside.Throws.{may_throw}
-use Rattle.rc_build.specs.inside.ValueKinds.{terminal_of, terminal_with}
+use Rattle.rc_build.specs.inside.ValueKinds.{terminal_of}
 use Rattle.rc_build.specs.inside.ValueSteps.{value_at}
 use Rattle.rc_build.specs.inside.ValueTerminals.{CanBuildNested, CanBuildRow, NestedBuilt, RowBuilt, arm_blocks}
 use Rattle.rc_build.specs.inside.Values.{CanMark, HasNoValue, HasRows, Marked, any_end, row_of}
@@ -38,48 +37,9 @@ use Rattle.rc_build.proofs.BuiltLemmas.{marking_then, refused_back, refused_fron
 use Rattle.rc_build.proofs.LoopKindLemmas.{among_first}
 use Rattle.rc_build.proofs.MarksLemmas.{among_back}
 use Rattle.rc_build.proofs.UsableLemmas.{filled, usable_made}
+use Rattle.rc_build.proofs.ValueKindLemmas.{begins_at, value_facts}
 use Rattle.rc_build.proofs.ValueLemmas.{same_terminal, value_block}
 use Rattle.rc_build.proofs.ValueStatementLemmas.{same_ends}
-
--- the id of a value terminal, and what it refers to
-order_with : (kind : ValueKind) (fallthrough : BlockId) (id : EvaluationOrder) (span : Option Span)
-    → evaluation_order (terminal_with kind fallthrough id span) ≡ id
-order_with (kinds.Sequence block) fallthrough id span = refl
-order_with (kinds.Ternary test) fallthrough id span = refl
-order_with (kinds.Logical operator test) fallthrough id span = refl
-order_with (kinds.Optional optional test) fallthrough id span = refl
-
-unscoped_with : (kind : ValueKind) (fallthrough : BlockId) (id : EvaluationOrder) (span : Option Span)
-    → scope_named (terminal_with kind fallthrough id span) ≡ None
-unscoped_with (kinds.Sequence block) fallthrough id span = refl
-unscoped_with (kinds.Ternary test) fallthrough id span = refl
-unscoped_with (kinds.Logical operator test) fallthrough id span = refl
-unscoped_with (kinds.Optional optional test) fallthrough id span = refl
-
-ends_with : (kind : ValueKind) (fallthrough : BlockId) (id : EvaluationOrder) (span : Option Span)
-    → ends_value (terminal_with kind fallthrough id span) ≡ false
-ends_with (kinds.Sequence block) fallthrough id span = refl
-ends_with (kinds.Ternary test) fallthrough id span = refl
-ends_with (kinds.Logical operator test) fallthrough id span = refl
-ends_with (kinds.Optional optional test) fallthrough id span = refl
-
-stays_with : (kind : ValueKind) (fallthrough : BlockId) (id : EvaluationOrder) (span : Option Span)
-    → may_throw (terminal_with kind fallthrough id span) ≡ None
-stays_with (kinds.Sequence block) fallthrough id span = refl
-stays_with (kinds.Ternary test) fallthrough id span = refl
-stays_with (kinds.Logical operator test) fallthrough id span = refl
-stays_with (kinds.Optional optional test) fallthrough id span = refl
-
-valued_with : (kind : ValueKind) (fallthrough : BlockId) (id : EvaluationOrder) (span : Option Span)
-    → is_among (value_references (terminal_with kind fallthrough id span)) fallthrough ≡ true
-valued_with (kinds.Sequence block) fallthrough id span =
-    among_back (block ∷ []) (fallthrough ∷ []) fallthrough (among_first fallthrough [])
-valued_with (kinds.Ternary test) fallthrough id span =
-    among_back (test ∷ []) (fallthrough ∷ []) fallthrough (among_first fallthrough [])
-valued_with (kinds.Logical operator test) fallthrough id span =
-    among_back (test ∷ []) (fallthrough ∷ []) fallthrough (among_first fallthrough [])
-valued_with (kinds.Optional optional test) fallthrough id span =
-    among_back (test ∷ []) (fallthrough ∷ []) fallthrough (among_first fallthrough [])
 
 -- rows, and one more
 instructions_of-then : (rows : List Instruction) (more : Rows)
@@ -96,7 +56,7 @@ module _ {hir : HirFunction} {marks : Marks} (key : BlockId) (terminal : ValueTe
       ap (λ (z : BasicBlock). z.terminal) (sym same) ∙ can.here.holds
 
   order : evaluation_order block.terminal ≡ terminal.id
-  order = ap evaluation_order row_terminal ∙ order_with terminal.kind terminal.fallthrough terminal.id terminal.span
+  order = ap evaluation_order row_terminal ∙ (value_facts terminal).order
 
   -- a terminal without an id is a fact of its block, and refuses the value
   pub row_unset : is_unset terminal.id ≡ true → RuleFact hir rules.UnsetId key
@@ -122,20 +82,20 @@ module _ {hir : HirFunction} {marks : Marks} (key : BlockId) (terminal : ValueTe
       set = ap (λ b. not b && not (is_unset (evaluation_order block.terminal))) rows.set
           ∙ ap (λ b. true && not b) (ap is_unset order ∙ set);
     };
-    unscoped = ap scope_named row_terminal ∙ unscoped_with terminal.kind terminal.fallthrough terminal.id terminal.span;
+    unscoped = ap scope_named row_terminal ∙ (value_facts terminal).unscoped;
   }
 
   ends_not : (whole : Block) → usable_block hir key ≡ Some whole → ends_value whole.terminal ≡ true → ⊥
   ends_not whole usable ends =
       let same = same_terminal hir key block found whole usable ∙ row_terminal in
-      let no = ap ends_value same ∙ ends_with terminal.kind terminal.fallthrough terminal.id terminal.span in
+      let no = ap ends_value same ∙ (value_facts terminal).ends in
       let bad : ⊥ = cc in bad
 
   throws_not : (whole : Block) → usable_block hir key ≡ Some whole → {continuation : BlockId} {named : Option BlockId}
       {order : EvaluationOrder} {span : Option Span} → whole.terminal ≡ terminals.MaybeThrow continuation named order span → ⊥
   throws_not whole usable throws =
       let same = sym (ap may_throw throws) ∙ ap may_throw (same_terminal hir key block found whole usable ∙ row_terminal)
-      ∙ stays_with terminal.kind terminal.fallthrough terminal.id terminal.span in
+      ∙ (value_facts terminal).stays in
       let bad : ⊥ = cc in bad
 
   module _ {old new : Progress} (same : old.marks ≡ marks) (m : Marked hir key block.terminal old new) where
@@ -215,7 +175,9 @@ module _ {hir : HirFunction} {marks : Marks} (key : BlockId) (terminal : ValueTe
                 block = block;
                 found = found;
                 holds = ap (λ t. is_among (value_references t) terminal.fallthrough) row_terminal
-                    ∙ valued_with terminal.kind terminal.fallthrough terminal.id terminal.span;
+                    ∙ ap (λ z. is_among z terminal.fallthrough) (value_facts terminal).valued
+                    ∙ among_back (begins_at terminal.kind ∷ []) (terminal.fallthrough ∷ []) terminal.fallthrough
+                    (among_first terminal.fallthrough []);
               },
             );
           };

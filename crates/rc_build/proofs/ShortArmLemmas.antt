@@ -1,22 +1,24 @@
--- The short arm of a value terminal: there is none, it is left to a test, or a silent arm is built for it.
-use Rattle.std.proofs.Common.{◌≡◌, Bool, true, false, List, [], ◌++◌, Option, Some, None, ◌||◌, refl, sym, ap}
-use Rattle.std.proofs.Common.{arith, subst, eq-eqb, inl}
+-- The short arm of a value terminal: there is none, it is left to a test, or a silent arm is built for it. And whether
+-- a test leaves another arm open than the one that it shares.
+use Rattle.std.proofs.Common.{◌≡◌, Bool, true, false, List, [], ◌++◌, Option, Some, None, ◌||◌, refl, sym, ap, arith}
+use Rattle.std.proofs.Common.{subst, eq-eqb, if◌then◌else◌, inl}
 use Rattle.std.proofs.lemmas.Bool.{or_right}
 use Rattle.rc_names.specs.Numbers.{BlockId, same_id, is_among}
 use Rattle.rc_hir.specs.Model.{Terminal, HirFunction, Environment}
+use Rattle.rc_hir.specs.declared.fault.Rule.TheVariants as rules
 use Rattle.rc_hir.specs.declared.terminal.Terminal.TheVariants as terminals
 use Rattle.rc_runs.specs.Spelled.{AreSound}
-use Rattle.rc_runs.specs.ValueGrammar.{SpellsShortArm, no_arm, left_to_test, own_arm}
+use Rattle.rc_runs.specs.ValueGrammar.{SpellsShortArm, no_arm, left_to_test, own_arm, shares_alternate}
 use Rattle.rc_build.specs.declared.builder.Marks.{Marks}
 use Rattle.rc_build.specs.declared.short_arms.ShortArm.{ShortArm}
-use Rattle.rc_build.specs.RuleFacts.{branch_alternate, branch_arms}
+use Rattle.rc_build.specs.RuleFacts.{branch_alternate, branch_arms, RuleFact, ValueBlockIs, is_branch}
 use Rattle.rc_build.specs.inside.Built.{Refused}
 use Rattle.rc_build.specs.inside.CanBuild.{AreReferenced}
 use Rattle.rc_build.specs.inside.Marks.{MarksBlocks}
 use Rattle.rc_build.specs.inside.SilentArms.{ArmBuilt, CanBuildArm, HasNoArm}
 use Rattle.rc_build.specs.inside.Task.{Progress}
 use Rattle.rc_build.specs.inside.ValueTerminals.{CanBuildShort, ShortBuilt, arm_blocks}
-use Rattle.rc_build.specs.inside.Values.{AreShort, alternate_of}
+use Rattle.rc_build.specs.inside.Values.{AreShort, alternate_of, other_arm_of}
 use Rattle.rc_build.proofs.BuiltLemmas.{marking_drop, marking_none}
 
 -- the alternate of a `Branch` is one of its arms
@@ -103,3 +105,52 @@ module _ {hir : HirFunction} {env : Environment} {handler : Option BlockId} {nex
     marking = marking_drop hir (λ other. omega arith) (marking_none hir (arm_blocks short) at.marks can.marked);
     kept = refl;
   }
+
+-- where no other arm is open, the alternate is shared
+pub other_none : (left : Option ShortArm) (alternate : BlockId) → other_arm_of left alternate ≡ None
+    → shares_alternate (alternate_of left) alternate ≡ true
+other_none None alternate e = refl
+other_none (Some arm) alternate e = go (same_id arm.alternate alternate) refl e
+  where
+    go : (b : Bool) → same_id arm.alternate alternate ≡ b
+        → ◌≡◌ {A = Option BlockId} (if b then None else Some arm.branch) None → same_id arm.alternate alternate ≡ true
+    go true q h = q
+    go false q h = let bad : ⊥ = cc in absurd bad
+
+-- and where one is, it isn't
+pub other_some : (left : Option ShortArm) (alternate branch : BlockId) → other_arm_of left alternate ≡ Some branch
+    → shares_alternate (alternate_of left) alternate ≡ false
+other_some None alternate branch e = let bad : ⊥ = cc in absurd bad
+other_some (Some arm) alternate branch e = go (same_id arm.alternate alternate) refl e
+  where
+    go : (b : Bool) → same_id arm.alternate alternate ≡ b
+        → ◌≡◌ {A = Option BlockId} (if b then None else Some arm.branch) (Some branch)
+        → same_id arm.alternate alternate ≡ false
+    go true q h = let bad : ⊥ = cc in absurd bad
+    go false q h = q
+
+-- a terminal with an alternate is a `Branch`
+alternate_branch : (terminal : Terminal) (alternate : BlockId) → branch_alternate terminal ≡ Some alternate
+    → is_branch terminal ≡ true
+alternate_branch (terminals.Branch test consequent other id span) alternate e = refl
+alternate_branch terminal alternate e = let bad : ⊥ = cc in absurd bad
+
+-- the fact of the `Branch` that leaves another arm open
+pub short_fact : (hir : HirFunction) (left : Option ShortArm) (alternate branch : BlockId) → AreShort hir left
+    → other_arm_of left alternate ≡ Some branch → RuleFact hir rules.ShortArm branch
+short_fact hir None alternate branch short e = let bad : ⊥ = cc in absurd bad
+short_fact hir (Some arm) alternate branch short e = go (same_id arm.alternate alternate) e
+  where
+    go : (b : Bool) → ◌≡◌ {A = Option BlockId} (if b then None else Some arm.branch) (Some branch)
+        → RuleFact hir rules.ShortArm branch
+    go true h = let bad : ⊥ = cc in absurd bad
+    go false h =
+        let same : arm.branch ≡ branch = cc in
+        subst (λ z. ValueBlockIs hir z (λ block. is_branch block.terminal ≡ true)) same (record {
+          referenced = short.referenced;
+          here = record {
+            block = short.here.block;
+            found = short.here.found;
+            holds = alternate_branch short.here.block.terminal arm.alternate short.here.holds;
+          };
+        })

@@ -17,6 +17,7 @@ use Rattle.rc_build.specs.RuleFacts.{RuleFact, IsFramedApart}
 use Rattle.rc_build.specs.inside.CanBuild.{CanBuildTerminal, IsUsedApart}
 use Rattle.rc_build.specs.inside.Depths.{frames_inside}
 use Rattle.rc_build.specs.inside.Setting.{Setting, label_at, open_block, part_setting, setting_of, site_inside}
+use Rattle.rc_build.proofs.BuildsLemmas.{same_graph}
 use Rattle.rc_build.proofs.OwnersLemmas.{target_framed}
 use Rattle.rc_build.proofs.BuiltLemmas.{is_some-opened}
 
@@ -40,7 +41,7 @@ pub setting_left : (old started later : Builder) (site inner : Site) (frames : L
     → setting_of later inner ≡ setting_of started inner → started.hir.now ≡ old.hir.now → started.env.now ≡ old.env.now
     → frames ≡ old.frames → setting_of (record later { frames = frames }) site ≡ setting_of old site
 setting_left old started later site inner frames e h v f =
-    let hir : later.hir.now ≡ old.hir.now = ap (λ (z : Setting). z.hir) e ∙ h in
+    let hir : later.hir.now ≡ old.hir.now = same_graph e ∙ h in
     let env : later.env.now ≡ old.env.now = ap (λ (z : Setting). z.env) e ∙ v in
     cc
 

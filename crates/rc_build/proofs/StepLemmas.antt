@@ -1,13 +1,11 @@
 -- How a value goes on behind a block, by the block's terminal.
-use Rattle.std.proofs.Common.{◌≡◌, Bool, true, false, Option, Some, None, Result, Ok, Err, IfOk, refl, sym, ap, ◌∙◌}
+use Rattle.std.proofs.Common.{◌≡◌, Bool, true, false, Option, Some, None, refl, sym, ap, ◌∙◌}
 use Rattle.std.specs.Prelude.{option_and_then, option_map, if◌then◌else◌}
 use Rattle.rc_names.specs.Numbers.{BlockId}
-use Rattle.rc_hir.specs.Model.{BasicBlock, Terminal, Fault, HirFunction, Environment}
+use Rattle.rc_hir.specs.Model.{BasicBlock, Terminal, HirFunction, Environment}
 use Rattle.rc_hir.specs.declared.terminal.Terminal.TheVariants as terminals
 use Rattle.rc_runs.specs.Graph.{basic_block, block_at, is_empty_goto}
-use Rattle.rc_build.specs.declared.builder.Builder.{Builder}
 use Rattle.rc_build.specs.declared.builder.Marks.{Marks}
-use Rattle.rc_build.specs.declared.builder.Site.{Site}
 use Rattle.rc_build.specs.declared.handlers.MayThrow.{MayThrow}
 use Rattle.rc_build.specs.declared.values.Around.{Around}
 use Rattle.rc_build.specs.declared.values.Step.{Step}
@@ -16,7 +14,6 @@ use Rattle.rc_build.specs.declared.values.ValueRow.{ValueRow}
 use Rattle.rc_build.specs.declared.value_terminals.ValueKind.TheVariants as kinds
 use Rattle.rc_build.specs.declared.value_terminals.ValueTerminal.{ValueTerminal}
 use Rattle.rc_build.specs.RuleFacts.{BlockIs}
-use Rattle.rc_build.specs.inside.Built.{Builds}
 use Rattle.rc_build.specs.inside.Task.{Progress}
 use Rattle.rc_build.specs.inside.Throws.{may_throw, throw_at}
 use Rattle.rc_build.specs.inside.ValueKinds.{terminal_of, value_terminal}
@@ -189,21 +186,6 @@ module _ {hir : HirFunction} {marks : Marks} {key : BlockId} where
             (sym (ap (option_and_then (λ (z : BasicBlock). step_behind hir z.terminal)) here.found) ∙ can.ends)
             here.holds;
       }
-
--- what is built, said otherwise
-pub builds_as : {A : Type 0} {old new : Builder} {site : Site} {Built BuiltThere : A → Type 0} {N NThere : Type 0}
-    {result : Result A Fault} → ((answer : A) → BuiltThere answer → Built answer) → (NThere → N)
-    → Builds old new site BuiltThere NThere result → Builds old new site Built N result
-builds_as {A = A} {Built = Built} {BuiltThere} {result = result} built none b = record {
-  ok = go result b.ok;
-  refused = λ named rule e. none (b.refused named rule e);
-  facts = b.facts;
-  frames = b.frames;
-}
-  where
-    go : (r : Result A Fault) → IfOk r BuiltThere → IfOk r Built
-    go (Ok answer) h = built answer h
-    go (Err fault) h = tt
 
 module _ {hir : HirFunction} {env : Environment} {around : Around} {key : BlockId} {row : ValueRow} {old new : Progress}
   where

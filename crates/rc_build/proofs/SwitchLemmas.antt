@@ -1,7 +1,6 @@
 -- The cases of a switch, built from the last to the first, and the switch around them.
-use Rattle.std.proofs.Common.{◌≡◌, suc, ◌+◌, ◌≤◌, true, List, [], ◌∷◌, ◌++◌, Option, Some, None}
-use Rattle.std.proofs.Common.{drop, length, reverse, refl, sym, ap, ◌∙◌, subst, arith, inl, inr, append_assoc}
-use Rattle.std.proofs.Common.{length-append}
+use Rattle.std.proofs.Common.{◌≡◌, suc, ◌+◌, ◌≤◌, true, List, [], ◌∷◌, ◌++◌, Option, Some, None, drop, length, reverse}
+use Rattle.std.proofs.Common.{refl, sym, ap, ◌∙◌, subst, arith, inl, inr, append_assoc, length-append}
 use Rattle.std.specs.Prelude.{◌⊎◌, ◌↔◌, is_some, IfSome, IsNone}
 use Rattle.std.proofs.lemmas.List.{append-nil, map-append, reverse-append}
 use Rattle.rc_names.specs.Numbers.{BlockId, is_among, times}
@@ -14,7 +13,7 @@ use Rattle.rc_runs.specs.ListContext.{ListContext}
 use Rattle.rc_runs.specs.PlainTree.{Cases, NoCases, Case as TreeCase, Statements, Present}
 use Rattle.rc_runs.specs.TreeOf.{statements_of}
 use Rattle.rc_runs.specs.SwitchCases.{case_context}
-use Rattle.rc_runs.specs.Grammar.{no_cases, one_case}
+use Rattle.rc_runs.specs.Grammar.{no_cases, one_case, from_block}
 use Rattle.rc_runs.specs.Spelled.{AreSound}
 use Rattle.rc_runs.proofs.OneTree.{one_cases}
 use Rattle.rc_build.specs.declared.builder.Builder.{Builder}
@@ -23,15 +22,16 @@ use Rattle.rc_build.specs.declared.builder.Site.{Site}
 use Rattle.rc_build.specs.inside.CanBuild.{CanBuildList, IsUsed, pending_blocks, used_blocks}
 use Rattle.rc_build.specs.inside.Marks.{MarksBlocks}
 use Rattle.rc_build.specs.inside.Setting.{Setting, setting_of}
-use Rattle.rc_build.specs.inside.Switches.{BuiltCases, CanBuildCases, CasesSoFar, SpellsKept, setting_after, switch_case}
+use Rattle.rc_build.specs.inside.Switches.{BuiltCases, CanBuildCases, CasesSoFar, SpellsKept, setting_after}
+use Rattle.rc_build.specs.inside.Switches.{switch_case}
 use Rattle.rc_build.specs.inside.Task.{FromBlock, Spells, progress_of}
 use Rattle.rc_build.specs.inside.Built.{BuiltList, Refused}
-use Rattle.rc_build.proofs.BuiltLemmas.{marking_beside, marking_more, marking_none, marking_then, refused_back, refused_front}
+use Rattle.rc_build.proofs.BuildsLemmas.{same_graph}
+use Rattle.rc_build.proofs.BuiltLemmas.{marking_beside, marking_more, marking_none, marking_then, refused_back}
+use Rattle.rc_build.proofs.BuiltLemmas.{refused_front}
 use Rattle.rc_names.proofs.NumbersLemmas.{ids_equivalence}
-use Rattle.rc_runs.specs.Grammar.{from_block}
 use Rattle.rc_build.proofs.MarksLemmas.{among_alone, among_back, among_front, among_parts, among_same, alone_same}
-use Rattle.rc_build.proofs.MarksLemmas.{referenced_fewer}
-use Rattle.rc_build.proofs.MarksLemmas.{times_append}
+use Rattle.rc_build.proofs.MarksLemmas.{referenced_fewer, times_append}
 use Rattle.rc_build.proofs.OwnersLemmas.{owned_weaker}
 use Rattle.rc_build.proofs.WalkLemmas.{used_more}
 
@@ -200,8 +200,8 @@ module _ {old now : Builder} {site : Site} {kept waiting : List Case} {parts : L
       → new.frames ≡ frame_kinds.Case case.block ∷ mid.frames → longer ≡ parts ++ switch_case case.test list ∷ []
       → CasesSoFar old new site kept front longer (Some case.block)
   cases_further mid {new} {list} {longer} step same h v k o f put =
-      let hir : now.hir.now ≡ old.hir.now = ap (λ (z : Setting). z.hir) so_far.setting in
-      let hirs : new.hir.now ≡ old.hir.now = h ∙ ap (λ (z : Setting). z.hir) same ∙ hir in
+      let hir : now.hir.now ≡ old.hir.now = same_graph so_far.setting in
+      let hirs : new.hir.now ≡ old.hir.now = h ∙ same_graph same ∙ hir in
       let frames : mid.frames ≡ now.frames = ap (λ (z : Setting). z.context.frames) same in
       let one : MarksBlocks now.hir.now (case_blocks waiting) (case_blocks front) now.marks mid.marks step.newly =
       marking_more now.hir.now (λ key. omega (
@@ -300,7 +300,7 @@ pub cases_left : {old now : Builder} {site : Site} {kept waiting : List Case} {p
     → frames ≡ drop (length parts) now.frames
     → setting_of (record now { frames = frames }) site ≡ setting_of old site
 cases_left {old} {now} {site} {parts = parts} {frames = frames} so_far e =
-    let hir : now.hir.now ≡ old.hir.now = ap (λ (z : Setting). z.hir) so_far.setting in
+    let hir : now.hir.now ≡ old.hir.now = same_graph so_far.setting in
     let env : now.env.now ≡ old.env.now = ap (λ (z : Setting). z.env) so_far.setting in
     let left : frames ≡ old.frames = e ∙ ap (λ n. drop n now.frames) so_far.count
     ∙ ap (λ (z : Setting). drop (length so_far.later) z.context.frames) so_far.setting

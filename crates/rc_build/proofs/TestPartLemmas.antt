@@ -1,31 +1,33 @@
 -- The parts of the value terminals that test: the test, the arm that is a value for all of them, and a second arm.
-use Rattle.std.proofs.Common.{◌≡◌, ◌≤◌, Bool, true, false, List, [], ◌∷◌, ◌++◌, Option, Some, None, refl, sym, ap, ◌∙◌, subst}
-use Rattle.std.proofs.Common.{arith, if◌then◌else◌}
+use Rattle.std.proofs.Common.{◌≡◌, ◌≤◌, Bool, true, false, List, [], ◌∷◌, ◌++◌, Option, refl, sym, ap, ◌∙◌, subst}
+use Rattle.std.proofs.Common.{arith}
+use Rattle.std.proofs.lemmas.Bool.{false≢true}
 use Rattle.std.proofs.lemmas.List.{append-nil}
-use Rattle.rc_names.specs.Numbers.{BlockId, EvaluationOrder, same_id, is_among}
+use Rattle.rc_names.specs.Numbers.{BlockId, EvaluationOrder, is_among}
 use Rattle.rc_names.specs.declared.span.Span.{Span}
-use Rattle.rc_hir.specs.Model.{Terminal, LogicalOperator, HirFunction, Environment}
-use Rattle.rc_hir.specs.declared.fault.Rule.TheVariants as rules
+use Rattle.rc_hir.specs.Model.{LogicalOperator, HirFunction, Environment}
 use Rattle.rc_hir.specs.declared.terminal.Terminal.TheVariants as terminals
 use Rattle.rc_runs.specs.ListContext.{ValueContext}
 use Rattle.rc_runs.specs.PlainTree.{Value}
 use Rattle.rc_runs.specs.Spelled.{AreSound}
-use Rattle.rc_runs.specs.ValueGrammar.{ValueEnd, ChoosesBetween, GoesTo, Nested, SpellsNested, SpellsSilentArm, SpellsValue}
-use Rattle.rc_runs.specs.ValueGrammar.{shares_alternate, ternary_value, logical_value, optional_value}
+use Rattle.rc_runs.specs.ValueGrammar.{ValueEnd, ChoosesBetween, GoesTo, Nested, SpellsNested, SpellsSilentArm}
+use Rattle.rc_runs.specs.ValueGrammar.{SpellsValue, shares_alternate, ternary_value, logical_value, optional_value}
 use Rattle.rc_runs.proofs.OneValue.{one_choice, one_value}
-use Rattle.rc_build.specs.declared.short_arms.ShortArm.{ShortArm}
 use Rattle.rc_build.specs.declared.values.BuiltValue.{BuiltValue}
 use Rattle.rc_build.specs.declared.values.TestArms.{TestArms}
+use Rattle.rc_build.specs.declared.value_terminals.ValueKind.{ValueKind}
+use Rattle.rc_build.specs.declared.value_terminals.ValueKind.TheVariants as kinds
 use Rattle.rc_build.specs.References.{referenced_blocks, value_references}
-use Rattle.rc_build.specs.RuleFacts.{BlockIs, IsBranchArm, IsValueReferenced, RuleFact, ValueBlockIs, branch_alternate, branch_arms, is_branch}
+use Rattle.rc_build.specs.RuleFacts.{BlockIs, IsBranchArm, IsValueReferenced, branch_alternate, branch_arms}
 use Rattle.rc_build.specs.RuleFacts.{times_referenced}
 use Rattle.rc_build.specs.inside.CanBuild.{AreReferenced}
 use Rattle.rc_build.specs.inside.Marks.{MarksBlocks}
 use Rattle.rc_build.specs.inside.Setting.{Setting}
 use Rattle.rc_build.specs.inside.SilentArms.{CanCheckSilent}
 use Rattle.rc_build.specs.inside.Task.{Progress}
-use Rattle.rc_build.specs.inside.Values.{AreShort, CanBuildValue, HasArms, HasNoValue, IsChoice, IsShort, ValueBuilt, alternate_of}
-use Rattle.rc_build.specs.inside.Values.{other_arm_of}
+use Rattle.rc_build.specs.inside.ValueKinds.{terminal_with}
+use Rattle.rc_build.specs.inside.Values.{CanBuildValue, HasArms, HasNoValue, IsChoice, IsShort, ValueBuilt}
+use Rattle.rc_build.specs.inside.Values.{alternate_of}
 use Rattle.rc_build.proofs.BuiltLemmas.{marking_drop, refused_back, refused_front}
 use Rattle.rc_build.proofs.LoopKindLemmas.{among_first}
 use Rattle.rc_build.proofs.MarksLemmas.{among_back, references_le, referenced_fewer, times_among, times_append}
@@ -44,9 +46,18 @@ referenced_used hir used pending key h among =
 abbrev pub in_part : Option Span → Option BlockId → Bool → ValueContext
 in_part span handler is_test = record { around = span; handler = handler; is_test = is_test }
 
--- a test with its first arm, and the blocks that are used behind them
-pub record TestParts (hir : HirFunction) (env : Environment) (test fallthrough : BlockId) (span : Option Span) (handler : Option BlockId)
-    (is_test : Bool) (blocks : List BlockId) : Type 0 where
+-- an arm is spelled
+pub record ArmSpelled (hir : HirFunction) (env : Environment) (key next : BlockId) (span : Option Span)
+    (handler : Option BlockId) (used : List BlockId) : Type 0 where
+  pub value : Value
+  pub end : ValueEnd
+  pub spelled : SpellsValue hir env key (in_part span handler false) value end used
+  pub goes : GoesTo next end
+
+-- a test with its first arm and the blocks that are used behind them: those of a second arm, but for the test of an
+-- optional, which shares its alternate
+pub record TestParts (hir : HirFunction) (env : Environment) (test fallthrough : BlockId) (span : Option Span)
+    (handler : Option BlockId) (is_test : Bool) (blocks : List BlockId) : Type 0 where
   pub condition : Value
   pub condition_end : ValueEnd
   pub test_used : List BlockId
@@ -54,21 +65,18 @@ pub record TestParts (hir : HirFunction) (env : Environment) (test fallthrough :
   pub alternate : BlockId
   pub tested : SpellsValue hir env test (in_part span handler is_test) condition condition_end test_used
   pub choice : ChoosesBetween env consequent alternate condition_end
-  pub value : Value
-  pub end : ValueEnd
   pub value_used : List BlockId
-  pub first : SpellsValue hir env consequent (in_part span handler false) value end value_used
-  pub goes : GoesTo fallthrough end
+  pub first : ArmSpelled hir env consequent fallthrough span handler value_used
   pub rest : List BlockId
+  pub second : is_test ≡ false → ArmSpelled hir env alternate fallthrough span handler rest
+  pub shared : is_test ≡ true → shares_alternate condition_end.left_open alternate ≡ true
   pub whole : blocks ≡ test_used ++ (value_used ++ rest)
 
--- the second arm is a value too
-pub record SecondPart (hir : HirFunction) (env : Environment) (fallthrough : BlockId) (span : Option Span) (handler : Option BlockId)
-    (alternate : BlockId) (rest : List BlockId) : Type 0 where
-  pub other : Value
-  pub end : ValueEnd
-  pub second : SpellsValue hir env alternate (in_part span handler false) other end rest
-  pub goes : GoesTo fallthrough end
+-- the kinds of value terminals that test, with the block of the test, and whether the test is that of an optional
+pub data Tests : ValueKind → BlockId → Bool → Type 0 where
+  ternary_tests : {test : BlockId} → Tests (kinds.Ternary test) test false
+  logical_tests : {operator : LogicalOperator} {test : BlockId} → Tests (kinds.Logical operator test) test false
+  optional_tests : {optional : Bool} {test : BlockId} → Tests (kinds.Optional optional test) test true
 
 -- an arm is built
 abbrev pub ArmBuilt : HirFunction → Environment → BlockId → BlockId → Option Span → Option BlockId → BuiltValue → Progress → Progress
@@ -205,8 +213,8 @@ module _ {hir : HirFunction} {env : Environment} where
         pub one_arms : (p.consequent ≡ arms.consequent) × (p.alternate ≡ arms.alternate) × (p.choice.span ≡ arms.span)
         one_arms = one_choice one_tested.1 p.choice (choice_of b.ends)
 
-        first_there : SpellsValue hir env arms.consequent (in_part span handler false) p.value p.end p.value_used
-        first_there = subst (λ z. SpellsValue hir env z (in_part span handler false) p.value p.end p.value_used) one_arms.0 p.first
+        first_there : ArmSpelled hir env arms.consequent fallthrough span handler p.value_used
+        first_there = subst (λ z. ArmSpelled hir env z fallthrough span handler p.value_used) one_arms.0 p.first
 
         behind_test : AreSound hir (old.marks.used ++ blocks) → AreSound hir (mid.marks.used ++ (p.value_used ++ p.rest))
         behind_test sound = refused_back hir old.marks.used b.newly (p.value_used ++ p.rest) sound
@@ -215,28 +223,58 @@ module _ {hir : HirFunction} {env : Environment} where
         -- and the first arm
         pub one_first : {first : BuiltValue} {new : Progress}
             → (f : ArmBuilt hir env arms.consequent fallthrough span handler first mid new) → p.value_used ≡ f.newly
-        one_first f = (one_value first_there f.spelled).2
+        one_first f = (one_value first_there.spelled f.spelled).2
 
         pub first_refused : HasNoArm hir env arms.consequent fallthrough span handler mid.marks.used
             → AreSound hir (old.marks.used ++ blocks) → ⊥
-        first_refused none sound = none p.value p.end p.value_used first_there p.goes
+        first_refused none sound =
+            none first_there.value first_there.end p.value_used first_there.spelled first_there.goes
             (refused_front hir mid.marks.used p.value_used p.rest (behind_test sound) refl)
 
-        pub second_refused : {first : BuiltValue} {new : Progress}
+        pub second_refused : {first : BuiltValue} {new : Progress} → is_test ≡ false
             → ArmBuilt hir env arms.consequent fallthrough span handler first mid new
             → HasNoArm hir env arms.alternate fallthrough span handler new.marks.used
-            → SecondPart hir env fallthrough span handler p.alternate p.rest → AreSound hir (old.marks.used ++ blocks) → ⊥
-        second_refused f none s sound =
-            let same = one_value first_there f.spelled in
-            none s.other s.end p.rest
-            (subst (λ z. SpellsValue hir env z (in_part span handler false) s.other s.end p.rest) one_arms.1 s.second) s.goes
-            (refused_back hir mid.marks.used f.newly p.rest (behind_test sound) (ap (λ z. z ++ p.rest) same.2) f.marking.used)
+            → AreSound hir (old.marks.used ++ blocks) → ⊥
+        second_refused is f none sound =
+            let s = subst (λ z. ArmSpelled hir env z fallthrough span handler p.rest) one_arms.1 (p.second is) in
+            none s.value s.end p.rest s.spelled s.goes
+            (refused_back hir mid.marks.used f.newly p.rest (behind_test sound) (ap (λ z. z ++ p.rest) (one_first f)) f.marking.used)
 
         -- the test leaves the arm open that the terminal shares
-        pub shares_same : shares_alternate p.condition_end.left_open p.alternate ≡ true
-            → shares_alternate (alternate_of tested.left_open) arms.alternate ≡ true
-        shares_same shared = ap (λ z. shares_alternate z arms.alternate) (b.is.left ∙ sym (ap (λ (e : ValueEnd). e.left_open) one_tested.1))
-            ∙ ap (λ z. shares_alternate p.condition_end.left_open z) (sym one_arms.1) ∙ shared
+        pub shares_same : is_test ≡ true → shares_alternate (alternate_of tested.left_open) arms.alternate ≡ true
+        shares_same is = ap (λ z. shares_alternate z arms.alternate)
+            (b.is.left ∙ sym (ap (λ (e : ValueEnd). e.left_open) one_tested.1))
+            ∙ ap (λ z. shares_alternate p.condition_end.left_open z) (sym one_arms.1) ∙ p.shared is
+
+  arm : {key next : BlockId} {span : Option Span} {handler : Option BlockId} {value : Value} {end : ValueEnd}
+      {used : List BlockId} → SpellsValue hir env key (in_part span handler false) value end used → GoesTo next end
+      → ArmSpelled hir env key next span handler used
+  arm {value = value} {end} d g = record { value = value; end = end; spelled = d; goes = g }
+
+  parts : {test consequent alternate fallthrough : BlockId} {span : Option Span} {handler : Option BlockId}
+      {is_test : Bool} {condition : Value} {condition_end : ValueEnd} {test_used value_used rest blocks : List BlockId}
+      → SpellsValue hir env test (in_part span handler is_test) condition condition_end test_used
+      → ChoosesBetween env consequent alternate condition_end
+      → ArmSpelled hir env consequent fallthrough span handler value_used
+      → (is_test ≡ false → ArmSpelled hir env alternate fallthrough span handler rest)
+      → (is_test ≡ true → shares_alternate condition_end.left_open alternate ≡ true)
+      → blocks ≡ test_used ++ (value_used ++ rest) → TestParts hir env test fallthrough span handler is_test blocks
+  parts {consequent = a} {alternate = b} {condition = c0} {condition_end = e0} {test_used = x} {value_used = y}
+      {rest = z} t c first second shared u = record {
+        condition = c0;
+        condition_end = e0;
+        test_used = x;
+        consequent = a;
+        alternate = b;
+        tested = t;
+        choice = c;
+        value_used = y;
+        first = first;
+        rest = z;
+        second = second;
+        shared = shared;
+        whole = u;
+      }
 
   -- a terminal whose test is refused is refused
   pub test_refused : {test fallthrough : BlockId} {span : Option Span} {handler : Option BlockId} {is_test : Bool} (used : List BlockId)
@@ -245,142 +283,30 @@ module _ {hir : HirFunction} {env : Environment} where
   test_refused used none p sound = none p.condition p.condition_end p.test_used p.tested (p.consequent, p.alternate, p.choice)
       (refused_front hir used p.test_used (p.value_used ++ p.rest) sound p.whole)
 
-  pub ternary_parts : {handler : Option BlockId} {test fallthrough : BlockId} {id : EvaluationOrder} {span : Option Span} {nested : Nested}
-      {blocks : List BlockId}
-      → SpellsNested hir env handler (terminals.Ternary test fallthrough id span) nested blocks
-      → (p : TestParts hir env test fallthrough span handler false blocks)
-      × SecondPart hir env fallthrough span handler p.alternate p.rest
-  ternary_parts (ternary_value {consequent = a} {alternate = b} {condition = c0} {value = v} {other = o} {condition_end = e0} {end = end}
-      {other_end = oe} {test_used = x} {value_used = y} {other_used = z} t c d g e h u) = (
-        record {
-          condition = c0;
-          condition_end = e0;
-          test_used = x;
-          consequent = a;
-          alternate = b;
-          tested = t;
-          choice = c;
-          value = v;
-          end = end;
-          value_used = y;
-          first = d;
-          goes = g;
-          rest = z;
-          whole = u;
-        },
-        record { other = o; end = oe; second = e; goes = h },
-      )
-
-  pub logical_parts : {handler : Option BlockId} {operator : LogicalOperator} {test fallthrough : BlockId} {id : EvaluationOrder} {span : Option Span} {nested : Nested}
-      {blocks : List BlockId}
+  -- the parts of a logical, whose first arm is silent
+  pub logical_parts : {handler : Option BlockId} {operator : LogicalOperator} {test fallthrough : BlockId}
+      {id : EvaluationOrder} {span : Option Span} {nested : Nested} {blocks : List BlockId}
       → SpellsNested hir env handler (terminals.Logical operator test fallthrough id span) nested blocks
       → (p : TestParts hir env test fallthrough span handler false blocks)
-      × SecondPart hir env fallthrough span handler p.alternate p.rest
       × SpellsSilentArm hir env handler fallthrough p.consequent p.value_used
-  logical_parts (logical_value {consequent = a} {alternate = b} {condition = c0} {value = v} {other = o} {condition_end = e0} {end = end}
-      {other_end = oe} {test_used = x} {value_used = y} {other_used = z} t c d s e h u) =
-      let g = silent_goes s d in (
-        record {
-          condition = c0;
-          condition_end = e0;
-          test_used = x;
-          consequent = a;
-          alternate = b;
-          tested = t;
-          choice = c;
-          value = v;
-          end = end;
-          value_used = y;
-          first = d;
-          goes = g;
-          rest = z;
-          whole = u;
-        },
-        record { other = o; end = oe; second = e; goes = h },
-        s,
-      )
+  unfolding parts
+  logical_parts (logical_value t c d s e h u) =
+      (parts t c (arm d (silent_goes s d)) (λ _. arm e h) (λ e. absurd (false≢true e)) u, s)
 
-  pub optional_parts : {handler : Option BlockId} {optional : Bool} {test fallthrough : BlockId} {id : EvaluationOrder} {span : Option Span} {nested : Nested}
-      {blocks : List BlockId}
-      → SpellsNested hir env handler (terminals.Optional optional test fallthrough id span) nested blocks
-      → (p : TestParts hir env test fallthrough span handler true blocks)
-      × (shares_alternate p.condition_end.left_open p.alternate ≡ true)
-  optional_parts (optional_value {consequent = a} {alternate = b} {condition = c0} {value = v} {condition_end = e0}
-      {end = end} {test_used = x} {value_used = y} t c shared d g u) = (
-        record {
-          condition = c0;
-          condition_end = e0;
-          test_used = x;
-          consequent = a;
-          alternate = b;
-          tested = t;
-          choice = c;
-          value = v;
-          end = end;
-          value_used = y;
-          first = d;
-          goes = g;
-          rest = [];
-          whole = u ∙ ap (λ z. x ++ z) (sym (append-nil y));
-        },
-        shared,
-      )
-
--- where no other arm is open, the alternate is shared
-pub other_none : (left : Option ShortArm) (alternate : BlockId) → other_arm_of left alternate ≡ None
-    → shares_alternate (alternate_of left) alternate ≡ true
-other_none None alternate e = refl
-other_none (Some arm) alternate e = go (same_id arm.alternate alternate) refl e
-  where
-    go : (b : Bool) → same_id arm.alternate alternate ≡ b
-        → ◌≡◌ {A = Option BlockId} (if b then None else Some arm.branch) None → same_id arm.alternate alternate ≡ true
-    go true q h = q
-    go false q h = let bad : ⊥ = cc in absurd bad
-
--- and where one is, it isn't
-pub other_some : (left : Option ShortArm) (alternate branch : BlockId) → other_arm_of left alternate ≡ Some branch
-    → shares_alternate (alternate_of left) alternate ≡ false
-other_some None alternate branch e = let bad : ⊥ = cc in absurd bad
-other_some (Some arm) alternate branch e = go (same_id arm.alternate alternate) refl e
-  where
-    go : (b : Bool) → same_id arm.alternate alternate ≡ b
-        → ◌≡◌ {A = Option BlockId} (if b then None else Some arm.branch) (Some branch)
-        → same_id arm.alternate alternate ≡ false
-    go true q h = let bad : ⊥ = cc in absurd bad
-    go false q h = q
-
--- a terminal with an alternate is a `Branch`
-alternate_branch : (terminal : Terminal) (alternate : BlockId) → branch_alternate terminal ≡ Some alternate
-    → is_branch terminal ≡ true
-alternate_branch (terminals.Branch test consequent other id span) alternate e = refl
-alternate_branch terminal alternate e = let bad : ⊥ = cc in absurd bad
-
--- the fact of the `Branch` that leaves another arm open
-pub short_fact : (hir : HirFunction) (left : Option ShortArm) (alternate branch : BlockId) → AreShort hir left
-    → other_arm_of left alternate ≡ Some branch → RuleFact hir rules.ShortArm branch
-short_fact hir None alternate branch short e = let bad : ⊥ = cc in absurd bad
-short_fact hir (Some arm) alternate branch short e = go (same_id arm.alternate alternate) e
-  where
-    go : (b : Bool) → ◌≡◌ {A = Option BlockId} (if b then None else Some arm.branch) (Some branch)
-        → RuleFact hir rules.ShortArm branch
-    go true h = let bad : ⊥ = cc in absurd bad
-    go false h =
-        let same : arm.branch ≡ branch = cc in
-        subst (λ z. ValueBlockIs hir z (λ block. is_branch block.terminal ≡ true)) same (record {
-          referenced = short.referenced;
-          here = record {
-            block = short.here.block;
-            found = short.here.found;
-            holds = alternate_branch short.here.block.terminal arm.alternate short.here.holds;
-          };
-        })
+  -- the parts of a terminal that tests
+  pub tested_parts : {handler : Option BlockId} {kind : ValueKind} {test fallthrough : BlockId} (id : EvaluationOrder)
+      {span : Option Span} {is_test : Bool} {nested : Nested} {blocks : List BlockId} → Tests kind test is_test
+      → SpellsNested hir env handler (terminal_with kind fallthrough id span) nested blocks
+      → TestParts hir env test fallthrough span handler is_test blocks
+  tested_parts id ternary_tests (ternary_value t c d g e h u) =
+      parts t c (arm d g) (λ _. arm e h) (λ e. absurd (false≢true e)) u
+  tested_parts id logical_tests d = (logical_parts d).0
+  tested_parts id optional_tests (optional_value {test_used = x} {value_used = y} t c shared d g u) =
+      parts t c (arm d g) (λ e. absurd (false≢true (sym e))) (λ _. shared) (u ∙ ap (λ z. x ++ z) (sym (append-nil y)))
 
 -- what is built in the same setting
-pub arm_at : {s t : Setting} {key next : BlockId} {span : Option Span} {handler : Option BlockId} {built : BuiltValue} {old new : Progress} → s ≡ t
-    → ArmBuilt s.hir s.env key next span handler built old new → ArmBuilt t.hir t.env key next span handler built old new
+pub arm_at : {s t : Setting} {key next : BlockId} {span : Option Span} {handler : Option BlockId} {built : BuiltValue}
+    {old new : Progress} → s ≡ t → ArmBuilt s.hir s.env key next span handler built old new
+    → ArmBuilt t.hir t.env key next span handler built old new
 arm_at {key = key} {next} {span} {handler} {built} {old} {new} same b =
     subst (λ (z : Setting). ArmBuilt z.hir z.env key next span handler built old new) same b
-
-pub no_arm_at : {s t : Setting} (key next : BlockId) (span : Option Span) (handler : Option BlockId) (used : List BlockId) → s ≡ t
-    → HasNoArm s.hir s.env key next span handler used → HasNoArm t.hir t.env key next span handler used
-no_arm_at key next span handler used same none = subst (λ (z : Setting). HasNoArm z.hir z.env key next span handler used) same none

@@ -5,7 +5,7 @@ use Rattle.std.proofs.Common.{sym, ap, ◌∙◌, subst, arith}
 use Rattle.std.specs.Prelude.{is_some}
 use Rattle.std.specs.Option.{option_to_list}
 use Rattle.std.proofs.lemmas.List.{append-nil}
-use Rattle.rc_names.specs.Numbers.{BlockId, EvaluationOrder, times}
+use Rattle.rc_names.specs.Numbers.{BlockId, EvaluationOrder}
 use Rattle.rc_names.specs.declared.span.Span.{Span}
 use Rattle.rc_hir.specs.Model.{Place, Fault, HirFunction}
 use Rattle.rc_hir.specs.declared.fault.Fault.TheVariants as faults
@@ -15,7 +15,7 @@ use Rattle.rc_hir.specs.declared.terminal.Terminal.TheVariants as terminals
 use Rattle.rc_runs.specs.declared.frames.Frame.{Frame}
 use Rattle.rc_runs.specs.ListContext.{is_current}
 use Rattle.rc_runs.specs.PlainTree.{Statements, Nil}
-use Rattle.rc_runs.specs.Grammar.{SpellsTerminal, and_rest, is_next, leaves_try, may_throw, may_throw_last, throws}
+use Rattle.rc_runs.specs.Grammar.{and_rest, is_next, leaves_try, may_throw, may_throw_last, throws}
 use Rattle.rc_runs.specs.Grammar.{value_statement}
 use Rattle.rc_build.specs.declared.builder.Builder.{Builder}
 use Rattle.rc_build.specs.declared.builder.Marks.{Marks}
@@ -23,8 +23,8 @@ use Rattle.rc_build.specs.declared.builder.Site.{Site}
 use Rattle.rc_build.specs.RuleFacts.{HasTry, RuleFact, is_leave, is_throw, names_handler}
 use Rattle.rc_build.specs.inside.CanBuild.{CanBuildTerminal, IsHandler}
 use Rattle.rc_build.specs.inside.Setting.{Setting, setting_of}
-use Rattle.rc_build.specs.inside.Task.{FromBlock, FromTerminal, Spells, left, progress_of}
-use Rattle.rc_build.specs.inside.Built.{BuildsTask, BuiltPrefix, Refused}
+use Rattle.rc_build.specs.inside.Task.{FromBlock, FromTerminal, Spells, left}
+use Rattle.rc_build.specs.inside.Built.{BuildsTask, Refused}
 use Rattle.rc_build.proofs.BuildsLemmas.{breaks_rule, is_built}
 use Rattle.rc_build.proofs.BuiltLemmas.{marking_drop, marking_none}
 use Rattle.rc_build.proofs.JumpLemmas.{builds_end}

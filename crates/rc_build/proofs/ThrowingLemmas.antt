@@ -1,30 +1,36 @@
 -- A block of a value that may throw, and behind which the value goes on: when it is refused, and its row.
-use Rattle.std.proofs.Common.{◌≡◌, true, false, List, [], ◌∷◌, Option, Some, None, refl, sym, ap, ◌∙◌, subst}
-use Rattle.std.proofs.Common.{arith, not, ◌&&◌}
+use Rattle.std.proofs.Common.{◌≡◌, true, false, List, [], ◌∷◌, Option, Some, None, refl, sym, ap, ◌∙◌, subst, arith}
+use Rattle.std.proofs.Common.{not, ◌&&◌, Err}
 use Rattle.rc_names.specs.Numbers.{BlockId, same_id, is_among}
 use Rattle.rc_hir.specs.Terminal.{evaluation_order}
-use Rattle.rc_hir.specs.Model.{BasicBlock, HirFunction, Environment}
+use Rattle.rc_hir.specs.Model.{BasicBlock, HirFunction, Environment, Fault}
+use Rattle.rc_hir.specs.declared.fault.Fault.TheVariants as faults
+use Rattle.rc_hir.specs.declared.fault.Rule.TheVariants as rules
 use Rattle.rc_tree.specs.Model.{ReactiveInstruction}
 use Rattle.rc_runs.specs.Graph.{Block, basic_block, block_at, has_all_ids, is_empty_goto, usable_block}
 use Rattle.rc_runs.specs.LastRow.{ends_value}
 use Rattle.rc_runs.specs.ListContext.{ValueContext, is_current}
 use Rattle.rc_runs.specs.PlainTree.{Value}
 use Rattle.rc_runs.specs.Silent.{is_unset}
-use Rattle.rc_runs.specs.ValueGrammar.{ValueEnd, SpellsValue, named_test, last_block, last_throw, may_throw as throws_on}
-use Rattle.rc_runs.specs.ValueGrammar.{value_row}
+use Rattle.rc_runs.specs.ValueGrammar.{ValueEnd, SpellsValue, named_test, last_block, last_throw}
+use Rattle.rc_runs.specs.ValueGrammar.{may_throw as throws_on, value_row}
+use Rattle.rc_build.specs.declared.builder.Builder.{Builder}
 use Rattle.rc_build.specs.declared.builder.Marks.{Marks}
+use Rattle.rc_build.specs.declared.builder.Site.{Site}
 use Rattle.rc_build.specs.declared.handlers.MayThrow.{MayThrow}
 use Rattle.rc_build.specs.References.{referenced_blocks, value_references}
 use Rattle.rc_build.specs.RuleFacts.{BlockIs, IsValueReferenced}
+use Rattle.rc_build.specs.inside.Built.{Builds}
 use Rattle.rc_build.specs.inside.CanBuild.{CanBuildList}
 use Rattle.rc_build.specs.inside.Marks.{MarksBlocks}
 use Rattle.rc_build.specs.inside.Task.{Progress}
 use Rattle.rc_build.specs.inside.Throws.{may_throw}
 use Rattle.rc_build.specs.inside.ValueTerminals.{ThrowingBuilt}
 use Rattle.rc_build.specs.inside.Values.{CanMark, HasNoValue, HasRows, Marked, any_end}
+use Rattle.rc_build.proofs.BuildsLemmas.{breaks_rule}
 use Rattle.rc_build.proofs.BuiltLemmas.{marking_drop}
 use Rattle.rc_build.proofs.LoopKindLemmas.{among_first}
-use Rattle.rc_build.proofs.MayThrowLemmas.{nested_stays, throws_as, throws_unended, throws_unscoped}
+use Rattle.rc_build.proofs.MayThrowLemmas.{nested_stays, throws_as, throws_unended, throws_unscoped, handler_fact}
 use Rattle.rc_build.proofs.UsableLemmas.{filled, usable_made}
 use Rattle.rc_build.proofs.ValueLemmas.{same_terminal}
 use Rattle.rc_build.proofs.ValueRowsLemmas.{instructions_of-rows_then}
@@ -64,14 +70,6 @@ module _ (hir : HirFunction) (key : BlockId) (block : BasicBlock) (found : basic
       let alike = ap may_throw (same_terminal hir key block found whole usable) ∙ throws in
       let stays = nested_stays d in
       let bad : ⊥ = cc in absurd bad
-
-  -- so one that names another handler is refused
-  pub value_handled : (env : Environment) (context : ValueContext) (handler : Option BlockId) (used : List BlockId)
-      → context.handler ≡ handler → is_current throw.handler handler ≡ false → HasNoValue hir env key context any_end used
-  value_handled env context handler used same other value end blocks d asked sound =
-      let current = value_current d in
-      let not = ap (is_current throw.handler) same ∙ other in
-      let bad : ⊥ = cc in bad
 
   -- the ids of the block are set
   pub throwing_ids : (made : List ReactiveInstruction) (rows : HasRows hir block.instructions made)
@@ -141,3 +139,18 @@ module _ (hir : HirFunction) (key : BlockId) (block : BasicBlock) (found : basic
         marking = throwing_marking m;
         kept = m.kept;
       }
+
+-- so one that names another handler is refused
+pub other_handler : {A : Type 0} {old new : Builder} {site : Site} {Built : A → Type 0} {fault : Fault} {key : BlockId}
+    {block : BasicBlock} {throw : MayThrow} {context : ValueContext} {handler : Option BlockId}
+    → basic_block old.hir.now key ≡ Some block → BlockIs old.hir.now key (λ z. may_throw z.terminal ≡ Some throw)
+    → context.handler ≡ handler → is_current throw.handler handler ≡ false → fault ≡ faults.Malformed key rules.Handler
+    → Builds old new site Built (HasNoValue old.hir.now old.env.now key context any_end old.marks.used) (Err fault)
+other_handler {old = old} {key = key} {block} {throw} {handler = handler} found here same other is =
+    let throws = block_throws found here in
+    breaks_rule key rules.Handler is
+    (λ value end blocks d asked sound.
+    let current = value_current old.hir.now key block found throw throws d in
+    let not = ap (is_current throw.handler) same ∙ other in
+    let bad : ⊥ = cc in bad)
+    (handler_fact old.hir.now key block found throw handler throws other)

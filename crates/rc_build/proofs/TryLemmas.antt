@@ -13,18 +13,18 @@ use Rattle.rc_runs.specs.declared.frames.Frame.TheVariants as frame_kinds
 use Rattle.rc_runs.specs.ListContext.{ListContext, inside, protected_by}
 use Rattle.rc_runs.specs.PlainTree.{Statements, TerminalStatement, Try}
 use Rattle.rc_runs.specs.TreeOf.{statements_of}
-use Rattle.rc_runs.specs.Grammar.{SpellsList, SpellsStatement, SpellsTerminal, label_of, opens_reachable}
-use Rattle.rc_runs.specs.Grammar.{try_statement, value_statement, and_rest}
+use Rattle.rc_runs.specs.Grammar.{SpellsList, SpellsStatement, SpellsTerminal, label_of, opens_reachable, try_statement}
+use Rattle.rc_runs.specs.Grammar.{value_statement, and_rest}
 use Rattle.rc_runs.proofs.OneTree.{one_list, part_at, protected_at}
 use Rattle.rc_build.specs.declared.builder.Builder.{Builder}
 use Rattle.rc_build.specs.declared.builder.Marks.{Marks}
 use Rattle.rc_build.specs.declared.builder.Site.{Site}
 use Rattle.rc_build.specs.RuleFacts.{HasTry, is_try}
 use Rattle.rc_build.specs.inside.CanBuild.{CanBuildList, CanBuildTerminal}
-use Rattle.rc_build.specs.inside.Setting.{Setting, label_at, open_block, part_setting, setting_of}
-use Rattle.rc_build.specs.inside.Setting.{terminal_statement}
+use Rattle.rc_build.specs.inside.Setting.{Setting, label_at, open_block, part_setting, setting_of, terminal_statement}
 use Rattle.rc_build.specs.inside.Task.{Progress, FromBlock, FromTerminal, left, Spells, progress_of}
 use Rattle.rc_build.specs.inside.Built.{Builds, BuiltPrefix, BuiltList, Refused}
+use Rattle.rc_build.proofs.BuildsLemmas.{same_graph}
 use Rattle.rc_build.proofs.BuiltLemmas.{marking_beside, marking_then, refused_back, refused_front, statement_prefix}
 use Rattle.rc_build.proofs.BuiltLemmas.{is_some-opened}
 use Rattle.rc_build.proofs.StatementLemmas.{label_at-opened}
@@ -66,7 +66,7 @@ part_there {old} {new} {part = part} {result} at frame is built =
 pub same_elsewhere : (old new : Builder) (site there : Site) → setting_of new there ≡ setting_of old there
     → setting_of new site ≡ setting_of old site
 same_elsewhere old new site there e =
-    let hir : new.hir.now ≡ old.hir.now = ap (λ (z : Setting). z.hir) e in
+    let hir : new.hir.now ≡ old.hir.now = same_graph e in
     let env : new.env.now ≡ old.env.now = ap (λ (z : Setting). z.env) e in
     let frames : new.frames ≡ old.frames = ap (λ (z : Setting). z.context.frames) e in
     cc

@@ -3,7 +3,7 @@ use Rattle.std.proofs.Common.{◌≡◌, Bool, true, false, List, [], ◌∷◌,
 use Rattle.std.proofs.Common.{arith, inl, eq-eqb, ◌&&◌}
 use Rattle.rc_names.specs.Numbers.{BlockId, same_id}
 use Rattle.rc_names.specs.declared.span.Span.{Span}
-use Rattle.rc_hir.specs.Model.{Instruction, Terminal, HirFunction, Environment}
+use Rattle.rc_hir.specs.Model.{Instruction, Terminal, HirFunction, Environment, Place}
 use Rattle.rc_hir.specs.declared.fault.Rule.TheVariants as rules
 use Rattle.rc_hir.specs.declared.terminal.Terminal.TheVariants as terminals
 use Rattle.rc_tree.specs.Model.{ReactiveValue}
@@ -13,8 +13,9 @@ use Rattle.rc_runs.specs.ListContext.{ValueContext}
 use Rattle.rc_runs.specs.PlainTree.{Value}
 use Rattle.rc_runs.specs.TreeOf.{instructions_of, value_of}
 use Rattle.rc_runs.specs.AnsweredTest.{same_declaration}
-use Rattle.rc_runs.specs.ValueGrammar.{ValueEnd, ChoosesBetween, GoesTo, SpellsGoing, SpellsShortArm, SpellsTest, SpellsValue}
-use Rattle.rc_runs.specs.ValueGrammar.{named_test, last_block, last_throw, may_throw as throws_on, value_row, shown}
+use Rattle.rc_runs.specs.ValueGrammar.{ValueEnd, ChoosesBetween, GoesTo, SpellsGoing, SpellsShortArm, SpellsTest}
+use Rattle.rc_runs.specs.ValueGrammar.{SpellsValue, named_test, last_block, last_throw, may_throw as throws_on}
+use Rattle.rc_runs.specs.ValueGrammar.{value_row, shown}
 use Rattle.rc_runs.proofs.OneValue.{one_value}
 use Rattle.rc_build.specs.declared.short_arms.ShortArm.{ShortArm}
 use Rattle.rc_build.specs.declared.values.BuiltValue.{BuiltValue}
@@ -22,14 +23,20 @@ use Rattle.rc_build.specs.declared.values.TestArms.{TestArms}
 use Rattle.rc_build.specs.declared.values.ValueRow.{ValueRow}
 use Rattle.rc_build.specs.RuleFacts.{RuleFact, ValueBlockIs, is_branch}
 use Rattle.rc_build.specs.inside.Built.{BuiltPart, Refused}
+use Rattle.rc_build.specs.inside.Setting.{Setting}
 use Rattle.rc_build.specs.inside.Task.{Progress}
 use Rattle.rc_build.specs.inside.ValueTerminals.{PutBehind, ShortBuilt, row_answers}
-use Rattle.rc_build.specs.inside.Values.{AreShort, EndsAlike, HasArms, HasNoValue, IsBuilt, IsChoice, ValueBuilt, alternate_of}
-use Rattle.rc_build.specs.inside.Values.{arms_of, behind_rows, goes_to}
+use Rattle.rc_build.specs.inside.Values.{AreShort, EndsAlike, HasArms, HasNoValue, IsBuilt, IsChoice, ValueBuilt}
+use Rattle.rc_build.specs.inside.Values.{alternate_of, arms_of, behind_rows, goes_to}
 use Rattle.rc_build.proofs.TestPartLemmas.{ArmBuilt, ConditionBuilt, HasNoArm, arm_marking, choice_of, in_part}
 use Rattle.rc_build.proofs.BuiltLemmas.{marking_drop}
 use Rattle.rc_build.proofs.ValueLemmas.{arms_of-branch, arms_of-not, goes_to-goto, goes_to-not}
 use Rattle.rc_build.proofs.ValueRowsLemmas.{behind_instructions}
+
+-- two places are of one declaration in the same setting
+pub declared_in : {s t : Setting} {b : Bool} (test answer : Place) → s ≡ t → same_declaration s.env test answer ≡ b
+    → same_declaration t.env test answer ≡ b
+declared_in test answer same is = sym (ap (λ (z : Setting). same_declaration z.env test answer) same) ∙ is
 
 -- a block that only goes on ends values
 only_ends : (rows : List Instruction) (terminal : Terminal) → only_goes rows terminal ≡ true → ends_value terminal ≡ true

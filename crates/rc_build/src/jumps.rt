@@ -7,20 +7,17 @@ ghost use Rattle.rc_names.specs.declared.span.Span.{Span};
 ghost use Rattle.rc_hir.specs.Model.{Terminal};
 ghost use Rattle.rc_hir.specs.declared.terminal.GotoVariant.TheVariants as variants;
 ghost use Rattle.rc_hir.specs.declared.terminal.Terminal.TheVariants as terminals;
-ghost use Rattle.rc_tree.specs.declared.terminal.ReactiveTerminal.TheVariants as tree;
 ghost use Rattle.rc_runs.specs.Frames.{resolve_break};
 ghost use Rattle.rc_runs.specs.Grammar.{break_statements, is_next};
 ghost use Rattle.rc_build.specs.inside.CanBuild.{CanBreak, CanBuildTerminal};
 ghost use Rattle.rc_build.specs.inside.Task.{FromTerminal, left};
 ghost use Rattle.rc_build.specs.inside.Built.{Builds, BuildsTask, PutsBreak};
-ghost use Rattle.rc_build.specs.inside.Setting as settings;
 
 use crate::builder::{Builder, Site, is_next, malformed, terminal_statement};
 use rc_hir::{Fault, GotoVariant, Place, Rule};
 use rc_names::{BlockId, EvaluationOrder};
 use rc_runs::{BreakResult, ContinueResult};
-use rc_tree::{ReactiveStatement, ReactiveTerminal, ReactiveTerminalTargetKind};
-use std::alloc::{AllocError, Global};
+use rc_tree::ReactiveTerminal;
 
 impl<'g> Builder<'g> {
     /// Builds a return, which ends the list. The only error is out of memory.
@@ -121,8 +118,13 @@ impl<'g> Builder<'g> {
             BreakResult::LeavesScope => Err(malformed(site.block, Rule::ScopeBreak)),
             BreakResult::LeavesCase => Err(malformed(site.block, Rule::CaseLabel)),
             BreakResult::FallsOff => Ok(()),
-            BreakResult::Breaks(kind) => {
-                let statement = break_statement(self.alloc, target, kind, id)?;
+            BreakResult::Breaks(target_kind) => {
+                let terminal = ReactiveTerminal::Break {
+                    target,
+                    target_kind,
+                    id,
+                };
+                let statement = terminal_statement(self.alloc, terminal, None)?;
                 self.out.push(statement)?;
                 Ok(())
             }
@@ -145,7 +147,12 @@ impl<'g> Builder<'g> {
         match self.frames.resolve_continue(target) {
             ContinueResult::NoLoop => Err(malformed(site.block, Rule::ContinueTarget)),
             ContinueResult::Continues { target, kind } => {
-                let statement = continue_statement(self.alloc, target, kind, id)?;
+                let terminal = ReactiveTerminal::Continue {
+                    target,
+                    target_kind: kind,
+                    id,
+                };
+                let statement = terminal_statement(self.alloc, terminal, None)?;
                 self.out.push(statement)?;
                 Ok(None)
             }
@@ -164,40 +171,4 @@ fn leave_try(site: Site, target: BlockId) -> Result<Option<BlockId>, Fault>
         return Err(malformed(site.block, Rule::GotoTry));
     }
     Ok(None)
-}
-
-/// The statement of a break. The only error is out of memory.
-fn break_statement(
-    alloc: Global,
-    target: BlockId,
-    target_kind: ReactiveTerminalTargetKind,
-    id: EvaluationOrder,
-) -> Result<ReactiveStatement, AllocError>
-    ensures { IfOk result (λ statement.
-        statement ≡ settings.terminal_statement (tree.Break target target_kind id) None) }
-{
-    let terminal = ReactiveTerminal::Break {
-        target,
-        target_kind,
-        id,
-    };
-    terminal_statement(alloc, terminal, None)
-}
-
-/// The statement of a continue. The only error is out of memory.
-fn continue_statement(
-    alloc: Global,
-    target: BlockId,
-    target_kind: ReactiveTerminalTargetKind,
-    id: EvaluationOrder,
-) -> Result<ReactiveStatement, AllocError>
-    ensures { IfOk result (λ statement.
-        statement ≡ settings.terminal_statement (tree.Continue target target_kind id) None) }
-{
-    let terminal = ReactiveTerminal::Continue {
-        target,
-        target_kind,
-        id,
-    };
-    terminal_statement(alloc, terminal, None)
 }

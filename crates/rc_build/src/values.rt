@@ -15,7 +15,7 @@ ghost use Rattle.rc_runs.specs.TreeOf.{value_of};
 ghost use Rattle.rc_runs.specs.ValueGrammar.{GoesTo, SpellsGoing, SpellsTest, ValueEnd};
 ghost use Rattle.rc_runs.specs.ValueGrammar as grammar;
 ghost use Rattle.rc_build.specs.declared.builder.Site.{Site};
-ghost use Rattle.rc_build.specs.inside.Built.{Builds, BuiltPart, Refused};
+ghost use Rattle.rc_build.specs.inside.Built.{Builds};
 ghost use Rattle.rc_build.specs.inside.Marks.{IsUnusable};
 ghost use Rattle.rc_build.specs.inside.Setting.{setting_of};
 ghost use Rattle.rc_build.specs.inside.Task.{progress_of};
@@ -119,9 +119,7 @@ impl<'g> Builder<'g> {
         requires { spec.CanBuildValue self.old.hir.now self.old.marks key }
         ensures { let Spelled = SpellsGoing self.old.hir.now self.old.env.now showing.flat key
             (value_context showing.span (setting_of self.old site).context) next in
-            Builds self.old self.new site
-            (λ built. BuiltPart value_of Spelled self.old.hir.now (key ∷ []) built (progress_of self.old)
-            (progress_of self.new)) (Refused self.old.hir.now Spelled self.old.marks.used) result }
+            spec.BuildsShown self.old self.new site key Spelled result }
     {
         let built = self.build_arm(key, next, showing.around(site))?;
         Ok(built.shown(self.alloc, showing)?)
@@ -142,9 +140,7 @@ impl<'g> Builder<'g> {
         requires { spec.CanBuildValue self.old.hir.now self.old.marks key }
         ensures { let Spelled = SpellsTest self.old.hir.now self.old.env.now showing.flat key
             (value_context showing.span (setting_of self.old site).context) consequent alternate in
-            Builds self.old self.new site
-            (λ built. BuiltPart value_of Spelled self.old.hir.now (key ∷ []) built (progress_of self.old)
-            (progress_of self.new)) (Refused self.old.hir.now Spelled self.old.marks.used) result }
+            spec.BuildsShown self.old self.new site key Spelled result }
     {
         let condition = self.build_condition(key, showing.around(site), false)?;
         if !condition.arms.are(consequent, alternate) {

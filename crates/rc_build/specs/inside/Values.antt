@@ -38,7 +38,7 @@ use Rattle.rc_build.specs.inside.CanBuild.{CanBuildList}
 use Rattle.rc_build.specs.inside.Marks.{MarksBlocks}
 use Rattle.rc_build.specs.inside.Rows.{HasIds}
 use Rattle.rc_build.specs.inside.Task.{Progress, progress_of}
-use Rattle.rc_build.specs.inside.Built.{Builds}
+use Rattle.rc_build.specs.inside.Built.{Builds, BuiltPart, Refused}
 use Rattle.rc_build.specs.inside.Throws.{may_throw, throw_at}
 use Rattle.rc_build.specs.inside.ValueKinds.{terminal_at}
 use Rattle.rc_build.specs.inside.ValueSteps.{step_at}
@@ -265,3 +265,10 @@ BuildsCondition old new site key context result = Builds old new site
     (λ built. ValueBuilt old.hir.now old.env.now key context (HasArms old.env.now built.arms) built.tested
     (progress_of old) (progress_of new))
     (HasNoValue old.hir.now old.env.now key context (IsChoice old.env.now) old.marks.used) result
+
+-- what a function ensures that builds a value as a loop shows it
+abbrev pub BuildsShown : Builder → Builder → Site → BlockId → (Value → List BlockId → Type 0) → Result ReactiveValue Fault
+    → Type 0
+BuildsShown old new site key Spelled result = Builds old new site
+    (λ built. BuiltPart value_of Spelled old.hir.now (key ∷ []) built (progress_of old) (progress_of new))
+    (Refused old.hir.now Spelled old.marks.used) result

@@ -15,13 +15,12 @@ use Rattle.rc_build.specs.inside.Enclosures.{statement_around}
 use Rattle.rc_build.specs.inside.Setting.{Setting, part_setting, setting_of}
 use Rattle.rc_build.specs.inside.Task.{progress_of, FromBlock, Spells}
 use Rattle.rc_build.specs.inside.Built.{Refused, BuiltList}
-use Rattle.rc_build.proofs.BuildsLemmas.{builds_terminal, builds_then, is_built, block_at, passes_on}
+use Rattle.rc_build.proofs.BuildsLemmas.{builds_terminal, builds_then, is_built, block_at, passes_on, same_graph}
 use Rattle.rc_build.proofs.BuiltLemmas.{whole_list}
 use Rattle.rc_build.proofs.EnclosureLemmas.{enclosure_built, enclosure_can, enclosure_refused}
-use Rattle.rc_build.proofs.ListLemmas.{list_done, list_further, list_next, list_refused, list_start, same_blocks}
-use Rattle.rc_build.proofs.ListLemmas.{used_longer}
+use Rattle.rc_build.proofs.ListLemmas.{fewer_left, list_done, list_further, list_next, list_refused, list_start}
+use Rattle.rc_build.proofs.ListLemmas.{same_blocks, used_longer}
 use Rattle.rc_build.proofs.JumpLemmas.{builds_end}
-use Rattle.rc_build.proofs.MarksLemmas.{room}
 use Rattle.rc_build.proofs.StatementLemmas.{setting_left, at_part_site}
 use Rattle.rc_build.proofs.builder.Builder.+builder.Goals as goal
 use Rattle.rc_build.proofs.builder.Builder.+builder.Answers.Loops as loops
@@ -53,12 +52,11 @@ build_list-list-preserved t c =
 pub build_list-list-smaller : goal.build_list-list-smaller
 build_list-list-smaller t c =
     let step = block_at {site = c.args.site} c.in-Some.block c.at.ensures c.in_ok-at.ensures.builds in
-    let r = room c.list.self.hir.now c.build_block.new.self.marks step.ok.marking.marked in
-    omega (arith, r, same_blocks c.list.self c.build_block.new.self c.args.site step.frames, c.in_ok-at.ensures.more)
+    omega (arith, fewer_left step step.ok.marking.marked c.in_ok-at.ensures.more)
 
 pub build_list-returns-in_err-at : goal.build_list-returns-in_err-at
 build_list-returns-in_err-at t c =
-    passes_on c.from_residual.ensures.1 (ap (λ (z : Setting). z.hir) c.list.invariant.setting)
+    passes_on c.from_residual.ensures.1 (same_graph c.list.invariant.setting)
     (block_at {site = c.args.site} c.in-Some.block c.at.ensures c.in_err-at.ensures.builds)
     (list_refused c.in-Some.is c.list.invariant)
 
@@ -76,12 +74,7 @@ pub build_block-build_terminal-requires : goal.build_block-build_terminal-requir
 build_block-build_terminal-requires t c =
     let taken = c.in_ok-terminal.ensures in
     let mid = c.take_block.new.self in (
-      omega (
-        arith,
-        room c.args.self.now.hir.now mid.marks taken.ok.ready.marked,
-        same_blocks c.args.self.now mid c.args.site taken.frames,
-        taken.ok.more,
-      ),
+      omega (arith, fewer_left taken taken.ok.ready.marked taken.ok.more),
       subst (λ (z : Setting). CanBuildTerminal z.hir mid.marks c.args.site.handler z.context.frames c.args.site.block
           c.in_ok-terminal.terminal.now) (sym taken.frames) taken.ok.ready,
     )

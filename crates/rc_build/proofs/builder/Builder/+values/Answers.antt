@@ -1,69 +1,43 @@
-use Rattle.std.proofs.Common.{[], ◌∷◌, ◌++◌, Some, None, refl, sym, ap, ◌∙◌, subst, arith, length, drop, Err}
+use Rattle.std.proofs.Common.{[], ◌∷◌, refl, sym, ap, ◌∙◌, subst, arith, length, true, ◌++◌, Some, Err, ◌≡◌, eq-eqb}
+use Rattle.std.proofs.Common.{ne_eqb}
 use Rattle.std.proofs.lemmas.List.{length-append}
-use Rattle.rc_names.specs.Numbers.{BlockId}
 use Rattle.rc_hir.specs.declared.fault.Rule.TheVariants as rules
-use Rattle.rc_build.specs.declared.builder.Site.{Site}
-use Rattle.rc_build.specs.inside.Setting.{Setting}
-use Rattle.rc_build.specs.inside.ValueTerminals.{RowsSoFar}
-use Rattle.rc_runs.specs.ValueGrammar.{GoesTo}
-use Rattle.rc_build.specs.inside.ValueSteps.{value_at}
-use Rattle.rc_build.specs.inside.Values.{CanBuildValue, IsChoice}
-use Rattle.rc_build.proofs.BuildsLemmas.{breaks_rule, fails, is_built, passes_on}
-use Rattle.rc_build.proofs.ListLemmas.{same_blocks, used_longer}
-use Rattle.rc_build.proofs.MarksLemmas.{room}
-use Rattle.rc_build.proofs.NestedLemmas.{nested_around, sequence_built, sequence_can, sequence_refused}
-use Rattle.rc_build.proofs.ValueEndLemmas.{arms_as, arms_none, arms_unlike, end_elsewhere, ends_as, ends_not, goes_as}
-use Rattle.rc_build.proofs.ValueEndLemmas.{goes_not, tested_fact}
-use Rattle.rc_build.proofs.ValueLoopLemmas.{back_done, back_further, back_refused, back_start, further_can, last_can}
-use Rattle.rc_build.proofs.ValueLoopLemmas.{built_at, popped_last, popped_none, rows_further, rows_refused, rows_start, short_can}
-use Rattle.std.proofs.Common.{◌≡◌, true, eq-eqb, ne_eqb}
-use Rattle.rc_runs.specs.AnsweredTest.{same_declaration}
+use Rattle.rc_runs.specs.PlainTree.{NoRows, Row, Sequence}
 use Rattle.rc_runs.specs.Silent.{is_unset}
-use Rattle.rc_runs.specs.PlainTree.{Sequence, Row, NoRows}
 use Rattle.rc_runs.specs.TreeOf.{value_of}
-use Rattle.rc_runs.specs.ValueGrammar.{SpellsNested}
-use Rattle.rc_build.specs.declared.values.Around.{Around}
+use Rattle.rc_runs.specs.ValueGrammar.{GoesTo, SpellsNested}
 use Rattle.rc_build.specs.declared.value_terminals.ValueKind.TheVariants as kinds
-use Rattle.rc_build.specs.inside.Built.{Refused}
-use Rattle.rc_build.specs.inside.SilentArms.{AreArmBlocks, CanCheckSilent}
-use Rattle.rc_build.specs.inside.ValueKinds.{terminal_of}
-use Rattle.rc_build.specs.inside.ValueTerminals.{BuildsNested, CanBuildNested, NestedBuilt}
+use Rattle.rc_build.specs.declared.values.Around.{Around}
+use Rattle.rc_build.specs.inside.Setting.{Setting}
 use Rattle.rc_build.specs.inside.Task.{progress_of}
-use Rattle.rc_build.specs.inside.Values.{HasRows, any_end}
-use Rattle.rc_build.proofs.BuildsLemmas.{fails_at}
+use Rattle.rc_build.specs.inside.ValueKinds.{terminal_of}
+use Rattle.rc_build.specs.inside.ValueSteps.{value_at}
+use Rattle.rc_build.specs.inside.ValueTerminals.{CanBuildNested, NestedBuilt, RowsSoFar}
+use Rattle.rc_build.specs.inside.Values.{HasRows, IsChoice, any_end}
+use Rattle.rc_build.proofs.BuildsLemmas.{any_site, breaks_rule, builds_at, fails, fails_at, is_built, passes_on}
+use Rattle.rc_build.proofs.BuildsLemmas.{refused_in, same_graph}
+use Rattle.rc_build.proofs.ListLemmas.{as_few_left, fewer_left, same_blocks, used_longer}
 use Rattle.rc_build.proofs.MarksLemmas.{referenced_once}
-use Rattle.rc_build.proofs.NestedLemmas.{logical_built, logical_can, optional_built, optional_can, ternary_built, ternary_can}
+use Rattle.rc_build.proofs.NestedLemmas.{logical_built, nested_around, nested_of, optional_built, sequence_built}
+use Rattle.rc_build.proofs.NestedLemmas.{sequence_refused, ternary_built}
 use Rattle.rc_build.proofs.RowBuiltLemmas.{row_built, row_can_mark, row_nested_can, row_refused, row_unset}
 use Rattle.rc_build.proofs.RowBuiltLemmas.{row_unset_refused}
-use Rattle.rc_build.proofs.StepLemmas.{builds_as, row_can, row_step, throwing_can, throwing_step}
-use Rattle.rc_build.proofs.ValueRowLemmas.{step_starts}
-use Rattle.rc_build.proofs.SilentValueLemmas.{arm_silent, blocks_since}
-use Rattle.rc_build.proofs.TestPartLemmas.{arm_at, first_can, first_refused, logical_parts, no_arm_at, one_first, silent_can}
-use Rattle.rc_build.proofs.TestPartLemmas.{optional_parts, other_none, other_some, second_can, second_refused, shares_same}
-use Rattle.rc_build.proofs.TestPartLemmas.{short_fact, ternary_parts, test_refused}
+use Rattle.rc_build.proofs.ShortArmLemmas.{other_none, other_some, short_fact}
+use Rattle.rc_build.proofs.SilentValueLemmas.{arm_silent}
+use Rattle.rc_build.proofs.StepLemmas.{row_can, row_step, throwing_can, throwing_step}
+use Rattle.rc_build.proofs.TestPartLemmas.{arm_at, logical_parts, logical_tests, optional_tests, shares_same}
+use Rattle.rc_build.proofs.TestPartLemmas.{ternary_tests, tested_parts}
+use Rattle.rc_build.proofs.TestedLemmas.{arm_there, first_arm_can, first_fails, first_silent, same_behind}
+use Rattle.rc_build.proofs.TestedLemmas.{second_arm_can, second_fails, silent_arm_can, silent_since, test_fails}
+use Rattle.rc_build.proofs.ValueEndLemmas.{arms_as, arms_none, arms_unlike, declared_in, end_elsewhere, ends_as}
+use Rattle.rc_build.proofs.ValueEndLemmas.{ends_not, goes_as, goes_not, tested_fact}
+use Rattle.rc_build.proofs.ValueKindLemmas.{nested_can}
 use Rattle.rc_build.proofs.ValueLemmas.{spells_unusable, value_has_rows}
+use Rattle.rc_build.proofs.ValueLoopLemmas.{back_done, back_further, back_refused, back_start, built_at, further_can}
+use Rattle.rc_build.proofs.ValueLoopLemmas.{last_can, popped_last, popped_none, rows_further, rows_refused, rows_start}
+use Rattle.rc_build.proofs.ValueLoopLemmas.{short_can}
+use Rattle.rc_build.proofs.ValueRowLemmas.{step_starts}
 use Rattle.rc_build.proofs.builder.Builder.+values.Goals as goal
-
--- any site serves to speak of the same graph
-here : BlockId → Site
-here key = record { block = key; next = None; handler = None }
-
--- a sequence
-
-pub build_sequence-build_arm-requires : goal.build_sequence-build_arm-requires
-build_sequence-build_arm-requires t c = (omega arith, sequence_can c.requires)
-
-pub build_sequence-returns-in_err-built : goal.build_sequence-returns-in_err-built
-build_sequence-returns-in_err-built t c = λ site.
-    nested_around c.args.terminal c.args.handler (kinds.Sequence c.args.block) c.around-around.ensures
-    (passes_on c.from_residual.ensures.1 refl (c.in_err-built.ensures site)
-    (sequence_refused c.args.self.now.marks.used))
-
-pub build_sequence-returns : goal.build_sequence-returns
-build_sequence-returns t c = λ site.
-    let built = c.in_ok-built.ensures site in
-    nested_around c.args.terminal c.args.handler (kinds.Sequence c.args.block) c.around-around.ensures
-    (is_built _ (sequence_built built.ok) built.frames)
 
 -- an arm
 
@@ -101,7 +75,8 @@ pub build_condition-returns-in_default : goal.build_condition-returns-in_default
 build_condition-returns-in_default t c = λ site.
     let built = c.in_ok-tested.ensures site in
     breaks_rule _ rules.ValueEnd c.malformed.ensures
-    (ends_not built.ok (IsChoice c.args.self.now.env.now) c.args.self.now.marks.used (arms_none built.ok (sym c.arms_of.ensures ∙ c.in_default.is)))
+    (ends_not built.ok (IsChoice c.args.self.now.env.now) c.args.self.now.marks.used
+    (arms_none built.ok (sym c.arms_of.ensures ∙ c.in_default.is)))
     (end_elsewhere built.ok)
 
 pub build_condition-returns-then-not-same_declaration : goal.build_condition-returns-then-not-same_declaration
@@ -110,15 +85,16 @@ build_condition-returns-then-not-same_declaration t c = λ site.
     let found = sym c.arms_of.ensures ∙ c.in-Some.is in
     breaks_rule _ rules.Tested c.malformed-then-not-same_declaration.ensures
     (ends_not built.ok (IsChoice c.args.self.now.env.now) c.args.self.now.marks.used
-    (arms_unlike built.ok found (sym (ap (λ (z : Setting). same_declaration z.env c.in-Some.arms.test c.in_ok-tested.tested.answer) built.frames)
-    ∙ sym c.same_declaration.ensures ∙ c.if-not-same_declaration.true))) (tested_fact built.ok found)
+    (arms_unlike built.ok found (declared_in c.in-Some.arms.test c.in_ok-tested.tested.answer built.frames
+    (sym c.same_declaration.ensures ∙ c.if-not-same_declaration.true)))) (tested_fact built.ok found)
 
 pub build_condition-returns : goal.build_condition-returns
 build_condition-returns t c = λ site.
     let built = c.in_ok-tested.ensures site in
     let found = sym c.arms_of.ensures ∙ c.in-Some.is in
-    is_built _ (ends_as built.ok (arms_as built.ok found (sym (ap (λ (z : Setting). same_declaration z.env c.in-Some.arms.test c.in_ok-tested.tested.answer) built.frames)
-    ∙ sym c.same_declaration.ensures ∙ c.if-not-same_declaration.false))) built.frames
+    is_built _ (ends_as built.ok (arms_as built.ok found (declared_in c.in-Some.arms.test
+    c.in_ok-tested.tested.answer built.frames (sym c.same_declaration.ensures ∙ c.if-not-same_declaration.false))))
+    built.frames
 
 -- a value: forward
 
@@ -128,7 +104,7 @@ build_value-rows-init t c = rows_start c.new-pending.ensures c.requires
 pub build_value-build_step-requires : goal.build_value-build_step-requires
 build_value-build_step-requires t c =
     let s = c.rows.invariant in
-    let site = here c.args.key in (
+    let site = any_site c.args.key in (
       omega (arith, same_blocks c.args.self.now c.rows.self site (s.setting site), used_longer s.marking),
       further_can s c.requires site c.in-Some.step (sym c.step_at.ensures ∙ c.in-Some.is),
     )
@@ -136,12 +112,12 @@ build_value-build_step-requires t c =
 pub build_value-returns-in_err-row : goal.build_value-returns-in_err-row
 build_value-returns-in_err-row t c = λ site.
     let s = c.rows.invariant in
-    passes_on c.from_residual.ensures.1 (ap (λ (z : Setting). z.hir) (s.setting site))
+    passes_on c.from_residual.ensures.1 (same_graph (s.setting site))
     (c.in_err-row.ensures site c.args.is_test) (rows_refused site s)
 
 pub build_value-rows-preserved : goal.build_value-rows-preserved
 build_value-rows-preserved t c =
-    let site = here c.args.key in
+    let site = any_site c.args.key in
     let row = c.in_ok-row.ensures in
     subst (λ z. RowsSoFar c.args.self.now c.build_step.new.self c.args.key c.args.around z c.in_ok-row.row.next)
     (sym c.in_ok-push.ensures.ok)
@@ -149,33 +125,28 @@ build_value-rows-preserved t c =
 
 pub build_value-rows-smaller : goal.build_value-rows-smaller
 build_value-rows-smaller t c =
-    let site = here c.args.key in
+    let site = any_site c.args.key in
     let row = c.in_ok-row.ensures site c.args.is_test in
-    omega (
-      arith,
-      room c.rows.self.hir.now c.build_step.new.self.marks row.ok.marking.marked,
-      same_blocks c.rows.self c.build_step.new.self site row.frames,
-      used_longer row.ok.marking,
-      ap length (step_starts row.ok.is).1,
-    )
+    let used = ap length (step_starts row.ok.is).1 in
+    omega (arith, fewer_left row row.ok.marking.marked (omega (arith, used_longer row.ok.marking, used)))
 
 -- its last block
 
 pub build_value-build_last-requires : goal.build_value-build_last-requires
 build_value-build_last-requires t c =
-    last_can c.rows.invariant c.requires (here c.args.key) (sym c.step_at.ensures ∙ c.in_default.is)
+    last_can c.rows.invariant c.requires (any_site c.args.key) (sym c.step_at.ensures ∙ c.in_default.is)
 
 pub build_value-returns-in_err-built : goal.build_value-returns-in_err-built
 build_value-returns-in_err-built t c = λ site.
     let s = c.rows.invariant in
-    passes_on c.from_residual-in_err-built.ensures.1 (ap (λ (z : Setting). z.hir) (s.setting site))
+    passes_on c.from_residual-in_err-built.ensures.1 (same_graph (s.setting site))
     (c.in_err-built.ensures site (value_at c.args.around c.args.is_test) refl) (rows_refused site s)
 
 -- and back
 
 pub build_value-back-init : goal.build_value-back-init
 build_value-back-init t c =
-    let site = here c.args.key in
+    let site = any_site c.args.key in
     let context = value_at c.args.around c.args.is_test in
     back_start site (λ site. (c.in_ok-built.ensures site context refl).frames) c.rows.invariant
     (c.in_ok-built.ensures site context refl).ok
@@ -183,13 +154,13 @@ build_value-back-init t c =
 pub build_value-put_behind-requires : goal.build_value-put_behind-requires
 build_value-put_behind-requires t c =
     short_can c.pop.new.self c.in-Some-pop.row c.back.invariant
-    (popped_last c.back.pending c.pop.new.self c.in-Some-pop.is c.pop.ensures.last) c.requires (here c.args.key)
+    (popped_last c.back.pending c.pop.new.self c.in-Some-pop.is c.pop.ensures.last) c.requires (any_site c.args.key)
 
 pub build_value-returns-in_err-built-2 : goal.build_value-returns-in_err-built-2
 build_value-returns-in_err-built-2 t c = λ site.
     let s = c.back.invariant in
     let last = popped_last c.back.pending c.pop.new.self c.in-Some-pop.is c.pop.ensures.last in
-    let same = ap (λ (z : Setting). z.hir) (s.setting site) in
+    let same = same_graph (s.setting site) in
     passes_on c.from_residual-in_err-built-2.ensures.1 same
     (c.in_err-built-2.ensures site s.value s.end (built_at same s.is))
     (back_refused c.pop.new.self c.in-Some-pop.row s last site)
@@ -197,9 +168,9 @@ build_value-returns-in_err-built-2 t c = λ site.
 pub build_value-back-preserved : goal.build_value-back-preserved
 build_value-back-preserved t c =
     let s = c.back.invariant in
-    let site = here c.args.key in
+    let site = any_site c.args.key in
     let last = popped_last c.back.pending c.pop.new.self c.in-Some-pop.is c.pop.ensures.last in
-    let is = built_at (ap (λ (z : Setting). z.hir) (s.setting site)) s.is in
+    let is = built_at (same_graph (s.setting site)) s.is in
     back_further site (λ site. (c.in_ok-built-2.ensures site s.value s.end is).frames) s last
     (c.in_ok-built-2.ensures site s.value s.end is).ok
 
@@ -219,15 +190,15 @@ pub build_step-build_row-requires : goal.build_step-build_row-requires
 build_step-build_row-requires t c = (omega arith, row_can c.in-Nested.terminal c.in-Nested.is c.requires)
 
 pub build_step-returns-in-Nested : goal.build_step-returns-in-Nested
-build_step-returns-in-Nested t c = λ site is_test. builds_as (λ row b. row_step b) (λ none. none)
-    (c.build_row.ensures site is_test)
+build_step-returns-in-Nested t c = λ site is_test. builds_at site.block (λ row b. row_step b)
+    (λ none. none) (c.build_row.ensures site is_test)
 
 pub build_step-build_throwing-requires : goal.build_step-build_throwing-requires
 build_step-build_throwing-requires t c = throwing_can c.in-Throws.throw c.in-Throws.is c.requires
 
 pub build_step-returns-in-Throws : goal.build_step-returns-in-Throws
-build_step-returns-in-Throws t c = λ site is_test. builds_as (λ row b. throwing_step b) (λ none. none)
-    (c.build_throwing.ensures site (value_at c.args.around is_test) refl)
+build_step-returns-in-Throws t c = λ site is_test. builds_at site.block (λ row b. throwing_step b)
+    (λ none. none) (c.build_throwing.ensures site (value_at c.args.around is_test) refl)
 
 -- a row
 
@@ -250,7 +221,8 @@ build_row-returns-then-terminal-eq0 t c = λ site is_test.
     let found = c.in_ok-block.ensures.found in
     let unset : is_unset c.args.terminal.id ≡ true = eq-eqb c.args.terminal.id.0 0 c.if-terminal-eq0.true in
     breaks_rule c.args.key rules.UnsetId c.malformed.ensures
-    (row_unset_refused c.args.key c.args.terminal block found c.requires c.args.self.now.env.now c.args.around is_test unset)
+    (row_unset_refused c.args.key c.args.terminal block found c.requires c.args.self.now.env.now c.args.around is_test
+    unset)
     (row_unset c.args.key c.args.terminal block found c.requires unset)
 
 pub build_row-mark_value_block-requires : goal.build_row-mark_value_block-requires
@@ -269,15 +241,10 @@ pub build_row-build_nested-requires : goal.build_row-build_nested-requires
 build_row-build_nested-requires t c =
     let old = c.args.self.now in
     let mid = c.mark_value_block.new.self in
-    let site = here c.args.key in
+    let site = any_site c.args.key in
     let marked = c.in_ok-mark_value_block.ensures site in
     let block = c.in_ok-block.block.now in (
-      omega (
-        arith,
-        room old.hir.now mid.marks marked.ok.marking.marked,
-        same_blocks old mid site marked.frames,
-        used_longer marked.ok.marking,
-      ),
+      omega (arith, fewer_left marked marked.ok.marking.marked (omega (arith, used_longer marked.ok.marking))),
       subst (λ (z : Setting). CanBuildNested z.hir mid.marks c.args.terminal) (sym marked.frames)
           (row_nested_can c.args.key c.args.terminal block c.in_ok-block.ensures.found c.requires refl marked.ok),
     )
@@ -288,11 +255,11 @@ build_row-returns-in_err-value t c = λ site is_test.
     let mid = c.mark_value_block.new.self in
     let marked = c.in_ok-mark_value_block.ensures site in
     let block = c.in_ok-block.block.now in
-    passes_on c.from_residual-in_err-value.ensures.1 (ap (λ (z : Setting). z.hir) marked.frames)
+    passes_on c.from_residual-in_err-value.ensures.1 (same_graph marked.frames)
     (c.in_err-value.ensures site)
     (λ none. row_refused c.args.key c.args.terminal block c.in_ok-block.ensures.found c.requires refl marked.ok
-    old.env.now c.args.around is_test (subst (λ (z : Setting). Refused z.hir
-    (SpellsNested z.hir z.env c.args.around.handler (terminal_of c.args.terminal)) mid.marks.used) marked.frames none))
+    old.env.now c.args.around is_test (refused_in (λ z. SpellsNested z.hir z.env c.args.around.handler
+    (terminal_of c.args.terminal)) mid.marks.used marked.frames none))
 
 pub build_row-returns : goal.build_row-returns
 build_row-returns t c = λ site is_test.
@@ -308,8 +275,8 @@ build_row-returns t c = λ site is_test.
     c.in_ok-block.ensures.own
     (subst (λ z. HasRows c.args.self.now.hir.now z made) c.as_slice.ensures c.in_ok-rows.ensures.ok)
     (ne_eqb id.0 0 c.if-terminal-eq0.false)
-    (subst (λ (z : Setting). NestedBuilt z.hir z.env c.args.around.handler c.args.terminal c.in_ok-value.field-0 (progress_of mid)
-    (progress_of late)) marked.frames nested.ok)
+    (subst (λ (z : Setting). NestedBuilt z.hir z.env c.args.around.handler c.args.terminal c.in_ok-value.field-0
+    (progress_of mid) (progress_of late)) marked.frames nested.ok)
     (c.in_ok-push.ensures.ok ∙ ap (λ z. made ++ record {
       id = id;
       lvalue = Some answer;
@@ -320,237 +287,165 @@ build_row-returns t c = λ site is_test.
 -- the value of a value terminal
 
 pub build_nested-returns-in-Sequence : goal.build_nested-returns-in-Sequence
-build_nested-returns-in-Sequence t c = λ site. subst (λ k. BuildsNested c.args.self.now c.build_sequence.new.self site c.args.handler
-    (record c.args.terminal { kind = k }) c.build_sequence.result) (sym c.in-Sequence.is) (c.build_sequence.ensures site)
+build_nested-returns-in-Sequence t c = λ site.
+    nested_of c.args.terminal c.in-Sequence.is (c.build_sequence.ensures site)
 
 pub build_nested-returns-in-Ternary : goal.build_nested-returns-in-Ternary
-build_nested-returns-in-Ternary t c = λ site. subst (λ k. BuildsNested c.args.self.now c.build_ternary.new.self site c.args.handler
-    (record c.args.terminal { kind = k }) c.build_ternary.result) (sym c.in-Ternary.is) (c.build_ternary.ensures site)
+build_nested-returns-in-Ternary t c = λ site. nested_of c.args.terminal c.in-Ternary.is (c.build_ternary.ensures site)
 
 pub build_nested-returns-in-Logical : goal.build_nested-returns-in-Logical
-build_nested-returns-in-Logical t c = λ site. subst (λ k. BuildsNested c.args.self.now c.build_logical.new.self site c.args.handler
-    (record c.args.terminal { kind = k }) c.build_logical.result) (sym c.in-Logical.is) (c.build_logical.ensures site)
+build_nested-returns-in-Logical t c = λ site. nested_of c.args.terminal c.in-Logical.is (c.build_logical.ensures site)
 
 pub build_nested-returns-in-Optional : goal.build_nested-returns-in-Optional
-build_nested-returns-in-Optional t c = λ site. subst (λ k. BuildsNested c.args.self.now c.build_optional.new.self site c.args.handler
-    (record c.args.terminal { kind = k }) c.build_optional.result) (sym c.in-Optional.is) (c.build_optional.ensures site)
+build_nested-returns-in-Optional t c = λ site.
+    nested_of c.args.terminal c.in-Optional.is (c.build_optional.ensures site)
+
+-- a sequence
+
+pub build_sequence-build_arm-requires : goal.build_sequence-build_arm-requires
+build_sequence-build_arm-requires t c = (omega arith, nested_can c.requires)
+
+pub build_sequence-returns-in_err-built : goal.build_sequence-returns-in_err-built
+build_sequence-returns-in_err-built t c = λ site.
+    nested_around c.args.terminal c.args.handler (kinds.Sequence c.args.block) c.around-around.ensures
+    (passes_on c.from_residual.ensures.1 refl (c.in_err-built.ensures site)
+    (sequence_refused c.args.self.now.marks.used))
+
+pub build_sequence-returns : goal.build_sequence-returns
+build_sequence-returns t c = λ site.
+    let built = c.in_ok-built.ensures site in
+    nested_around c.args.terminal c.args.handler (kinds.Sequence c.args.block) c.around-around.ensures
+    (is_built _ (sequence_built built.ok) built.frames)
 
 -- a ternary
 
 pub build_ternary-build_condition-requires : goal.build_ternary-build_condition-requires
-build_ternary-build_condition-requires t c = (omega arith, ternary_can c.requires)
+build_ternary-build_condition-requires t c = (omega arith, nested_can c.requires)
 
 pub build_ternary-returns-in_err-condition : goal.build_ternary-returns-in_err-condition
 build_ternary-returns-in_err-condition t c = λ site.
-    nested_around c.args.terminal c.args.handler (kinds.Ternary c.args.test) c.around-around.ensures
-    (passes_on c.from_residual.ensures.1 refl (c.in_err-condition.ensures site)
-    (λ none nested blocks d sound. test_refused c.args.self.now.marks.used none (ternary_parts d).0 sound))
+    test_fails ternary_tests c.args.terminal c.around-around.ensures c.from_residual.ensures.1
+    (c.in_err-condition.ensures site)
 
 pub build_ternary-build_arm-requires : goal.build_ternary-build_arm-requires
 build_ternary-build_arm-requires t c =
-    let old = c.args.self.now in
-    let mid = c.build_condition.new.self in
-    let site = here c.args.test in
-    let tested = c.in_ok-condition.ensures site in (
-      omega (arith, same_blocks old mid site tested.frames, used_longer tested.ok.marking),
-      subst (λ (z : Setting). CanBuildValue z.hir mid.marks c.in_ok-condition.condition.arms.consequent)
-          (sym tested.frames) (first_can tested.ok c.args.terminal.fallthrough c.requires.referenced),
-    )
+    let tested = c.in_ok-condition.ensures (any_site c.args.test) in
+    let can = first_arm_can tested c.args.terminal.fallthrough c.requires.referenced in
+    (omega (arith, as_few_left tested tested.ok.marking), can)
 
 pub build_ternary-returns-in_err-first : goal.build_ternary-returns-in_err-first
 build_ternary-returns-in_err-first t c = λ site.
-    let mid = c.build_condition.new.self in
-    let tested = c.in_ok-condition.ensures site in
-    nested_around c.args.terminal c.args.handler (kinds.Ternary c.args.test) c.around-around.ensures
-    (passes_on c.from_residual-in_err-first.ensures.1 (ap (λ (z : Setting). z.hir) tested.frames)
-    (c.in_err-first.ensures site)
-    (λ none nested blocks d sound. first_refused tested.ok (ternary_parts d).0
-    (no_arm_at c.in_ok-condition.condition.arms.consequent c.args.terminal.fallthrough c.around-around.result.span c.around-around.result.handler mid.marks.used
-    tested.frames none) sound))
+    first_fails ternary_tests c.args.terminal c.around-around.ensures c.from_residual-in_err-first.ensures.1
+    (c.in_ok-condition.ensures site) (c.in_err-first.ensures site)
 
 pub build_ternary-build_arm-requires-2 : goal.build_ternary-build_arm-requires-2
 build_ternary-build_arm-requires-2 t c =
-    let old = c.args.self.now in
-    let mid = c.build_condition.new.self in
-    let late = c.build_arm.new.self in
-    let site = here c.args.test in
-    let tested = c.in_ok-condition.ensures site in
-    let first = c.in_ok-first.ensures site in (
-      omega (
-        arith,
-        same_blocks old mid site tested.frames,
-        same_blocks mid late site first.frames,
-        used_longer tested.ok.marking,
-        used_longer first.ok.marking,
-      ),
-      subst (λ (z : Setting). CanBuildValue z.hir late.marks c.in_ok-condition.condition.arms.alternate)
-          (sym (first.frames ∙ tested.frames)) (second_can tested.ok c.args.terminal.fallthrough c.requires.referenced
-          (arm_at tested.frames first.ok)),
+    let tested = c.in_ok-condition.ensures (any_site c.args.test) in
+    let first = c.in_ok-first.ensures (any_site c.args.test) in (
+      omega (arith, as_few_left tested tested.ok.marking, as_few_left first first.ok.marking),
+      second_arm_can tested first c.requires.referenced,
     )
 
 pub build_ternary-returns-in_err-second : goal.build_ternary-returns-in_err-second
 build_ternary-returns-in_err-second t c = λ site.
-    let late = c.build_arm.new.self in
-    let tested = c.in_ok-condition.ensures site in
-    let first = c.in_ok-first.ensures site in
-    nested_around c.args.terminal c.args.handler (kinds.Ternary c.args.test) c.around-around.ensures
-    (passes_on c.from_residual-in_err-second.ensures.1 (ap (λ (z : Setting). z.hir) (first.frames ∙ tested.frames))
-    (c.in_err-second.ensures site)
-    (λ none nested blocks d sound. let p = ternary_parts d in second_refused tested.ok p.0 (arm_at tested.frames first.ok)
-    (no_arm_at c.in_ok-condition.condition.arms.alternate c.args.terminal.fallthrough c.around-around.result.span c.around-around.result.handler late.marks.used
-    (first.frames ∙ tested.frames) none) p.1 sound))
+    second_fails ternary_tests c.args.terminal c.around-around.ensures c.from_residual-in_err-second.ensures.1
+    (c.in_ok-condition.ensures site) refl (c.in_ok-first.ensures site) (c.in_err-second.ensures site)
 
 pub build_ternary-returns : goal.build_ternary-returns
 build_ternary-returns t c = λ site.
     let tested = c.in_ok-condition.ensures site in
     let first = c.in_ok-first.ensures site in
     let second = c.in_ok-second.ensures site in
+    let same = same_behind tested first in
     nested_around c.args.terminal c.args.handler (kinds.Ternary c.args.test) c.around-around.ensures
-    (is_built _ (ternary_built tested.ok (arm_at tested.frames first.ok) (arm_at (first.frames ∙ tested.frames) second.ok)
-    c.in_ok-new.ensures) (second.frames ∙ first.frames ∙ tested.frames))
+    (is_built _ (ternary_built tested.ok (arm_there tested first) (arm_at same second.ok) c.in_ok-new.ensures)
+    (second.frames ∙ same))
 
 -- a logical
 
 pub build_logical-build_condition-requires : goal.build_logical-build_condition-requires
-build_logical-build_condition-requires t c = (omega arith, logical_can c.requires)
+build_logical-build_condition-requires t c = (omega arith, nested_can c.requires)
 
 pub build_logical-returns-in_err-condition : goal.build_logical-returns-in_err-condition
 build_logical-returns-in_err-condition t c = λ site.
-    nested_around c.args.terminal c.args.handler (kinds.Logical c.args.operator c.args.test) c.around-around.ensures
-    (passes_on c.from_residual.ensures.1 refl (c.in_err-condition.ensures site)
-    (λ none nested blocks d sound. test_refused c.args.self.now.marks.used none (logical_parts d).0 sound))
+    test_fails logical_tests c.args.terminal c.around-around.ensures c.from_residual.ensures.1
+    (c.in_err-condition.ensures site)
 
 pub build_logical-build_arm-requires : goal.build_logical-build_arm-requires
 build_logical-build_arm-requires t c =
-    let old = c.args.self.now in
-    let mid = c.build_condition.new.self in
-    let site = here c.args.test in
-    let tested = c.in_ok-condition.ensures site in (
-      omega (arith, same_blocks old mid site tested.frames, used_longer tested.ok.marking),
-      subst (λ (z : Setting). CanBuildValue z.hir mid.marks c.in_ok-condition.condition.arms.consequent)
-          (sym tested.frames) (first_can tested.ok c.args.terminal.fallthrough c.requires.referenced),
-    )
+    let tested = c.in_ok-condition.ensures (any_site c.args.test) in
+    let can = first_arm_can tested c.args.terminal.fallthrough c.requires.referenced in
+    (omega (arith, as_few_left tested tested.ok.marking), can)
 
 pub build_logical-returns-in_err-first : goal.build_logical-returns-in_err-first
 build_logical-returns-in_err-first t c = λ site.
-    let mid = c.build_condition.new.self in
-    let tested = c.in_ok-condition.ensures site in
-    nested_around c.args.terminal c.args.handler (kinds.Logical c.args.operator c.args.test) c.around-around.ensures
-    (passes_on c.from_residual-in_err-first.ensures.1 (ap (λ (z : Setting). z.hir) tested.frames)
-    (c.in_err-first.ensures site)
-    (λ none nested blocks d sound. first_refused tested.ok (logical_parts d).0
-    (no_arm_at c.in_ok-condition.condition.arms.consequent c.args.terminal.fallthrough c.around-around.result.span c.around-around.result.handler mid.marks.used
-    tested.frames none) sound))
+    first_fails logical_tests c.args.terminal c.around-around.ensures c.from_residual-in_err-first.ensures.1
+    (c.in_ok-condition.ensures site) (c.in_err-first.ensures site)
 
 pub build_logical-check_silent_since-requires : goal.build_logical-check_silent_since-requires
 build_logical-check_silent_since-requires t c =
-    let late = c.build_arm.new.self in
-    let site = here c.args.test in
-    let tested = c.in_ok-condition.ensures site in
-    let first = c.in_ok-first.ensures site in
-    subst (λ (z : Setting). CanCheckSilent z.hir late.marks c.in_ok-condition.condition.arms.consequent)
-    (sym (first.frames ∙ tested.frames)) (silent_can tested.ok c.args.terminal.fallthrough c.requires.referenced
-    (arm_at tested.frames first.ok))
+    let site = any_site c.args.test in
+    silent_arm_can (c.in_ok-condition.ensures site) (c.in_ok-first.ensures site) c.requires.referenced
 
 pub build_logical-returns-in_err-check_silent_since : goal.build_logical-returns-in_err-check_silent_since
 build_logical-returns-in_err-check_silent_since t c = λ site.
-    let old = c.args.self.now in
-    let late = c.build_arm.new.self in
+    let checked = c.in_err-check_silent_since.ensures in
     let tested = c.in_ok-condition.ensures site in
     let first = c.in_ok-first.ensures site in
-    let same = first.frames ∙ tested.frames in
     nested_around c.args.terminal c.args.handler (kinds.Logical c.args.operator c.args.test) c.around-around.ensures
-    (fails_at late.hir.now c.from_residual-in_err-check_silent_since.ensures.1 (ap (λ (z : Setting). z.hir) same)
-    c.in_err-check_silent_since.ensures.facts (λ named rule e nested blocks d sound.
-    let p = logical_parts d in
-    let arm = arm_at tested.frames first.ok in
-    c.in_err-check_silent_since.ensures.refused named rule (ap Err e)
-    (subst (λ (z : Setting). AreArmBlocks z.hir z.env (drop c.len-before.result late.marks.used)) (sym same)
-    (subst (AreArmBlocks old.hir.now old.env.now)
-    (one_first tested.ok p.0 arm ∙ sym (blocks_since c.build_condition.new.self.marks.used arm.newly c.len-before.ensures.value arm.marking.used)) (arm_silent p.2)))))
+    (fails_at c.build_arm.new.self.hir.now c.from_residual-in_err-check_silent_since.ensures.1
+    (same_graph (same_behind tested first)) checked.facts
+    (λ named rule e nested blocks d sound. let p = logical_parts d in checked.refused named rule (ap Err e)
+    (silent_since tested first c.len-before.ensures.value p.0 (arm_silent p.1))))
 
 pub build_logical-build_arm-requires-2 : goal.build_logical-build_arm-requires-2
 build_logical-build_arm-requires-2 t c =
-    let old = c.args.self.now in
-    let mid = c.build_condition.new.self in
-    let late = c.build_arm.new.self in
-    let site = here c.args.test in
-    let tested = c.in_ok-condition.ensures site in
-    let first = c.in_ok-first.ensures site in (
-      omega (
-        arith,
-        same_blocks old mid site tested.frames,
-        same_blocks mid late site first.frames,
-        used_longer tested.ok.marking,
-        used_longer first.ok.marking,
-      ),
-      subst (λ (z : Setting). CanBuildValue z.hir late.marks c.in_ok-condition.condition.arms.alternate)
-          (sym (first.frames ∙ tested.frames)) (second_can tested.ok c.args.terminal.fallthrough c.requires.referenced
-          (arm_at tested.frames first.ok)),
+    let tested = c.in_ok-condition.ensures (any_site c.args.test) in
+    let first = c.in_ok-first.ensures (any_site c.args.test) in (
+      omega (arith, as_few_left tested tested.ok.marking, as_few_left first first.ok.marking),
+      second_arm_can tested first c.requires.referenced,
     )
 
 pub build_logical-returns-in_err-second : goal.build_logical-returns-in_err-second
 build_logical-returns-in_err-second t c = λ site.
-    let late = c.build_arm.new.self in
-    let tested = c.in_ok-condition.ensures site in
-    let first = c.in_ok-first.ensures site in
-    nested_around c.args.terminal c.args.handler (kinds.Logical c.args.operator c.args.test) c.around-around.ensures
-    (passes_on c.from_residual-in_err-second.ensures.1 (ap (λ (z : Setting). z.hir) (first.frames ∙ tested.frames))
-    (c.in_err-second.ensures site)
-    (λ none nested blocks d sound. let p = logical_parts d in second_refused tested.ok p.0 (arm_at tested.frames first.ok)
-    (no_arm_at c.in_ok-condition.condition.arms.alternate c.args.terminal.fallthrough c.around-around.result.span c.around-around.result.handler late.marks.used
-    (first.frames ∙ tested.frames) none) p.1 sound))
+    second_fails logical_tests c.args.terminal c.around-around.ensures c.from_residual-in_err-second.ensures.1
+    (c.in_ok-condition.ensures site) refl (c.in_ok-first.ensures site) (c.in_err-second.ensures site)
 
 pub build_logical-returns : goal.build_logical-returns
 build_logical-returns t c = λ site.
     let tested = c.in_ok-condition.ensures site in
     let first = c.in_ok-first.ensures site in
     let second = c.in_ok-second.ensures site in
-    let arm = arm_at tested.frames first.ok in
-    let same = first.frames ∙ tested.frames in
+    let arm = arm_there tested first in
+    let same = same_behind tested first in
     nested_around c.args.terminal c.args.handler (kinds.Logical c.args.operator c.args.test) c.around-around.ensures
-    (is_built _ (logical_built tested.ok arm (arm_at (first.frames ∙ tested.frames) second.ok)
+    (is_built _ (logical_built tested.ok arm (arm_at same second.ok)
     (c.in_ok-tested_then.ensures c.args.self.now.hir.now _ _ _ _ tested.ok.is arm.is
     ∙ ap (λ (z : Around). value_of (Sequence (Row tested.ok.end.id (Some tested.ok.end.answer) tested.ok.value z.span
     NoRows) arm.end.id arm.value)) (sym c.around-around.ensures))
-    (subst (AreArmBlocks c.args.self.now.hir.now c.args.self.now.env.now)
-    (blocks_since c.build_condition.new.self.marks.used arm.newly c.len-before.ensures.value arm.marking.used)
-    (subst (λ (z : Setting). AreArmBlocks z.hir z.env (drop c.len-before.result c.build_arm.new.self.marks.used)) same
-    c.in_ok-check_silent_since.ensures.ok)) c.in_ok-new.ensures)
-    (second.frames ∙ first.frames ∙ tested.frames))
+    (first_silent tested first c.len-before.ensures.value c.in_ok-check_silent_since.ensures.ok) c.in_ok-new.ensures)
+    (second.frames ∙ same))
 
--- a optional
+-- an optional
 
 pub build_optional-build_condition-requires : goal.build_optional-build_condition-requires
-build_optional-build_condition-requires t c = (omega arith, optional_can c.requires)
+build_optional-build_condition-requires t c = (omega arith, nested_can c.requires)
 
 pub build_optional-returns-in_err-condition : goal.build_optional-returns-in_err-condition
 build_optional-returns-in_err-condition t c = λ site.
-    nested_around c.args.terminal c.args.handler (kinds.Optional c.args.optional c.args.test) c.around-around.ensures
-    (passes_on c.from_residual.ensures.1 refl (c.in_err-condition.ensures site)
-    (λ none nested blocks d sound. test_refused c.args.self.now.marks.used none (optional_parts d).0 sound))
+    test_fails optional_tests c.args.terminal c.around-around.ensures c.from_residual.ensures.1
+    (c.in_err-condition.ensures site)
 
 pub build_optional-build_arm-requires : goal.build_optional-build_arm-requires
 build_optional-build_arm-requires t c =
-    let old = c.args.self.now in
-    let mid = c.build_condition.new.self in
-    let site = here c.args.test in
-    let tested = c.in_ok-condition.ensures site in (
-      omega (arith, same_blocks old mid site tested.frames, used_longer tested.ok.marking),
-      subst (λ (z : Setting). CanBuildValue z.hir mid.marks c.in_ok-condition.condition.arms.consequent)
-          (sym tested.frames) (first_can tested.ok c.args.terminal.fallthrough c.requires.referenced),
-    )
+    let tested = c.in_ok-condition.ensures (any_site c.args.test) in
+    let can = first_arm_can tested c.args.terminal.fallthrough c.requires.referenced in
+    (omega (arith, as_few_left tested tested.ok.marking), can)
 
 pub build_optional-returns-in_err-first : goal.build_optional-returns-in_err-first
 build_optional-returns-in_err-first t c = λ site.
-    let mid = c.build_condition.new.self in
-    let tested = c.in_ok-condition.ensures site in
-    nested_around c.args.terminal c.args.handler (kinds.Optional c.args.optional c.args.test) c.around-around.ensures
-    (passes_on c.from_residual-in_err-first.ensures.1 (ap (λ (z : Setting). z.hir) tested.frames)
-    (c.in_err-first.ensures site)
-    (λ none nested blocks d sound. first_refused tested.ok (optional_parts d).0
-    (no_arm_at c.in_ok-condition.condition.arms.consequent c.args.terminal.fallthrough c.around-around.result.span c.around-around.result.handler mid.marks.used
-    tested.frames none) sound))
+    first_fails optional_tests c.args.terminal c.around-around.ensures c.from_residual-in_err-first.ensures.1
+    (c.in_ok-condition.ensures site) (c.in_err-first.ensures site)
 
 pub build_optional-returns-in-Some : goal.build_optional-returns-in-Some
 build_optional-returns-in-Some t c = λ site.
@@ -560,8 +455,7 @@ build_optional-returns-in-Some t c = λ site.
     let other = sym c.other_arm.ensures ∙ c.in-Some.is in
     nested_around c.args.terminal c.args.handler (kinds.Optional c.args.optional c.args.test) c.around-around.ensures
     (breaks_rule c.in-Some.branch rules.ShortArm c.malformed.ensures (λ nested blocks d sound.
-    let p = optional_parts d in
-    let yes = shares_same tested.ok p.0 p.1 in
+    let yes = shares_same tested.ok (tested_parts c.args.terminal.id optional_tests d) refl in
     let no = other_some left arms.alternate c.in-Some.branch other in
     let bad : ⊥ = cc in bad)
     (short_fact c.args.self.now.hir.now left arms.alternate c.in-Some.branch tested.ok.is.short other))
@@ -570,10 +464,10 @@ pub build_optional-returns : goal.build_optional-returns
 build_optional-returns t c = λ site.
     let tested = c.in_ok-condition.ensures site in
     let first = c.in_ok-first.ensures site in
-    let arm = arm_at tested.frames first.ok in
+    let arm = arm_there tested first in
     let arms = c.in_ok-condition.condition.arms in
     nested_around c.args.terminal c.args.handler (kinds.Optional c.args.optional c.args.test) c.around-around.ensures
     (is_built _ (optional_built tested.ok arm
     (other_none c.in_ok-condition.condition.tested.left_open arms.alternate (sym c.other_arm.ensures ∙ c.in_default.is))
     (c.in_ok-tested_then.ensures c.args.self.now.hir.now _ _ _ _ tested.ok.is arm.is) c.in_ok-new.ensures)
-    (first.frames ∙ tested.frames))
+    (same_behind tested first))

@@ -1,24 +1,17 @@
-use Rattle.std.proofs.Common.{[], None, Err, refl, sym, ap, ◌∙◌, subst, length}
-use Rattle.rc_names.specs.Numbers.{BlockId}
+use Rattle.std.proofs.Common.{[], Err, refl, sym, ap, ◌∙◌, subst, length}
 use Rattle.rc_hir.specs.declared.fault.Rule.TheVariants as rules
 use Rattle.rc_runs.specs.ListContext.{is_current}
-use Rattle.rc_build.specs.declared.builder.Site.{Site}
 use Rattle.rc_build.specs.inside.Marks.{IsUnusable}
 use Rattle.rc_build.specs.inside.Setting.{Setting}
 use Rattle.rc_build.specs.inside.Task.{progress_of}
 use Rattle.rc_build.specs.inside.Values.{CanMark, HasRows, Marked, any_end}
-use Rattle.rc_build.proofs.BuildsLemmas.{breaks_rule, fails, is_built, passes_on}
+use Rattle.rc_build.proofs.BuildsLemmas.{breaks_rule, fails, is_built, passes_on, same_graph, any_site}
 use Rattle.rc_build.proofs.LastThrowLemmas.{first_can_mark, last_can_mark, last_empty, last_empty_fact, last_missing}
 use Rattle.rc_build.proofs.LastThrowLemmas.{last_referenced, last_throw_built, last_unusable, none_listed}
 use Rattle.rc_build.proofs.MarksLemmas.{referenced_once}
-use Rattle.rc_build.proofs.MayThrowLemmas.{handler_fact}
-use Rattle.rc_build.proofs.ThrowingLemmas.{block_throws, value_handled}
+use Rattle.rc_build.proofs.ThrowingLemmas.{other_handler}
 use Rattle.rc_build.proofs.ValueLemmas.{spells_unusable, value_has_rows}
 use Rattle.rc_build.proofs.builder.Builder.build_last_throw.Goals as goal
-
--- any site serves to speak of the same graph
-here : BlockId → Site
-here key = record { block = key; next = None; handler = None }
 
 pub block_with_id-requires : goal.block_with_id-requires
 block_with_id-requires c =
@@ -26,14 +19,8 @@ block_with_id-requires c =
 
 pub returns-then-not-is_current : goal.returns-then-not-is_current
 returns-then-not-is_current c = λ site context same.
-    let block = c.in_ok-block.block.now in
-    let found = c.in_ok-block.ensures.found in
-    let throws = block_throws found c.requires.here in
-    let other = sym c.is_current.ensures ∙ c.if-not-is_current.true in
-    breaks_rule c.args.key rules.Handler c.malformed.ensures
-    (value_handled c.args.self.now.hir.now c.args.key block found c.args.throw throws c.args.self.now.env.now context
-    c.args.handler c.args.self.now.marks.used same other)
-    (handler_fact c.args.self.now.hir.now c.args.key block found c.args.throw c.args.handler throws other)
+    other_handler c.in_ok-block.ensures.found c.requires.here same (sym c.is_current.ensures ∙ c.if-not-is_current.true)
+    c.malformed.ensures
 
 pub block_with_id-requires-2 : goal.block_with_id-requires-2
 block_with_id-requires-2 c = last_referenced c.requires c.in_ok-block.ensures.found
@@ -74,7 +61,7 @@ returns-in_err-mark_value_block c = λ site context same.
 pub mark_value_block-requires-2 : goal.mark_value_block-requires-2
 mark_value_block-requires-2 c =
     let mid = c.mark_value_block.new.self in
-    let marked = c.in_ok-mark_value_block.ensures (here c.args.key) in
+    let marked = c.in_ok-mark_value_block.ensures (any_site c.args.key) in
     subst (λ (z : Setting). CanMark z.hir mid.marks c.args.throw.continuation c.in_ok-behind.behind.now)
     (sym marked.frames) (last_can_mark c.requires c.in_ok-block.ensures.found c.in_ok-behind.ensures.found refl marked.ok
     c.in_ok-behind.ensures.set)
@@ -83,7 +70,7 @@ pub returns-in_err-mark_value_block-2 : goal.returns-in_err-mark_value_block-2
 returns-in_err-mark_value_block-2 c = λ site context same.
     let mid = c.mark_value_block.new.self in
     let marked = c.in_ok-mark_value_block.ensures site in
-    passes_on c.from_residual-in_err-mark_value_block-2.ensures.1 (ap (λ (z : Setting). z.hir) marked.frames)
+    passes_on c.from_residual-in_err-mark_value_block-2.ensures.1 (same_graph marked.frames)
     (c.in_err-mark_value_block-2.ensures site) (λ none.
     last_unusable c.requires c.in_ok-block.ensures.found c.args.self.now.env.now context c.args.self.now.marks.used
     mid.marks marked.ok.marking.used (subst (λ (z : Setting). IsUnusable z.hir [] c.args.throw.continuation mid.marks)

@@ -1,36 +1,29 @@
-use Rattle.std.proofs.Common.{None, arith, ap, length}
-use Rattle.rc_names.specs.Numbers.{BlockId}
-use Rattle.rc_build.specs.declared.builder.Site.{Site}
-use Rattle.rc_build.specs.inside.Setting.{Setting}
+use Rattle.std.proofs.Common.{arith, ap, length}
 use Rattle.rc_build.proofs.ArmBlockLemmas.{arm_done, arm_further, arm_further_can, arm_refused_behind, arm_start}
-use Rattle.rc_build.proofs.BuildsLemmas.{is_built, passes_on}
+use Rattle.rc_build.proofs.BuildsLemmas.{is_built, passes_on, same_graph, any_site}
 use Rattle.rc_build.proofs.ListLemmas.{same_blocks, used_longer}
 use Rattle.rc_build.proofs.MarksLemmas.{room}
 use Rattle.rc_build.proofs.builder.Builder.build_silent_arm.Goals as goal
-
--- any site serves to speak of the same graph
-here : BlockId → Site
-here key = record { block = key; next = None; handler = None }
 
 pub chain-init : goal.chain-init
 chain-init c = arm_start c.requires
 
 pub build_arm_block-requires : goal.build_arm_block-requires
-build_arm_block-requires c = arm_further_can c.chain.invariant c.in-Some.is (here c.args.arm) c.requires
+build_arm_block-requires c = arm_further_can c.chain.invariant c.in-Some.is (any_site c.args.arm) c.requires
 
 pub returns-in_err-at : goal.returns-in_err-at
 returns-in_err-at c = λ site.
     let s = c.chain.invariant in
-    passes_on c.from_residual.ensures.1 (ap (λ (z : Setting). z.hir) (s.setting site)) (c.in_err-at.ensures site)
+    passes_on c.from_residual.ensures.1 (same_graph (s.setting site)) (c.in_err-at.ensures site)
     (arm_refused_behind s c.in-Some.is site)
 
 pub chain-preserved : goal.chain-preserved
-chain-preserved c = arm_further c.chain.invariant c.in-Some.is (here c.args.arm)
-    (λ site. (c.in_ok-at.ensures site).frames) (c.in_ok-at.ensures (here c.args.arm)).ok
+chain-preserved c = arm_further c.chain.invariant c.in-Some.is (any_site c.args.arm)
+    (λ site. (c.in_ok-at.ensures site).frames) (c.in_ok-at.ensures (any_site c.args.arm)).ok
 
 pub chain-smaller : goal.chain-smaller
 chain-smaller c =
-    let site = here c.args.arm in
+    let site = any_site c.args.arm in
     let block = c.in_ok-at.ensures site in
     omega (
       arith,

@@ -1,10 +1,8 @@
 use Rattle.std.proofs.Common.{[], Err, refl, sym, ap, ◌∙◌, subst}
-use Rattle.rc_hir.specs.declared.fault.Rule.TheVariants as rules
 use Rattle.rc_build.specs.inside.Values.{HasRows, any_end}
-use Rattle.rc_build.proofs.BuildsLemmas.{breaks_rule, fails, is_built, passes_on}
+use Rattle.rc_build.proofs.BuildsLemmas.{fails, is_built, passes_on}
 use Rattle.rc_build.proofs.MarksLemmas.{referenced_once}
-use Rattle.rc_build.proofs.MayThrowLemmas.{handler_fact}
-use Rattle.rc_build.proofs.ThrowingLemmas.{block_throws, throwing_built, throwing_can_mark, value_handled}
+use Rattle.rc_build.proofs.ThrowingLemmas.{block_throws, other_handler, throwing_built, throwing_can_mark}
 use Rattle.rc_build.proofs.ValueLemmas.{spells_unusable, value_has_rows}
 use Rattle.rc_build.proofs.builder.Builder.build_throwing.Goals as goal
 
@@ -23,14 +21,8 @@ returns-in_err-rows c = λ site context same.
 
 pub returns-then-not-is_current : goal.returns-then-not-is_current
 returns-then-not-is_current c = λ site context same.
-    let block = c.in_ok-block.block.now in
-    let found = c.in_ok-block.ensures.found in
-    let throws = block_throws found c.requires.here in
-    let other = sym c.is_current.ensures ∙ c.if-not-is_current.true in
-    breaks_rule c.args.key rules.Handler c.malformed.ensures
-    (value_handled c.args.self.now.hir.now c.args.key block found c.args.throw throws c.args.self.now.env.now context
-    c.args.handler c.args.self.now.marks.used same other)
-    (handler_fact c.args.self.now.hir.now c.args.key block found c.args.throw c.args.handler throws other)
+    other_handler c.in_ok-block.ensures.found c.requires.here same (sym c.is_current.ensures ∙ c.if-not-is_current.true)
+    c.malformed.ensures
 
 pub mark_value_block-requires : goal.mark_value_block-requires
 mark_value_block-requires c =

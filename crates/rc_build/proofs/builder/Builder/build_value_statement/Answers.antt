@@ -6,9 +6,9 @@ use Rattle.rc_build.specs.inside.Setting.{Setting, setting_of}
 use Rattle.rc_build.specs.inside.Task.{progress_of}
 use Rattle.rc_build.specs.inside.ValueTerminals.{CanBuildShort, ShortBuilt}
 use Rattle.rc_build.specs.inside.Values.{alternate_of}
-use Rattle.rc_build.proofs.BuildsLemmas.{breaks_rule, is_built, passes_on}
-use Rattle.rc_build.proofs.ValueStatementLemmas.{falls_fact, nested_can, nested_short_can, value_elsewhere, value_prefix}
-use Rattle.rc_build.proofs.ValueStatementLemmas.{value_refused, value_refused_arm}
+use Rattle.rc_build.proofs.BuildsLemmas.{breaks_rule, is_built, passes_on, same_graph}
+use Rattle.rc_build.proofs.ValueStatementLemmas.{falls_fact, nested_can, nested_short_can, value_elsewhere}
+use Rattle.rc_build.proofs.ValueStatementLemmas.{value_prefix, value_refused, value_refused_arm}
 use Rattle.rc_build.proofs.builder.Builder.build_value_statement.Goals as goal
 
 pub build_nested-requires : goal.build_nested-requires
@@ -41,7 +41,7 @@ returns-in_err-build_short_arm c =
     let old = c.args.self.now in
     let mid = c.build_nested.new.self in
     let nested = c.in_ok-nested.ensures c.args.site in
-    passes_on c.from_residual-in_err-build_short_arm.ensures.1 (ap (λ (z : Setting). z.hir) nested.frames)
+    passes_on c.from_residual-in_err-build_short_arm.ensures.1 (same_graph nested.frames)
     (c.in_err-build_short_arm.ensures c.args.site)
     (λ none. value_refused_arm (setting_of old c.args.site) c.args.terminal nested.ok
     (subst (λ (z : Setting). Refused z.hir

@@ -43,7 +43,7 @@ returns-in-FallsOff c = is_built tt (record {
 
 pub returns-in_ok-push-in-Breaks : goal.returns-in_ok-push-in-Breaks
 returns-in_ok-push-in-Breaks c = is_built tt (record {
-  statements = unlabeled (Break c.args.target c.in-Breaks.kind c.args.id);
+  statements = unlabeled (Break c.args.target c.in-Breaks.target_kind c.args.id);
   asked = ap (λ z. break_statements z c.args.target c.args.id) (sym c.in-Breaks.ensures);
   put = c.in_ok-push-in-Breaks.ensures.ok ∙ ap (λ (z : ReactiveStatement). c.args.self.now.out ++ z ∷ [])
       c.in_ok-statement-in-Breaks.ensures;

@@ -1,25 +1,26 @@
 use Rattle.std.proofs.Common.{[], ◌∷◌, ◌++◌, Some, None, refl, sym, ap, ◌∙◌, subst, arith}
-use Rattle.rc_runs.specs.declared.frames.Frame.TheVariants as frame_kinds
 use Rattle.rc_hir.specs.declared.fault.Rule.TheVariants.{BreakTarget, FallsElsewhere}
 use Rattle.rc_hir.specs.declared.terminal.Terminal.TheVariants as terminals
 use Rattle.rc_tree.specs.declared.terminal.ReactiveTerminal.TheVariants as tree
+use Rattle.rc_runs.specs.TreeOf.{statements_of}
+use Rattle.rc_runs.specs.declared.frames.Frame.TheVariants as frame_kinds
 use Rattle.rc_build.specs.declared.builder.Site.{Site}
+use Rattle.rc_build.specs.inside.Built.{BuildsList}
 use Rattle.rc_build.specs.inside.CanBuild.{CanBuildList}
 use Rattle.rc_build.specs.inside.Depths.{frames_inside}
 use Rattle.rc_build.specs.inside.Setting.{Setting, part_setting, setting_of, terminal_statement}
-use Rattle.rc_build.specs.inside.Task.{SpellsAlternate, progress_of, FromBlock, Spells}
-use Rattle.rc_runs.specs.TreeOf.{statements_of}
-use Rattle.rc_build.specs.inside.Built.{Refused, BuildsList, BuiltAlternate, BuiltList}
-use Rattle.rc_build.proofs.BuildsLemmas.{breaks_rule, builds_at, is_built, list_at, passes_on}
+use Rattle.rc_build.specs.inside.Task.{FromBlock, Spells, SpellsAlternate}
 use Rattle.rc_build.proofs.BranchLemmas.{alternate_lost, branch_built, branch_can, branch_lost, branch_refused}
 use Rattle.rc_build.proofs.BranchLemmas.{branch_refused_later, consequent_broken, consequent_list, consequent_lost}
 use Rattle.rc_build.proofs.BranchLemmas.{consequent_refused}
+use Rattle.rc_build.proofs.BuildsLemmas.{breaks_rule, builds_at, built_in, is_built, list_at, passes_on, refused_in}
+use Rattle.rc_build.proofs.BuildsLemmas.{same_graph}
 use Rattle.rc_build.proofs.BuiltLemmas.{marking_beside, marking_none}
-use Rattle.rc_build.proofs.IfLemmas.{alternate_absent, alternate_present, alternate_refused, if_built, if_refused}
-use Rattle.rc_build.proofs.IfLemmas.{if_elsewhere, if_refused_later, elsewhere_parts}
-use Rattle.rc_build.proofs.ListLemmas.{same_blocks, used_longer}
+use Rattle.rc_build.proofs.IfLemmas.{alternate_absent, alternate_present, alternate_refused, elsewhere_parts, if_built}
+use Rattle.rc_build.proofs.IfLemmas.{if_elsewhere, if_refused, if_refused_later}
+use Rattle.rc_build.proofs.ListLemmas.{as_few_left}
 use Rattle.rc_build.proofs.StatementLemmas.{falls_badly}
-use Rattle.rc_build.proofs.WalkLemmas.{at_arm, at_first_part, none_used, at_part}
+use Rattle.rc_build.proofs.WalkLemmas.{at_arm, at_first_part, at_part, none_used}
 use Rattle.rc_build.proofs.builder.Builder.+builder.Goals as goal
 
 -- a branch in a list
@@ -44,11 +45,7 @@ build_branch-build_apart-requires t c =
     let old = c.args.self.now in
     let part = c.in_ok-part.ensures in
     let mid = c.build_consequent.new.self in (
-      omega (
-        arith,
-        same_blocks old mid c.args.site part.frames,
-        used_longer part.ok.marking,
-      ),
+      omega (arith, as_few_left part part.ok.marking),
       subst (λ (z : Site). CanBuildList mid.hir.now mid.marks z.handler mid.frames z.block) (sym c.at.ensures)
           (subst (λ (z : Setting). CanBuildList z.hir mid.marks c.args.site.handler z.context.frames c.args.alternate)
           (sym part.frames)
@@ -58,18 +55,17 @@ build_branch-build_apart-requires t c =
 pub build_branch-returns-in_err-statements : goal.build_branch-returns-in_err-statements
 build_branch-returns-in_err-statements t c = λ span.
     let part = c.in_ok-part.ensures in
-    passes_on c.from_residual-in_err-statements.ensures.1 (ap (λ (z : Setting). z.hir) part.frames)
+    passes_on c.from_residual-in_err-statements.ensures.1 (same_graph part.frames)
     (list_at {site = c.args.site} c.args.alternate c.at.ensures c.in_err-statements.ensures)
-    (λ none. branch_refused_later part.ok (subst (λ (z : Setting). Refused z.hir (Spells z (FromBlock c.args.alternate))
-    c.build_consequent.new.self.marks.used) part.frames none))
+    (λ none. branch_refused_later part.ok
+    (refused_in (λ z. Spells z (FromBlock c.args.alternate)) c.build_consequent.new.self.marks.used part.frames none))
 
 pub build_branch-returns : goal.build_branch-returns
 build_branch-returns t c = λ span.
     let part = c.in_ok-part.ensures in
     let other = list_at {site = c.args.site} c.args.alternate c.at.ensures c.in_ok-statements.ensures in
     is_built None
-    (branch_built part.ok (subst (λ (z : Setting). BuiltList z c.args.alternate c.in_ok-statements.statements
-    (progress_of c.build_consequent.new.self) (progress_of c.build_apart.new.self)) part.frames other.ok)
+    (branch_built part.ok (built_in (λ z. Spells z (FromBlock c.args.alternate)) part.frames other.ok)
     c.in_ok-statement.ensures c.in_ok-push.ensures.ok) (other.frames ∙ part.frames)
 
 -- its consequent
@@ -146,11 +142,7 @@ build_if-build_alternate-requires t c =
     let part = c.in_ok-part.ensures in
     let mid = c.build_part.new.self in
     let frame = frame_kinds.Statement c.args.fallthrough in (
-      omega (
-        arith,
-        same_blocks old mid c.args.site part.frames,
-        used_longer part.ok.marking,
-      ),
+      omega (arith, as_few_left part part.ok.marking),
       subst (λ (z : Setting). CanBuildList z.hir mid.marks c.args.site.handler
           (frames_inside c.open_reachable-opened.result frame
           z.context.frames) c.args.alternate) (sym part.frames)
@@ -161,10 +153,11 @@ build_if-build_alternate-requires t c =
 pub build_if-returns-in_err-other : goal.build_if-returns-in_err-other
 build_if-returns-in_err-other t c = λ span.
     let part = c.in_ok-part.ensures in
-    passes_on c.from_residual-in_err-other.ensures.1 (ap (λ (z : Setting). z.hir) part.frames) c.in_err-other.ensures
-    (λ none. if_refused_later c.open_reachable-opened.ensures part.ok (subst (λ (z : Setting). Refused z.hir
-    (SpellsAlternate (part_setting c.open_reachable-opened.result (frame_kinds.Statement c.args.fallthrough) z)
-    c.args.alternate c.args.fallthrough) c.build_part.new.self.marks.used) part.frames none))
+    passes_on c.from_residual-in_err-other.ensures.1 (same_graph part.frames) c.in_err-other.ensures
+    (λ none. if_refused_later c.open_reachable-opened.ensures part.ok
+    (refused_in (λ z. SpellsAlternate (part_setting c.open_reachable-opened.result
+    (frame_kinds.Statement c.args.fallthrough) z) c.args.alternate c.args.fallthrough) c.build_part.new.self.marks.used
+    part.frames none))
 
 pub build_if-returns : goal.build_if-returns
 build_if-returns t c = λ span.
@@ -172,9 +165,8 @@ build_if-returns t c = λ span.
     let other = c.in_ok-other.ensures in
     is_built c.open_reachable-opened.result
     (if_built c.open_reachable-opened.ensures (sym c.falls_elsewhere.ensures ∙ c.if-falls_elsewhere.false) part.ok
-    (subst (λ (z : Setting). BuiltAlternate (part_setting c.open_reachable-opened.result
-    (frame_kinds.Statement c.args.fallthrough) z) c.args.alternate c.args.fallthrough c.in_ok-other.other
-    (progress_of c.build_part.new.self) (progress_of c.build_alternate.new.self)) part.frames other.ok)
+    (built_in (λ z. SpellsAlternate (part_setting c.open_reachable-opened.result
+    (frame_kinds.Statement c.args.fallthrough) z) c.args.alternate c.args.fallthrough) part.frames other.ok)
     (c.in_ok-statement.ensures ∙ ap (terminal_statement (tree.If c.args.test (record { statements = c.in_ok-part.part })
     c.in_ok-other.other c.args.id)) c.label_at.ensures) c.in_ok-push.ensures.ok)
     (other.frames ∙ part.frames)

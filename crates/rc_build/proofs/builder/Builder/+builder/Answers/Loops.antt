@@ -1,19 +1,19 @@
 use Rattle.std.proofs.Common.{◌∷◌, Some, refl, sym, ap, ◌∙◌, subst, arith}
 use Rattle.rc_hir.specs.declared.fault.Rule.TheVariants.{LoopLive}
+use Rattle.rc_runs.specs.LoopParts.{loop_frame}
+use Rattle.rc_build.specs.inside.Built.{BuiltList, Refused}
 use Rattle.rc_build.specs.inside.CanBuild.{CanBuildList}
 use Rattle.rc_build.specs.inside.Depths.{frames_inside}
 use Rattle.rc_build.specs.inside.Loops.{CanBuildBefore, CanBuildTurns, SpellsTurnsOf, TurnsBuilt, before_of, blocks_of}
-use Rattle.rc_runs.specs.LoopParts.{loop_frame}
 use Rattle.rc_build.specs.inside.Setting.{Setting, setting_of, terminal_statement}
-use Rattle.rc_build.specs.inside.Task.{progress_of, FromBlock, Spells}
-use Rattle.rc_build.specs.inside.Built.{Refused, BuiltList}
-use Rattle.rc_build.proofs.BuildsLemmas.{breaks_rule, is_built, passes_on}
-use Rattle.rc_build.proofs.ListLemmas.{same_blocks, used_longer}
+use Rattle.rc_build.specs.inside.Task.{FromBlock, Spells, progress_of}
+use Rattle.rc_build.proofs.BuildsLemmas.{breaks_rule, is_built, passes_on, refused_in, same_graph}
+use Rattle.rc_build.proofs.ListLemmas.{as_few_left, same_blocks, used_longer}
 use Rattle.rc_build.proofs.LoopLemmas.{SpellsLoopBefore, before_at, before_can, body_can, in_frame, init_can}
 use Rattle.rc_build.proofs.LoopLemmas.{start_marked, test_at, test_can, turns_built, turns_can, turns_refused_before}
 use Rattle.rc_build.proofs.LoopLemmas.{turns_refused_body, turns_refused_test, values_built, values_marked}
-use Rattle.rc_build.proofs.LoopStatementLemmas.{init_refused, live_fact, not_live, live_refused, loop_built}
-use Rattle.rc_build.proofs.LoopStatementLemmas.{loop_refused, tree_there}
+use Rattle.rc_build.proofs.LoopStatementLemmas.{init_refused, live_fact, live_refused, loop_built, loop_refused}
+use Rattle.rc_build.proofs.LoopStatementLemmas.{not_live, tree_there}
 use Rattle.rc_build.proofs.builder.Builder.+builder.Goals as goal
 
 -- a loop
@@ -45,7 +45,7 @@ build_loop-build_turns-requires t c =
     let s = setting_of old c.args.site in
     let init = before_at c.args.terminal c.init.ensures refl c.in_ok-init.ensures in
     let free = not_live s c.args.terminal (sym c.is_live.ensures ∙ c.if-is_live.false) in (
-      omega (arith, same_blocks old mid c.args.site init.frames, used_longer init.ok.marking),
+      omega (arith, as_few_left init init.ok.marking),
       subst (λ (z : Setting). CanBuildTurns z.hir mid.marks c.args.site.handler z.context.frames c.args.terminal)
           (sym init.frames)
           (turns_can c.args.terminal c.requires init.ok.marking free.0 free.1),
@@ -56,9 +56,9 @@ build_loop-returns-in_err-turns t c =
     let old = c.args.self.now in
     let s = setting_of old c.args.site in
     let init = before_at c.args.terminal c.init.ensures refl c.in_ok-init.ensures in
-    passes_on c.from_residual-in_err-turns.ensures.1 (ap (λ (z : Setting). z.hir) init.frames) c.in_err-turns.ensures
-    (λ none. loop_refused s c.args.terminal init.ok (subst (λ (z : Setting). Refused z.hir
-    (SpellsTurnsOf z c.args.terminal) c.build_before.new.self.marks.used) init.frames none))
+    passes_on c.from_residual-in_err-turns.ensures.1 (same_graph init.frames) c.in_err-turns.ensures
+    (λ none. loop_refused s c.args.terminal init.ok
+    (refused_in (λ z. SpellsTurnsOf z c.args.terminal) c.build_before.new.self.marks.used init.frames none))
 
 pub build_loop-loop_tree-tree-requires : goal.build_loop-loop_tree-tree-requires
 build_loop-loop_tree-tree-requires t c =
@@ -108,10 +108,10 @@ build_turns-returns-in_err-before t c =
     let mid = c.build_test.new.self in
     let s = setting_of c.args.self.now c.args.site in
     let test = test_at c.args.terminal c.is_flat.ensures c.in_ok-test.ensures in
-    passes_on c.from_residual-in_err-before.ensures.1 (ap (λ (z : Setting). z.hir) test.frames)
+    passes_on c.from_residual-in_err-before.ensures.1 (same_graph test.frames)
     (before_at c.args.terminal c.before-2.ensures c.is_flat.ensures c.in_err-before.ensures)
-    (λ none. turns_refused_before s c.args.terminal test.ok (subst (λ (z : Setting). Refused z.hir
-    (SpellsLoopBefore z c.args.terminal) mid.marks.used) test.frames none))
+    (λ none. turns_refused_before s c.args.terminal test.ok
+    (refused_in (λ z. SpellsLoopBefore z c.args.terminal) mid.marks.used test.frames none))
 
 pub build_turns-build_part-requires : goal.build_turns-build_part-requires
 build_turns-build_part-requires t c =
@@ -141,7 +141,7 @@ build_turns-returns-in_err-body t c =
     let loop = c.args.terminal in
     let values = values_built loop c.args.site c.is_flat.ensures c.before-2.ensures c.in_ok-test.ensures
     c.in_ok-before.ensures in
-    passes_on c.from_residual-in_err-body.ensures.1 (ap (λ (z : Setting). z.hir) values.same) c.in_err-body.ensures
+    passes_on c.from_residual-in_err-body.ensures.1 (same_graph values.same) c.in_err-body.ensures
     (λ none. turns_refused_body (setting_of c.args.self.now c.args.site) loop values.tested values.begun
     (in_frame (λ z. Refused z.hir (Spells z (FromBlock loop.body)) late.marks.used) loop c.frame.ensures values.same
     none))

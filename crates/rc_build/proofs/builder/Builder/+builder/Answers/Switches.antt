@@ -1,22 +1,22 @@
 use Rattle.std.proofs.Common.{[], ◌∷◌, ◌++◌, refl, sym, ap, ◌∙◌, subst, arith, List, drop}
-use Rattle.rc_runs.specs.declared.frames.Frame.TheVariants as frame_kinds
-use Rattle.rc_hir.specs.declared.fault.Rule.TheVariants.{FallsElsewhere, SwitchCase}
-use Rattle.rc_tree.specs.declared.terminal.ReactiveTerminal.TheVariants as tree
-use Rattle.rc_build.specs.declared.builder.Site.{Site}
-use Rattle.rc_build.specs.inside.Depths.{frames_inside}
-use Rattle.rc_build.specs.inside.Setting.{Setting, setting_of, terminal_statement}
-use Rattle.rc_build.specs.inside.Task.{progress_of}
-use Rattle.rc_build.specs.inside.Built.{Refused}
-use Rattle.rc_build.proofs.BuildsLemmas.{breaks_rule, is_built, passes_on}
-use Rattle.rc_build.proofs.ListLemmas.{used_longer}
-use Rattle.rc_build.proofs.StatementLemmas.{setting_left, falls_badly, at_part_site}
-use Rattle.rc_tree.specs.Model.{ReactiveSwitchCase}
 use Rattle.std.proofs.lemmas.Bool.{not-false, not-true}
 use Rattle.rc_hir.specs.Model.{Case}
+use Rattle.rc_hir.specs.declared.fault.Rule.TheVariants.{FallsElsewhere, SwitchCase}
+use Rattle.rc_tree.specs.Model.{ReactiveSwitchCase}
+use Rattle.rc_tree.specs.declared.terminal.ReactiveTerminal.TheVariants as tree
+use Rattle.rc_runs.specs.declared.frames.Frame.TheVariants as frame_kinds
+use Rattle.rc_build.specs.declared.builder.Site.{Site}
+use Rattle.rc_build.specs.inside.Built.{Refused}
+use Rattle.rc_build.specs.inside.Depths.{frames_inside}
+use Rattle.rc_build.specs.inside.Setting.{Setting, setting_of, terminal_statement}
 use Rattle.rc_build.specs.inside.Switches.{BuiltCases, CanBuildCases, SpellsKept}
-use Rattle.rc_build.proofs.SwitchLemmas.{case_can, cases_done, cases_further, cases_left, cases_refused, cases_start}
-use Rattle.rc_build.proofs.SwitchLemmas.{cases_setting, popped_last, popped_none}
-use Rattle.rc_build.proofs.SwitchStatementLemmas.{odd_cases, odd_refused, odd_parts, odd_none, or_parts, kept_chosen}
+use Rattle.rc_build.specs.inside.Task.{progress_of}
+use Rattle.rc_build.proofs.BuildsLemmas.{breaks_rule, is_built, passes_on, same_graph}
+use Rattle.rc_build.proofs.ListLemmas.{used_longer}
+use Rattle.rc_build.proofs.StatementLemmas.{at_part_site, falls_badly, setting_left}
+use Rattle.rc_build.proofs.SwitchLemmas.{case_can, cases_done, cases_further, cases_left, cases_refused, cases_setting}
+use Rattle.rc_build.proofs.SwitchLemmas.{cases_start, popped_last, popped_none}
+use Rattle.rc_build.proofs.SwitchStatementLemmas.{kept_chosen, odd_cases, odd_none, odd_parts, odd_refused, or_parts}
 use Rattle.rc_build.proofs.SwitchStatementLemmas.{switch_built, switch_can, switch_elsewhere, switch_refused}
 use Rattle.rc_build.proofs.builder.Builder.+builder.Goals as goal
 
@@ -119,7 +119,7 @@ build_cases-build_apart-requires t c = (
 
 pub build_cases-returns-in_err-statements : goal.build_cases-returns-in_err-statements
 build_cases-returns-in_err-statements t c =
-    passes_on c.from_residual.ensures.1 (ap (λ (z : Setting). z.hir) c.cases.invariant.setting)
+    passes_on c.from_residual.ensures.1 (same_graph c.cases.invariant.setting)
     c.in_err-statements.ensures
     (cases_refused c.pop.new.self c.in-Some.case
     (popped_last c.cases.waiting c.pop.new.self c.in-Some.is c.pop.ensures.last) c.cases.invariant)

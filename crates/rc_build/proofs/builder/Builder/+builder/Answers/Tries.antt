@@ -1,18 +1,17 @@
 use Rattle.std.proofs.Common.{refl, sym, ap, ◌∙◌, subst, arith}
-use Rattle.rc_runs.specs.declared.frames.Frame.TheVariants as frame_kinds
 use Rattle.rc_tree.specs.declared.terminal.ReactiveTerminal.TheVariants as tree
+use Rattle.rc_runs.specs.declared.frames.Frame.TheVariants as frame_kinds
 use Rattle.rc_build.specs.declared.builder.Site.{Site}
 use Rattle.rc_build.specs.inside.CanBuild.{CanBuildList}
 use Rattle.rc_build.specs.inside.Depths.{frames_inside}
 use Rattle.rc_build.specs.inside.Setting.{Setting, part_setting, setting_of, site_protected, terminal_statement}
-use Rattle.rc_build.specs.inside.Task.{progress_of, FromBlock, Spells}
-use Rattle.rc_build.specs.inside.Built.{Refused, BuiltList}
-use Rattle.rc_build.proofs.BuildsLemmas.{is_built, passes_on}
+use Rattle.rc_build.specs.inside.Task.{FromBlock, Spells}
+use Rattle.rc_build.proofs.BuildsLemmas.{built_in, is_built, passes_on, refused_in, same_graph}
 use Rattle.rc_build.proofs.BuiltLemmas.{marking_beside}
-use Rattle.rc_build.proofs.ListLemmas.{same_blocks, used_longer}
-use Rattle.rc_build.proofs.TryLemmas.{part_there, protected_can, same_elsewhere, try_there, try_built, try_refused}
-use Rattle.rc_build.proofs.TryLemmas.{try_refused_later}
-use Rattle.rc_build.proofs.WalkLemmas.{at_first_part, none_used, at_part}
+use Rattle.rc_build.proofs.ListLemmas.{as_few_left}
+use Rattle.rc_build.proofs.TryLemmas.{part_there, protected_can, same_elsewhere, try_built, try_refused}
+use Rattle.rc_build.proofs.TryLemmas.{try_refused_later, try_there}
+use Rattle.rc_build.proofs.WalkLemmas.{at_first_part, at_part, none_used}
 use Rattle.rc_build.proofs.builder.Builder.+builder.Goals as goal
 
 -- a try
@@ -45,11 +44,7 @@ build_try-build_part-requires-2 t c =
     let block = part_there c.open_reachable-opened.result (frame_kinds.Statement c.args.fallthrough)
     c.protected_by.ensures c.in_ok-block.ensures in
     let same = same_elsewhere old mid c.args.site (site_protected c.args.handler c.args.site) block.frames in (
-      omega (
-        arith,
-        same_blocks old mid c.args.site same,
-        used_longer block.ok.marking,
-      ),
+      omega (arith, as_few_left block block.ok.marking),
       subst (λ (z : Setting). CanBuildList z.hir mid.marks c.args.site.handler
           (frames_inside c.open_reachable-opened.result frame z.context.frames) c.args.handler) (sym same)
           (at_part old.hir.now frame c.open_reachable-opened.result c.requires.1 refl (none_used mid.marks)
@@ -63,10 +58,10 @@ build_try-returns-in_err-other t c = λ span.
     let block = part_there c.open_reachable-opened.result (frame_kinds.Statement c.args.fallthrough)
     c.protected_by.ensures c.in_ok-block.ensures in
     let same = same_elsewhere old mid c.args.site (site_protected c.args.handler c.args.site) block.frames in
-    passes_on c.from_residual-in_err-other.ensures.1 (ap (λ (z : Setting). z.hir) same) c.in_err-other.ensures
+    passes_on c.from_residual-in_err-other.ensures.1 (same_graph same) c.in_err-other.ensures
     (λ none. try_refused_later {s = setting_of old c.args.site} c.open_reachable-opened.ensures block.ok
-    (subst (λ (z : Setting). Refused z.hir (Spells (part_setting c.open_reachable-opened.result
-    (frame_kinds.Statement c.args.fallthrough) z) (FromBlock c.args.handler)) mid.marks.used) same none))
+    (refused_in (λ z. Spells (part_setting c.open_reachable-opened.result
+    (frame_kinds.Statement c.args.fallthrough) z) (FromBlock c.args.handler)) mid.marks.used same none))
 
 pub build_try-returns : goal.build_try-returns
 build_try-returns t c = λ span.
@@ -78,9 +73,8 @@ build_try-returns t c = λ span.
     let same = same_elsewhere old mid c.args.site (site_protected c.args.handler c.args.site) block.frames in
     is_built c.open_reachable-opened.result
     (try_built {s = setting_of old c.args.site} c.open_reachable-opened.ensures block.ok
-    (subst (λ (z : Setting). BuiltList (part_setting c.open_reachable-opened.result
-    (frame_kinds.Statement c.args.fallthrough) z) c.args.handler c.in_ok-other.other (progress_of mid)
-    (progress_of c.build_part-2.new.self)) same other.ok)
+    (built_in (λ z. Spells (part_setting c.open_reachable-opened.result (frame_kinds.Statement c.args.fallthrough) z)
+    (FromBlock c.args.handler)) same other.ok)
     (c.in_ok-statement.ensures ∙ ap (terminal_statement (tree.Try (record { statements = c.in_ok-block.block })
     c.args.binding (record { statements = c.in_ok-other.other }) c.args.id)) c.label_at.ensures)
     c.in_ok-push.ensures.ok) (other.frames ∙ same)
