@@ -26,10 +26,10 @@ use Rattle.rc_tree.specs.StatementSteps.{over_statements}
 use Rattle.rc_tree.specs.StatementsNoDeeper.{over_statements_no_deeper}
 use Rattle.rc_tree.specs.Step.{IsStep}
 use Rattle.rc_tree.specs.TreeNames.{TreeInTables, names_in, names_in_list, names_of_parts}
-use Rattle.rc_tree.specs.inside.Refines.{StepAgrees, RebuildsTo}
+use Rattle.rc_tree.specs.inside.Refines.{RebuildsTo}
 use Rattle.rc_tree.specs.inside.RewriteKeeps.{KeepsMeasure, one}
 use Rattle.rc_tree.specs.inside.StatementsRefine.{StatementsRefine}
-use Rattle.rc_tree.specs.Model.{ReactiveBlock, ReactiveFunction, ReactiveScopeBlock, ReactiveStatement}
+use Rattle.rc_tree.specs.Model.{ReactiveBlock, ReactiveFunction, ReactiveScopeBlock}
 use Rattle.rc_tree.specs.declared.statement.ReactiveStatement.TheVariants as reactive
 use Rattle.rc_flow.proofs.InvalidatingLemmas.{answers_right}
 use Rattle.rc_flow.specs.AlwaysInvalidating.{as_pruned, dropping_rules, first_answer, IsRebuiltBy}

@@ -5,10 +5,10 @@ use Rattle.std.proofs.lemmas.List.{append-nil, drop_more}
 use Rattle.rc_hir.specs.Model.{Environment, Place}
 use Rattle.rc_names.specs.Numbers.{BlockId, EvaluationOrder}
 use Rattle.rc_names.specs.declared.span.Span.{Span}
-use Rattle.rc_tree.specs.TreeFold.{parts_of_statement, parts_of_terminal, over_labeled, over_scope, over_pruned_scope}
+use Rattle.rc_tree.specs.TreeFold.{parts_of_statement, parts_of_terminal}
 use Rattle.rc_tree.specs.Unrolled.{UnrolledStatement, UnrolledTerminal}
 use Rattle.rc_tree.specs.Model.{PrunedReactiveScopeBlock, ReactiveBlock, ReactiveInstruction, ReactiveScopeBlock}
-use Rattle.rc_tree.specs.Model.{ReactiveStatement, ReactiveSwitchCase, ReactiveTerminal, ReactiveTerminalStatement}
+use Rattle.rc_tree.specs.Model.{ReactiveSwitchCase, ReactiveTerminalStatement}
 use Rattle.rc_tree.specs.Model.{ReactiveTerminalTargetKind, ReactiveValue}
 use Rattle.rc_tree.specs.declared.statement.ReactiveStatement.TheOpen as layer
 use Rattle.rc_tree.specs.declared.statement.ReactiveStatement.TheVariants as reactive

@@ -8,7 +8,6 @@ use Rattle.rc_hir.specs.Model.{DeclarationEntry, ReactiveScope, ReactiveScopeDep
 use Rattle.rc_names.specs.Numbers.{IdentifierId, is_among, same_id}
 use Rattle.rc_names.proofs.NumbersLemmas.{same_id-eq}
 use Rattle.rc_flow.specs.Reached.{outputs_if}
-use Rattle.rc_flow.specs.Unmemoized.{copied}
 use Rattle.rc_flow.specs.inside.Invalidating.{with_copy, with_declared, with_if_among, with_name, with_reassigned}
 use Rattle.rc_flow.proofs.SetLemmas.{Names, In, in_itself, insert_cases, insert_new, insert_old}
 

@@ -9,8 +9,7 @@ use Rattle.rc_hir.specs.Names.{FunctionInTables, IsInTable, IsOutside, NamesOuts
 use Rattle.rc_hir.specs.Operands.{context_found, operands}
 use Rattle.rc_hir.specs.PartNames.{Name, names_if, parameter_names, place_names, scope_name}
 use Rattle.rc_hir.specs.ValueNames.{value_names}
-use Rattle.rc_hir.specs.Model.{Environment, Fault, HirFunction, InstructionValue, LoweredFunction, Place}
-use Rattle.rc_hir.specs.declared.fault.Fault.TheVariants.{BadName}
+use Rattle.rc_hir.specs.Model.{Environment, Fault, InstructionValue, LoweredFunction, Place}
 use Rattle.rc_hir.specs.declared.fault.TableName.TheVariants.{Functions}
 use Rattle.rc_hir.specs.declared.instruction.InstructionValue.TheVariants as kinds
 use Rattle.rc_names.specs.Numbers.{EvaluationOrder}

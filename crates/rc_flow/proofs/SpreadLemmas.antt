@@ -16,7 +16,7 @@ use Rattle.rc_flow.specs.declared.spread.Spread.{Spread}
 use Rattle.rc_flow.specs.declared.step.Step.{Step}
 use Rattle.rc_flow.specs.declared.step.Step.TheVariants.{Marks, Carries, Ends}
 use Rattle.rc_flow.specs.Reached.{IsReached, marked, carried, sources, targets}
-use Rattle.rc_flow.specs.inside.Spread.{after_step, after_steps, ended, is_early, noted, noted_if, nothing}
+use Rattle.rc_flow.specs.inside.Spread.{after_step, after_steps, is_early, noted, noted_if, nothing}
 use Rattle.rc_flow.specs.inside.Spread.{with_all, with_names}
 use Rattle.rc_flow.proofs.SetLemmas.{Names, In, carried_cases}
 use Rattle.rc_flow.proofs.SetLemmas.{insert_cases, insert_new}

@@ -36,7 +36,7 @@ use Rattle.rc_tree.specs.declared.terminal.ReactiveSwitchCase.{ReactiveSwitchCas
 use Rattle.rc_tree.specs.declared.terminal.ReactiveSwitchCase.{out-roll-ReactiveSwitchCase}
 use Rattle.rc_tree.specs.declared.terminal.ReactiveTerminal.TheVariants as tree
 use Rattle.rc_flow.proofs.StayingParts.{Answers, ended_statement, ended_terminal, ended_list, ended_if, ended_case}
-use Rattle.rc_flow.proofs.StayingParts.{ended_cases, staying, behind, Stays, made, made_of_two, as_it_is, BlockStays}
+use Rattle.rc_flow.proofs.StayingParts.{ended_cases, staying, Stays, made, made_of_two, as_it_is, BlockStays}
 use Rattle.rc_flow.proofs.StayingParts.{StatementStays, ListStays, TerminalStays, without_parts, with_part}
 use Rattle.rc_flow.proofs.StayingParts.{with_two_parts, scope_stays, after_scope, after_pruned_scope, labeled}
 use Rattle.rc_flow.proofs.StayingParts.{after_terminal, block_stays}

@@ -1,7 +1,7 @@
 -- A tree in which each scope block that depends on an unmemoized value is a pruned one, and which scopes keep a block.
 --
 -- Blocks are rebuilt by one answer for each scope block, in the order in which they end.
-use Rattle.std.specs.Prelude.{◌≡◌, ◌⊎◌, ℕ, Bool, true, false, List, [], ◌∷◌, ◌++◌, Some, Ok, Contains, drop}
+use Rattle.std.specs.Prelude.{◌≡◌, ◌⊎◌, ℕ, Bool, false, List, [], ◌∷◌, ◌++◌, Some, Ok, Contains, drop}
 use Rattle.std.specs.Prelude.{slice_get, if◌then◌else◌}
 use Rattle.rc_hir.specs.Model.{Environment}
 use Rattle.rc_names.specs.Numbers.{ScopeId}

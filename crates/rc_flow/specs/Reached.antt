@@ -2,7 +2,7 @@
 -- at rising places leads from such a name.
 use Rattle.std.specs.Prelude.{◌≡◌, ◌<◌, ℕ, true, List, [], ◌++◌, Option, None, Some, map, slice_get}
 use Rattle.rc_hir.specs.Model.{DeclarationEntry, Environment, ReactiveScope, ReactiveScopeDependency}
-use Rattle.rc_names.specs.Numbers.{IdentifierId, ScopeId, is_among}
+use Rattle.rc_names.specs.Numbers.{IdentifierId, is_among}
 use Rattle.rc_flow.specs.declared.step.Step.{Step}
 use Rattle.rc_flow.specs.declared.step.Step.TheVariants.{Marks, Carries, Ends}
 

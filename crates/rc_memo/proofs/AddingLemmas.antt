@@ -1,6 +1,6 @@
 -- Facts that are put in one by one, and one after the other.
-use Rattle.std.proofs.Common.{◌≡◌, ◌⊎◌, ◌∙◌, ◌++◌, ◌+◌, ◌<◌, ◌≤◌, inl, inr, ℕ, zero, suc, Bool, true, false, List, [], ◌∷◌}
-use Rattle.std.proofs.Common.{Option, None, Some, Result, Ok, Err, add-one, ap, append-nil, append_assoc, arith, cond, drop}
+use Rattle.std.proofs.Common.{◌≡◌, ◌∙◌, ◌++◌, ◌+◌, ◌<◌, ◌≤◌, inl, inr, ℕ, zero, suc, Bool, true, false, List, [], ◌∷◌}
+use Rattle.std.proofs.Common.{Option, None, Some, Result, Ok, Err, ap, append-nil, append_assoc, arith, cond, drop}
 use Rattle.std.proofs.Common.{get_or, length, refl, subst, sym, take}
 use Rattle.std.specs.List.{flat_map, list_any}
 use Rattle.std.specs.Map.{keys_of}
@@ -12,7 +12,7 @@ use Rattle.rc_names.specs.Numbers.{DeclarationId, ScopeId, same_id}
 use Rattle.rc_memo.proofs.EntryLemmas.{at_absent, insert_absent}
 use Rattle.rc_memo.proofs.NodesLemmas.{told_asked, told_first, told_level, told_need, told_scope}
 use Rattle.rc_memo.specs.Facts.{Fact, GivesLevel, DependsOn, HasScope, NeedsNode, at_each, first_missing, missing_now}
-use Rattle.rc_memo.specs.Facts.{names_told, needed_by, node_told, nodes_told, or_else}
+use Rattle.rc_memo.specs.Facts.{names_told, needed_by, node_told, or_else}
 use Rattle.rc_memo.specs.declared.level.MemoizationLevel.{MemoizationLevel}
 use Rattle.rc_memo.specs.declared.record.MemoNode.{MemoNode}
 use Rattle.rc_memo.specs.inside.Gathering.{Adds, at_name, empty_node, Gathers, Holds, with_dependency, with_level, with_scope}

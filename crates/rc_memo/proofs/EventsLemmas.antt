@@ -1,21 +1,21 @@
 -- Events that are added one after the other.
-use Rattle.std.proofs.Common.{◌≡◌, ◌⊎◌, ◌∙◌, ◌++◌, ◌+◌, ◌<◌, ◌≤◌, inl, inr, ℕ, List, [], ◌∷◌, Option, None, Some, Result}
+use Rattle.std.proofs.Common.{◌≡◌, ◌⊎◌, ◌∙◌, ◌++◌, ◌+◌, ◌<◌, ◌≤◌, inl, inr, ℕ, List, [], ◌∷◌, Result}
 use Rattle.std.proofs.Common.{Ok, Err, OnOk, ap, append-nil, append_assoc, drop, get_or, length, refl, subst, sym, take}
 use Rattle.std.specs.List.{flat_map}
 use Rattle.std.proofs.lemmas.List.{take_more}
 use Rattle.rc_hir.specs.Model.{Fault}
-use Rattle.rc_hir.specs.declared.fault.Fault.TheVariants.{NoMemory, Uninitialised}
+use Rattle.rc_hir.specs.declared.fault.Fault.TheVariants.{NoMemory}
 use Rattle.rc_names.specs.Numbers.{DeclarationId}
 use Rattle.rc_memo.proofs.AddingLemmas.{missing_kept, missing_next, next_by, take_all, whole}
 use Rattle.rc_memo.proofs.LoadsLemmas.{definitions_push, resolve_is}
-use Rattle.rc_memo.specs.Events.{Loaded, definitions_told, event_facts, facts_behind, facts_told, loads_in, params_facts}
+use Rattle.rc_memo.specs.Events.{Loaded, definitions_told, event_facts, facts_behind, loads_in, params_facts}
 use Rattle.rc_memo.specs.Events.{resolved_after}
-use Rattle.rc_memo.specs.Facts.{Fact, first_missing, names_told, node_told}
+use Rattle.rc_memo.specs.Facts.{first_missing, names_told, node_told}
 use Rattle.rc_memo.specs.Record.{IsUninitialised}
 use Rattle.rc_memo.specs.declared.event.MemoEvent.{MemoEvent}
 use Rattle.rc_memo.specs.declared.nodes.Nodes.{Nodes}
 use Rattle.rc_memo.specs.declared.record.MemoNode.{MemoNode}
-use Rattle.rc_memo.specs.inside.Gathering.{Adds, AddsEvents, Gathers, GathersEvents, HasGathered, Holds}
+use Rattle.rc_memo.specs.inside.Gathering.{Adds, AddsEvents, Gathers, HasGathered, Holds}
 use Rattle.rc_memo.specs.inside.Gathering.{resolved, with_loads}
 
 -- the facts of some events and more

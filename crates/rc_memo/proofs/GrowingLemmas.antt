@@ -1,12 +1,11 @@
 -- Sets and maps that grow as events come.
 use Rattle.std.proofs.Common.{◌≡◌, ◌∙◌, ◌++◌, ◌+◌, ◌<◌, ◌≤◌, ℕ, Bool, true, false, List, [], ◌∷◌, Option, None, Some, ap}
-use Rattle.std.proofs.Common.{append-nil, append_assoc, cond, get_or, length, map, refl, subst, sym, take}
+use Rattle.std.proofs.Common.{append-nil, append_assoc, cond, get_or, length, refl, subst, sym, take}
 use Rattle.std.specs.Prelude.{◌||◌}
 use Rattle.std.specs.List.{flat_map, list_any}
 use Rattle.std.specs.Map.{keys_of, lookup}
 use Rattle.std.proofs.lemmas.List.{map-append, take_more}
 use Rattle.indexmap.specs.IndexMap.{insert_entry}
-use Rattle.indexmap.specs.IndexSet.{insert_key}
 use Rattle.rc_hir.specs.Model.{Environment}
 use Rattle.rc_names.proofs.NumbersLemmas.{same_id-eq}
 use Rattle.rc_names.specs.Numbers.{DeclarationId, ScopeId, same_id}

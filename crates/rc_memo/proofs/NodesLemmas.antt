@@ -1,6 +1,6 @@
 -- What one more fact changes in the nodes.
 use Rattle.std.proofs.Common.{◌≡◌, ◌∙◌, ◌++◌, Bool, true, false, List, [], ◌∷◌, Option, None, Some, ap, append-nil, cond}
-use Rattle.std.proofs.Common.{map, refl, subst, sym}
+use Rattle.std.proofs.Common.{refl, subst, sym}
 use Rattle.std.specs.Prelude.{◌||◌, filter_map}
 use Rattle.std.specs.List.{list_any, cons_option, AllByRecursion, IsDistinct}
 use Rattle.std.proofs.lemmas.List.{map-append}
@@ -12,7 +12,7 @@ use Rattle.rc_names.specs.declared.numbers.Id.{Id}
 use Rattle.rc_memo.proofs.DistinctLemmas.{distinct_is, distinct_push}
 use Rattle.rc_memo.proofs.LevelLaws.{stronger_associates, stronger_commutes}
 use Rattle.rc_memo.specs.Facts.{Fact, GivesLevel, DependsOn, HasScope, NeedsNode, distinct, strongest, only_if, target_told}
-use Rattle.rc_memo.specs.Facts.{level_told, dependency_told, scope_told, node_told, names_told, at_each, nodes_told}
+use Rattle.rc_memo.specs.Facts.{level_told, dependency_told, scope_told, node_told, names_told, at_each}
 use Rattle.rc_memo.specs.Level.{stronger}
 use Rattle.rc_memo.specs.declared.level.MemoizationLevel.{MemoizationLevel}
 use Rattle.rc_memo.specs.declared.level.MemoizationLevel.TheVariants.{Never}

@@ -2,9 +2,8 @@
 use Rattle.std.specs.Prelude.{List, [], ◌∷◌, ◌++◌, slice_get}
 use Rattle.std.specs.List.{flat_map}
 use Rattle.std.specs.Option.{option_map_or}
-use Rattle.rc_hir.specs.Model.{Environment, ParamPattern}
-use Rattle.rc_hir.specs.declared.place.ParamPattern.TheVariants as params
-use Rattle.rc_names.specs.Numbers.{DeclarationId, IdentifierId, ScopeId}
+use Rattle.rc_hir.specs.Model.{Environment}
+use Rattle.rc_names.specs.Numbers.{IdentifierId, ScopeId}
 use Rattle.rc_tree.specs.Collected.{Contributions, collected}
 use Rattle.rc_tree.specs.Joining.{from_around, lists}
 use Rattle.rc_tree.specs.Model.{ReactiveBlock}

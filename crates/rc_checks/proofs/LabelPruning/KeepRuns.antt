@@ -2,7 +2,7 @@
 --
 -- The body is the tree of a plain one, and so is the body that is left, with the same runs (`PlainKeepsRuns`). A
 -- tree stands for one plain tree at most, so a run of the one body is one of the other.
-use Rattle.std.proofs.Common.{◌≡◌, ◌↔◌, List, [], Ok, sym, ap, ◌∙◌, subst}
+use Rattle.std.proofs.Common.{◌≡◌, ◌↔◌, List, [], sym, ap, ◌∙◌, subst}
 use Rattle.rc_hir.specs.Model.{Environment}
 use Rattle.rc_tree.specs.Rebuilt.{rebuilt_block}
 use Rattle.rc_tree.specs.Model.{ReactiveFunction, ReactiveBlock}
