@@ -1,5 +1,8 @@
 mod KindsReadBack
-mod NoFloats
 mod PartsReadBack
+mod PlainForms
+mod PlainValues
 pub mod ReadsBack
+mod SendingLemmas
+mod SentTexts
 mod ShownLists

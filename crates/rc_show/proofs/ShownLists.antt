@@ -1,18 +1,19 @@
--- Printing the entries of a list one after the other.
+-- Sending the entries of a list one after the other.
 use Rattle.std.proofs.Common.{◌≡◌, ℕ, ◌+◌, ◌<◌, ◌≤◌, List, [], ◌∷◌, ◌++◌, Option, None, Some, option_and_then}
-use Rattle.std.proofs.Common.{option_map, length, get_or, take, map, Vec, Global, refl, sym, ap, ◌∙◌}
+use Rattle.std.proofs.Common.{option_map, length, get_or, take, map, refl, subst, sym, ap, ◌∙◌}
 use Rattle.std.proofs.lemmas.List.{map-append, take_all, take_more}
-use Rattle.serde_json.proofs.Views.{view-Array}
-use Rattle.serde_json.specs.Data.{Data, array}
-use Rattle.serde_json.specs.View.{view, items_of}
-use Rattle.serde_json.specs.declared.value.Value.{Value, Array}
-use Rattle.rc_doc.specs.Reading.{all_items}
+use Rattle.serde.specs.Event.{Log, Logs, seq_begins, seq_ends}
+use Rattle.serde_json.specs.Data.{Data}
+use Rattle.serde_json.specs.View.{items_of}
+use Rattle.rc_doc.specs.Reading.{all_items, list_of}
 use Rattle.rc_show.specs.Showing.{list_data}
+use Rattle.rc_show.specs.inside.Sending.{Sends, SendsItems}
+use Rattle.rc_show.proofs.SendingLemmas.{array_sent, last_item_sent, no_items_sent}
 
--- The values are the printing forms of the entries, and read as these again.
-pub record ShownSoFar {X : Type 0} (reads : Data → Option X) (shows : X → Data) (xs : List X) (shown : List Value) :
+-- The entries are sent, and their printing forms read as these again.
+pub record SentSoFar {X : Type 0} (reads : Data → Option X) (shows : X → Data) (xs : List X) (old new : Log) :
     Type 0 where
-  pub value : map view shown ≡ map shows xs
+  pub sends : SendsItems (items_of (map shows xs)) old new
   pub again : all_items reads (items_of (map shows xs)) ≡ Some xs
 
 module _ {X : Type 0} (reads : Data → Option X) (shows : X → Data) where
@@ -28,22 +29,32 @@ module _ {X : Type 0} (reads : Data → Option X) (shows : X → Data) where
   all_items-append [] d x h = rw h refl
   all_items-append (e ∷ ds) d x h = rw (all_items-append ds d x h) (later x (reads e) (all_items reads (items_of ds)))
 
-  pub next_entry : (xs : List X) (i : ℕ) (x : X) (shown after : List Value) (v : Value) → i < length xs
-      → x ≡ get_or xs i x
-      → ShownSoFar reads shows (take i xs) shown → view v ≡ shows x → reads (shows x) ≡ Some x → after ≡ shown ++ v ∷ []
-      → ShownSoFar reads shows (take (i + 1) xs) after
-  next_entry xs i x shown after v lt is so_far value again pushed =
+  pub none_sent : (log : Log) → SentSoFar reads shows [] log log
+  none_sent log = record { sends = no_items_sent log; again = refl }
+
+  pub next_sent : (xs : List X) (i : ℕ) (x : X) (old mid new : Log) → i < length xs → x ≡ get_or xs i x
+      → SentSoFar reads shows (take i xs) old mid → Sends (shows x) mid new → reads (shows x) ≡ Some x
+      → SentSoFar reads shows (take (i + 1) xs) old new
+  next_sent xs i x old mid new lt is so_far sends again =
       let more : take (i + 1) xs ≡ take i xs ++ x ∷ [] = take_more xs i x lt ∙ ap (λ y. take i xs ++ y ∷ []) (sym is) in
       let both : map shows (take i xs ++ x ∷ []) ≡ map shows (take i xs)
       ++ shows x ∷ [] = map-append shows (take i xs) (x ∷ []) in
-      rw (more, pushed) (record {
-        value = map-append view shown (v ∷ []) ∙ rw (so_far.value, value) (sym both);
+      rw more (record {
+        sends = subst (λ ds. SendsItems (items_of ds) old new) (sym both)
+            (last_item_sent (map shows (take i xs)) (shows x) old mid new so_far.sends sends);
         again = ap (λ ds. all_items reads (items_of ds)) both
             ∙ all_items-append (map shows (take i xs)) (shows x) x again ∙ rw so_far.again refl;
       })
 
-  pub all_shown : (xs : List X) (i : ℕ) (items : Vec Value Global) → length xs ≤ i
-      → ShownSoFar reads shows (take i xs) items.items
-      → view (Array items) ≡ list_data shows xs
-  all_shown xs i items le so_far =
-      view-Array items ∙ ap (λ ds. array (items_of ds)) (so_far.value ∙ ap (λ ys. map shows ys) (take_all i xs le))
+  pub all_sent : (xs ys : List X) (i : ℕ) (old first last new : Log) → ys ≡ xs → length ys ≤ i
+      → Logs old first (seq_begins None) → SentSoFar reads shows (take i ys) first last → Logs last new seq_ends
+      → Sends (list_data shows xs) old new
+  all_sent xs ys i old first last new same le begun so_far ended =
+      let all = take_all i ys le ∙ same in
+      array_sent _ old first last new begun
+      (subst (λ zs. SendsItems (items_of (map shows zs)) first last) all so_far.sends) ended
+
+  pub all_again : (xs ys : List X) (i : ℕ) (first last : Log) → ys ≡ xs → length ys ≤ i
+      → SentSoFar reads shows (take i ys) first last → list_of reads (list_data shows xs) ≡ Some xs
+  all_again xs ys i first last same le so_far =
+      subst (λ zs. all_items reads (items_of (map shows zs)) ≡ Some zs) (take_all i ys le ∙ same) so_far.again

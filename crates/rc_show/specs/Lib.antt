@@ -1,3 +1,4 @@
 pub mod Showing
 pub mod ShownParts
 pub mod ShownKinds
+pub mod inside

@@ -2,13 +2,13 @@
 pub mod Places
 pub mod Patterns
 use Rattle.std.specs.Prelude.{codes}
-use Rattle.serde_json.specs.Data.{Data, boolean, no_members, object, put, string}
+use Rattle.serde_json.specs.Data.{Data, boolean, no_members, object, string}
 use Rattle.rc_hir.specs.Model.{JsxAttribute, JsxTag, LoweredFunction, NonLocalBinding, PrimitiveValue, Place}
 use Rattle.rc_hir.specs.declared.instruction.JsxAttribute.TheVariants as attributes
 use Rattle.rc_hir.specs.declared.instruction.JsxTag.TheVariants as tags
 use Rattle.rc_hir.specs.declared.instruction.NonLocalBinding.TheVariants as bindings
 use Rattle.rc_hir.specs.declared.instruction.PrimitiveValue.TheVariants as primitives
-use Rattle.rc_show.specs.Showing.{◌▸◌, number_data, tagged, variant_data}
+use Rattle.rc_show.specs.Showing.{◌▸◌, add, number_data, tagged, variant_data}
 use Rattle.rc_show.specs.ShownParts.Places.{place_data}
 
 -- a literal of a primitive type
@@ -21,9 +21,10 @@ primitive_value_data (primitives.String text) = variant_data (codes "String") (s
 
 -- a name from outside the function
 unfoldable pub binding_data : NonLocalBinding → Data
-binding_data (bindings.Global name) = object (tagged (codes "Global") ▸ put (codes "name") (string name))
+binding_data (bindings.Global name) = object (no_members ▸ tagged (codes "Global") ▸ add (codes "name") (string name))
 binding_data (bindings.Module name from) =
-    object (tagged (codes "Module") ▸ put (codes "name") (string name) ▸ put (codes "module") (string from))
+    object (no_members ▸ tagged (codes "Module") ▸ add (codes "module") (string from)
+    ▸ add (codes "name") (string name))
 
 -- the tag of a JSX element
 unfoldable pub jsx_tag_data : JsxTag → Data
@@ -33,10 +34,11 @@ jsx_tag_data (tags.Builtin name) = variant_data (codes "Builtin") (string name)
 -- an attribute of a JSX element
 unfoldable pub jsx_attribute_data : JsxAttribute → Data
 jsx_attribute_data (attributes.Attribute name place) =
-    object (tagged (codes "Attribute") ▸ put (codes "name") (string name) ▸ put (codes "place") (place_data place))
+    object (no_members ▸ tagged (codes "Attribute") ▸ add (codes "name") (string name)
+    ▸ add (codes "place") (place_data place))
 jsx_attribute_data (attributes.SpreadAttribute argument) =
-    object (tagged (codes "SpreadAttribute") ▸ put (codes "argument") (place_data argument))
+    object (no_members ▸ add (codes "argument") (place_data argument) ▸ tagged (codes "SpreadAttribute"))
 
 -- a nested function, by its number
 unfoldable pub lowered_function_data : LoweredFunction → Data
-lowered_function_data lowered = object (no_members ▸ put (codes "func") (number_data lowered.func.0))
+lowered_function_data lowered = object (no_members ▸ add (codes "func") (number_data lowered.func.0))

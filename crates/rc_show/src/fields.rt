@@ -1,20 +1,13 @@
-//! Printing a value part by part: `Show` for types, and `Fields` for an object, field by field.
+//! Sending a printing form part by part: `Show` for types, and `Fields` for the fields of an object.
 
-ghost use Rattle.std.specs.Prelude.{◌≡◌, Option, IfOk, OnOk, Some, codes};
-ghost use Rattle.serde_json.specs.Data.{Data, boolean, no_members, object, put, string};
-ghost use Rattle.serde_json.specs.View.{view};
-ghost use Rattle.rc_doc.specs.Places.{span_of};
+ghost use Rattle.std.specs.Prelude.{◌≡◌, Option, OnOk, Some, codes, ⊤};
+ghost use Rattle.serde_json.specs.Data.{Data, Members, boolean, no_members, object, string};
 ghost use Rattle.rc_doc.specs.Reading.{flag_of, list_of, number_of, text_of};
-ghost use Rattle.rc_show.specs.Showing.{list_data, members_so_far, number_data, put_some, IsReadAgain, tagged};
-ghost use Rattle.rc_show.specs.Showing.{variant_data};
-ghost use Rattle.rc_show.specs.ShownParts.Places.{span_data};
+ghost use Rattle.rc_show.specs.Showing.{add, add_some, list_data, number_data, IsReadAgain, tagged, variant_data};
+ghost use Rattle.rc_show.specs.inside.Sending.{Sends, SendsFields};
 
-use rc_names::{List, Span, Text};
-use serde_json::{Map, Value};
-use std::alloc::{AllocError, Global};
-
-/// A printing form, or the error that memory is out.
-pub(crate) type Shown = Result<Value, AllocError>;
+use rc_names::{List, Text};
+use serde::Serializer;
 
 /// A type that has a printing form.
 pub(crate) trait Show: Sized {
@@ -24,9 +17,9 @@ pub(crate) trait Show: Sized {
     /// The printing form.
     ghost shows: { Self → Data };
 
-    /// Returns the printing form of a value, which reads as that value again. Fails only when out of memory.
-    fn show(&self, alloc: Global) -> Shown
-        ensures value { IfOk result (λ shown. view shown ≡ shows self.now) }
+    /// Sends the printing form of a value, which reads as that value again. Fails only when the serializer does.
+    fn send<S: Serializer>(&self, out: &mut S) -> Result<(), S::Error>
+        ensures sends { OnOk result (Sends (shows self.now) (S.written out.old) (S.written out.new)) }
         ensures again { OnOk result (Self.reads (shows self.now) ≡ Some self.now) };
 }
 
@@ -35,10 +28,9 @@ impl Show for u32 {
 
     ghost shows = { number_data };
 
-    #[tactic(auto, using(crate::proofs::ReadsBack::number_again))]
-    fn show(&self, _alloc: Global) -> Shown {
-        let number = *self;
-        Ok(Value::from(number))
+    #[tactic(auto, using(crate::proofs::ReadsBack::number_again, crate::proofs::SendingLemmas::number_sent))]
+    fn send<S: Serializer>(&self, out: &mut S) -> Result<(), S::Error> {
+        out.u64(u64::from(*self))
     }
 }
 
@@ -47,8 +39,9 @@ impl Show for bool {
 
     ghost shows = { boolean };
 
-    fn show(&self, _alloc: Global) -> Shown {
-        Ok(Value::Bool(*self))
+    #[tactic(auto, using(crate::proofs::SendingLemmas::flag_sent))]
+    fn send<S: Serializer>(&self, out: &mut S) -> Result<(), S::Error> {
+        out.bool(*self)
     }
 }
 
@@ -57,110 +50,188 @@ impl Show for Text {
 
     ghost shows = { string };
 
-    fn show(&self, alloc: Global) -> Shown {
-        Value::try_from_str(alloc, self.as_str())
+    #[tactic(auto, using(crate::proofs::SendingLemmas::text_sent))]
+    fn send<S: Serializer>(&self, out: &mut S) -> Result<(), S::Error> {
+        out.str(self.as_str())
     }
 }
 
-impl<T: Show + Drop> Show for List<T> {
+impl<T: Show> Show for List<T> {
     ghost reads = { list_of T.reads };
 
     ghost shows = { list_data T.shows };
 
-    fn show(&self, alloc: Global) -> Shown {
-        let mut items = Vec::new(alloc);
+    fn send<S: Serializer>(&self, out: &mut S) -> Result<(), S::Error> {
+        out.begin_seq(None)?;
         for x in self.as_slice() {
-            items.push(x.show(alloc)?)?;
+            x.send(out)?;
         }
-        Ok(Value::Array(items))
+        out.end_seq()
     }
 }
 
-/// An object that is being written.
+/// The fields of an object, in the order in which they are sent.
+pub(crate) trait Fields: Sized + Drop {
+    /// The fields.
+    ghost members: { Self → Members };
+
+    /// Each field reads as itself again.
+    ghost again: { Self → Type 0 };
+
+    /// Sends the fields. Fails only when the serializer does.
+    fn send_fields<S: Serializer>(self, out: &mut S) -> Result<(), S::Error>
+        ensures sends { OnOk result (SendsFields (members self) (S.written out.old) (S.written out.new)) }
+        ensures again { OnOk result (again self) };
+
+    /// Adds a field at the end.
+    final fn with<'a, T: Show>(self, name: &'a str, value: &'a T) -> With<'a, Self, T>
+        ensures { result ≡ record { before = self; name = name.entry; value = value.entry } }
+    {
+        With {
+            before: self,
+            name,
+            value,
+        }
+    }
+
+    /// Adds a field at the end, if it isn't `None`.
+    final fn with_some<'a, T: Show>(
+        self,
+        name: &'a str,
+        value: &'a Option<T>,
+    ) -> WithSome<'a, Self, T>
+        ensures { result ≡ record { before = self; name = name.entry; value = value.entry } }
+    {
+        WithSome {
+            before: self,
+            name,
+            value,
+        }
+    }
+
+    /// Adds the name of a variant at the end.
+    final fn tagged<'a>(self, variant: &'a str) -> Tagged<'a, Self>
+        ensures { result ≡ record { before = self; variant = variant.entry } }
+    {
+        Tagged {
+            before: self,
+            variant,
+        }
+    }
+
+    /// Sends the object with these fields. Fails only when the serializer does.
+    #[tactic(auto, using(crate::proofs::SendingLemmas::object_sent))]
+    final fn send<S: Serializer>(self, out: &mut S) -> Result<(), S::Error>
+        ensures sends { OnOk result
+            (Sends (object (Self.members self)) (S.written out.old) (S.written out.new)) }
+        ensures again { OnOk result (Self.again self) }
+    {
+        out.begin_map(None)?;
+        self.send_fields(out)?;
+        out.end_map()
+    }
+}
+
+/// No fields.
 #[derive(Drop)]
-pub(crate) struct Fields {
-    alloc: Global,
-    members: Map<String, Value>,
-}
+pub(crate) struct NoFields;
 
-impl Fields {
-    /// An object without fields. This takes no memory.
-    pub(crate) fn new(alloc: Global) -> Fields
-        ensures { members_so_far result ≡ no_members }
-    {
-        Fields {
-            alloc,
-            members: Map::new(alloc),
-        }
-    }
+impl Fields for NoFields {
+    ghost members = { λ _. no_members };
 
-    /// An object with the name of a variant. Fails only when out of memory.
-    pub(crate) fn tagged(alloc: Global, name: &str) -> Result<Fields, AllocError>
-        ensures { IfOk result (λ fields. members_so_far fields ≡ tagged name.now) }
-    {
-        let name = Value::try_from_str(alloc, name)?;
-        Fields::new(alloc).put("k", name)
-    }
+    ghost again = { λ _. ⊤ };
 
-    fn put(self, name: &str, value: Value) -> Result<Fields, AllocError>
-        ensures { IfOk result (λ fields. members_so_far fields ≡ put name.now (view value) (members_so_far self)) }
-    {
-        let Fields { alloc, mut members } = self;
-        serde_json::put(&mut members, alloc, name, value)?;
-        Ok(Fields { alloc, members })
-    }
-
-    /// Adds a field. Fails only when out of memory.
-    pub(crate) fn with<T: Show>(self, name: &str, x: &T) -> Result<Fields, AllocError>
-        ensures value { IfOk result
-            (λ fields. members_so_far fields ≡ put name.now (T.shows x.now) (members_so_far self)) }
-        ensures again { OnOk result (T.reads (T.shows x.now) ≡ Some x.now) }
-    {
-        let value = x.show(self.alloc)?;
-        self.put(name, value)
-    }
-
-    /// Adds a field, if it isn't `None`. Fails only when out of memory.
-    pub(crate) fn with_some<T: Show>(self, name: &str, x: &Option<T>) -> Result<Fields, AllocError>
-        ensures value { IfOk result
-            (λ fields. members_so_far fields ≡ put_some T.shows name.now x.now (members_so_far self)) }
-        ensures again { OnOk result (IsReadAgain T.reads T.shows x.now) }
-    {
-        match x {
-            Some(x) => self.with(name, x),
-            None => Ok(self),
-        }
-    }
-
-    /// Returns the object with this as its last field. Fails only when out of memory.
-    pub(crate) fn with_last<T: Show>(self, name: &str, x: &T) -> Shown
-        ensures value { IfOk result (λ shown. view shown ≡ object (put name.now (T.shows x.now) (members_so_far self))) }
-        ensures again { OnOk result (T.reads (T.shows x.now) ≡ Some x.now) }
-    {
-        Ok(self.with(name, x)?.into_value())
-    }
-
-    /// Returns the object with the span as its last field, if it isn't `None`. Fails only when out of memory.
-    pub(crate) fn with_span(self, span: &Option<Span>) -> Shown
-        ensures value { IfOk result
-            (λ shown. view shown ≡ object (put_some span_data (codes "span") span.now (members_so_far self))) }
-        ensures again { OnOk result (IsReadAgain span_of span_data span.now) }
-    {
-        Ok(self.with_some("span", span)?.into_value())
-    }
-
-    fn into_value(self) -> Value
-        ensures { view result ≡ object (members_so_far self) }
-    {
-        let Fields { alloc: _, members } = self;
-        Value::Object(members)
+    #[tactic(auto, using(crate::proofs::SendingLemmas::no_fields_sent))]
+    fn send_fields<S: Serializer>(self, _out: &mut S) -> Result<(), S::Error> {
+        Ok(())
     }
 }
 
-/// A variant whose one field has no name of its own. Fails only when out of memory.
-pub(crate) fn variant<T: Show>(alloc: Global, name: &str, content: &T) -> Shown
-    ensures value { IfOk result (λ shown. view shown ≡ variant_data name.now (T.shows content.now)) }
+/// Fields, and one more.
+#[derive(Drop)]
+pub(crate) struct With<'a, F, T> {
+    before: F,
+    name: &'a str,
+    value: &'a T,
+}
+
+impl<F: Fields, T: Show> Fields for With<'_, F, T> {
+    ghost members = { λ fields. add fields.name.now (T.shows fields.value.now) (F.members fields.before) };
+
+    ghost again = { λ fields. F.again fields.before
+        × (T.reads (T.shows fields.value.now) ≡ Some fields.value.now) };
+
+    #[tactic(auto, using(crate::proofs::SendingLemmas::field_sent))]
+    fn send_fields<S: Serializer>(self, out: &mut S) -> Result<(), S::Error> {
+        let With {
+            before,
+            name,
+            value,
+        } = self;
+        before.send_fields(out)?;
+        out.key(name)?;
+        value.send(out)
+    }
+}
+
+/// Fields, and one more if it isn't `None`.
+#[derive(Drop)]
+pub(crate) struct WithSome<'a, F, T> {
+    before: F,
+    name: &'a str,
+    value: &'a Option<T>,
+}
+
+impl<F: Fields, T: Show> Fields for WithSome<'_, F, T> {
+    ghost members = { λ fields.
+        add_some T.shows fields.name.now fields.value.now (F.members fields.before) };
+
+    ghost again = { λ fields. F.again fields.before × IsReadAgain T.reads T.shows fields.value.now };
+
+    #[tactic(auto, unfolding(crate::specs::Showing::add_some))]
+    fn send_fields<S: Serializer>(self, out: &mut S) -> Result<(), S::Error> {
+        let WithSome {
+            before,
+            name,
+            value,
+        } = self;
+        match value {
+            Some(value) => before.with(name, value).send_fields(out),
+            None => before.send_fields(out),
+        }
+    }
+}
+
+/// Fields, and the name of a variant.
+#[derive(Drop)]
+pub(crate) struct Tagged<'a, F> {
+    before: F,
+    variant: &'a str,
+}
+
+impl<F: Fields> Fields for Tagged<'_, F> {
+    ghost members = { λ fields. tagged fields.variant.now (F.members fields.before) };
+
+    ghost again = { λ fields. F.again fields.before };
+
+    #[tactic(auto, using(crate::proofs::SendingLemmas::field_sent, crate::proofs::SendingLemmas::text_sent))]
+    fn send_fields<S: Serializer>(self, out: &mut S) -> Result<(), S::Error> {
+        let Tagged { before, variant } = self;
+        before.send_fields(out)?;
+        out.key("k")?;
+        out.str(variant)
+    }
+}
+
+/// Sends a variant whose one field has no name of its own. Fails only when the serializer does.
+pub(crate) fn send_variant<S: Serializer, T: Show>(
+    out: &mut S,
+    name: &str,
+    content: &T,
+) -> Result<(), S::Error>
+    ensures sends { OnOk result
+        (Sends (variant_data name.now (T.shows content.now)) (S.written out.old) (S.written out.new)) }
     ensures again { OnOk result (T.reads (T.shows content.now) ≡ Some content.now) }
 {
-    Fields::tagged(alloc, name)?.with_last("v", content)
+    NoFields.tagged(name).with("v", content).send(out)
 }

@@ -1,4 +1,5 @@
-//! The printing form of instruction values and places, exactly as a document has them, a file for each file of the types.
+//! The printing form of instruction values and places, exactly as a document has them, a file for each file of the
+//! types: as a text and as a JSON value.
 #![tactic(auto)]
 
 mod fields;
@@ -6,6 +7,7 @@ mod instruction;
 mod part;
 mod pattern;
 mod place;
+mod shown;
 
-pub use instruction::value_json;
+pub use instruction::{value_json, value_text};
 pub use place::{is_short, place_json};

@@ -4,24 +4,23 @@ ghost use Rattle.rc_doc.specs.Parts.{binding_of, jsx_attribute_of, jsx_tag_of, l
 ghost use Rattle.rc_show.specs.ShownParts.{binding_data, jsx_attribute_data, jsx_tag_data, lowered_function_data};
 ghost use Rattle.rc_show.specs.ShownParts.{primitive_value_data};
 
-use crate::fields::{Fields, Show, Shown, variant};
+use crate::fields::{Fields, NoFields, Show, send_variant};
 use rc_hir::{JsxAttribute, JsxTag, LoweredFunction, NonLocalBinding, PrimitiveValue};
-use serde_json::Value;
-use std::alloc::Global;
+use serde::Serializer;
 
 impl Show for PrimitiveValue {
     ghost reads = { primitive_value_of };
 
     ghost shows = { primitive_value_data };
 
-    #[tactic(auto, using(crate::proofs::PartsReadBack::primitive_value_again), unfolding(crate::specs::ShownParts::primitive_value_data))]
-    fn show(&self, alloc: Global) -> Shown {
+    #[tactic(auto, using(crate::proofs::PartsReadBack::primitive_value_again, crate::proofs::SendingLemmas::text_sent), unfolding(crate::specs::ShownParts::primitive_value_data))]
+    fn send<S: Serializer>(&self, out: &mut S) -> Result<(), S::Error> {
         match self {
-            PrimitiveValue::Null => Value::try_from_str(alloc, "Null"),
-            PrimitiveValue::Undefined => Value::try_from_str(alloc, "Undefined"),
-            PrimitiveValue::Boolean(value) => variant(alloc, "Boolean", value),
-            PrimitiveValue::Number(text) => variant(alloc, "Number", text),
-            PrimitiveValue::String(text) => variant(alloc, "String", text),
+            PrimitiveValue::Null => out.str("Null"),
+            PrimitiveValue::Undefined => out.str("Undefined"),
+            PrimitiveValue::Boolean(value) => send_variant(out, "Boolean", value),
+            PrimitiveValue::Number(text) => send_variant(out, "Number", text),
+            PrimitiveValue::String(text) => send_variant(out, "String", text),
         }
     }
 }
@@ -32,15 +31,18 @@ impl Show for NonLocalBinding {
     ghost shows = { binding_data };
 
     #[tactic(auto, using(crate::proofs::PartsReadBack::binding_again), unfolding(crate::specs::ShownParts::binding_data))]
-    fn show(&self, alloc: Global) -> Shown {
+    fn send<S: Serializer>(&self, out: &mut S) -> Result<(), S::Error> {
         match self {
-            NonLocalBinding::Global { name } => Fields::tagged(alloc, "Global")?.with_last(
-                "name", name,
-            ),
+            NonLocalBinding::Global { name } => NoFields
+                .tagged("Global")
+                .with("name", name)
+                .send(out),
             NonLocalBinding::Module { name, module } => {
-                Fields::tagged(alloc, "Module")?
-                    .with("name", name)?
-                    .with_last("module", module)
+                NoFields
+                    .tagged("Module")
+                    .with("module", module)
+                    .with("name", name)
+                    .send(out)
             }
         }
     }
@@ -52,10 +54,10 @@ impl Show for JsxTag {
     ghost shows = { jsx_tag_data };
 
     #[tactic(auto, using(crate::proofs::PartsReadBack::jsx_tag_again), unfolding(crate::specs::ShownParts::jsx_tag_data))]
-    fn show(&self, alloc: Global) -> Shown {
+    fn send<S: Serializer>(&self, out: &mut S) -> Result<(), S::Error> {
         match self {
-            JsxTag::Place(place) => variant(alloc, "Place", place),
-            JsxTag::Builtin(name) => variant(alloc, "Builtin", name),
+            JsxTag::Place(place) => send_variant(out, "Place", place),
+            JsxTag::Builtin(name) => send_variant(out, "Builtin", name),
         }
     }
 }
@@ -66,15 +68,20 @@ impl Show for JsxAttribute {
     ghost shows = { jsx_attribute_data };
 
     #[tactic(auto, using(crate::proofs::PartsReadBack::jsx_attribute_again), unfolding(crate::specs::ShownParts::jsx_attribute_data))]
-    fn show(&self, alloc: Global) -> Shown {
+    fn send<S: Serializer>(&self, out: &mut S) -> Result<(), S::Error> {
         match self {
             JsxAttribute::Attribute { name, place } => {
-                Fields::tagged(alloc, "Attribute")?
-                    .with("name", name)?
-                    .with_last("place", place)
+                NoFields
+                    .tagged("Attribute")
+                    .with("name", name)
+                    .with("place", place)
+                    .send(out)
             }
             JsxAttribute::SpreadAttribute { argument } => {
-                Fields::tagged(alloc, "SpreadAttribute")?.with_last("argument", argument)
+                NoFields
+                    .with("argument", argument)
+                    .tagged("SpreadAttribute")
+                    .send(out)
             }
         }
     }
@@ -86,7 +93,7 @@ impl Show for LoweredFunction {
     ghost shows = { lowered_function_data };
 
     #[tactic(auto, using(crate::proofs::PartsReadBack::lowered_function_again), unfolding(crate::specs::ShownParts::lowered_function_data))]
-    fn show(&self, alloc: Global) -> Shown {
-        Fields::new(alloc).with_last("func", &self.func.0)
+    fn send<S: Serializer>(&self, out: &mut S) -> Result<(), S::Error> {
+        NoFields.with("func", &self.func.0).send(out)
     }
 }

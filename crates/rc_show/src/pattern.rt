@@ -1,19 +1,20 @@
 //! The printing form of patterns, and of the parts that they share with literals.
 
 ghost use Rattle.std.specs.Prelude.{◌≡◌};
-ghost use Rattle.rc_doc.specs.Patterns.{element_of, kind_of, lvalue_of, lvalue_pattern_of, object_property_of, pattern_element_of, pattern_of, property_key_of, property_literal_of, property_of};
+ghost use Rattle.rc_doc.specs.Patterns.{element_of, kind_of, lvalue_of, lvalue_pattern_of, object_property_of};
+ghost use Rattle.rc_doc.specs.Patterns.{pattern_element_of, pattern_of, property_key_of, property_literal_of};
+ghost use Rattle.rc_doc.specs.Patterns.{property_of};
 ghost use Rattle.rc_show.specs.ShownParts.Patterns.{element_data, kind_data, kind_name, lvalue_data};
 ghost use Rattle.rc_show.specs.ShownParts.Patterns.{lvalue_pattern_data, object_property_data, pattern_data};
 ghost use Rattle.rc_show.specs.ShownParts.Patterns.{pattern_element_data, property_data, property_key_data};
 ghost use Rattle.rc_show.specs.ShownParts.Patterns.{property_literal_data};
 
-use crate::fields::{Fields, Show, Shown, variant};
+use crate::fields::{Fields, NoFields, Show, send_variant};
 use rc_hir::{
     ArrayElement, ArrayPatternElement, InstructionKind, LValue, LValuePattern, ObjectProperty,
     ObjectPropertyKey, ObjectPropertyOrSpread, Pattern, PropertyLiteral,
 };
-use serde_json::Value;
-use std::alloc::Global;
+use serde::Serializer;
 
 fn kind_name(kind: InstructionKind) -> &'static str
     ensures { result.now ≡ kind_name kind }
@@ -35,9 +36,9 @@ impl Show for InstructionKind {
 
     ghost shows = { kind_data };
 
-    #[tactic(auto, using(crate::proofs::PartsReadBack::kind_again))]
-    fn show(&self, alloc: Global) -> Shown {
-        Value::try_from_str(alloc, kind_name(*self))
+    #[tactic(auto, using(crate::proofs::PartsReadBack::kind_again, crate::proofs::SendingLemmas::text_sent))]
+    fn send<S: Serializer>(&self, out: &mut S) -> Result<(), S::Error> {
+        out.str(kind_name(*self))
     }
 }
 
@@ -47,10 +48,11 @@ impl Show for LValue {
     ghost shows = { lvalue_data };
 
     #[tactic(auto, using(crate::proofs::PartsReadBack::lvalue_again), unfolding(crate::specs::ShownParts::Patterns::lvalue_data))]
-    fn show(&self, alloc: Global) -> Shown {
-        Fields::new(alloc)
-            .with("kind", &self.kind)?
-            .with_last("place", &self.place)
+    fn send<S: Serializer>(&self, out: &mut S) -> Result<(), S::Error> {
+        NoFields
+            .with("kind", &self.kind)
+            .with("place", &self.place)
+            .send(out)
     }
 }
 
@@ -60,10 +62,10 @@ impl Show for PropertyLiteral {
     ghost shows = { property_literal_data };
 
     #[tactic(auto, using(crate::proofs::PartsReadBack::property_literal_again), unfolding(crate::specs::ShownParts::Patterns::property_literal_data))]
-    fn show(&self, alloc: Global) -> Shown {
+    fn send<S: Serializer>(&self, out: &mut S) -> Result<(), S::Error> {
         match self {
-            PropertyLiteral::String(name) => variant(alloc, "String", name),
-            PropertyLiteral::Number(name) => variant(alloc, "Number", name),
+            PropertyLiteral::String(name) => send_variant(out, "String", name),
+            PropertyLiteral::Number(name) => send_variant(out, "Number", name),
         }
     }
 }
@@ -74,12 +76,12 @@ impl Show for ObjectPropertyKey {
     ghost shows = { property_key_data };
 
     #[tactic(auto, using(crate::proofs::PartsReadBack::property_key_again), unfolding(crate::specs::ShownParts::Patterns::property_key_data))]
-    fn show(&self, alloc: Global) -> Shown {
+    fn send<S: Serializer>(&self, out: &mut S) -> Result<(), S::Error> {
         match self {
-            ObjectPropertyKey::Identifier(name) => variant(alloc, "Identifier", name),
-            ObjectPropertyKey::String(name) => variant(alloc, "String", name),
-            ObjectPropertyKey::Number(name) => variant(alloc, "Number", name),
-            ObjectPropertyKey::Computed(place) => variant(alloc, "Computed", place),
+            ObjectPropertyKey::Identifier(name) => send_variant(out, "Identifier", name),
+            ObjectPropertyKey::String(name) => send_variant(out, "String", name),
+            ObjectPropertyKey::Number(name) => send_variant(out, "Number", name),
+            ObjectPropertyKey::Computed(place) => send_variant(out, "Computed", place),
         }
     }
 }
@@ -90,10 +92,11 @@ impl Show for ObjectProperty {
     ghost shows = { object_property_data };
 
     #[tactic(auto, using(crate::proofs::PartsReadBack::object_property_again), unfolding(crate::specs::ShownParts::Patterns::object_property_data))]
-    fn show(&self, alloc: Global) -> Shown {
-        Fields::new(alloc)
-            .with("key", &self.key)?
-            .with_last("place", &self.place)
+    fn send<S: Serializer>(&self, out: &mut S) -> Result<(), S::Error> {
+        NoFields
+            .with("key", &self.key)
+            .with("place", &self.place)
+            .send(out)
     }
 }
 
@@ -103,10 +106,10 @@ impl Show for ObjectPropertyOrSpread {
     ghost shows = { property_data };
 
     #[tactic(auto, using(crate::proofs::PartsReadBack::property_again), unfolding(crate::specs::ShownParts::Patterns::property_data))]
-    fn show(&self, alloc: Global) -> Shown {
+    fn send<S: Serializer>(&self, out: &mut S) -> Result<(), S::Error> {
         match self {
-            ObjectPropertyOrSpread::Property(property) => variant(alloc, "Property", property),
-            ObjectPropertyOrSpread::Spread(spread) => variant(alloc, "Spread", spread),
+            ObjectPropertyOrSpread::Property(property) => send_variant(out, "Property", property),
+            ObjectPropertyOrSpread::Spread(spread) => send_variant(out, "Spread", spread),
         }
     }
 }
@@ -116,12 +119,12 @@ impl Show for ArrayPatternElement {
 
     ghost shows = { pattern_element_data };
 
-    #[tactic(auto, using(crate::proofs::PartsReadBack::pattern_element_again), unfolding(crate::specs::ShownParts::Patterns::pattern_element_data))]
-    fn show(&self, alloc: Global) -> Shown {
+    #[tactic(auto, using(crate::proofs::PartsReadBack::pattern_element_again, crate::proofs::SendingLemmas::text_sent), unfolding(crate::specs::ShownParts::Patterns::pattern_element_data))]
+    fn send<S: Serializer>(&self, out: &mut S) -> Result<(), S::Error> {
         match self {
-            ArrayPatternElement::Place(place) => variant(alloc, "Place", place),
-            ArrayPatternElement::Spread(spread) => variant(alloc, "Spread", spread),
-            ArrayPatternElement::Hole => Value::try_from_str(alloc, "Hole"),
+            ArrayPatternElement::Place(place) => send_variant(out, "Place", place),
+            ArrayPatternElement::Spread(spread) => send_variant(out, "Spread", spread),
+            ArrayPatternElement::Hole => out.str("Hole"),
         }
     }
 }
@@ -131,12 +134,12 @@ impl Show for ArrayElement {
 
     ghost shows = { element_data };
 
-    #[tactic(auto, using(crate::proofs::PartsReadBack::element_again), unfolding(crate::specs::ShownParts::Patterns::element_data))]
-    fn show(&self, alloc: Global) -> Shown {
+    #[tactic(auto, using(crate::proofs::PartsReadBack::element_again, crate::proofs::SendingLemmas::text_sent), unfolding(crate::specs::ShownParts::Patterns::element_data))]
+    fn send<S: Serializer>(&self, out: &mut S) -> Result<(), S::Error> {
         match self {
-            ArrayElement::Place(place) => variant(alloc, "Place", place),
-            ArrayElement::Spread(spread) => variant(alloc, "Spread", spread),
-            ArrayElement::Hole => Value::try_from_str(alloc, "Hole"),
+            ArrayElement::Place(place) => send_variant(out, "Place", place),
+            ArrayElement::Spread(spread) => send_variant(out, "Spread", spread),
+            ArrayElement::Hole => out.str("Hole"),
         }
     }
 }
@@ -147,11 +150,14 @@ impl Show for Pattern {
     ghost shows = { pattern_data };
 
     #[tactic(auto, using(crate::proofs::PartsReadBack::pattern_again), unfolding(crate::specs::ShownParts::Patterns::pattern_data))]
-    fn show(&self, alloc: Global) -> Shown {
+    fn send<S: Serializer>(&self, out: &mut S) -> Result<(), S::Error> {
         match self {
-            Pattern::Array { items } => Fields::tagged(alloc, "Array")?.with_last("items", items),
+            Pattern::Array { items } => NoFields.with("items", items).tagged("Array").send(out),
             Pattern::Object { properties } => {
-                Fields::tagged(alloc, "Object")?.with_last("properties", properties)
+                NoFields
+                    .tagged("Object")
+                    .with("properties", properties)
+                    .send(out)
             }
         }
     }
@@ -163,9 +169,10 @@ impl Show for LValuePattern {
     ghost shows = { lvalue_pattern_data };
 
     #[tactic(auto, using(crate::proofs::PartsReadBack::lvalue_pattern_again), unfolding(crate::specs::ShownParts::Patterns::lvalue_pattern_data))]
-    fn show(&self, alloc: Global) -> Shown {
-        Fields::new(alloc)
-            .with("kind", &self.kind)?
-            .with_last("pattern", &self.pattern)
+    fn send<S: Serializer>(&self, out: &mut S) -> Result<(), S::Error> {
+        NoFields
+            .with("kind", &self.kind)
+            .with("pattern", &self.pattern)
+            .send(out)
     }
 }

@@ -1,18 +1,20 @@
 //! The printing form of spans, of places in the shortest of their forms, and of the types that have one place.
 
 ghost use Rattle.std.specs.Prelude.{◌≡◌, IfOk, OnOk, Some, false};
-ghost use Rattle.serde_json.specs.Data.{array, item, no_items};
 ghost use Rattle.serde_json.specs.View.{view};
 ghost use Rattle.serde_json.specs.Written.{has_float};
 ghost use Rattle.rc_doc.specs.Places.{argument_of, place_of, span_of, spread_of};
-ghost use Rattle.rc_show.specs.Showing.{IsReadAgain, number_data};
+ghost use Rattle.rc_show.specs.Showing.{IsReadAgain};
 ghost use Rattle.rc_show.specs.ShownParts.Places.{argument_data, effect_name, is_short, long_form, place_data};
-ghost use Rattle.rc_show.specs.ShownParts.Places.{span_data, spread_data};
+ghost use Rattle.rc_show.specs.ShownParts.Places.{span_data, span_items, spread_data};
+ghost use Rattle.rc_show.specs.inside.Sending.{Sends, SendsItems};
 
-use crate::fields::{Fields, Show, Shown, variant};
+use crate::fields::{Fields, NoFields, Show, send_variant};
+use crate::shown::to_json;
 use rc_hir::{Effect, Place, PlaceOrSpread, SpreadPattern};
 use rc_names::Span;
-use serde_json::{Value, json};
+use serde::Serializer;
+use serde_json::Value;
 use std::alloc::{AllocError, Global};
 
 impl Show for Span {
@@ -21,18 +23,12 @@ impl Show for Span {
     ghost shows = { span_data };
 
     #[tactic(auto, using(crate::proofs::ReadsBack::span_again))]
-    fn show(&self, alloc: Global) -> Shown {
-        let start = self.start;
-        let end = self.end;
-        pair(alloc, start, end)
+    fn send<S: Serializer>(&self, out: &mut S) -> Result<(), S::Error> {
+        out.begin_seq(None)?;
+        self.start.send(out)?;
+        self.end.send(out)?;
+        out.end_seq()
     }
-}
-
-fn pair(alloc: Global, first: u32, second: u32) -> Shown
-    ensures { IfOk result
-        (λ shown. view shown ≡ array (item (number_data first) (item (number_data second) no_items))) }
-{
-    json!(in alloc; [first, second])
 }
 
 fn effect_name(effect: Effect) -> &'static str
@@ -57,20 +53,28 @@ pub fn is_short(place: &Place) -> bool
     matches!(place.effect, Effect::Read) && !place.reactive && place.span.is_none()
 }
 
-fn long_form(alloc: Global, place: &Place) -> Shown
-    ensures value { IfOk result (λ shown. view shown ≡ long_form place.now) }
+/// Sends the span as the last item, if there is one.
+fn send_span<S: Serializer>(out: &mut S, span: &Option<Span>) -> Result<(), S::Error>
+    ensures sends { OnOk result
+        (SendsItems (span_items span.now) (S.written out.old) (S.written out.new)) }
+    ensures again { OnOk result (IsReadAgain span_of span_data span.now) }
+{
+    match span {
+        Some(span) => span.send(out),
+        None => Ok(()),
+    }
+}
+
+fn send_long_form<S: Serializer>(out: &mut S, place: &Place) -> Result<(), S::Error>
+    ensures sends { OnOk result (Sends (long_form place.now) (S.written out.old) (S.written out.new)) }
     ensures again { OnOk result (IsReadAgain span_of span_data place.now.span) }
 {
-    let identifier = place.identifier.0;
-    let effect = effect_name(place.effect);
-    let reactive = place.reactive;
-    match place.span {
-        Some(span) => {
-            let span = span.show(alloc)?;
-            json!(in alloc; [identifier, effect, reactive, span])
-        }
-        None => json!(in alloc; [identifier, effect, reactive]),
-    }
+    out.begin_seq(None)?;
+    place.identifier.0.send(out)?;
+    out.str(effect_name(place.effect))?;
+    out.bool(place.reactive)?;
+    send_span(out, &place.span)?;
+    out.end_seq()
 }
 
 impl Show for Place {
@@ -79,12 +83,12 @@ impl Show for Place {
     ghost shows = { place_data };
 
     #[tactic(auto, using(crate::proofs::ReadsBack::placing))]
-    fn show(&self, alloc: Global) -> Shown {
+    fn send<S: Serializer>(&self, out: &mut S) -> Result<(), S::Error> {
         let identifier = self.identifier.0;
         if is_short(self) {
-            Ok(Value::from(identifier))
+            identifier.send(out)
         } else {
-            long_form(alloc, self)
+            send_long_form(out, self)
         }
     }
 }
@@ -95,8 +99,8 @@ impl Show for SpreadPattern {
     ghost shows = { spread_data };
 
     #[tactic(auto, using(crate::proofs::PartsReadBack::spread_again), unfolding(crate::specs::ShownParts::Places::spread_data))]
-    fn show(&self, alloc: Global) -> Shown {
-        Fields::new(alloc).with_last("place", &self.place)
+    fn send<S: Serializer>(&self, out: &mut S) -> Result<(), S::Error> {
+        NoFields.with("place", &self.place).send(out)
     }
 }
 
@@ -106,21 +110,21 @@ impl Show for PlaceOrSpread {
     ghost shows = { argument_data };
 
     #[tactic(auto, using(crate::proofs::PartsReadBack::argument_again), unfolding(crate::specs::ShownParts::Places::argument_data))]
-    fn show(&self, alloc: Global) -> Shown {
+    fn send<S: Serializer>(&self, out: &mut S) -> Result<(), S::Error> {
         match self {
-            PlaceOrSpread::Place(place) => variant(alloc, "Place", place),
-            PlaceOrSpread::Spread(spread) => variant(alloc, "Spread", spread),
+            PlaceOrSpread::Place(place) => send_variant(out, "Place", place),
+            PlaceOrSpread::Spread(spread) => send_variant(out, "Spread", spread),
         }
     }
 }
 
 /// Returns the shortest form of a place, which reads as that place again. It has no float, so its text is its compact
 /// text. Fails only when out of memory.
-#[tactic(auto, using(crate::proofs::NoFloats::in_place))]
+#[tactic(auto, using(crate::proofs::PlainForms::plain_place, crate::proofs::PlainValues::plain_has_no_float))]
 pub fn place_json(alloc: Global, place: &Place) -> Result<Value, AllocError>
     ensures value { IfOk result (λ shown. view shown ≡ place_data place.now) }
     ensures again { OnOk result (place_of (place_data place.now) ≡ Some place.now) }
     ensures no_float { has_float (place_data place.now) ≡ false }
 {
-    place.show(alloc)
+    to_json(alloc, place)
 }

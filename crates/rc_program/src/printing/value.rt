@@ -11,7 +11,7 @@ use crate::printing::place::write_place;
 use crate::printing::text::{write_bool, write_span};
 use rc_hir::{InstructionValue, LogicalOperator, Place};
 use rc_names::EvaluationOrder;
-use rc_show::value_json;
+use rc_show::value_text;
 use rc_tree::{ReactiveInstruction, ReactiveValue};
 use std::alloc::AllocError;
 
@@ -127,8 +127,7 @@ fn write_target(page: &mut Page, target: Option<Place>) -> Result<(), AllocError
 fn write_base_value(page: &mut Page, value: &InstructionValue) -> Result<(), AllocError>
     ensures { OnOk result (page.new ≡ page.old ++ compact_text (value_data value.now)) }
 {
-    let alloc = page.allocator();
-    let text = value_json(alloc, value)?.to_string(alloc)?;
+    let text = value_text(page.allocator(), value)?;
     page.push(text.as_str())
 }
 

@@ -1,9 +1,8 @@
 -- The printing form of patterns, and of the parts that they share with literals.
 use Rattle.std.specs.Prelude.{ℕ, List, codes}
-use Rattle.serde_json.specs.Data.{Data, array, no_members, object, put, string}
+use Rattle.serde_json.specs.Data.{Data, no_members, object, string}
 use Rattle.rc_hir.specs.Model.{ArrayElement, ArrayPatternElement, InstructionKind, LValue, LValuePattern}
 use Rattle.rc_hir.specs.Model.{ObjectProperty, ObjectPropertyKey, ObjectPropertyOrSpread, Pattern, PropertyLiteral}
-use Rattle.rc_hir.specs.Model.{Place}
 use Rattle.rc_hir.specs.declared.pattern.ArrayElement.TheVariants as element
 use Rattle.rc_hir.specs.declared.pattern.ArrayPatternElement.TheVariants as pattern_elements
 use Rattle.rc_hir.specs.declared.pattern.InstructionKind.TheVariants as kinds
@@ -11,7 +10,7 @@ use Rattle.rc_hir.specs.declared.pattern.ObjectPropertyKey.TheVariants as keys
 use Rattle.rc_hir.specs.declared.pattern.ObjectPropertyOrSpread.TheVariants as entry
 use Rattle.rc_hir.specs.declared.pattern.Pattern.TheVariants as patterns
 use Rattle.rc_hir.specs.declared.pattern.PropertyLiteral.TheVariants as literals
-use Rattle.rc_show.specs.Showing.{◌▸◌, list_data, tagged, variant_data}
+use Rattle.rc_show.specs.Showing.{◌▸◌, add, list_data, tagged, variant_data}
 use Rattle.rc_show.specs.ShownParts.Places.{place_data, spread_data}
 
 -- the name of a way of writing
@@ -31,7 +30,7 @@ kind_data kind = string (kind_name kind)
 
 -- a place that is written
 unfoldable pub lvalue_data : LValue → Data
-lvalue_data lvalue = object (no_members ▸ put (codes "kind") (kind_data lvalue.kind) ▸ put (codes "place")
+lvalue_data lvalue = object (no_members ▸ add (codes "kind") (kind_data lvalue.kind) ▸ add (codes "place")
     (place_data lvalue.place))
 
 -- the name of a property that is read, written or deleted
@@ -49,7 +48,7 @@ property_key_data (keys.Computed place) = variant_data (codes "Computed") (place
 -- a property with its place
 unfoldable pub object_property_data : ObjectProperty → Data
 object_property_data property =
-    object (no_members ▸ put (codes "key") (property_key_data property.key) ▸ put (codes "place")
+    object (no_members ▸ add (codes "key") (property_key_data property.key) ▸ add (codes "place")
     (place_data property.place))
 
 -- an entry of an object pattern or of an object literal
@@ -72,12 +71,12 @@ element_data element.Hole = string (codes "Hole")
 -- a pattern
 unfoldable pub pattern_data : Pattern → Data
 pattern_data (patterns.Array items) =
-    object (tagged (codes "Array") ▸ put (codes "items") (list_data pattern_element_data items))
+    object (no_members ▸ add (codes "items") (list_data pattern_element_data items) ▸ tagged (codes "Array"))
 pattern_data (patterns.Object properties) =
-    object (tagged (codes "Object") ▸ put (codes "properties") (list_data property_data properties))
+    object (no_members ▸ tagged (codes "Object") ▸ add (codes "properties") (list_data property_data properties))
 
 -- a pattern whose places are written
 unfoldable pub lvalue_pattern_data : LValuePattern → Data
 lvalue_pattern_data lvalue =
-    object (no_members ▸ put (codes "kind") (kind_data lvalue.kind) ▸ put (codes "pattern")
+    object (no_members ▸ add (codes "kind") (kind_data lvalue.kind) ▸ add (codes "pattern")
     (pattern_data lvalue.pattern))

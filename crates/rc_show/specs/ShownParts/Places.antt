@@ -1,11 +1,11 @@
 -- The printing form of spans and of places, in the shortest of their forms.
 use Rattle.std.specs.Prelude.{ℕ, ◌&&◌, Bool, true, false, not, List, Option, None, Some, codes, if◌then◌else◌, is_none}
-use Rattle.serde_json.specs.Data.{Data, array, boolean, item, Items, no_items, no_members, object, put, string}
+use Rattle.serde_json.specs.Data.{Data, array, boolean, item, Items, no_items, no_members, object, string}
 use Rattle.rc_names.specs.declared.span.Span.{Span}
 use Rattle.rc_hir.specs.Model.{Effect, Place, PlaceOrSpread, SpreadPattern}
 use Rattle.rc_hir.specs.declared.place.Effect.TheVariants as effects
 use Rattle.rc_hir.specs.declared.place.PlaceOrSpread.TheVariants as arguments
-use Rattle.rc_show.specs.Showing.{◌▸◌, number_data, variant_data}
+use Rattle.rc_show.specs.Showing.{◌▸◌, add, number_data, variant_data}
 
 -- the array of a start and an end
 abbrev pub span_data : Span → Data
@@ -54,7 +54,7 @@ place_data place = if is_short place then number_data place.identifier.0 else lo
 
 -- a place after three dots
 unfoldable pub spread_data : SpreadPattern → Data
-spread_data spread = object (no_members ▸ put (codes "place") (place_data spread.place))
+spread_data spread = object (no_members ▸ add (codes "place") (place_data spread.place))
 
 -- an argument of a call
 unfoldable pub argument_data : PlaceOrSpread → Data

@@ -1,0 +1,3 @@
+-- What private functions say of each other.
+pub mod Plain
+pub mod Sending
