@@ -11,12 +11,17 @@ use crate::stop::Stop;
 use rc_doc::{Doc, read_doc};
 use serde_json::Value;
 use std::alloc::Global;
+use std::mem::forget;
 
 /// The largest number of bytes that a document may have.
 const MAX_BYTES: usize = 16_777_216;
 
 /// The size of the buffer, which is the most that one call of the source may give.
 const BUFFER_BYTES: usize = 4096;
+
+/// The bytes up to which the JSON value of a document is left to the end of the process. Freeing it takes a tenth of a
+/// whole run; leaving that of a larger document would raise the most memory that any document needs.
+const LEFT_BYTES: usize = 4_194_304;
 
 /// Returns the document that a source gives. Stops with `ReadFault` if a call of the source fails, `TooLarge` if there
 /// are too many bytes, `NotJson` or `NotDoc` if they are no JSON or no document, which it notes, and `NoMemory` when
@@ -56,9 +61,15 @@ fn document(alloc: Global, bytes: Vec<u8>, note: &mut Note) -> Result<Doc, Stop>
     requires { length bytes.items ≤ most_bytes }
     ensures { MatchResult result (IsJsonOfDoc bytes.items) (IsStopFor bytes.items) }
 {
+    let is_left = bytes.len() <= LEFT_BYTES;
     let value = parse(alloc, bytes, note)?;
     match read_doc(alloc, &value)? {
-        Some(doc) => Ok(doc),
+        Some(doc) => {
+            if is_left {
+                forget(value);
+            }
+            Ok(doc)
+        }
         None => {
             note_no_doc(alloc, note, &value);
             Err(Stop::NotDoc)

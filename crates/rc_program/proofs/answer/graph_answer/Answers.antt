@@ -2,14 +2,14 @@
 use Rattle.std.proofs.Common.{◌≡◌, refl, Err, true, false}
 use Rattle.rc_hir.specs.declared.fault.Fault.TheVariants as faults
 use Rattle.rc_program.proofs.RefusalLemmas.{line_of_cause, no_answer_of}
-use Rattle.rc_program.proofs.answer.answer_for.Goals as goal
+use Rattle.rc_program.proofs.answer.graph_answer.Goals as goal
 
-pub returns : goal.returns
-returns c = record {
+pub returns-in_ok-fault_line-in-Err : goal.returns-in_ok-fault_line-in-Err
+returns-in_ok-fault_line-in-Err c = record {
   fault = c.in-Err.fault;
-  named = line_of_cause c.args.doc c.in-Err.fault c.in-Err.ensures.refused other;
+  named = line_of_cause c.args.doc.now c.in-Err.fault c.in-Err.ensures.refused other;
   cause = c.in-Err.ensures.refused;
-  no_answer = no_answer_of c.args.doc (Err c.in-Err.fault) c.in-Err.fault refl other c.in-Err.ensures.complete;
+  no_answer = no_answer_of c.args.doc.now (Err c.in-Err.fault) c.in-Err.fault refl other c.in-Err.ensures.complete;
   line = c.in_ok-fault_line-in-Err.ensures;
 }
   where
