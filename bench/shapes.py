@@ -1,6 +1,6 @@
 """Documents of graphs with many blocks: statements and values in a row and nested, and scopes side by side; and of one
 block with many names."""
-import json
+import itertools, json
 
 
 def block(number, terminal, fields):
@@ -53,6 +53,34 @@ def in_a_row(count):
         kind = branch if head % 4 == 0 else label
         blocks += [kind(head, head + 1, head + 2), jump(head + 1, head + 2)]
     return document([*blocks, answer(2 * count)])
+
+
+def hashed(number):
+    """What a hash table of the library with its own seed makes of a number."""
+    product = (0x243F6A8885A308D3 ^ number * (2**32 + 1)) * (0x9E3779B97F4A7C15 ^ 8)
+    halves = product % 2**64 ^ product >> 64
+    return (halves ^ halves >> 32) % 2**32
+
+
+def colliding(count):
+    """So many numbers for which a look-up begins at one place in a hash table that has room for them."""
+    places = 1
+    while 9 * places < count:
+        places *= 2
+    return list(itertools.islice((number for number in itertools.count() if hashed(number) % places == 0), count))
+
+
+def chosen_in_a_row(count):
+    """The graph of `in_a_row`, whose blocks have numbers that collide in a hash table."""
+    numbers = colliding(2 * count + 1)
+    parts = json.loads(in_a_row(count))
+    for part in parts["hir"]["body"]["blocks"]:
+        part["id"] = numbers[part["id"]]
+        for leads in {"block", "consequent", "alternate", "fallthrough"} & part["terminal"].keys():
+            part["terminal"][leads] = numbers[part["terminal"][leads]]
+    parts["hir"]["body"]["entry"] = numbers[0]
+    parts["env"]["next_block"] = numbers[-1] + 1
+    return json.dumps(parts, separators=(",", ":")).encode()
 
 
 def scopes_in_a_row(count):

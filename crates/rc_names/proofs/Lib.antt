@@ -1,2 +1,5 @@
 pub mod NumbersLemmas
 pub mod KeyedLemmas
+mod PlacesLemmas
+mod KeysLemmas
+mod PairsLemmas

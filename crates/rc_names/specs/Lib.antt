@@ -1,3 +1,4 @@
 pub mod Numbers
 pub mod Lends
 pub mod formers
+pub mod inside

@@ -4,29 +4,31 @@ ghost use Rattle.std.specs.Prelude.{◌≡◌, [], length, not, position, slice_
 ghost use Rattle.std.specs.List.{list_any, IsDistinct};
 ghost use Rattle.indexmap.specs.IndexSet.{insert_key};
 
-use crate::Name;
-use indexmap::IndexSet;
+use crate::places::Places;
+use crate::{CloneIn, List, Name};
 use std::alloc::{AllocError, Global};
 use std::marker::Model;
 
-/// An `IndexSet` that contracts see as the list of its keys. The keys are distinct.
+/// Keys and their places, which contracts see as the list of the keys. They are distinct.
 #[derive(Drop)]
 pub struct KeySet<K: Name> {
-    set: IndexSet<K>,
+    keys: List<K>,
+    places: Places,
 }
 
 impl<K: Name> Model for KeySet<K> {
-    ghost use Rattle.std.specs.Prelude.{List};
+    ghost use Rattle.std.specs.Prelude.{List as Keys};
     ghost use Rattle.std.specs.List.{IsDistinct};
     ghost use Rattle.std.specs.Coded.{coded_list};
+    ghost use Rattle.rc_names.specs.inside.Places.{ArePlaces};
 
-    ghost Value = { List K };
+    ghost Value = { Keys K };
 
     ghost coded = { coded_list K.code };
 
-    ghost view = { λ it. it.set.keys };
+    ghost view = { λ it. it.keys };
 
-    ghost invariant = { λ it. IsDistinct K.eq it.set.keys };
+    ghost invariant = { λ it. IsDistinct K.eq it.keys × ArePlaces K.number K.eq it.keys it.places };
 }
 
 impl<K: Name> KeySet<K> {
@@ -35,7 +37,8 @@ impl<K: Name> KeySet<K> {
         ensures { result ≡ [] }
     {
         KeySet {
-            set: IndexSet::new(alloc),
+            keys: List::new(alloc),
+            places: Places::new(alloc),
         }
     }
 
@@ -44,28 +47,35 @@ impl<K: Name> KeySet<K> {
         ensures value { result ≡ length self.now }
         ensures distinct { IsDistinct K.eq self.now }
     {
-        self.set.len()
+        self.keys.len()
     }
 
     /// Returns whether the set has a key.
     pub fn contains(&self, key: K) -> bool
         ensures { result ≡ list_any (K.eq key) self.now }
     {
-        self.set.contains(&key)
+        self.position(key).is_some()
     }
 
     /// Returns the index of a key, and `None` if the key isn't there.
     pub fn position(&self, key: K) -> Option<usize>
         ensures { result ≡ position (K.eq key) self.now }
     {
-        self.set.get_index_of(&key)
+        self.places.find(key.index())
     }
 
     /// Returns the key at an index, and `None` past the end.
     pub fn at(&self, i: usize) -> Option<K>
         ensures { result ≡ slice_get self.now i }
     {
-        self.set.get_index(i).copied()
+        self.keys.get(i).copied()
+    }
+
+    /// Returns the keys, for a loop over them.
+    pub fn as_slice(&self) -> &[K]
+        ensures { result.now ≡ self.now }
+    {
+        self.keys.as_slice()
     }
 
     /// Inserts a key and returns whether it is new. A new key goes last. Fails only when out of memory, and then
@@ -75,6 +85,27 @@ impl<K: Name> KeySet<K> {
         ensures added { IfOk result (λ added. added ≡ not (list_any (K.eq key) self.old)) }
         ensures err { OnErr result (self.new ≡ self.old) }
     {
-        Ok(self.set.insert(key)?)
+        if self.contains(key) {
+            return Ok(false);
+        }
+        let place = self.keys.len();
+        self.keys.push(key)?;
+        match self.places.put(key.index(), place) {
+            Ok(()) => Ok(true),
+            Err(error) => {
+                self.keys.pop();
+                Err(error)
+            }
+        }
+    }
+}
+
+impl<K: Name> CloneIn for KeySet<K> {
+    fn clone_in(&self, alloc: Global) -> Result<KeySet<K>, AllocError> {
+        let mut copy = KeySet::new(alloc);
+        for key in self.keys.as_slice() {
+            copy.insert(*key)?;
+        }
+        Ok(copy)
     }
 }

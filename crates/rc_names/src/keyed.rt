@@ -1,39 +1,37 @@
 //! Values under keys, in the order of insertion.
 
-ghost use Rattle.std.specs.Prelude.{◌≡◌, ◌<◌, ◌^◌, [], length, position, slice_get, IfOk, OnOk, OnErr};
+ghost use Rattle.std.specs.Prelude.{◌≡◌, [], length, position, slice_get, IfOk, OnOk, OnErr};
 ghost use Rattle.std.specs.Borrow.{sem};
 ghost use Rattle.std.specs.List.{IsDistinct};
-ghost use Rattle.std.specs.Map.{keys_of, lookup};
-ghost use Rattle.std.specs.Map.Iter.{ShowsInOrder, deref_pair};
+ghost use Rattle.std.specs.Map.{keys_of, values_of, lookup};
 ghost use Rattle.std.specs.Option.{option_copied, option_copied_mut, option_map};
 ghost use Rattle.indexmap.specs.IndexMap.{insert_entry};
 ghost use Rattle.rc_names.specs.Lends.keyed.{lends_value};
 
-use crate::{CloneIn, Name};
-use indexmap::IndexMap;
-use indexmap::map::Iter;
+use crate::{CloneIn, KeySet, List, Name};
 use std::alloc::{AllocError, Global};
 use std::marker::Model;
+use std::mem;
 
-/// An `IndexMap` that contracts see as the list of its pairs. The keys are distinct.
+/// Distinct keys, each with a value, which contracts see as the list of the pairs.
 #[derive(Drop)]
 pub struct Keyed<K: Name, V> {
-    map: IndexMap<K, V>,
+    keys: KeySet<K>,
+    values: List<V>,
 }
 
 impl<K: Name, V> Model for Keyed<K, V> {
-    ghost use Rattle.std.specs.Prelude.{List};
-    ghost use Rattle.std.specs.List.{IsDistinct};
+    ghost use Rattle.std.specs.Prelude.{◌≡◌, List as Pairs, length};
     ghost use Rattle.std.specs.Coded.{coded_list, coded×};
-    ghost use Rattle.std.specs.Map.{keys_of};
+    ghost use Rattle.rc_names.specs.inside.Pairs.{pairs_of};
 
-    ghost Value = { List (K × V) };
+    ghost Value = { Pairs (K × V) };
 
     ghost coded = { coded_list (coded× K.code V.code) };
 
-    ghost view = { λ it. it.map.entries };
+    ghost view = { λ it. pairs_of it.keys it.values };
 
-    ghost invariant = { λ it. IsDistinct K.eq (keys_of it.map.entries) };
+    ghost invariant = { λ it. length it.values ≡ length it.keys };
 }
 
 impl<K: Name, V> Keyed<K, V> {
@@ -42,7 +40,8 @@ impl<K: Name, V> Keyed<K, V> {
         ensures { result ≡ [] }
     {
         Keyed {
-            map: IndexMap::new(alloc),
+            keys: KeySet::new(alloc),
+            values: List::new(alloc),
         }
     }
 
@@ -51,14 +50,17 @@ impl<K: Name, V> Keyed<K, V> {
         ensures value { result ≡ length self.now }
         ensures distinct { IsDistinct K.eq (keys_of self.now) }
     {
-        self.map.len()
+        self.keys.len()
     }
 
     /// Returns the value under a key, and `None` if the key isn't there.
     pub fn get(&self, key: K) -> Option<&V>
         ensures { option_copied result ≡ lookup (K.eq key) self.now }
     {
-        self.map.get(&key)
+        match self.keys.position(key) {
+            Some(place) => self.values.get(place),
+            None => None,
+        }
     }
 
     /// Returns the value under a key, to be changed in its place, and `None` if the key isn't there.
@@ -66,31 +68,42 @@ impl<K: Name, V> Keyed<K, V> {
         ensures* writes_back { sem 𝓛 (lends_value K.row V.row K.Name self.entry key result) }
         ensures value { option_copied_mut result ≡ lookup (K.eq key) self.old }
     {
-        self.map.get_mut(&key)
+        match self.keys.position(key) {
+            Some(place) => self.values.get_mut(place),
+            None => None,
+        }
     }
 
     /// Returns the index of a key's pair, and `None` if the key isn't there.
     pub fn position(&self, key: K) -> Option<usize>
         ensures { result ≡ position (K.eq key) (keys_of self.now) }
     {
-        self.map.get_index_of(&key)
+        self.keys.position(key)
     }
 
-    /// Returns the pairs in their order.
-    pub fn iter(&self) -> Iter<'_, K, V>
-        ensures rest { result ≡ self.now }
-        ensures runs { ShowsInOrder (deref_pair {K = K} {X = V}) }
-        ensures fits { length self.now < 2 ^ 63 }
+    /// Returns the keys in their order.
+    pub fn keys(&self) -> &[K]
+        ensures { result.now ≡ keys_of self.now }
     {
-        self.map.iter()
+        self.keys.as_slice()
+    }
+
+    /// Returns the values in the order of their keys.
+    pub fn values(&self) -> &[V]
+        ensures { result.now ≡ values_of self.now }
+    {
+        self.values.as_slice()
     }
 
     /// Returns the pair at an index, and `None` past the end.
     pub fn at(&self, i: usize) -> Option<(K, &V)>
         ensures { option_map (λ p. (p.0, p.1.now)) result ≡ slice_get self.now i }
     {
-        match self.map.get_index(i) {
-            Some((key, value)) => Some((*key, value)),
+        let Some(key) = self.keys.at(i) else {
+            return None;
+        };
+        match self.values.get(i) {
+            Some(value) => Some((key, value)),
             None => None,
         }
     }
@@ -104,16 +117,28 @@ impl<K: Name, V: Drop> Keyed<K, V> {
         ensures old { IfOk result (λ old. old ≡ lookup (K.eq key) self.old) }
         ensures err { OnErr result (self.new ≡ self.old) }
     {
-        Ok(self.map.insert(key, value)?)
+        if let Some(place) = self.keys.position(key) {
+            let Some(held) = self.values.get_mut(place) else {
+                unreachable!()
+            };
+            return Ok(Some(mem::replace(held, value)));
+        }
+        self.values.push(value)?;
+        match self.keys.insert(key) {
+            Ok(_) => Ok(None),
+            Err(error) => {
+                self.values.pop();
+                Err(error)
+            }
+        }
     }
 }
 
 impl<K: Name, V: CloneIn> CloneIn for Keyed<K, V> {
     fn clone_in(&self, alloc: Global) -> Result<Keyed<K, V>, AllocError> {
-        let mut copy = Keyed::new(alloc);
-        for (key, value) in self.map.iter() {
-            copy.insert(*key, value.clone_in(alloc)?)?;
-        }
-        Ok(copy)
+        Ok(Keyed {
+            keys: self.keys.clone_in(alloc)?,
+            values: self.values.clone_in(alloc)?,
+        })
     }
 }

@@ -11,6 +11,7 @@ mod keyed;
 mod list;
 mod name;
 mod numbers;
+mod places;
 mod span;
 mod table;
 mod text;

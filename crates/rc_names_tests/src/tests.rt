@@ -246,6 +246,28 @@ fn a_key_is_new_once(rt: HostRuntime) -> Result<(), Fail> {
     Ok(())
 }
 
+/// Inserts the keys with the numbers below a bound.
+fn insert_below(keys: &mut KeySet<BlockId>, bound: u32) -> Result<(), AllocError> {
+    for key in 0..bound {
+        keys.insert(BlockId::new(key))?;
+    }
+    Ok(())
+}
+
+#[test]
+fn numbers_that_lie_apart_keep_their_places(rt: HostRuntime) -> Result<(), Fail> {
+    let mut keys = KeySet::new(rt.alloc());
+    assert!(rt; is_new(&mut keys, 4_000_000_000)?);
+    assert!(rt; is_new(&mut keys, 90)?);
+    insert_below(&mut keys, 100)?;
+    assert_eq!(rt; keys.len(), 101);
+    assert_eq!(rt; found(&keys, 4_000_000_000), (true, Some(0)));
+    assert_eq!(rt; found(&keys, 90), (true, Some(1)));
+    assert_eq!(rt; found(&keys, 99), (true, Some(100)));
+    assert_eq!(rt; found(&keys, 100), (false, None));
+    Ok(())
+}
+
 /// A text of its own.
 fn text(alloc: Global, text: &str) -> Result<Text, AllocError> {
     Text::from_str(alloc, text)

@@ -44,8 +44,9 @@ fn scope_count(hir: &HirFunction) -> usize
 {
     hir.body
         .blocks
+        .values()
         .iter()
-        .filter(|(_, block)| is_scope(&block.terminal))
+        .filter(|block| is_scope(&block.terminal))
         .count()
 }
 
@@ -53,7 +54,7 @@ fn scope_count(hir: &HirFunction) -> usize
 fn are_keys_below(hir: &HirFunction, next_block: u32) -> bool
     ensures { IsTrue result ↔ All (λ entry. entry.0.0 < next_block) hir.now.body.blocks }
 {
-    hir.body.blocks.iter().all(|(key, _)| key.0 < next_block)
+    hir.body.blocks.keys().iter().all(|key| key.0 < next_block)
 }
 
 /// Returns whether enough numbers are left for an early return in each scope of the graph: five identifiers, five

@@ -140,9 +140,9 @@ impl Alike for BasicBlock {
 
 impl Alike for Hir {
     fn is_like(&self, other: &Hir, alloc: Global) -> Result<bool, AllocError> {
-        let mut is_alike = self.entry == other.entry && self.blocks.len() == other.blocks.len();
-        for ((key, block), (other_key, other)) in self.blocks.iter().zip(other.blocks.iter()) {
-            is_alike &= key == other_key && block.is_like(other, alloc)?;
+        let mut is_alike = self.entry == other.entry && self.blocks.keys() == other.blocks.keys();
+        for (block, other) in self.blocks.values().iter().zip(other.blocks.values()) {
+            is_alike &= block.is_like(other, alloc)?;
         }
         Ok(is_alike)
     }
