@@ -4,6 +4,7 @@ mod EndedScopes
 mod FatesHold
 mod OutsideLemmas
 mod CausesLemmas
+mod BlocksLemmas
 mod RunsElsewhere
 mod BlockScopes
 mod EventsStay

@@ -1,11 +1,11 @@
 //! The checks that come before a graph is built.
 
-ghost use Rattle.std.specs.Prelude.{◌≡◌, ◌↔◌, ◌<◌, IsTrue, All, option_map};
+ghost use Rattle.std.specs.Prelude.{◌≡◌, ◌↔◌, ◌<◌, IsTrue, All, count_by, option_map};
 ghost use Rattle.rc_pipe.specs.Causes.{HasRoom, is_scope, scope_count};
 ghost use Rattle.rc_runs.specs.EarlyReturns.{first_early_return};
 
-use rc_hir::{Environment, HirFunction, Terminal};
-use rc_names::ScopeId;
+use rc_hir::{BasicBlock, Environment, HirFunction, Terminal};
+use rc_names::{BlockId, ScopeId};
 
 /// The index of the lowest scope that has an early return already.
 fn first_early_place(env: &Environment) -> Option<usize>
@@ -38,23 +38,35 @@ fn is_scope(terminal: &Terminal) -> bool
     matches!(terminal, Terminal::Scope { .. })
 }
 
+/// How many of these blocks open a scope that is kept so far.
+fn scopes_among(blocks: &[BasicBlock]) -> usize
+    ensures { result ≡ count_by (λ block. is_scope block.terminal) blocks.now }
+{
+    blocks
+        .iter()
+        .filter(|block| is_scope(&block.terminal))
+        .count()
+}
+
 /// The number of scope blocks that the graph spells.
 fn scope_count(hir: &HirFunction) -> usize
     ensures { result ≡ scope_count hir.now }
 {
-    hir.body
-        .blocks
-        .values()
-        .iter()
-        .filter(|block| is_scope(&block.terminal))
-        .count()
+    scopes_among(hir.body.blocks.values())
+}
+
+/// Whether each of these keys is below a number.
+fn are_below(keys: &[BlockId], number: u32) -> bool
+    ensures { IsTrue result ↔ All (λ key. key.0 < number) keys.now }
+{
+    keys.iter().all(|key| key.0 < number)
 }
 
 /// Whether each key of the graph is below a number.
 fn are_keys_below(hir: &HirFunction, next_block: u32) -> bool
     ensures { IsTrue result ↔ All (λ entry. entry.0.0 < next_block) hir.now.body.blocks }
 {
-    hir.body.blocks.keys().iter().all(|key| key.0 < next_block)
+    are_below(hir.body.blocks.keys(), next_block)
 }
 
 /// Returns whether enough numbers are left for an early return in each scope of the graph: five identifiers, five
