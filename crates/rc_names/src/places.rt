@@ -1,6 +1,6 @@
 //! At which place of a list each number stands.
 
-ghost use Rattle.std.specs.Prelude.{◌≡◌, ◌↔◌, ◌<◌, ◌≤◌, ◌/◌, ◌-◌, ◌^◌, ℕ, None, length, IsTrue, OnOk, OnErr};
+ghost use Rattle.std.specs.Prelude.{◌≡◌, ◌<◌, ◌-◌, ◌^◌, ℕ, None, IsTrue, OnOk, OnErr};
 ghost use Rattle.rc_names.specs.inside.Places as spec;
 
 use std::alloc::{AllocError, Global};
