@@ -11,3 +11,4 @@ pub mod GraphNames
 pub mod EnvironmentNames
 pub mod Names
 pub mod Environment
+pub mod inside

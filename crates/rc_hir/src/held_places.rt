@@ -1,4 +1,4 @@
-//! Parts of values, patterns and terminals that have places, and lists of these places.
+//! Parts of values, patterns and terminals that have places.
 
 ghost use Rattle.std.specs.Prelude.{◌≡◌, ◌++◌, Ok, OnOk};
 ghost use Rattle.std.specs.List.{flat_map};
@@ -11,7 +11,8 @@ use crate::instruction::JsxAttribute;
 use crate::pattern::{
     ArrayElement, ArrayPatternElement, ObjectPropertyKey, ObjectPropertyOrSpread,
 };
-use crate::place::{Place, PlaceOrSpread};
+use crate::place::PlaceOrSpread;
+use crate::places::Places;
 use crate::terminal::Case;
 use rc_names::List;
 use std::alloc::{AllocError, Global};
@@ -24,18 +25,18 @@ pub trait HoldsPlaces {
     /// Its places, in order.
     ghost held: { Self → Entries Place };
 
-    /// Appends the places of the part to a list. Fails only when out of memory.
-    fn push_held(&self, places: &mut List<Place>) -> Result<(), AllocError>
+    /// Appends the places of the part. Fails only when out of memory.
+    fn push_held(&self, alloc: Global, places: &mut Places<'_>) -> Result<(), AllocError>
         ensures { OnOk result (places.new ≡ places.old ++ Self.held self.now) };
 }
 
 impl HoldsPlaces for PlaceOrSpread {
     ghost held = { table.argument_places };
 
-    fn push_held(&self, places: &mut List<Place>) -> Result<(), AllocError> {
+    fn push_held(&self, alloc: Global, places: &mut Places<'_>) -> Result<(), AllocError> {
         match self {
-            PlaceOrSpread::Place(place) => places.push(*place),
-            PlaceOrSpread::Spread(spread) => places.push(spread.place),
+            PlaceOrSpread::Place(place) => places.push(alloc, *place),
+            PlaceOrSpread::Spread(spread) => places.push(alloc, spread.place),
         }
     }
 }
@@ -43,10 +44,10 @@ impl HoldsPlaces for PlaceOrSpread {
 impl HoldsPlaces for ArrayElement {
     ghost held = { table.element_places };
 
-    fn push_held(&self, places: &mut List<Place>) -> Result<(), AllocError> {
+    fn push_held(&self, alloc: Global, places: &mut Places<'_>) -> Result<(), AllocError> {
         match self {
-            ArrayElement::Place(place) => places.push(*place),
-            ArrayElement::Spread(spread) => places.push(spread.place),
+            ArrayElement::Place(place) => places.push(alloc, *place),
+            ArrayElement::Spread(spread) => places.push(alloc, spread.place),
             ArrayElement::Hole => Ok(()),
         }
     }
@@ -55,10 +56,10 @@ impl HoldsPlaces for ArrayElement {
 impl HoldsPlaces for ArrayPatternElement {
     ghost held = { table.item_places };
 
-    fn push_held(&self, places: &mut List<Place>) -> Result<(), AllocError> {
+    fn push_held(&self, alloc: Global, places: &mut Places<'_>) -> Result<(), AllocError> {
         match self {
-            ArrayPatternElement::Place(place) => places.push(*place),
-            ArrayPatternElement::Spread(spread) => places.push(spread.place),
+            ArrayPatternElement::Place(place) => places.push(alloc, *place),
+            ArrayPatternElement::Spread(spread) => places.push(alloc, spread.place),
             ArrayPatternElement::Hole => Ok(()),
         }
     }
@@ -67,35 +68,39 @@ impl HoldsPlaces for ArrayPatternElement {
 impl HoldsPlaces for ObjectPropertyOrSpread {
     ghost held = { table.entry_places };
 
-    fn push_held(&self, places: &mut List<Place>) -> Result<(), AllocError> {
+    fn push_held(&self, alloc: Global, places: &mut Places<'_>) -> Result<(), AllocError> {
         match self {
             ObjectPropertyOrSpread::Property(property) => {
-                push_key(places, &property.key)?;
-                places.push(property.place)
+                push_key(alloc, places, &property.key)?;
+                places.push(alloc, property.place)
             }
-            ObjectPropertyOrSpread::Spread(spread) => places.push(spread.place),
+            ObjectPropertyOrSpread::Spread(spread) => places.push(alloc, spread.place),
         }
     }
 }
 
-fn push_key(places: &mut List<Place>, key: &ObjectPropertyKey) -> Result<(), AllocError>
+fn push_key(
+    alloc: Global,
+    places: &mut Places<'_>,
+    key: &ObjectPropertyKey,
+) -> Result<(), AllocError>
     ensures { OnOk result (places.new ≡ places.old ++ table.key_places key.now) }
 {
     match key {
         ObjectPropertyKey::Identifier(_)
         | ObjectPropertyKey::String(_)
         | ObjectPropertyKey::Number(_) => Ok(()),
-        ObjectPropertyKey::Computed(place) => places.push(*place),
+        ObjectPropertyKey::Computed(place) => places.push(alloc, *place),
     }
 }
 
 impl HoldsPlaces for JsxAttribute {
     ghost held = { table.attribute_places };
 
-    fn push_held(&self, places: &mut List<Place>) -> Result<(), AllocError> {
+    fn push_held(&self, alloc: Global, places: &mut Places<'_>) -> Result<(), AllocError> {
         match self {
-            JsxAttribute::Attribute { place, .. } => places.push(*place),
-            JsxAttribute::SpreadAttribute { argument } => places.push(*argument),
+            JsxAttribute::Attribute { place, .. } => places.push(alloc, *place),
+            JsxAttribute::SpreadAttribute { argument } => places.push(alloc, *argument),
         }
     }
 }
@@ -103,43 +108,37 @@ impl HoldsPlaces for JsxAttribute {
 impl HoldsPlaces for Case {
     ghost held = { case_places };
 
-    fn push_held(&self, places: &mut List<Place>) -> Result<(), AllocError> {
+    fn push_held(&self, alloc: Global, places: &mut Places<'_>) -> Result<(), AllocError> {
         match self.test {
-            Some(test) => places.push(test),
+            Some(test) => places.push(alloc, test),
             None => Ok(()),
         }
     }
 }
 
-/// Returns these places as a list. The only fault is `NoMemory`.
-pub fn listed(alloc: Global, places: &[Place]) -> Result<List<Place>, Fault>
-    ensures { IsExpected (Ok places.now) result }
-{
-    Ok(List::from_slice(alloc, places)?)
-}
-
 /// Returns these places, followed by those of each item. The only fault is `NoMemory`.
-pub fn gathered<T: HoldsPlaces>(
+pub fn gathered<'p, T: HoldsPlaces>(
     alloc: Global,
-    first: &[Place],
+    first: Places<'p>,
     items: &List<T>,
-) -> Result<List<Place>, Fault>
-    ensures { IsExpected (Ok (first.now ++ flat_map T.held items.now)) result }
+) -> Result<Places<'p>, Fault>
+    ensures { IsExpected (Ok (first.entry ++ flat_map T.held items.now)) result }
 {
-    let mut places = listed(alloc, first)?;
-    push_each(&mut places, items)?;
+    let mut places = first;
+    push_each(alloc, &mut places, items)?;
     Ok(places)
 }
 
-/// Appends the places of each item to a list. Fails only when out of memory.
+/// Appends the places of each item. Fails only when out of memory.
 pub fn push_each<T: HoldsPlaces>(
-    places: &mut List<Place>,
+    alloc: Global,
+    places: &mut Places<'_>,
     items: &List<T>,
 ) -> Result<(), AllocError>
     ensures { OnOk result (places.new ≡ places.old ++ flat_map T.held items.now) }
 {
     for item in items.as_slice() {
-        item.push_held(places)?;
+        item.push_held(alloc, places)?;
     }
     Ok(())
 }

@@ -11,6 +11,7 @@ mod names;
 mod operands;
 mod pattern;
 mod place;
+mod places;
 mod scope;
 mod successors;
 mod terminal;
@@ -33,6 +34,7 @@ pub use pattern::{
     ObjectPropertyKey, ObjectPropertyOrSpread, Pattern, PropertyLiteral,
 };
 pub use place::{Effect, ParamPattern, Place, PlaceOrSpread, SpreadPattern};
+pub use places::Places;
 pub use scope::{
     DeclarationEntry, DependencyPathEntry, MutableRange, ReactiveScope, ReactiveScopeDeclaration,
     ReactiveScopeDependency, ReactiveScopeEarlyReturn,

@@ -3,7 +3,7 @@
 //! The arms are the lines of the tables in `specs/Operands.antt` and `specs/TerminalOperands.antt`. Kinds with equal
 //! lines share an arm.
 
-ghost use Rattle.std.specs.Prelude.{◌≡◌, [], ◌∷◌, ◌++◌, Ok, OnOk};
+ghost use Rattle.std.specs.Prelude.{◌≡◌, [], ◌∷◌, Ok};
 ghost use Rattle.std.specs.List.{flat_map};
 ghost use Rattle.rc_hir.specs.Fault.{IsExpected};
 ghost use Rattle.rc_hir.specs.Operands as table;
@@ -11,93 +11,94 @@ ghost use Rattle.rc_hir.specs.TerminalOperands.{terminal_operands};
 
 use crate::environment::Environment;
 use crate::fault::{Fault, TableName};
-use crate::held_places::{gathered, listed, push_each};
+use crate::held_places::{gathered, push_each};
 use crate::instruction::{
     InstructionValue, InstructionValue as Kind, JsxAttribute, JsxTag, LoweredFunction,
 };
 use crate::pattern::{ObjectPropertyOrSpread, Pattern};
 use crate::place::Place;
+use crate::places::Places;
 use crate::terminal::Terminal;
 use rc_names::List;
-use std::alloc::{AllocError, Global};
+use std::alloc::Global;
 
 /// Returns the operands of a value, in order.
 ///
 /// Returns `BadName` if the value names a nested function that is outside the environment's table, and `NoMemory` when
 /// out of memory.
-pub fn each_instruction_value_operand(
+pub fn each_instruction_value_operand<'p>(
     alloc: Global,
-    value: &InstructionValue,
-    env: &Environment,
-) -> Result<List<Place>, Fault>
+    value: &'p InstructionValue,
+    env: &'p Environment,
+) -> Result<Places<'p>, Fault>
     ensures { IsExpected (table.operands env.now.functions value.now) result }
 {
     match value {
-        Kind::LoadLocal { place, .. } | Kind::LoadContext { place, .. } => listed(alloc, &[*place]),
-        Kind::DeclareLocal { .. } | Kind::DeclareContext { .. } => listed(alloc, &[]),
-        Kind::StoreLocal { value, .. } => listed(alloc, &[*value]),
-        Kind::StoreContext { lvalue, value, .. } => listed(alloc, &[lvalue.place, *value]),
-        Kind::Destructure { value, .. } => listed(alloc, &[*value]),
-        Kind::Primitive { .. } | Kind::JSXText { .. } => listed(alloc, &[]),
-        Kind::BinaryExpression { left, right, .. } => listed(alloc, &[*left, *right]),
-        Kind::UnaryExpression { value, .. } => listed(alloc, &[*value]),
-        Kind::TypeCastExpression { value, .. } => listed(alloc, &[*value]),
-        Kind::Await { value, .. } => listed(alloc, &[*value]),
-        Kind::NewExpression { callee, args, .. } => gathered(alloc, &[*callee], args),
-        Kind::CallExpression { callee, args, .. } => gathered(alloc, &[*callee], args),
+        Kind::LoadLocal { place, .. } | Kind::LoadContext { place, .. } => Ok(Places::one(place)),
+        Kind::DeclareLocal { .. } | Kind::DeclareContext { .. } => Ok(Places::none()),
+        Kind::StoreLocal { value, .. } => Ok(Places::one(value)),
+        Kind::StoreContext { lvalue, value, .. } => Ok(Places::two(lvalue.place, *value)),
+        Kind::Destructure { value, .. } => Ok(Places::one(value)),
+        Kind::Primitive { .. } | Kind::JSXText { .. } => Ok(Places::none()),
+        Kind::BinaryExpression { left, right, .. } => Ok(Places::two(*left, *right)),
+        Kind::UnaryExpression { value, .. } => Ok(Places::one(value)),
+        Kind::TypeCastExpression { value, .. } => Ok(Places::one(value)),
+        Kind::Await { value, .. } => Ok(Places::one(value)),
+        Kind::NewExpression { callee, args, .. } => gathered(alloc, Places::one(callee), args),
+        Kind::CallExpression { callee, args, .. } => gathered(alloc, Places::one(callee), args),
         Kind::MethodCall {
             receiver,
             property,
             args,
             ..
-        } => gathered(alloc, &[*receiver, *property], args),
-        Kind::ObjectExpression { properties, .. } => gathered(alloc, &[], properties),
-        Kind::ObjectMethod { lowered_func, .. } => of_context(alloc, *lowered_func, env),
-        Kind::FunctionExpression { lowered_func, .. } => of_context(alloc, *lowered_func, env),
-        Kind::ArrayExpression { elements, .. } => gathered(alloc, &[], elements),
+        } => gathered(alloc, Places::two(*receiver, *property), args),
+        Kind::ObjectExpression { properties, .. } => gathered(alloc, Places::none(), properties),
+        Kind::ObjectMethod { lowered_func, .. } => of_context(*lowered_func, env),
+        Kind::FunctionExpression { lowered_func, .. } => of_context(*lowered_func, env),
+        Kind::ArrayExpression { elements, .. } => gathered(alloc, Places::none(), elements),
         Kind::JsxExpression {
             tag,
             props,
             children,
             ..
         } => of_jsx(alloc, tag, props, children),
-        Kind::JsxFragment { children, .. } => listed(alloc, children.as_slice()),
-        Kind::RegExpLiteral { .. } | Kind::MetaProperty { .. } => listed(alloc, &[]),
-        Kind::PropertyLoad { object, .. } => listed(alloc, &[*object]),
-        Kind::PropertyDelete { object, .. } => listed(alloc, &[*object]),
-        Kind::PropertyStore { object, value, .. } => listed(alloc, &[*object, *value]),
+        Kind::JsxFragment { children, .. } => Ok(Places::borrowed(children)),
+        Kind::RegExpLiteral { .. } | Kind::MetaProperty { .. } => Ok(Places::none()),
+        Kind::PropertyLoad { object, .. } => Ok(Places::one(object)),
+        Kind::PropertyDelete { object, .. } => Ok(Places::one(object)),
+        Kind::PropertyStore { object, value, .. } => Ok(Places::two(*object, *value)),
         Kind::ComputedLoad {
             object,
             property,
             ..
-        } => listed(alloc, &[*object, *property]),
+        } => Ok(Places::two(*object, *property)),
         Kind::ComputedDelete {
             object,
             property,
             ..
-        } => listed(alloc, &[*object, *property]),
+        } => Ok(Places::two(*object, *property)),
         Kind::ComputedStore {
             object,
             property,
             value,
             ..
-        } => listed(alloc, &[*object, *property, *value]),
-        Kind::LoadGlobal { .. } => listed(alloc, &[]),
-        Kind::StoreGlobal { value, .. } => listed(alloc, &[*value]),
-        Kind::TaggedTemplateExpression { tag, .. } => listed(alloc, &[*tag]),
-        Kind::TemplateLiteral { subexprs, .. } => listed(alloc, subexprs.as_slice()),
-        Kind::GetIterator { collection, .. } => listed(alloc, &[*collection]),
+        } => Ok(Places::three(*object, *property, *value)),
+        Kind::LoadGlobal { .. } => Ok(Places::none()),
+        Kind::StoreGlobal { value, .. } => Ok(Places::one(value)),
+        Kind::TaggedTemplateExpression { tag, .. } => Ok(Places::one(tag)),
+        Kind::TemplateLiteral { subexprs, .. } => Ok(Places::borrowed(subexprs)),
+        Kind::GetIterator { collection, .. } => Ok(Places::one(collection)),
         Kind::IteratorNext {
             iterator,
             collection,
             ..
-        } => listed(alloc, &[*iterator, *collection]),
-        Kind::NextPropertyOf { value, .. } => listed(alloc, &[*value]),
-        Kind::PrefixUpdate { value, .. } => listed(alloc, &[*value]),
-        Kind::PostfixUpdate { value, .. } => listed(alloc, &[*value]),
-        Kind::Debugger { .. } => listed(alloc, &[]),
-        Kind::StartMemoize { deps, .. } => listed(alloc, deps.as_slice()),
-        Kind::FinishMemoize { decl, .. } => listed(alloc, &[*decl]),
+        } => Ok(Places::two(*iterator, *collection)),
+        Kind::NextPropertyOf { value, .. } => Ok(Places::one(value)),
+        Kind::PrefixUpdate { value, .. } => Ok(Places::one(value)),
+        Kind::PostfixUpdate { value, .. } => Ok(Places::one(value)),
+        Kind::Debugger { .. } => Ok(Places::none()),
+        Kind::StartMemoize { deps, .. } => Ok(Places::borrowed(deps)),
+        Kind::FinishMemoize { decl, .. } => Ok(Places::one(decl)),
     }
 }
 
@@ -105,19 +106,18 @@ pub fn each_instruction_value_operand(
 pub fn each_instruction_value_lvalue(
     alloc: Global,
     value: &InstructionValue,
-) -> Result<List<Place>, Fault>
+) -> Result<Places<'_>, Fault>
     ensures { IsExpected (Ok (table.value_targets value.now)) result }
 {
     match value {
         Kind::DeclareLocal { lvalue, .. }
         | Kind::DeclareContext { lvalue, .. }
         | Kind::StoreLocal { lvalue, .. }
-        | Kind::StoreContext { lvalue, .. } => listed(alloc, &[lvalue.place]),
+        | Kind::StoreContext { lvalue, .. } => Ok(Places::one(&lvalue.place)),
         Kind::Destructure { lvalue, .. } => each_pattern_operand(alloc, &lvalue.pattern),
-        Kind::PrefixUpdate { lvalue, .. } | Kind::PostfixUpdate { lvalue, .. } => listed(
-            alloc,
-            &[*lvalue],
-        ),
+        Kind::PrefixUpdate { lvalue, .. } | Kind::PostfixUpdate { lvalue, .. } => Ok(Places::one(
+            lvalue,
+        )),
         Kind::LoadLocal { .. }
         | Kind::LoadContext { .. }
         | Kind::Primitive { .. }
@@ -152,33 +152,33 @@ pub fn each_instruction_value_lvalue(
         | Kind::NextPropertyOf { .. }
         | Kind::Debugger { .. }
         | Kind::StartMemoize { .. }
-        | Kind::FinishMemoize { .. } => Ok(List::new(alloc)),
+        | Kind::FinishMemoize { .. } => Ok(Places::none()),
     }
 }
 
 /// Returns the places of a pattern, in order; computed keys aren't among them. The only fault is `NoMemory`.
-pub fn each_pattern_operand(alloc: Global, pattern: &Pattern) -> Result<List<Place>, Fault>
+pub fn each_pattern_operand(alloc: Global, pattern: &Pattern) -> Result<Places<'_>, Fault>
     ensures { IsExpected (Ok (table.pattern_places pattern.now)) result }
 {
     match pattern {
-        Pattern::Array { items } => gathered(alloc, &[], items),
+        Pattern::Array { items } => gathered(alloc, Places::none(), items),
         Pattern::Object { properties } => of_object_pattern(alloc, properties),
     }
 }
 
 /// Returns the operands of a terminal, in order. The only fault is `NoMemory`.
-pub fn each_terminal_operand(alloc: Global, terminal: &Terminal) -> Result<List<Place>, Fault>
+pub fn each_terminal_operand(alloc: Global, terminal: &Terminal) -> Result<Places<'_>, Fault>
     ensures { IsExpected (Ok (terminal_operands terminal.now)) result }
 {
     match terminal {
-        Terminal::If { test, .. } | Terminal::Branch { test, .. } => listed(alloc, &[*test]),
+        Terminal::If { test, .. } | Terminal::Branch { test, .. } => Ok(Places::one(test)),
         Terminal::Logical { .. }
         | Terminal::Ternary { .. }
         | Terminal::Optional { .. }
-        | Terminal::Sequence { .. } => listed(alloc, &[]),
-        Terminal::Throw { value, .. } | Terminal::Return { value, .. } => listed(alloc, &[*value]),
-        Terminal::Goto { .. } => listed(alloc, &[]),
-        Terminal::Switch { test, cases, .. } => gathered(alloc, &[*test], cases),
+        | Terminal::Sequence { .. } => Ok(Places::none()),
+        Terminal::Throw { value, .. } | Terminal::Return { value, .. } => Ok(Places::one(value)),
+        Terminal::Goto { .. } => Ok(Places::none()),
+        Terminal::Switch { test, cases, .. } => gathered(alloc, Places::one(test), cases),
         Terminal::DoWhile { .. }
         | Terminal::While { .. }
         | Terminal::For { .. }
@@ -188,52 +188,47 @@ pub fn each_terminal_operand(alloc: Global, terminal: &Terminal) -> Result<List<
         | Terminal::Unreachable { .. }
         | Terminal::MaybeThrow { .. }
         | Terminal::Scope { .. }
-        | Terminal::PrunedScope { .. } => listed(alloc, &[]),
+        | Terminal::PrunedScope { .. } => Ok(Places::none()),
         Terminal::Try {
             handler_binding,
             ..
         } => match handler_binding {
-            Some(place) => listed(alloc, &[*place]),
-            None => listed(alloc, &[]),
+            Some(place) => Ok(Places::one(place)),
+            None => Ok(Places::none()),
         },
     }
 }
 
-fn push_tag(places: &mut List<Place>, tag: &JsxTag) -> Result<(), AllocError>
-    ensures { OnOk result (places.new ≡ places.old ++ table.tag_places tag.now) }
+fn of_tag(tag: &JsxTag) -> Places<'_>
+    ensures { result ≡ table.tag_places tag.now }
 {
     match tag {
-        JsxTag::Place(place) => places.push(*place),
-        JsxTag::Builtin(_) => Ok(()),
+        JsxTag::Place(place) => Places::one(place),
+        JsxTag::Builtin(_) => Places::none(),
     }
 }
 
-fn of_jsx(
+fn of_jsx<'p>(
     alloc: Global,
-    tag: &JsxTag,
+    tag: &'p JsxTag,
     props: &List<JsxAttribute>,
-    children: &Option<List<Place>>,
-) -> Result<List<Place>, Fault>
+    children: &'p Option<List<Place>>,
+) -> Result<Places<'p>, Fault>
     ensures { IsExpected (Ok (table.jsx_places tag.now props.now children.now)) result }
 {
-    let mut places = List::new(alloc);
-    push_tag(&mut places, tag)?;
-    push_each(&mut places, props)?;
+    let mut places = of_tag(tag);
+    push_each(alloc, &mut places, props)?;
     if let Some(children) = children {
-        places.append(children.copy_in(alloc)?)?;
+        places.append(alloc, children)?;
     }
     Ok(places)
 }
 
-fn of_context(
-    alloc: Global,
-    lowered: LoweredFunction,
-    env: &Environment,
-) -> Result<List<Place>, Fault>
+fn of_context(lowered: LoweredFunction, env: &Environment) -> Result<Places<'_>, Fault>
     ensures { IsExpected (table.context_places env.now.functions lowered) result }
 {
     match env.functions.get(lowered.func) {
-        Some(function) => Ok(function.context.copy_in(alloc)?),
+        Some(function) => Ok(Places::borrowed(&function.context)),
         None => Err(Fault::BadName {
             table: TableName::Functions,
             index: lowered.func.0,
@@ -241,15 +236,15 @@ fn of_context(
     }
 }
 
-fn of_object_pattern(
+fn of_object_pattern<'p>(
     alloc: Global,
     properties: &List<ObjectPropertyOrSpread>,
-) -> Result<List<Place>, Fault>
+) -> Result<Places<'p>, Fault>
     ensures { IsExpected (Ok (flat_map table.written_places properties.now)) result }
 {
-    let mut places = List::new(alloc);
+    let mut places = Places::none();
     for property in properties.as_slice() {
-        places.push(written_place(property))?;
+        places.push(alloc, written_place(property))?;
     }
     Ok(places)
 }

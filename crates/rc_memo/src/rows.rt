@@ -10,7 +10,7 @@ use crate::event::{MemoEvent, Mention, Target};
 use crate::table::{LevelGiven, levels_given, memo_rule, own_level, recorded};
 use rc_hir::{
     Environment, Fault, InstructionValue, InstructionValue as Kind, MutableRange, Place,
-    PlaceOrSpread, each_instruction_value_operand,
+    PlaceOrSpread, Places, each_instruction_value_operand,
 };
 use rc_names::{DeclarationId, EvaluationOrder, IdentifierId, List, ScopeId};
 use rc_tree::{ReactiveInstruction, ReactiveValue};
@@ -114,13 +114,13 @@ impl<'a> RowReader<'a> {
 
     /// Returns all operands of an instruction; one that names a function outside its table has none.
     #[tactic(auto, unfolding(crate::specs::RowEvents::places_read))]
-    fn places_read(&self, value: &InstructionValue) -> Result<List<Place>, AllocError>
+    fn places_read<'p>(&'p self, value: &'p InstructionValue) -> Result<Places<'p>, AllocError>
         ensures { IfOk result (λ places. places ≡ spec.places_read self.now.env.now value.now) }
     {
         match each_instruction_value_operand(self.alloc, value, self.env) {
             Ok(places) => Ok(places),
             Err(Fault::NoMemory) => Err(AllocError),
-            Err(_) => Ok(List::new(self.alloc)),
+            Err(_) => Ok(Places::none()),
         }
     }
 
@@ -134,8 +134,9 @@ impl<'a> RowReader<'a> {
         ensures { OnOk result (places.new ≡ places.old ++ spec.recorded_operands self.now.env.now value.now) }
     {
         let all = self.places_read(value)?;
-        let more = recorded(self.alloc, self.env, memo_rule(value), all)?;
-        places.append(more)
+        let line = memo_rule(value);
+        let mut more = recorded(self.env, &line, all).into_list(self.alloc)?;
+        places.take_from(&mut more)
     }
 
     /// Adds that a row loads a local name into its target.

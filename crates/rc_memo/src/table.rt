@@ -10,7 +10,7 @@ ghost use Rattle.rc_memo.specs.declared.level.MemoizationLevel.TheVariants as le
 use crate::MemoizationLevel;
 use rc_hir::{
     ArrayPatternElement, Environment, InstructionValue, InstructionValue as Kind,
-    ObjectPropertyOrSpread, Pattern, Place,
+    ObjectPropertyOrSpread, Pattern, Place, Places,
 };
 use rc_names::List;
 use std::alloc::{AllocError, Global};
@@ -159,7 +159,7 @@ impl Levels {
     }
 
     /// Lists each operand that the row may change.
-    fn put_mutable(&mut self, operands: &List<Place>) -> Result<(), AllocError>
+    fn put_mutable(&mut self, operands: &Places<'_>) -> Result<(), AllocError>
         ensures { OnOk result (self.new.given ≡ self.old.given ++ flat_map spec.if_mutable operands.now) }
     {
         for operand in operands.as_slice() {
@@ -242,7 +242,7 @@ impl Levels {
         value: &InstructionValue,
         line: MemoRule,
         target: Option<Place>,
-        operands: &List<Place>,
+        operands: &Places<'_>,
     ) -> Result<(), AllocError>
         ensures { OnOk result (self.new.given ≡ self.old.given
             ++ spec.levels_of env.now line target operands.now (spec.written_levels value.now)) }
@@ -332,7 +332,7 @@ pub fn levels_given(
     env: &Environment,
     value: &InstructionValue,
     target: Option<Place>,
-    operands: &List<Place>,
+    operands: &Places<'_>,
 ) -> Result<List<LevelGiven>, AllocError>
     ensures { IfOk result (λ given. given ≡ spec.levels_of env.now (spec.memo_rule value.now) target operands.now
         (spec.written_levels value.now)) }
@@ -360,33 +360,28 @@ pub fn own_level(
     Ok(levels.given)
 }
 
-/// Returns the operands of an instruction that are recorded, from all of them. Fails only when out of memory.
+/// Returns the operands of an instruction that are recorded, from all of them.
 #[tactic(auto, unfolding(crate::specs::Table::recorded_of))]
-pub fn recorded(
-    alloc: Global,
-    env: &Environment,
-    line: MemoRule,
-    operands: List<Place>,
-) -> Result<List<Place>, AllocError>
-    ensures { IfOk result (λ places. places ≡ spec.recorded_of env.now line operands) }
+pub fn recorded<'p>(env: &Environment, line: &'p MemoRule, operands: Places<'p>) -> Places<'p>
+    ensures { result ≡ spec.recorded_of env.now line.now operands.entry }
 {
     match line {
-        MemoRule::Element | MemoRule::Follows | MemoRule::Creates => Ok(operands),
+        MemoRule::Element | MemoRule::Follows | MemoRule::Creates => operands,
         MemoRule::Cheap => if memoizes_cheap(env) {
-            Ok(operands)
+            operands
         } else {
-            Ok(List::new(alloc))
+            Places::none()
         },
-        MemoRule::DeclaresContext { .. } | MemoRule::Declares { .. } => Ok(List::new(alloc)),
-        MemoRule::Stores { value, .. } => List::from_slice(alloc, &[value]),
-        MemoRule::StoresContext { value, .. } => List::from_slice(alloc, &[value]),
-        MemoRule::StoresGlobal { value } => List::from_slice(alloc, &[value]),
-        MemoRule::Destructures { value } => List::from_slice(alloc, &[value]),
-        MemoRule::Reads { object } => List::from_slice(alloc, &[object]),
+        MemoRule::DeclaresContext { .. } | MemoRule::Declares { .. } => Places::none(),
+        MemoRule::Stores { value, .. } => Places::one(value),
+        MemoRule::StoresContext { value, .. } => Places::one(value),
+        MemoRule::StoresGlobal { value } => Places::one(value),
+        MemoRule::Destructures { value } => Places::one(value),
+        MemoRule::Reads { object } => Places::one(object),
         MemoRule::Calls { callee } => if env.has_no_alias_signature(callee.identifier) {
-            Ok(List::new(alloc))
+            Places::none()
         } else {
-            Ok(operands)
+            operands
         },
     }
 }

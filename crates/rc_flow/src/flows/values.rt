@@ -9,7 +9,7 @@ ghost use Rattle.rc_flow.specs.declared.step.Step.TheVariants.{Carries};
 
 use crate::step::Step;
 use crate::types::is_stable;
-use rc_hir::{Environment, InstructionValue as Kind, Pattern, Place, each_pattern_operand};
+use rc_hir::{Environment, InstructionValue as Kind, Pattern, Place, Places, each_pattern_operand};
 use rc_names::{IdentifierId, List};
 use rc_tree::{ReactiveInstruction, ReactiveValue};
 use std::alloc::{AllocError, Global};
@@ -177,7 +177,7 @@ fn add_step(
 }
 
 /// The places of a pattern; the only fault of reading them is want of memory.
-fn pattern_places(alloc: Global, pattern: &Pattern) -> Result<List<Place>, AllocError>
+fn pattern_places(alloc: Global, pattern: &Pattern) -> Result<Places<'_>, AllocError>
     ensures { IfOk result (λ places. places ≡ pattern_places pattern.now) }
 {
     match each_pattern_operand(alloc, pattern) {

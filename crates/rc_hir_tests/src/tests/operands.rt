@@ -32,7 +32,8 @@ fn call_operands(alloc: Global) -> Result<List<Place>, Fault> {
         args: List::from_slice(alloc, &args)?,
         span: None,
     };
-    each_instruction_value_operand(alloc, &call, &Environment::empty(alloc))
+    let env = Environment::empty(alloc);
+    Ok(each_instruction_value_operand(alloc, &call, &env)?.into_list(alloc)?)
 }
 
 #[test]
@@ -51,7 +52,7 @@ fn store_targets(alloc: Global) -> Result<List<Place>, Fault> {
         value: read(2),
         span: None,
     };
-    each_instruction_value_lvalue(alloc, &store)
+    Ok(each_instruction_value_lvalue(alloc, &store)?.into_list(alloc)?)
 }
 
 #[test]
@@ -70,7 +71,7 @@ fn pattern_places(alloc: Global) -> Result<List<Place>, Fault> {
     let pattern = Pattern::Array {
         items: List::from_slice(alloc, &items)?,
     };
-    each_pattern_operand(alloc, &pattern)
+    Ok(each_pattern_operand(alloc, &pattern)?.into_list(alloc)?)
 }
 
 #[test]
@@ -102,7 +103,8 @@ fn switch(alloc: Global) -> Result<Terminal, AllocError> {
 
 /// The operands of that switch.
 fn switch_operands(alloc: Global) -> Result<List<Place>, Fault> {
-    each_terminal_operand(alloc, &switch(alloc)?)
+    let switch = switch(alloc)?;
+    Ok(each_terminal_operand(alloc, &switch)?.into_list(alloc)?)
 }
 
 /// Its place in the order of evaluation.
@@ -137,7 +139,8 @@ fn a_switch_with_a_default_leads_to_its_cases_alone(rt: HostRuntime) -> Result<(
 fn function_operands(alloc: Global, context: &[Place], number: u32) -> Result<List<Place>, Fault> {
     let function = with_row(one_block(alloc, context)?, debugger())?;
     let env = one_function(alloc, function)?;
-    each_instruction_value_operand(alloc, &nested(number), &env)
+    let value = nested(number);
+    Ok(each_instruction_value_operand(alloc, &value, &env)?.into_list(alloc)?)
 }
 
 #[test]
@@ -153,6 +156,30 @@ fn a_function_outside_its_table_is_a_bad_name(rt: HostRuntime) {
         index: 1,
     };
     assert_eq!(rt; function_operands(rt.alloc(), &[], 1).err(), Some(refused));
+}
+
+/// A store of place 3 into the property of place 1 that place 2 computes.
+fn computed_store() -> InstructionValue {
+    InstructionValue::ComputedStore {
+        object: read(1),
+        property: read(2),
+        value: read(3),
+        span: None,
+    }
+}
+
+/// Whether the operands of that store are these, borrowed and in a list of their own.
+fn store_reads(alloc: Global, numbers: &[u32]) -> Result<bool, Fault> {
+    let (store, env) = (computed_store(), Environment::empty(alloc));
+    let places = each_instruction_value_operand(alloc, &store, &env)?;
+    let count = places.as_slice().len();
+    Ok(count == numbers.len() && are(&places.into_list(alloc)?, numbers))
+}
+
+#[test]
+fn three_operands_come_in_order(rt: HostRuntime) -> Result<(), Fail> {
+    assert!(rt; store_reads(rt.alloc(), &[1, 2, 3])?);
+    Ok(())
 }
 
 #[test]

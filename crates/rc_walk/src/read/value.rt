@@ -8,7 +8,8 @@ ghost use Rattle.rc_tree.specs.ReadSteps.{targets_of};
 
 use crate::visitor::ReactiveFunctionVisitor;
 use rc_hir::{
-    Fault, InstructionValue, Place, each_instruction_value_lvalue, each_instruction_value_operand,
+    Fault, InstructionValue, Place, Places, each_instruction_value_lvalue,
+    each_instruction_value_operand,
 };
 use rc_names::{EvaluationOrder, List};
 use rc_tree::{Enter, ReactiveInstruction, ReactiveValue};
@@ -192,7 +193,7 @@ fn visit_value_targets<V: ReactiveFunctionVisitor>(
 pub(crate) fn visit_places<V: ReactiveFunctionVisitor>(
     visitor: &V,
     id: EvaluationOrder,
-    places: &List<Place>,
+    places: &Places<'_>,
     state: &mut V::State,
 ) -> Result<(), Fault>
     ensures { IsStep (each ((V.steps visitor.now).visit_place id) places.now state.old) result state.new }
@@ -207,7 +208,7 @@ pub(crate) fn visit_places<V: ReactiveFunctionVisitor>(
 fn visit_lvalues<V: ReactiveFunctionVisitor>(
     visitor: &V,
     id: EvaluationOrder,
-    places: &List<Place>,
+    places: &Places<'_>,
     state: &mut V::State,
 ) -> Result<(), Fault>
     ensures { IsStep (each ((V.steps visitor.now).visit_lvalue id) places.now state.old) result state.new }

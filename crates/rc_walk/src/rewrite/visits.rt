@@ -7,13 +7,15 @@ ghost use Rattle.rc_tree.specs.ReadSteps.{targets_of};
 
 use crate::transform::ReactiveFunctionTransform;
 use rc_hir::{
-    Fault, InstructionValue, Place, each_instruction_value_lvalue, each_instruction_value_operand,
+    Fault, InstructionValue, Place, Places, each_instruction_value_lvalue,
+    each_instruction_value_operand,
 };
 use rc_names::{EvaluationOrder, List};
 use rc_tree::ReactiveValue;
 use std::alloc::Global;
 
-/// Visits the operands of an instruction.
+/// Visits the operands of an instruction. They are listed, since the transform, which its hooks change, lends those of a
+/// nested function.
 pub(crate) fn visit_operands<T: ReactiveFunctionTransform>(
     alloc: Global,
     transform: &mut T,
@@ -24,7 +26,7 @@ pub(crate) fn visit_operands<T: ReactiveFunctionTransform>(
     ensures { IsStep (inside_base T.steps T.functions id value.now (transform.old, state.old)) result
         (transform.new, state.new) }
 {
-    let places = each_instruction_value_operand(alloc, value, transform.env())?;
+    let places = each_instruction_value_operand(alloc, value, transform.env())?.into_list(alloc)?;
     visit_places(transform, id, &places, state)
 }
 
@@ -103,7 +105,7 @@ fn visit_places<T: ReactiveFunctionTransform>(
 fn visit_lvalues<T: ReactiveFunctionTransform>(
     transform: &mut T,
     id: EvaluationOrder,
-    places: &List<Place>,
+    places: &Places<'_>,
     state: &mut T::State,
 ) -> Result<(), Fault>
     ensures { IsStep (each (T.steps.visit_lvalue id) places.now (transform.old, state.old)) result
