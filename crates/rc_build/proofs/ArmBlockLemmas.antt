@@ -12,13 +12,13 @@ use Rattle.rc_runs.specs.Graph.{basic_block, usable_block}
 use Rattle.rc_runs.specs.ListContext.{is_current}
 use Rattle.rc_runs.specs.Silent.{is_unset}
 use Rattle.rc_runs.specs.Spelled.{scope_named}
-use Rattle.rc_runs.specs.ValueGrammar.{SpellsSilentArm, silent_block, silent_chain}
+use Rattle.rc_runs.specs.ShortArms.{SpellsSilentArm, silent_block, silent_chain}
 use Rattle.rc_build.specs.declared.builder.Builder.{Builder}
 use Rattle.rc_build.specs.declared.builder.Marks.{Marks}
 use Rattle.rc_build.specs.declared.builder.Site.{Site}
 use Rattle.rc_build.specs.declared.handlers.MayThrow.{MayThrow}
 use Rattle.rc_build.specs.References.{referenced_blocks}
-use Rattle.rc_build.specs.RuleFacts.{BlockIs}
+use Rattle.rc_build.specs.BlockFacts.{BlockIs}
 use Rattle.rc_build.specs.inside.CanBuild.{IsUsed}
 use Rattle.rc_build.specs.inside.Marks.{IsUnusable, MarksBlocks}
 use Rattle.rc_build.specs.inside.Setting.{Setting, setting_of}

@@ -11,12 +11,14 @@ use Rattle.rc_runs.specs.declared.frames.Frame.{Frame}
 use Rattle.rc_runs.specs.Frames.{is_jump_target, resolve_break}
 use Rattle.rc_runs.specs.PlainTree.{Statements, If, Present}
 use Rattle.rc_runs.specs.TreeOf.{statements_of}
-use Rattle.rc_runs.specs.Grammar.{value_statement}
-use Rattle.rc_runs.specs.Grammar.{SpellsList, SpellsTerminal, and_rest, branch_arms, branch_break, break_statements, from_block}
-use Rattle.rc_runs.specs.Grammar.{unlabeled}
+use Rattle.rc_runs.specs.SimpleStatements.{break_statements, unlabeled}
+use Rattle.rc_runs.specs.Grammar.{value_statement, SpellsList, SpellsTerminal, and_rest, branch_arms, branch_break}
+use Rattle.rc_runs.specs.Grammar.{from_block}
 use Rattle.rc_runs.proofs.OneTree.{one_list}
 use Rattle.rc_build.specs.declared.builder.Marks.{Marks}
-use Rattle.rc_build.specs.RuleFacts.{BlockIs, IsLostJump, first_arm}
+use Rattle.rc_build.specs.TerminalForms.{first_arm}
+use Rattle.rc_build.specs.BlockFacts.{BlockIs}
+use Rattle.rc_build.specs.RuleFacts.{IsLostJump}
 use Rattle.rc_build.specs.inside.CanBuild.{AreMarked, CanBreak, CanBuildTerminal}
 use Rattle.rc_build.specs.inside.Setting.{Setting, terminal_statement}
 use Rattle.rc_build.specs.inside.Task.{FromBlock, FromTerminal, Nothing, Progress, Spells, SpellsConsequent}

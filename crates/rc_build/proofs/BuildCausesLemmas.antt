@@ -20,7 +20,8 @@ use Rattle.rc_runs.proofs.AllLemmas.{All-left, All-right, All-flat_map}
 use Rattle.rc_names.proofs.NumbersLemmas.{same_id-eq}
 use Rattle.rc_runs.proofs.NamesOutsideLemmas.{no_name_outside}
 use Rattle.rc_build.specs.BuildCauses.{IsBuildCause, SpellsNone}
-use Rattle.rc_build.specs.RuleFacts.{BlockIs, LacksRow, FaultFact}
+use Rattle.rc_build.specs.BlockFacts.{BlockIs}
+use Rattle.rc_build.specs.RuleFacts.{LacksRow, FaultFact}
 use Rattle.rc_build.specs.inside.Built.{refusal}
 
 module _ (hir : HirFunction) (env : Environment) where

@@ -11,10 +11,10 @@ use Rattle.rc_runs.specs.PlainTree.{Statements, Nil, Cons, Statement, RowStateme
 use Rattle.rc_runs.specs.Frames.{is_jump_target}
 use Rattle.rc_runs.specs.Graph.{usable_block}
 use Rattle.rc_runs.specs.TreeOf.{statements_of, statement_of}
-use Rattle.rc_runs.specs.Grammar.{SpellsList, SpellsTerminal, SpellsStatement, SpellsRest, rows_before, from_block, and_rest}
+use Rattle.rc_runs.specs.SimpleStatements.{rows_before}
+use Rattle.rc_runs.specs.Grammar.{SpellsList, SpellsTerminal, SpellsStatement, SpellsRest, from_block, and_rest}
 use Rattle.rc_runs.specs.Grammar.{has_rest, no_rest, returns, throws, unreachable, breaks, continues, branch_arms}
-use Rattle.rc_runs.specs.Grammar.{leaves_try, may_throw_last, may_throw}
-use Rattle.rc_runs.specs.Grammar.{branch_break, value_statement}
+use Rattle.rc_runs.specs.Grammar.{leaves_try, may_throw_last, may_throw, branch_break, value_statement}
 use Rattle.rc_runs.specs.Spelled.{AreSound}
 use Rattle.rc_build.specs.References.{referenced_blocks}
 use Rattle.rc_build.specs.inside.Rows.{row_statement_of}

@@ -12,8 +12,9 @@ use Rattle.rc_runs.specs.ListContext.{inside}
 use Rattle.rc_runs.specs.PlainTree.{Statements, Statement, TerminalStatement, ScopeStatement, PrunedScopeStatement}
 use Rattle.rc_runs.specs.PlainTree.{Label}
 use Rattle.rc_runs.specs.TreeOf.{statements_of, statement_of}
-use Rattle.rc_runs.specs.Grammar.{value_statement}
-use Rattle.rc_runs.specs.Grammar.{SpellsList, SpellsStatement, label_of, label_statement, scope_statement, pruned_scope_statement, and_rest}
+use Rattle.rc_runs.specs.Fallthrough.{label_of}
+use Rattle.rc_runs.specs.Grammar.{value_statement, SpellsList, SpellsStatement, label_statement, scope_statement}
+use Rattle.rc_runs.specs.Grammar.{pruned_scope_statement, and_rest}
 use Rattle.rc_build.specs.References.{referenced_blocks}
 use Rattle.rc_build.specs.inside.Marks.{MarksBlocks}
 use Rattle.rc_build.specs.inside.CanBuild.{CanBuildList, CanBuildTerminal}

@@ -1,6 +1,5 @@
 -- Flattening, sequence by sequence.
-use Rattle.std.proofs.Common.{ℕ, suc, ◌<◌, arith}
-use Rattle.std.proofs.Common.{◌≡◌, List, [], ◌++◌, refl, sym, ap, ◌∙◌, append_assoc}
+use Rattle.std.proofs.Common.{ℕ, suc, ◌<◌, arith, ◌≡◌, List, [], ◌++◌, refl, sym, ap, ◌∙◌, append_assoc}
 use Rattle.std.proofs.lemmas.List.{append-nil}
 use Rattle.rc_names.specs.Numbers.{EvaluationOrder}
 use Rattle.rc_tree.specs.Model.{ReactiveInstruction, ReactiveValue}

@@ -11,9 +11,9 @@ use Rattle.rc_runs.specs.declared.frames.Frame.TheVariants as frame_kinds
 use Rattle.rc_runs.specs.ListContext.{inside}
 use Rattle.rc_runs.specs.PlainTree.{Statements, TerminalStatement, If, Alternate, Absent, Present}
 use Rattle.rc_runs.specs.TreeOf.{statements_of, alternate_of}
-use Rattle.rc_runs.specs.Grammar.{value_statement}
-use Rattle.rc_runs.specs.Grammar.{SpellsList, SpellsStatement, SpellsTerminal, falls_to, label_of, opens_reachable}
-use Rattle.rc_runs.specs.Grammar.{if_only, if_else, and_rest}
+use Rattle.rc_runs.specs.Fallthrough.{falls_to, label_of, opens_reachable}
+use Rattle.rc_runs.specs.Grammar.{value_statement, SpellsList, SpellsStatement, SpellsTerminal, if_only, if_else}
+use Rattle.rc_runs.specs.Grammar.{and_rest}
 use Rattle.rc_runs.proofs.OneTree.{one_list, part_at}
 use Rattle.rc_build.specs.inside.Setting.{Setting, label_at, open_block, part_setting, terminal_statement}
 use Rattle.rc_build.specs.inside.Task.{Progress, FromBlock, FromTerminal, left, Spells, SpellsAlternate}

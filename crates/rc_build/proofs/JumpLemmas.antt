@@ -14,9 +14,11 @@ use Rattle.rc_runs.specs.declared.frames.Frame.{Frame}
 use Rattle.rc_runs.specs.Frames.{resolve_break, resolve_continue}
 use Rattle.rc_runs.specs.PlainTree.{Statements}
 use Rattle.rc_runs.specs.TreeOf.{statements_of}
-use Rattle.rc_runs.specs.Grammar.{value_statement}
-use Rattle.rc_runs.specs.Grammar.{SpellsTerminal, and_rest, break_statements, breaks, continue_statements, continues}
-use Rattle.rc_build.specs.RuleFacts.{BlockIs, IsLostJump, Jumps, RuleFact, goto_break, is_continue}
+use Rattle.rc_runs.specs.SimpleStatements.{break_statements, continue_statements}
+use Rattle.rc_runs.specs.Grammar.{value_statement, SpellsTerminal, and_rest, breaks, continues}
+use Rattle.rc_build.specs.TerminalForms.{Jumps, goto_break, is_continue}
+use Rattle.rc_build.specs.BlockFacts.{BlockIs}
+use Rattle.rc_build.specs.RuleFacts.{IsLostJump, RuleFact}
 use Rattle.rc_build.specs.inside.CanBuild.{AreMarked, CanBreak, CanBuildTerminal}
 use Rattle.rc_build.specs.inside.Setting.{Setting, setting_of}
 use Rattle.rc_build.specs.inside.Task.{FromTerminal, Spells, left, progress_of}

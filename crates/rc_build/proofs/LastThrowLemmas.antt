@@ -15,7 +15,8 @@ use Rattle.rc_runs.specs.ListContext.{ValueContext, is_current}
 use Rattle.rc_runs.specs.PlainTree.{Value, Base}
 use Rattle.rc_runs.specs.Silent.{is_unset}
 use Rattle.rc_runs.specs.Spelled.{scope_named}
-use Rattle.rc_runs.specs.ValueGrammar.{ValueEnd, SpellsValue, named_test, last_block, last_throw, may_throw as throws_on}
+use Rattle.rc_runs.specs.ValueEnd.{ValueEnd}
+use Rattle.rc_runs.specs.ValueGrammar.{SpellsValue, named_test, last_block, last_throw, may_throw as throws_on}
 use Rattle.rc_runs.specs.ValueGrammar.{value_row}
 use Rattle.rc_runs.proofs.GraphLemmas.{usable_block-at}
 use Rattle.rc_runs.proofs.OneValue.{not_empty}
@@ -23,13 +24,17 @@ use Rattle.rc_build.specs.declared.builder.Marks.{Marks}
 use Rattle.rc_build.specs.declared.handlers.MayThrow.{MayThrow}
 use Rattle.rc_build.specs.declared.values.BuiltValue.{BuiltValue}
 use Rattle.rc_build.specs.References.{referenced_blocks}
-use Rattle.rc_build.specs.RuleFacts.{IsEmptyGoto, OnlyGoesOn, RuleFact, ValueBlockIs, is_goto, times_referenced}
+use Rattle.rc_build.specs.TerminalForms.{is_goto}
+use Rattle.rc_build.specs.BlockFacts.{IsEmptyGoto, ValueBlockIs, times_referenced}
+use Rattle.rc_build.specs.RuleFacts.{OnlyGoesOn, RuleFact}
 use Rattle.rc_build.specs.inside.CanBuild.{AreReferenced}
 use Rattle.rc_build.specs.inside.Marks.{IsUnusable}
 use Rattle.rc_build.specs.inside.Task.{Progress}
 use Rattle.rc_build.specs.inside.Throws.{may_throw}
-use Rattle.rc_build.specs.inside.Values.{CanBuildLastThrow, CanMark, HasNoValue, IsValueOfRows, Marked, ValueBuilt}
-use Rattle.rc_build.specs.inside.Values.{alternate_of, any_end, row_of}
+use Rattle.rc_build.specs.inside.ValueRows.{row_of}
+use Rattle.rc_build.specs.inside.ShortArms.{alternate_of}
+use Rattle.rc_build.specs.inside.ValueEnds.{CanBuildLastThrow, IsValueOfRows}
+use Rattle.rc_build.specs.inside.Values.{CanMark, HasNoValue, Marked, ValueBuilt, any_end}
 use Rattle.rc_build.proofs.BuiltLemmas.{marking_then, refused_back}
 use Rattle.rc_build.proofs.LoopKindLemmas.{among_first}
 use Rattle.rc_build.proofs.MarksLemmas.{times_among, times_append}

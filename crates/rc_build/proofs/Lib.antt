@@ -39,10 +39,12 @@ mod EnclosureLemmas
 mod IfLemmas
 mod BranchLemmas
 mod TryLemmas
+mod CanBuildCasesLemmas
 mod SwitchLemmas
 mod SwitchStatementLemmas
 mod CaseListLemmas
 mod LoopKindLemmas
+mod CanBuildTurnsLemmas
 mod LoopLemmas
 mod LoopStatementLemmas
 mod BuildLemmas

@@ -10,7 +10,7 @@ use Rattle.rc_build.specs.declared.loops.LoopKind.TheVariants as kinds
 use Rattle.rc_build.specs.declared.loops.LoopTerminal.{LoopTerminal}
 use Rattle.rc_build.specs.References.{fallthrough_of, is_while, referenced_blocks, tested_blocks, turn_block}
 use Rattle.rc_build.specs.References.{value_references}
-use Rattle.rc_build.specs.inside.Loops.{before_of, init_of, is_while_kind, terminal_with}
+use Rattle.rc_build.specs.inside.LoopKinds.{before_of, init_of, is_while_kind, terminal_with}
 
 -- a block is the first of these, or one of those behind it
 pub among_first : (key : BlockId) (later : List BlockId) → is_among (key ∷ later) key ≡ true

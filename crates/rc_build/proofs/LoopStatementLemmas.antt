@@ -18,9 +18,10 @@ use Rattle.rc_runs.specs.PlainTree.{Value, Statements, TreeTerminal, TerminalSta
 use Rattle.rc_runs.specs.PlainTree.{ForIn}
 use Rattle.rc_runs.specs.TreeOf.{value_of, statements_of}
 use Rattle.rc_runs.specs.TreeOf as plain
+use Rattle.rc_runs.specs.Fallthrough.{label_of}
 use Rattle.rc_runs.specs.Grammar.{value_statement, SpellsBefore, SpellsStatement, SpellsTerminal, SpellsTurns, and_rest}
-use Rattle.rc_runs.specs.Grammar.{label_of, no_value, some_value, turns, while_loop, do_while_loop, for_loop}
-use Rattle.rc_runs.specs.Grammar.{for_of_loop, for_in_loop}
+use Rattle.rc_runs.specs.Grammar.{no_value, some_value, turns, while_loop, do_while_loop, for_loop, for_of_loop}
+use Rattle.rc_runs.specs.Grammar.{for_in_loop}
 use Rattle.rc_runs.proofs.OneTree.{one_before}
 use Rattle.rc_build.specs.declared.builder.Marks.{Marks}
 use Rattle.rc_build.specs.declared.loops.BuiltTurns.{BuiltTurns}
@@ -28,11 +29,12 @@ use Rattle.rc_build.specs.declared.loops.LoopKind.{LoopKind}
 use Rattle.rc_build.specs.declared.loops.LoopKind.TheVariants as kinds
 use Rattle.rc_build.specs.declared.loops.LoopTerminal.{LoopTerminal}
 use Rattle.rc_build.specs.References.{fallthrough_of, is_while, turn_block}
-use Rattle.rc_build.specs.RuleFacts.{IsFramedApart, RuleFact}
+use Rattle.rc_build.specs.BlockFacts.{IsFramedApart}
+use Rattle.rc_build.specs.RuleFacts.{RuleFact}
 use Rattle.rc_build.specs.inside.CanBuild.{CanBuildTerminal}
-use Rattle.rc_build.specs.inside.Loops.{SpellsTurnsOf, TurnsBuilt, blocks_of, blocks_with, init_of, is_flat}
-use Rattle.rc_build.specs.inside.Loops.{is_while_kind, shown_blocks, terminal_of, terminal_with, tree_of, tree_with}
-use Rattle.rc_build.specs.inside.Loops.{turns_of, value_blocks}
+use Rattle.rc_build.specs.inside.LoopKinds.{blocks_of, blocks_with, init_of, is_flat, is_while_kind, shown_blocks}
+use Rattle.rc_build.specs.inside.LoopKinds.{terminal_of, terminal_with, value_blocks}
+use Rattle.rc_build.specs.inside.Loops.{SpellsTurnsOf, TurnsBuilt, tree_of, tree_with, turns_of}
 use Rattle.rc_build.specs.inside.Setting.{Setting, label_at, terminal_statement}
 use Rattle.rc_build.specs.inside.Task.{FromTerminal, Progress, Spells, left}
 use Rattle.rc_build.specs.inside.Built.{BuiltPart, BuiltPrefix, Refused}

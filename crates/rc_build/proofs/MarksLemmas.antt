@@ -16,7 +16,7 @@ use Rattle.rc_build.specs.declared.builder.Marks.{Marks}
 use Rattle.rc_runs.specs.Graph.{basic_block}
 use Rattle.rc_runs.specs.Spelled.{AreSound, scope_at}
 use Rattle.rc_build.specs.References.{referenced_blocks}
-use Rattle.rc_build.specs.RuleFacts.{times_referenced}
+use Rattle.rc_build.specs.BlockFacts.{times_referenced}
 use Rattle.rc_names.proofs.NumbersLemmas.{ids_equivalence, same_id-eq}
 use Rattle.rc_build.specs.inside.CanBuild.{AreMarked, AreReferenced, references_of}
 

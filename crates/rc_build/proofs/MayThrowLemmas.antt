@@ -12,7 +12,9 @@ use Rattle.rc_runs.specs.LastRow.{ends_value}
 use Rattle.rc_runs.specs.Spelled.{scope_named}
 use Rattle.rc_runs.specs.ValueGrammar.{Nested, SpellsNested, sequence_value, ternary_value, logical_value, optional_value}
 use Rattle.rc_build.specs.declared.handlers.MayThrow.{MayThrow}
-use Rattle.rc_build.specs.RuleFacts.{IsEmptyGoto, RuleFact, is_goto, names_handler}
+use Rattle.rc_build.specs.TerminalForms.{is_goto, names_handler}
+use Rattle.rc_build.specs.BlockFacts.{IsEmptyGoto}
+use Rattle.rc_build.specs.RuleFacts.{RuleFact}
 use Rattle.rc_build.specs.inside.Throws.{may_throw}
 use Rattle.rc_build.proofs.RowsLemmas.{first_row}
 use Rattle.rc_build.proofs.UsableLemmas.{filled}

@@ -9,8 +9,8 @@ use Rattle.rc_tree.specs.Model.{ReactiveValue}
 use Rattle.rc_tree.specs.declared.value.ReactiveValue.TheVariants as reactive_values
 use Rattle.rc_runs.specs.PlainTree.{Conditional, Logical, Optional, Sequence, Row, NoRows}
 use Rattle.rc_runs.specs.TreeOf.{value_of}
-use Rattle.rc_runs.specs.ValueGrammar.{SpellsNested, shares_alternate, sequence_value, ternary_value, logical_value}
-use Rattle.rc_runs.specs.ValueGrammar.{optional_value}
+use Rattle.rc_runs.specs.ShortArms.{shares_alternate}
+use Rattle.rc_runs.specs.ValueGrammar.{SpellsNested, sequence_value, ternary_value, logical_value, optional_value}
 use Rattle.rc_build.specs.declared.builder.Builder.{Builder}
 use Rattle.rc_build.specs.declared.builder.Site.{Site}
 use Rattle.rc_build.specs.declared.values.Around.{Around}
@@ -27,10 +27,10 @@ use Rattle.rc_build.specs.inside.SilentArms.{AreArmBlocks}
 use Rattle.rc_build.specs.inside.ValueKinds.{with_kind}
 use Rattle.rc_build.specs.inside.ValueSteps.{around_parts}
 use Rattle.rc_build.specs.inside.ValueTerminals.{BuildsNested, NestedBuilt}
-use Rattle.rc_build.specs.inside.Values.{alternate_of}
+use Rattle.rc_build.specs.inside.ShortArms.{alternate_of}
 use Rattle.rc_build.proofs.BuiltLemmas.{marking_beside, marking_drop, marking_then}
-use Rattle.rc_build.proofs.TestPartLemmas.{ArmBuilt, ConditionBuilt, HasNoArm, arm_marking, choice_of}
-use Rattle.rc_build.proofs.TestPartLemmas.{condition_marking, short_arm}
+use Rattle.rc_build.specs.inside.TestParts.{ArmBuilt, ConditionBuilt, HasNoArm, choice_of}
+use Rattle.rc_build.proofs.TestPartLemmas.{arm_marking, condition_marking, short_arm}
 use Rattle.rc_build.proofs.SilentValueLemmas.{silent_arm}
 use Rattle.rc_build.proofs.ValueLoopLemmas.{marking_kept}
 

@@ -14,7 +14,7 @@ use Rattle.rc_runs.specs.Frames.{break_block, is_jump_target, is_jump_target_at,
 use Rattle.std.specs.Option.{option_to_list}
 use Rattle.rc_hir.specs.Successors.{case_blocks}
 use Rattle.rc_build.specs.References.{framed_blocks, tested_blocks, fallthrough_of, scope_fallthrough, cases_of}
-use Rattle.rc_build.specs.RuleFacts.{BlockIs, IsScopeFallthrough, IsCaseBlock}
+use Rattle.rc_build.specs.BlockFacts.{BlockIs, IsScopeFallthrough, IsCaseBlock}
 use Rattle.rc_build.specs.inside.CanBuild.{pending_at, used_at, pending_blocks, used_blocks, IsFrameOf, HasOwner}
 use Rattle.rc_build.specs.inside.CanBuild.{AreOwned}
 use Rattle.rc_names.proofs.NumbersLemmas.{same_id-eq}

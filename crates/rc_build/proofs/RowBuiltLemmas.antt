@@ -31,8 +31,11 @@ use Rattle.rc_build.specs.inside.Task.{Progress}
 use Rattle.rc_build.specs.inside.Throws.{may_throw}
 use Rattle.rc_build.specs.inside.ValueKinds.{terminal_of}
 use Rattle.rc_build.specs.inside.ValueSteps.{value_at}
-use Rattle.rc_build.specs.inside.ValueTerminals.{CanBuildNested, CanBuildRow, NestedBuilt, RowBuilt, arm_blocks}
-use Rattle.rc_build.specs.inside.Values.{CanMark, HasNoValue, HasRows, Marked, any_end, row_of}
+use Rattle.rc_build.specs.inside.ShortArms.{arm_blocks}
+use Rattle.rc_build.specs.inside.StepRows.{CanBuildRow, IsRow, RowBuilt}
+use Rattle.rc_build.specs.inside.ValueTerminals.{CanBuildNested, NestedBuilt}
+use Rattle.rc_build.specs.inside.ValueRows.{HasRows, row_of}
+use Rattle.rc_build.specs.inside.Values.{CanMark, HasNoValue, Marked, any_end}
 use Rattle.rc_build.proofs.BuiltLemmas.{marking_then, refused_back, refused_front}
 use Rattle.rc_build.proofs.LoopKindLemmas.{among_first}
 use Rattle.rc_build.proofs.MarksLemmas.{among_back}
@@ -140,7 +143,7 @@ module _ {hir : HirFunction} {marks : Marks} (key : BlockId) (terminal : ValueTe
           value = nested.value;
           span = around.span;
         } ∷ []
-        → RowBuilt hir env around key (record {
+        → RowBuilt hir (IsRow hir env around key) key (record {
           rows = whole;
           next = terminal.fallthrough;
           answer = Some nested.answer;

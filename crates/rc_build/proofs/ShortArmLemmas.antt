@@ -8,17 +8,18 @@ use Rattle.rc_hir.specs.Model.{Terminal, HirFunction, Environment}
 use Rattle.rc_hir.specs.declared.fault.Rule.TheVariants as rules
 use Rattle.rc_hir.specs.declared.terminal.Terminal.TheVariants as terminals
 use Rattle.rc_runs.specs.Spelled.{AreSound}
-use Rattle.rc_runs.specs.ValueGrammar.{SpellsShortArm, no_arm, left_to_test, own_arm, shares_alternate}
+use Rattle.rc_runs.specs.ShortArms.{SpellsShortArm, no_arm, left_to_test, own_arm, shares_alternate}
 use Rattle.rc_build.specs.declared.builder.Marks.{Marks}
 use Rattle.rc_build.specs.declared.short_arms.ShortArm.{ShortArm}
-use Rattle.rc_build.specs.RuleFacts.{branch_alternate, branch_arms, RuleFact, ValueBlockIs, is_branch}
+use Rattle.rc_build.specs.TerminalForms.{branch_alternate, branch_arms, is_branch}
+use Rattle.rc_build.specs.BlockFacts.{ValueBlockIs}
+use Rattle.rc_build.specs.RuleFacts.{RuleFact}
 use Rattle.rc_build.specs.inside.Built.{Refused}
 use Rattle.rc_build.specs.inside.CanBuild.{AreReferenced}
 use Rattle.rc_build.specs.inside.Marks.{MarksBlocks}
 use Rattle.rc_build.specs.inside.SilentArms.{ArmBuilt, CanBuildArm, HasNoArm}
 use Rattle.rc_build.specs.inside.Task.{Progress}
-use Rattle.rc_build.specs.inside.ValueTerminals.{CanBuildShort, ShortBuilt, arm_blocks}
-use Rattle.rc_build.specs.inside.Values.{AreShort, alternate_of, other_arm_of}
+use Rattle.rc_build.specs.inside.ShortArms.{CanBuildShort, ShortBuilt, arm_blocks, AreShort, alternate_of, other_arm_of}
 use Rattle.rc_build.proofs.BuiltLemmas.{marking_drop, marking_none}
 
 -- the alternate of a `Branch` is one of its arms

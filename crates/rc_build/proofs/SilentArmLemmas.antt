@@ -11,11 +11,11 @@ use Rattle.rc_hir.specs.Terminal.{evaluation_order}
 use Rattle.rc_hir.specs.Model.{Instruction, BasicBlock, HirFunction, Environment}
 use Rattle.rc_runs.specs.Graph.{Block, basic_block, usable_block, rows_of, has_all_ids}
 use Rattle.rc_runs.specs.Silent.{is_silent, is_silent_value, is_unset}
-use Rattle.rc_runs.specs.ValueGrammar.{are_silent}
+use Rattle.rc_runs.specs.ShortArms.{are_silent}
 use Rattle.rc_runs.proofs.GraphLemmas.{usable_block-at}
-use Rattle.rc_build.specs.RuleFacts.{BlockIs}
+use Rattle.rc_build.specs.BlockFacts.{BlockIs}
 use Rattle.rc_build.specs.inside.SilentArms.{HasSilentRows}
-use Rattle.rc_build.specs.inside.Values.{AreListed, HasRow, HasRows, row_of}
+use Rattle.rc_build.specs.inside.ValueRows.{AreListed, HasRow, HasRows, row_of}
 use Rattle.rc_build.proofs.RowsLemmas.{first_row, none_more, rows_more}
 use Rattle.rc_build.proofs.UsableLemmas.{filled, found_block, unusable_missing, usable_ids, usable_made}
 

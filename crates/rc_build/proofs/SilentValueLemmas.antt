@@ -15,8 +15,10 @@ use Rattle.rc_runs.specs.Graph.{Block, basic_block, only_goes, usable_block}
 use Rattle.rc_runs.specs.LastRow.{ends_value}
 use Rattle.rc_runs.specs.ListContext.{ValueContext, is_current}
 use Rattle.rc_runs.specs.PlainTree.{Value}
-use Rattle.rc_runs.specs.ValueGrammar.{ValueEnd, GoesTo, SpellsSilentArm, SpellsValue, are_silent, silent_block, silent_chain}
-use Rattle.rc_runs.specs.ValueGrammar.{named_test, last_block, last_throw, may_throw as throws_on, value_row}
+use Rattle.rc_runs.specs.ValueEnd.{ValueEnd, GoesTo}
+use Rattle.rc_runs.specs.ShortArms.{SpellsSilentArm, are_silent, silent_block, silent_chain}
+use Rattle.rc_runs.specs.ValueGrammar.{SpellsValue, named_test, last_block, last_throw, may_throw as throws_on}
+use Rattle.rc_runs.specs.ValueGrammar.{value_row}
 use Rattle.rc_runs.proofs.GraphLemmas.{one_continuation, one_held, one_kind}
 use Rattle.rc_runs.proofs.OneValue.{nested_ends_no_value}
 use Rattle.rc_runs.specs.Silent.{is_unset}

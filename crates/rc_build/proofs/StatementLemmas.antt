@@ -11,9 +11,10 @@ use Rattle.rc_build.specs.declared.builder.Marks.{Marks}
 use Rattle.rc_build.specs.declared.builder.Site.{Site}
 use Rattle.rc_runs.specs.Graph.{ends_unreachable}
 use Rattle.rc_runs.specs.Frames.{is_jump_target}
-use Rattle.rc_runs.specs.Grammar.{falls_to, label_of, opens_reachable}
+use Rattle.rc_runs.specs.Fallthrough.{falls_to, label_of, opens_reachable}
 use Rattle.rc_build.specs.References.{fallthrough_of}
-use Rattle.rc_build.specs.RuleFacts.{RuleFact, IsFramedApart}
+use Rattle.rc_build.specs.BlockFacts.{IsFramedApart}
+use Rattle.rc_build.specs.RuleFacts.{RuleFact}
 use Rattle.rc_build.specs.inside.CanBuild.{CanBuildTerminal, IsUsedApart}
 use Rattle.rc_build.specs.inside.Depths.{frames_inside}
 use Rattle.rc_build.specs.inside.Setting.{Setting, label_at, open_block, part_setting, setting_of, site_inside}

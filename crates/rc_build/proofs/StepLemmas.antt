@@ -13,14 +13,14 @@ use Rattle.rc_build.specs.declared.values.Step.TheVariants as steps
 use Rattle.rc_build.specs.declared.values.ValueRow.{ValueRow}
 use Rattle.rc_build.specs.declared.value_terminals.ValueKind.TheVariants as kinds
 use Rattle.rc_build.specs.declared.value_terminals.ValueTerminal.{ValueTerminal}
-use Rattle.rc_build.specs.RuleFacts.{BlockIs}
+use Rattle.rc_build.specs.BlockFacts.{BlockIs}
 use Rattle.rc_build.specs.inside.Task.{Progress}
 use Rattle.rc_build.specs.inside.Throws.{may_throw, throw_at}
 use Rattle.rc_build.specs.inside.ValueKinds.{terminal_of, value_terminal}
 use Rattle.rc_build.specs.inside.ValueSteps.{step_at, step_behind}
-use Rattle.rc_build.specs.inside.ValueTerminals.{CanBuildRow, CanBuildStep, CanBuildThrowing, RowBuilt, StepBuilt}
-use Rattle.rc_build.specs.inside.ValueTerminals.{ThrowingBuilt, nested_row, throwing_row}
-use Rattle.rc_build.specs.inside.Values.{CanBuildEnd, CanBuildLast, CanBuildLastThrow}
+use Rattle.rc_build.specs.inside.StepRows.{CanBuildRow, CanBuildStep, CanBuildThrowing, IsRow, IsStep, IsThrowing}
+use Rattle.rc_build.specs.inside.StepRows.{RowBuilt, nested_row, throwing_row}
+use Rattle.rc_build.specs.inside.ValueEnds.{CanBuildEnd, CanBuildLast, CanBuildLastThrow}
 use Rattle.rc_build.proofs.MayThrowLemmas.{throws_as}
 
 -- a terminal that is a value terminal
@@ -190,8 +190,10 @@ module _ {hir : HirFunction} {marks : Marks} {key : BlockId} where
 module _ {hir : HirFunction} {env : Environment} {around : Around} {key : BlockId} {row : ValueRow} {old new : Progress}
   where
     -- the row of a value terminal, and that of a block that may throw
-    pub row_step : RowBuilt hir env around key row old new → StepBuilt hir env around key row old new
+    pub row_step : RowBuilt hir (IsRow hir env around key) key row old new
+        → RowBuilt hir (IsStep hir env around key) key row old new
     row_step b = record { newly = b.newly; is = nested_row b.is; marking = b.marking; kept = b.kept }
 
-    pub throwing_step : ThrowingBuilt hir around.handler key row old new → StepBuilt hir env around key row old new
+    pub throwing_step : RowBuilt hir (IsThrowing hir around.handler key) key row old new
+        → RowBuilt hir (IsStep hir env around key) key row old new
     throwing_step b = record { newly = b.newly; is = throwing_row b.is; marking = b.marking; kept = b.kept }

@@ -1,10 +1,10 @@
 -- The cases of a switch, built from the last to the first, and the switch around them.
-use Rattle.std.proofs.Common.{◌≡◌, suc, ◌+◌, ◌≤◌, true, List, [], ◌∷◌, ◌++◌, Option, Some, None, drop, length, reverse}
-use Rattle.std.proofs.Common.{refl, sym, ap, ◌∙◌, subst, arith, inl, inr, append_assoc, length-append}
-use Rattle.std.specs.Prelude.{◌⊎◌, ◌↔◌, is_some, IfSome, IsNone}
-use Rattle.std.proofs.lemmas.List.{append-nil, map-append, reverse-append}
+use Rattle.std.proofs.Common.{◌≡◌, suc, ◌+◌, true, List, [], ◌∷◌, ◌++◌, Option, Some, None, drop, length, reverse, refl}
+use Rattle.std.proofs.Common.{sym, ap, ◌∙◌, subst, arith, append_assoc, length-append}
+use Rattle.std.specs.Prelude.{◌↔◌, is_some, IfSome, IsNone}
+use Rattle.std.proofs.lemmas.List.{append-nil, reverse-append}
 use Rattle.rc_names.specs.Numbers.{BlockId, is_among, times}
-use Rattle.rc_hir.specs.Model.{Case, HirFunction}
+use Rattle.rc_hir.specs.Model.{Case}
 use Rattle.rc_hir.specs.Successors.{case_blocks}
 use Rattle.rc_tree.specs.Model.{ReactiveStatement, ReactiveSwitchCase}
 use Rattle.rc_runs.specs.declared.frames.Frame.{Frame}
@@ -19,7 +19,7 @@ use Rattle.rc_runs.proofs.OneTree.{one_cases}
 use Rattle.rc_build.specs.declared.builder.Builder.{Builder}
 use Rattle.rc_build.specs.declared.builder.Marks.{Marks}
 use Rattle.rc_build.specs.declared.builder.Site.{Site}
-use Rattle.rc_build.specs.inside.CanBuild.{CanBuildList, IsUsed, pending_blocks, used_blocks}
+use Rattle.rc_build.specs.inside.CanBuild.{IsUsed}
 use Rattle.rc_build.specs.inside.Marks.{MarksBlocks}
 use Rattle.rc_build.specs.inside.Setting.{Setting, setting_of}
 use Rattle.rc_build.specs.inside.Switches.{BuiltCases, CanBuildCases, CasesSoFar, SpellsKept, setting_after}
@@ -30,30 +30,14 @@ use Rattle.rc_build.proofs.BuildsLemmas.{same_graph}
 use Rattle.rc_build.proofs.BuiltLemmas.{marking_beside, marking_more, marking_none, marking_then, refused_back}
 use Rattle.rc_build.proofs.BuiltLemmas.{refused_front}
 use Rattle.rc_names.proofs.NumbersLemmas.{ids_equivalence}
-use Rattle.rc_build.proofs.MarksLemmas.{among_alone, among_back, among_front, among_parts, among_same, alone_same}
-use Rattle.rc_build.proofs.MarksLemmas.{referenced_fewer, times_append}
-use Rattle.rc_build.proofs.OwnersLemmas.{owned_weaker}
-use Rattle.rc_build.proofs.WalkLemmas.{used_more}
+use Rattle.rc_build.proofs.MarksLemmas.{among_alone, among_back, among_front}
+use Rattle.rc_build.proofs.CanBuildCasesLemmas.{times_push, cases_can}
 
 -- the frames of later cases stand inside those of the switch
 pub frames_behind : (later : List Case) (context : ListContext)
     → drop (length later) (case_context later context).frames ≡ context.frames
 frames_behind [] context = refl
 frames_behind (case ∷ later) context = frames_behind later context
-
--- the blocks of one more case
-blocks_push : (front : List Case) (case : Case) → case_blocks (front ++ case ∷ []) ≡ case_blocks front ++ case.block ∷ []
-blocks_push front case = map-append (λ (z : Case). z.block) front (case ∷ [])
-
-times_push : (front : List Case) (case : Case) (key : BlockId)
-    → times key (case.block ∷ case_blocks front) ≤ times key (case_blocks (front ++ case ∷ []))
-times_push front case key =
-    omega (
-      arith,
-      ap (times key) (blocks_push front case),
-      times_append key (case_blocks front) (case.block ∷ []),
-      times_append key (case.block ∷ []) (case_blocks front),
-    )
 
 -- the later cases of cases that are spelled
 record CasesBehind (s : Setting) (more : List Case) (used : List BlockId) : Type 0 where
@@ -76,74 +60,6 @@ behind {s} (case ∷ front) more (one_case {later_used = later} {part_used = par
       spelled = h.spelled;
       parts = w ∙ ap (λ z. z ++ part) h.parts ∙ append_assoc h.newly h.rest part;
     }
-
--- the list of the last waiting case can be built
-pub case_can : {hir : HirFunction} {marks : Marks} {handler : Option BlockId} {frames : List Frame}
-    {waiting : List Case} (front : List Case)
-    (case : Case) → waiting ≡ front ++ case ∷ [] → CanBuildCases hir marks handler frames waiting
-    → CanBuildList hir marks handler frames case.block
-case_can {hir} {marks} {handler} {frames} {waiting} front case e can = record {
-  marked = can.marked;
-  handled = can.handled;
-  referenced = referenced_fewer hir marks.used (case.block ∷ pending_blocks frames)
-      (case_blocks waiting ++ pending_blocks frames)
-      (λ key. omega (
-        arith,
-        times_append key (case_blocks waiting) (pending_blocks frames),
-        times_append key (case.block ∷ []) (pending_blocks frames),
-        times_append key (case.block ∷ []) (case_blocks front),
-        times_push front case key,
-        ap (λ (z : List Case). times key (case_blocks z)) e,
-      )) can.referenced;
-  used_before = can.used_before;
-  owned = can.owned;
-}
-
--- once it is built and its frame is entered, the cases in front of it can be built
-cases_can : {hir : HirFunction} {old new : Marks} {handler : Option BlockId} {frames : List Frame}
-    {waiting front : List Case} (case : Case)
-    {blocks : List BlockId} → waiting ≡ front ++ case ∷ [] → CanBuildCases hir old handler frames waiting
-    → MarksBlocks hir (case_blocks waiting) (case_blocks front) old new blocks → IsUsed new case.block
-    → CanBuildCases hir new handler (frame_kinds.Case case.block ∷ frames) front
-cases_can {hir} {old} {new} {handler} {frames} {waiting} {front} case e can m here = record {
-  marked = m.marked;
-  handled = can.handled;
-  referenced = m.referenced (pending_blocks frames) can.referenced;
-  used_before = λ key h. before key (among_parts (case.block ∷ []) (used_blocks frames) key h);
-  owned = (
-    record {
-      owner = can.owner;
-      chosen = used_more hir m can.owner can.used;
-      owns = record {
-        block = can.here.block;
-        found = can.here.found;
-        holds = can.here.holds case.block (among case.block (among_back (case_blocks front) (case.block ∷ []) case.block
-            (alone case.block)));
-      };
-    },
-    owned_weaker hir (IsUsed old) (IsUsed new) frames (used_more hir m) can.owned,
-  );
-  owner = can.owner;
-  used = used_more hir m can.owner can.used;
-  here = record {
-    block = can.here.block;
-    found = can.here.found;
-    holds = λ key h. can.here.holds key (among key (among_front (case_blocks front) (case.block ∷ []) key h));
-  };
-}
-  where
-    alone : (block : BlockId) → is_among (block ∷ []) block ≡ true
-    alone block = among_alone block block (ids_equivalence.refl block)
-
-    among : (key : BlockId) → is_among (case_blocks front ++ case.block ∷ []) key ≡ true
-        → is_among (case_blocks waiting) key ≡ true
-    among key h = subst (λ (z : List Case). is_among (case_blocks z) key ≡ true) (sym e)
-        (subst (λ z. is_among z key ≡ true) (sym (blocks_push front case)) h)
-
-    before : (key : BlockId) → (is_among (case.block ∷ []) key ≡ true) ⊎ (is_among (used_blocks frames) key ≡ true)
-        → IsUsed new key
-    before key (inl h) = among_same new.used case.block key here (alone_same case.block key h)
-    before key (inr h) = used_more hir m key (can.used_before key h)
 
 -- a list marks its own block
 marks_own : {s : Setting} {key : BlockId} {statements : Statements} {blocks : List BlockId} {old new : Marks}

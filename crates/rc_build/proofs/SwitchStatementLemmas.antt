@@ -18,8 +18,8 @@ use Rattle.rc_runs.specs.Frames.{is_jump_target}
 use Rattle.rc_runs.specs.ListContext.{inside}
 use Rattle.rc_runs.specs.TreeOf.{cases_of}
 use Rattle.rc_runs.specs.SwitchCases.{has_one_default, tests_past, kept_cases, is_kept}
-use Rattle.rc_runs.specs.Grammar.{value_statement}
-use Rattle.rc_runs.specs.Grammar.{SpellsCases, and_rest, falls_to, label_of, opens_reachable, switch_statement}
+use Rattle.rc_runs.specs.Fallthrough.{falls_to, label_of, opens_reachable}
+use Rattle.rc_runs.specs.Grammar.{value_statement, SpellsCases, and_rest, switch_statement}
 use Rattle.rc_build.specs.declared.builder.Marks.{Marks}
 use Rattle.rc_build.specs.References as references
 use Rattle.rc_build.specs.RuleFacts.{HasOddCases, RuleFact}
@@ -29,8 +29,7 @@ use Rattle.rc_build.specs.inside.Setting.{Setting, label_at, open_block, part_se
 use Rattle.rc_build.specs.inside.Switches.{BuiltCases, CanBuildCases, SpellsKept}
 use Rattle.rc_build.specs.inside.Task.{FromTerminal, Progress, Spells, left}
 use Rattle.rc_build.specs.inside.Built.{BuiltPrefix, Refused}
-use Rattle.rc_build.proofs.BuiltLemmas.{is_some-opened, marking_beside, marking_more, refused_front}
-use Rattle.rc_build.proofs.BuiltLemmas.{statement_prefix}
+use Rattle.rc_build.proofs.BuiltLemmas.{is_some-opened, marking_beside, marking_more, refused_front, statement_prefix}
 use Rattle.rc_build.proofs.MarksLemmas.{referenced_fewer, times_append}
 use Rattle.rc_build.proofs.OwnersLemmas.{owned_weaker}
 use Rattle.rc_build.proofs.StatementLemmas.{label_at-opened}

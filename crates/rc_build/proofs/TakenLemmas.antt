@@ -19,7 +19,8 @@ use Rattle.rc_runs.specs.Graph.{Block, basic_block, block_at, rows_of, with_rows
 use Rattle.rc_runs.specs.GraphRun.{HasNoUnreachableSuccessor}
 use Rattle.rc_runs.specs.Spelled.{scope_named, scope_at}
 use Rattle.rc_build.specs.References.{referenced_blocks}
-use Rattle.rc_build.specs.RuleFacts.{BlockIs, HasUnreachableSuccessor, SharesScope, RuleFact}
+use Rattle.rc_build.specs.BlockFacts.{BlockIs}
+use Rattle.rc_build.specs.RuleFacts.{HasUnreachableSuccessor, SharesScope, RuleFact}
 use Rattle.rc_build.specs.inside.CanBuild.{AreMarked, AreReferenced, CanBuildList, pending_blocks, used_blocks}
 use Rattle.std.specs.Option.{option_to_list}
 use Rattle.rc_build.specs.inside.Marks.{IsUnusable, MarksBlocks, is_fresh_scope}

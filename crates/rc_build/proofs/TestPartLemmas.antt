@@ -1,4 +1,4 @@
--- The parts of the value terminals that test: the test, the arm that is a value for all of them, and a second arm.
+-- The parts of the value terminals that test: when they can be built, and that a terminal has those that were built.
 use Rattle.std.proofs.Common.{◌≡◌, ◌≤◌, Bool, true, false, List, [], ◌∷◌, ◌++◌, Option, refl, sym, ap, ◌∙◌, subst}
 use Rattle.std.proofs.Common.{arith}
 use Rattle.std.proofs.lemmas.Bool.{false≢true}
@@ -7,27 +7,26 @@ use Rattle.rc_names.specs.Numbers.{BlockId, EvaluationOrder, is_among}
 use Rattle.rc_names.specs.declared.span.Span.{Span}
 use Rattle.rc_hir.specs.Model.{LogicalOperator, HirFunction, Environment}
 use Rattle.rc_hir.specs.declared.terminal.Terminal.TheVariants as terminals
-use Rattle.rc_runs.specs.ListContext.{ValueContext}
 use Rattle.rc_runs.specs.PlainTree.{Value}
 use Rattle.rc_runs.specs.Spelled.{AreSound}
-use Rattle.rc_runs.specs.ValueGrammar.{ValueEnd, ChoosesBetween, GoesTo, Nested, SpellsNested, SpellsSilentArm}
-use Rattle.rc_runs.specs.ValueGrammar.{SpellsValue, shares_alternate, ternary_value, logical_value, optional_value}
+use Rattle.rc_runs.specs.ValueEnd.{ValueEnd, ChoosesBetween, GoesTo}
+use Rattle.rc_runs.specs.ShortArms.{SpellsSilentArm, shares_alternate}
+use Rattle.rc_runs.specs.ValueGrammar.{Nested, SpellsNested, SpellsValue, ternary_value, logical_value, optional_value}
 use Rattle.rc_runs.proofs.OneValue.{one_choice, one_value}
 use Rattle.rc_build.specs.declared.values.BuiltValue.{BuiltValue}
 use Rattle.rc_build.specs.declared.values.TestArms.{TestArms}
 use Rattle.rc_build.specs.declared.value_terminals.ValueKind.{ValueKind}
-use Rattle.rc_build.specs.declared.value_terminals.ValueKind.TheVariants as kinds
 use Rattle.rc_build.specs.References.{referenced_blocks, value_references}
-use Rattle.rc_build.specs.RuleFacts.{BlockIs, IsBranchArm, IsValueReferenced, branch_alternate, branch_arms}
-use Rattle.rc_build.specs.RuleFacts.{times_referenced}
+use Rattle.rc_build.specs.TerminalForms.{branch_alternate, branch_arms}
+use Rattle.rc_build.specs.BlockFacts.{BlockIs, IsBranchArm, IsValueReferenced, times_referenced}
 use Rattle.rc_build.specs.inside.CanBuild.{AreReferenced}
 use Rattle.rc_build.specs.inside.Marks.{MarksBlocks}
 use Rattle.rc_build.specs.inside.Setting.{Setting}
 use Rattle.rc_build.specs.inside.SilentArms.{CanCheckSilent}
 use Rattle.rc_build.specs.inside.Task.{Progress}
 use Rattle.rc_build.specs.inside.ValueKinds.{terminal_with}
-use Rattle.rc_build.specs.inside.Values.{CanBuildValue, HasArms, HasNoValue, IsChoice, IsShort, ValueBuilt}
-use Rattle.rc_build.specs.inside.Values.{alternate_of}
+use Rattle.rc_build.specs.inside.ShortArms.{IsShort, alternate_of}
+use Rattle.rc_build.specs.inside.Values.{CanBuildValue, HasNoValue, IsChoice}
 use Rattle.rc_build.proofs.BuiltLemmas.{marking_drop, refused_back, refused_front}
 use Rattle.rc_build.proofs.LoopKindLemmas.{among_first}
 use Rattle.rc_build.proofs.MarksLemmas.{among_back, references_le, referenced_fewer, times_among, times_append}
@@ -35,69 +34,14 @@ use Rattle.rc_build.proofs.SilentArmLemmas.{usable_there}
 use Rattle.rc_build.proofs.SilentValueLemmas.{silent_goes}
 use Rattle.rc_build.proofs.ValueLemmas.{value_block}
 use Rattle.rc_build.proofs.WalkLemmas.{none_used}
+use Rattle.rc_build.specs.inside.TestParts.{in_part, ArmSpelled, TestParts, Tests, ternary_tests, logical_tests}
+use Rattle.rc_build.specs.inside.TestParts.{optional_tests, ArmBuilt, HasNoArm, ConditionBuilt, choice_of}
 
 -- a used block is referred to
 referenced_used : (hir : HirFunction) (used pending : List BlockId) (key : BlockId) → AreReferenced hir used pending
     → is_among used key ≡ true → 1 ≤ times_referenced hir key
 referenced_used hir used pending key h among =
     omega (arith, h key, times_append key pending used, times_among key used among, references_le hir used key)
-
--- the context of a part of a value terminal with that span
-abbrev pub in_part : Option Span → Option BlockId → Bool → ValueContext
-in_part span handler is_test = record { around = span; handler = handler; is_test = is_test }
-
--- an arm is spelled
-pub record ArmSpelled (hir : HirFunction) (env : Environment) (key next : BlockId) (span : Option Span)
-    (handler : Option BlockId) (used : List BlockId) : Type 0 where
-  pub value : Value
-  pub end : ValueEnd
-  pub spelled : SpellsValue hir env key (in_part span handler false) value end used
-  pub goes : GoesTo next end
-
--- a test with its first arm and the blocks that are used behind them: those of a second arm, but for the test of an
--- optional, which shares its alternate
-pub record TestParts (hir : HirFunction) (env : Environment) (test fallthrough : BlockId) (span : Option Span)
-    (handler : Option BlockId) (is_test : Bool) (blocks : List BlockId) : Type 0 where
-  pub condition : Value
-  pub condition_end : ValueEnd
-  pub test_used : List BlockId
-  pub consequent : BlockId
-  pub alternate : BlockId
-  pub tested : SpellsValue hir env test (in_part span handler is_test) condition condition_end test_used
-  pub choice : ChoosesBetween env consequent alternate condition_end
-  pub value_used : List BlockId
-  pub first : ArmSpelled hir env consequent fallthrough span handler value_used
-  pub rest : List BlockId
-  pub second : is_test ≡ false → ArmSpelled hir env alternate fallthrough span handler rest
-  pub shared : is_test ≡ true → shares_alternate condition_end.left_open alternate ≡ true
-  pub whole : blocks ≡ test_used ++ (value_used ++ rest)
-
--- the kinds of value terminals that test, with the block of the test, and whether the test is that of an optional
-pub data Tests : ValueKind → BlockId → Bool → Type 0 where
-  ternary_tests : {test : BlockId} → Tests (kinds.Ternary test) test false
-  logical_tests : {operator : LogicalOperator} {test : BlockId} → Tests (kinds.Logical operator test) test false
-  optional_tests : {optional : Bool} {test : BlockId} → Tests (kinds.Optional optional test) test true
-
--- an arm is built
-abbrev pub ArmBuilt : HirFunction → Environment → BlockId → BlockId → Option Span → Option BlockId → BuiltValue → Progress → Progress
-    → Type 0
-ArmBuilt hir env key next span handler built old new = ValueBuilt hir env key (in_part span handler false) (GoesTo next) built old new
-
--- no arm is spelled
-abbrev pub HasNoArm : HirFunction → Environment → BlockId → BlockId → Option Span → Option BlockId → List BlockId → Type 0
-HasNoArm hir env key next span handler used = HasNoValue hir env key (in_part span handler false) (GoesTo next) used
-
--- a condition is built
-abbrev pub ConditionBuilt : HirFunction → Environment → BlockId → Option Span → Option BlockId → Bool → TestArms → BuiltValue → Progress
-    → Progress → Type 0
-ConditionBuilt hir env key span handler is_test arms built old new =
-    ValueBuilt hir env key (in_part span handler is_test) (HasArms env arms) built old new
-
--- the choice of a condition that is built
-abbrev pub choice_of : {env : Environment} {arms : TestArms} {end : ValueEnd} → HasArms env arms end
-    → ChoosesBetween env arms.consequent arms.alternate end
-choice_of {arms = arms} h =
-    record { test = arms.test; id = h.id; span = arms.span; chooses = h.chooses; answers = h.answers }
 
 module _ {hir : HirFunction} {env : Environment} where
   -- nothing that an arm refers to stays pending

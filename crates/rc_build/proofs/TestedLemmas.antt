@@ -4,7 +4,7 @@ use Rattle.std.proofs.Common.{◌≡◌, Bool, [], ◌∷◌, Option, Result, Ok
 use Rattle.std.proofs.Common.{drop, length, ℕ}
 use Rattle.rc_names.specs.Numbers.{BlockId}
 use Rattle.rc_hir.specs.Model.{Fault}
-use Rattle.rc_runs.specs.ValueGrammar.{GoesTo}
+use Rattle.rc_runs.specs.ValueEnd.{GoesTo}
 use Rattle.rc_build.specs.declared.builder.Builder.{Builder}
 use Rattle.rc_build.specs.declared.builder.Site.{Site}
 use Rattle.rc_build.specs.declared.values.Around.{Around}
@@ -23,9 +23,9 @@ use Rattle.rc_build.specs.inside.Values.{BuildsCondition, BuildsValue, CanBuildV
 use Rattle.rc_build.proofs.BuildsLemmas.{passes_on, same_graph}
 use Rattle.rc_build.proofs.NestedLemmas.{nested_around}
 use Rattle.rc_build.proofs.SilentValueLemmas.{blocks_since}
-use Rattle.rc_build.proofs.TestPartLemmas.{one_first, TestParts, ArmBuilt, HasNoArm, Tests, arm_at, first_can}
-use Rattle.rc_build.proofs.TestPartLemmas.{first_refused, second_can, second_refused, silent_can, test_refused}
-use Rattle.rc_build.proofs.TestPartLemmas.{tested_parts}
+use Rattle.rc_build.specs.inside.TestParts.{TestParts, ArmBuilt, HasNoArm, Tests}
+use Rattle.rc_build.proofs.TestPartLemmas.{one_first, arm_at, first_can, first_refused, second_can, second_refused}
+use Rattle.rc_build.proofs.TestPartLemmas.{silent_can, test_refused, tested_parts}
 
 module _ {old mid : Builder} {there : Site} {test : BlockId} {around : Around} {is_test : Bool} {condition : Condition}
     (tested : BuildsCondition old mid there test (value_at around is_test) (Ok condition)) where

@@ -1,7 +1,6 @@
 -- Blocks of a list that may throw, throws under a handler, and jumps out of tries.
-use Rattle.std.proofs.Common.{◌≡◌, true, false, List, [], ◌∷◌, ◌++◌, Option, Some, None, Result, Ok, Err, IfOk}
-use Rattle.std.proofs.Common.{IfErr, refl}
-use Rattle.std.proofs.Common.{sym, ap, ◌∙◌, subst, arith}
+use Rattle.std.proofs.Common.{◌≡◌, true, false, List, [], ◌∷◌, ◌++◌, Option, Some, None, Result, Ok, Err, IfOk, IfErr}
+use Rattle.std.proofs.Common.{refl, sym, ap, ◌∙◌, subst, arith}
 use Rattle.std.specs.Prelude.{is_some}
 use Rattle.std.specs.Option.{option_to_list}
 use Rattle.std.proofs.lemmas.List.{append-nil}
@@ -15,12 +14,14 @@ use Rattle.rc_hir.specs.declared.terminal.Terminal.TheVariants as terminals
 use Rattle.rc_runs.specs.declared.frames.Frame.{Frame}
 use Rattle.rc_runs.specs.ListContext.{is_current}
 use Rattle.rc_runs.specs.PlainTree.{Statements, Nil}
-use Rattle.rc_runs.specs.Grammar.{and_rest, is_next, leaves_try, may_throw, may_throw_last, throws}
-use Rattle.rc_runs.specs.Grammar.{value_statement}
+use Rattle.rc_runs.specs.Fallthrough.{is_next}
+use Rattle.rc_runs.specs.Grammar.{and_rest, leaves_try, may_throw, may_throw_last, throws, value_statement}
 use Rattle.rc_build.specs.declared.builder.Builder.{Builder}
 use Rattle.rc_build.specs.declared.builder.Marks.{Marks}
 use Rattle.rc_build.specs.declared.builder.Site.{Site}
-use Rattle.rc_build.specs.RuleFacts.{HasTry, RuleFact, is_leave, is_throw, names_handler}
+use Rattle.rc_build.specs.TerminalForms.{is_leave, is_throw, names_handler}
+use Rattle.rc_build.specs.BlockFacts.{HasTry}
+use Rattle.rc_build.specs.RuleFacts.{RuleFact}
 use Rattle.rc_build.specs.inside.CanBuild.{CanBuildTerminal, IsHandler}
 use Rattle.rc_build.specs.inside.Setting.{Setting, setting_of}
 use Rattle.rc_build.specs.inside.Task.{FromBlock, FromTerminal, Spells, left}

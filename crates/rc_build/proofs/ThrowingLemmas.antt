@@ -12,21 +12,23 @@ use Rattle.rc_runs.specs.LastRow.{ends_value}
 use Rattle.rc_runs.specs.ListContext.{ValueContext, is_current}
 use Rattle.rc_runs.specs.PlainTree.{Value}
 use Rattle.rc_runs.specs.Silent.{is_unset}
-use Rattle.rc_runs.specs.ValueGrammar.{ValueEnd, SpellsValue, named_test, last_block, last_throw}
-use Rattle.rc_runs.specs.ValueGrammar.{may_throw as throws_on, value_row}
+use Rattle.rc_runs.specs.ValueEnd.{ValueEnd}
+use Rattle.rc_runs.specs.ValueGrammar.{SpellsValue, named_test, last_block, last_throw, may_throw as throws_on}
+use Rattle.rc_runs.specs.ValueGrammar.{value_row}
 use Rattle.rc_build.specs.declared.builder.Builder.{Builder}
 use Rattle.rc_build.specs.declared.builder.Marks.{Marks}
 use Rattle.rc_build.specs.declared.builder.Site.{Site}
 use Rattle.rc_build.specs.declared.handlers.MayThrow.{MayThrow}
 use Rattle.rc_build.specs.References.{referenced_blocks, value_references}
-use Rattle.rc_build.specs.RuleFacts.{BlockIs, IsValueReferenced}
+use Rattle.rc_build.specs.BlockFacts.{BlockIs, IsValueReferenced}
 use Rattle.rc_build.specs.inside.Built.{Builds}
 use Rattle.rc_build.specs.inside.CanBuild.{CanBuildList}
 use Rattle.rc_build.specs.inside.Marks.{MarksBlocks}
 use Rattle.rc_build.specs.inside.Task.{Progress}
 use Rattle.rc_build.specs.inside.Throws.{may_throw}
-use Rattle.rc_build.specs.inside.ValueTerminals.{ThrowingBuilt}
-use Rattle.rc_build.specs.inside.Values.{CanMark, HasNoValue, HasRows, Marked, any_end}
+use Rattle.rc_build.specs.inside.StepRows.{IsThrowing, RowBuilt}
+use Rattle.rc_build.specs.inside.ValueRows.{HasRows}
+use Rattle.rc_build.specs.inside.Values.{CanMark, HasNoValue, Marked, any_end}
 use Rattle.rc_build.proofs.BuildsLemmas.{breaks_rule}
 use Rattle.rc_build.proofs.BuiltLemmas.{marking_drop}
 use Rattle.rc_build.proofs.LoopKindLemmas.{among_first}
@@ -112,7 +114,7 @@ module _ (hir : HirFunction) (key : BlockId) (block : BasicBlock) (found : basic
       → same_id block.id key ≡ true → HasRows hir block.instructions made
       → is_unset (evaluation_order block.terminal) ≡ false → is_current throw.handler handler ≡ true
       → is_empty_goto (block_at hir throw.continuation) ≡ false → Marked hir key block.terminal old new
-      → ThrowingBuilt hir handler key (record {
+      → RowBuilt hir (IsThrowing hir handler key) key (record {
         rows = made;
         next = throw.continuation;
         answer = None;

@@ -13,13 +13,14 @@ use Rattle.rc_runs.specs.declared.frames.Frame.TheVariants as frame_kinds
 use Rattle.rc_runs.specs.ListContext.{ListContext, inside, protected_by}
 use Rattle.rc_runs.specs.PlainTree.{Statements, TerminalStatement, Try}
 use Rattle.rc_runs.specs.TreeOf.{statements_of}
-use Rattle.rc_runs.specs.Grammar.{SpellsList, SpellsStatement, SpellsTerminal, label_of, opens_reachable, try_statement}
-use Rattle.rc_runs.specs.Grammar.{value_statement, and_rest}
+use Rattle.rc_runs.specs.Fallthrough.{label_of, opens_reachable}
+use Rattle.rc_runs.specs.Grammar.{SpellsList, SpellsStatement, SpellsTerminal, try_statement, value_statement, and_rest}
 use Rattle.rc_runs.proofs.OneTree.{one_list, part_at, protected_at}
 use Rattle.rc_build.specs.declared.builder.Builder.{Builder}
 use Rattle.rc_build.specs.declared.builder.Marks.{Marks}
 use Rattle.rc_build.specs.declared.builder.Site.{Site}
-use Rattle.rc_build.specs.RuleFacts.{HasTry, is_try}
+use Rattle.rc_build.specs.TerminalForms.{is_try}
+use Rattle.rc_build.specs.BlockFacts.{HasTry}
 use Rattle.rc_build.specs.inside.CanBuild.{CanBuildList, CanBuildTerminal}
 use Rattle.rc_build.specs.inside.Setting.{Setting, label_at, open_block, part_setting, setting_of, terminal_statement}
 use Rattle.rc_build.specs.inside.Task.{Progress, FromBlock, FromTerminal, left, Spells, progress_of}

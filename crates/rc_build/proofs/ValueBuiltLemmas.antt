@@ -19,8 +19,8 @@ use Rattle.rc_build.specs.inside.Marks.{MarksBlocks, is_fresh_scope}
 use Rattle.rc_build.specs.inside.Task.{Progress}
 use Rattle.rc_build.specs.inside.Throws.{may_throw, throw_at}
 use Rattle.rc_build.specs.inside.ValueKinds.{terminal_at, value_terminal}
-use Rattle.rc_build.specs.inside.Values.{CanMark, EndsValue, HasNoValue, IsValueOf, Marked, SpellsNoValue}
-use Rattle.rc_build.specs.inside.Values.{ValueBuilt, any_end}
+use Rattle.rc_build.specs.inside.ValueEnds.{EndsValue, IsValueOf, SpellsNoValue}
+use Rattle.rc_build.specs.inside.Values.{CanMark, HasNoValue, Marked, ValueBuilt, any_end}
 use Rattle.rc_build.proofs.TakenLemmas.{marked_push, marking_push}
 use Rattle.rc_build.proofs.UsableLemmas.{usable_ids}
 use Rattle.rc_build.proofs.ValueLemmas.{value_block}

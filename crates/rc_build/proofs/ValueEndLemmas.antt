@@ -13,22 +13,29 @@ use Rattle.rc_runs.specs.ListContext.{ValueContext}
 use Rattle.rc_runs.specs.PlainTree.{Value}
 use Rattle.rc_runs.specs.TreeOf.{instructions_of, value_of}
 use Rattle.rc_runs.specs.AnsweredTest.{same_declaration}
-use Rattle.rc_runs.specs.ValueGrammar.{ValueEnd, ChoosesBetween, GoesTo, SpellsGoing, SpellsShortArm, SpellsTest}
+use Rattle.rc_runs.specs.ValueEnd.{ValueEnd, ChoosesBetween, GoesTo}
+use Rattle.rc_runs.specs.ShortArms.{SpellsShortArm}
+use Rattle.rc_runs.specs.LoopValues.{SpellsGoing, SpellsTest, shown}
 use Rattle.rc_runs.specs.ValueGrammar.{SpellsValue, named_test, last_block, last_throw, may_throw as throws_on}
-use Rattle.rc_runs.specs.ValueGrammar.{value_row, shown}
+use Rattle.rc_runs.specs.ValueGrammar.{value_row}
 use Rattle.rc_runs.proofs.OneValue.{one_value}
 use Rattle.rc_build.specs.declared.short_arms.ShortArm.{ShortArm}
 use Rattle.rc_build.specs.declared.values.BuiltValue.{BuiltValue}
 use Rattle.rc_build.specs.declared.values.TestArms.{TestArms}
 use Rattle.rc_build.specs.declared.values.ValueRow.{ValueRow}
-use Rattle.rc_build.specs.RuleFacts.{RuleFact, ValueBlockIs, is_branch}
+use Rattle.rc_build.specs.TerminalForms.{is_branch}
+use Rattle.rc_build.specs.BlockFacts.{ValueBlockIs}
+use Rattle.rc_build.specs.RuleFacts.{RuleFact}
 use Rattle.rc_build.specs.inside.Built.{BuiltPart, Refused}
 use Rattle.rc_build.specs.inside.Setting.{Setting}
 use Rattle.rc_build.specs.inside.Task.{Progress}
-use Rattle.rc_build.specs.inside.ValueTerminals.{PutBehind, ShortBuilt, row_answers}
-use Rattle.rc_build.specs.inside.Values.{AreShort, EndsAlike, HasArms, HasNoValue, IsBuilt, IsChoice, ValueBuilt}
-use Rattle.rc_build.specs.inside.Values.{alternate_of, arms_of, behind_rows, goes_to}
-use Rattle.rc_build.proofs.TestPartLemmas.{ArmBuilt, ConditionBuilt, HasNoArm, arm_marking, choice_of, in_part}
+use Rattle.rc_build.specs.inside.ShortArms.{ShortBuilt, AreShort, alternate_of}
+use Rattle.rc_build.specs.inside.ValueLoops.{PutBehind, row_answers}
+use Rattle.rc_build.specs.inside.ValueRows.{behind_rows}
+use Rattle.rc_build.specs.inside.Values.{EndsAlike, HasArms, HasNoValue, IsBuilt, IsChoice, ValueBuilt, arms_of}
+use Rattle.rc_build.specs.inside.Values.{goes_to}
+use Rattle.rc_build.specs.inside.TestParts.{ArmBuilt, ConditionBuilt, HasNoArm, choice_of, in_part}
+use Rattle.rc_build.proofs.TestPartLemmas.{arm_marking}
 use Rattle.rc_build.proofs.BuiltLemmas.{marking_drop}
 use Rattle.rc_build.proofs.ValueLemmas.{arms_of-branch, arms_of-not, goes_to-goto, goes_to-not}
 use Rattle.rc_build.proofs.ValueRowsLemmas.{behind_instructions}

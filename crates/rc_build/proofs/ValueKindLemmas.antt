@@ -17,7 +17,7 @@ use Rattle.rc_build.specs.inside.ValueKinds.{terminal_of, terminal_with}
 use Rattle.rc_build.specs.inside.ValueTerminals.{CanBuildNested}
 use Rattle.rc_build.specs.inside.Values.{CanBuildValue}
 use Rattle.rc_build.proofs.LoopKindLemmas.{among_first}
-use Rattle.rc_build.proofs.LoopLemmas.{value_can}
+use Rattle.rc_build.proofs.CanBuildTurnsLemmas.{value_can}
 
 -- the block at which a value terminal begins
 abbrev pub begins_at : ValueKind → BlockId

@@ -17,19 +17,23 @@ use Rattle.rc_runs.specs.Silent.{is_unset}
 use Rattle.rc_runs.specs.LastRow.{ends_value}
 use Rattle.rc_runs.specs.PlainTree.{Value}
 use Rattle.rc_runs.specs.ListContext.{ValueContext}
-use Rattle.rc_runs.specs.ValueGrammar.{ValueEnd, Nested, SpellsValue, SpellsNested, named_test, last_block, last_throw}
-use Rattle.rc_runs.specs.ValueGrammar.{may_throw as throws_on, value_row}
-use Rattle.rc_runs.specs.ValueGrammar.{sequence_value, ternary_value, logical_value, optional_value}
+use Rattle.rc_runs.specs.ValueEnd.{ValueEnd}
+use Rattle.rc_runs.specs.ValueGrammar.{Nested, SpellsValue, SpellsNested, named_test, last_block, last_throw}
+use Rattle.rc_runs.specs.ValueGrammar.{may_throw as throws_on, value_row, sequence_value, ternary_value, logical_value}
+use Rattle.rc_runs.specs.ValueGrammar.{optional_value}
 use Rattle.rc_runs.proofs.GraphLemmas.{usable_block-at}
 use Rattle.rc_runs.proofs.SetIds.{usable_block-set}
 use Rattle.rc_build.specs.declared.builder.Marks.{Marks}
-use Rattle.rc_build.specs.RuleFacts.{BlockIs, FaultFact, IsValueReferenced, is_in_values, is_label}
+use Rattle.rc_build.specs.TerminalForms.{is_in_values, is_label}
+use Rattle.rc_build.specs.BlockFacts.{BlockIs, IsValueReferenced}
+use Rattle.rc_build.specs.RuleFacts.{FaultFact}
 use Rattle.rc_build.specs.declared.value_ends.NamedPlace.{NamedPlace}
 use Rattle.rc_build.specs.declared.values.TestArms.{TestArms}
 use Rattle.rc_build.specs.inside.Throws.{may_throw}
 use Rattle.rc_build.specs.inside.ValueKinds.{value_terminal}
-use Rattle.rc_build.specs.inside.Values.{EndsValue, EndFault, HasNoValue, HasRows}
-use Rattle.rc_build.specs.inside.Values.{SpellsNoValue, arms_of, goes_to, place_named, row_of}
+use Rattle.rc_build.specs.inside.ValueRows.{HasRows, row_of}
+use Rattle.rc_build.specs.inside.ValueEnds.{EndsValue, EndFault, SpellsNoValue, place_named}
+use Rattle.rc_build.specs.inside.Values.{HasNoValue, arms_of, goes_to}
 use Rattle.rc_build.proofs.BuiltLemmas.{refused_front}
 use Rattle.rc_build.proofs.RowsLemmas.{first_row, both_rows}
 use Rattle.rc_build.specs.inside.Marks.{IsUnusable}

@@ -5,7 +5,9 @@ use Rattle.std.specs.Prelude.{◌↔◌, IsNone, is_some}
 use Rattle.rc_names.specs.Numbers.{BlockId, times}
 use Rattle.rc_hir.specs.Model.{HirFunction}
 use Rattle.rc_runs.specs.PlainTree.{Value}
-use Rattle.rc_runs.specs.ValueGrammar.{ValueEnd, SpellsShortArm, SpellsValue}
+use Rattle.rc_runs.specs.ValueEnd.{ValueEnd}
+use Rattle.rc_runs.specs.ShortArms.{SpellsShortArm}
+use Rattle.rc_runs.specs.ValueGrammar.{SpellsValue}
 use Rattle.rc_runs.proofs.OneValue.{one_value}
 use Rattle.rc_build.specs.declared.builder.Builder.{Builder}
 use Rattle.rc_build.specs.declared.builder.Marks.{Marks}
@@ -21,9 +23,12 @@ use Rattle.rc_build.specs.inside.Marks.{MarksBlocks}
 use Rattle.rc_build.specs.inside.Setting.{Setting, setting_of}
 use Rattle.rc_build.specs.inside.Task.{progress_of}
 use Rattle.rc_build.specs.inside.ValueSteps.{step_at, value_at}
-use Rattle.rc_build.specs.inside.ValueTerminals.{BackSoFar, CanBuildShort, CanBuildStep, PutBehind, RowsSoFar, StepBuilt}
-use Rattle.rc_build.specs.inside.ValueTerminals.{arm_blocks, arms_of_rows, no_row, one_more, row_answers, value_behind}
-use Rattle.rc_build.specs.inside.Values.{CanBuildLast, CanBuildValue, HasNoValue, IsBuilt, ValueBuilt, alternate_of, any_end}
+use Rattle.rc_build.specs.inside.ShortArms.{CanBuildShort, arm_blocks, alternate_of}
+use Rattle.rc_build.specs.inside.StepRows.{CanBuildStep, IsStep, RowBuilt}
+use Rattle.rc_build.specs.inside.ValueLoops.{BackSoFar, PutBehind, RowsSoFar, arms_of_rows, no_row, one_more}
+use Rattle.rc_build.specs.inside.ValueLoops.{row_answers, value_behind}
+use Rattle.rc_build.specs.inside.ValueEnds.{CanBuildLast}
+use Rattle.rc_build.specs.inside.Values.{CanBuildValue, HasNoValue, IsBuilt, ValueBuilt, any_end}
 use Rattle.rc_build.proofs.BuiltLemmas.{marking_drop, marking_none, marking_then, marking_beside, refused_back, refused_front}
 use Rattle.rc_build.proofs.MarksLemmas.{referenced_fewer, times_append}
 use Rattle.rc_build.proofs.StepLemmas.{step_there}
@@ -112,11 +117,11 @@ module _ {old : Builder} {key : BlockId} {around : Around} where
     module _ {new : Builder} (site : Site) (same : (site : Site) → setting_of new site ≡ setting_of now site) where
       -- one more row
       pub rows_further : {rows : List ValueRow} {at : BlockId} {row : ValueRow} → RowsSoFar old now key around rows at
-          → StepBuilt now.hir.now now.env.now around at row (progress_of now) (progress_of new)
+          → RowBuilt now.hir.now (IsStep now.hir.now now.env.now around at) at row (progress_of now) (progress_of new)
           → RowsSoFar old new key around (rows ++ row ∷ []) row.next
       rows_further {rows} {at} {row} s built =
-          let b = subst (λ (z : Setting). StepBuilt z.hir z.env around at row (progress_of now) (progress_of new))
-          (s.setting site) built in record {
+          let b = subst (λ (z : Setting). RowBuilt z.hir (IsStep z.hir z.env around at) at row (progress_of now)
+          (progress_of new)) (s.setting site) built in record {
             newly = s.newly ++ b.newly;
             lead = one_more row s.lead b.is;
             marking = marking_then old.hir.now s.marking (marking_drop old.hir.now (λ other. omega (

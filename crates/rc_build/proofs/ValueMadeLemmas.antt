@@ -16,18 +16,19 @@ use Rattle.rc_runs.specs.Silent.{is_unset}
 use Rattle.rc_runs.specs.LastRow.{after_rows, ends_value, last_value, last_answer}
 use Rattle.rc_runs.specs.PlainTree.{Base}
 use Rattle.rc_runs.specs.TreeOf.{value_of}
-use Rattle.rc_runs.specs.ValueGrammar.{named_test, last_block, last_throw}
-use Rattle.rc_runs.specs.ValueGrammar.{may_throw as throws_on, value_row}
+use Rattle.rc_runs.specs.ValueGrammar.{named_test, last_block, last_throw, may_throw as throws_on, value_row}
 use Rattle.rc_runs.proofs.GraphLemmas.{usable_block-at}
 use Rattle.rc_runs.proofs.OneValue.{not_empty}
-use Rattle.rc_build.specs.RuleFacts.{FaultFact, OnlyGoesOn, ValueBlockIs}
+use Rattle.rc_build.specs.BlockFacts.{ValueBlockIs}
+use Rattle.rc_build.specs.RuleFacts.{FaultFact, OnlyGoesOn}
 use Rattle.rc_build.specs.declared.short_arms.ShortArm.{ShortArm}
 use Rattle.rc_build.specs.declared.value_ends.NamedPlace.{NamedPlace}
 use Rattle.rc_build.specs.declared.values.BuiltValue.{BuiltValue}
 use Rattle.rc_build.specs.inside.Throws.{may_throw}
 use Rattle.rc_build.specs.inside.ValueKinds.{value_terminal}
-use Rattle.rc_build.specs.inside.Values.{AreListed, AreShort, HasRow, HasRows, IsRead, IsValueOf, IsValueOfRows, SpellsNoValue}
-use Rattle.rc_build.specs.inside.Values.{alternate_of, behind_rows, place_named, row_of}
+use Rattle.rc_build.specs.inside.ValueRows.{AreListed, HasRow, HasRows, behind_rows, row_of}
+use Rattle.rc_build.specs.inside.ShortArms.{AreShort, alternate_of}
+use Rattle.rc_build.specs.inside.ValueEnds.{IsRead, IsValueOf, IsValueOfRows, SpellsNoValue, place_named}
 use Rattle.rc_build.proofs.RowsLemmas.{rows_push, none_more}
 use Rattle.rc_build.proofs.UsableLemmas.{filled, usable_made, found_terminal, found_block}
 use Rattle.rc_build.proofs.ValueLemmas.{Front, ends_none, ends_stays, front_rows, no_row, no_throw, place_named-branch, value_rows}

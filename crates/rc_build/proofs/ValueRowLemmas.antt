@@ -2,7 +2,7 @@
 use Rattle.std.proofs.Common.{◌≡◌, ◌+◌, Bool, true, false, List, [], ◌∷◌, ◌++◌, Option, Some, None, refl, sym, ap, ◌∙◌}
 use Rattle.std.proofs.Common.{append_assoc, arith, subst}
 use Rattle.std.specs.Prelude.{if◌then◌else◌}
-use Rattle.std.proofs.lemmas.List.{append-nil}
+use Rattle.std.proofs.lemmas.List.{append-nil, same_from_push}
 use Rattle.rc_names.specs.Numbers.{BlockId, EvaluationOrder, times}
 use Rattle.rc_names.specs.declared.span.Span.{Span}
 use Rattle.rc_hir.specs.Model.{Place, HirFunction, Environment}
@@ -13,18 +13,20 @@ use Rattle.rc_runs.specs.ListContext.{ValueContext}
 use Rattle.rc_runs.specs.LastRow.{ends_value, rows_then}
 use Rattle.rc_runs.specs.PlainTree.{Value, Rows, NoRows, Row}
 use Rattle.rc_runs.specs.TreeOf.{instructions_of}
-use Rattle.rc_runs.specs.ValueGrammar.{ValueEnd, Nested, SpellsNested, SpellsShortArm, SpellsValue, named_test, last_block}
-use Rattle.rc_runs.specs.ValueGrammar.{last_throw, may_throw as throws_on, value_row, no_arm, left_to_test, own_arm}
+use Rattle.rc_runs.specs.ValueEnd.{ValueEnd}
+use Rattle.rc_runs.specs.ShortArms.{SpellsShortArm, no_arm, left_to_test, own_arm}
+use Rattle.rc_runs.specs.ValueGrammar.{Nested, SpellsNested, SpellsValue, named_test, last_block, last_throw}
+use Rattle.rc_runs.specs.ValueGrammar.{may_throw as throws_on, value_row}
 use Rattle.rc_runs.proofs.GraphLemmas.{is_empty_goto-at, one_continuation, one_held, one_kind}
-use Rattle.rc_runs.proofs.OneValue.{nested_ends_no_value, one_last, one_nested, not_empty}
+use Rattle.rc_runs.proofs.OneValue.{nested_ends_no_value, one_nested, not_empty}
 use Rattle.rc_build.specs.declared.values.Around.{Around}
 use Rattle.rc_build.specs.declared.values.ValueRow.{ValueRow}
-use Rattle.rc_build.specs.RuleFacts.{IsValueReferenced}
+use Rattle.rc_build.specs.BlockFacts.{IsValueReferenced}
 use Rattle.rc_build.specs.inside.Throws.{may_throw}
 use Rattle.rc_build.specs.inside.ValueSteps.{value_at}
-use Rattle.rc_build.specs.inside.ValueTerminals.{IsRow, IsStep, IsThrowing, RowsLead, nested_row, throwing_row, no_row, one_more}
-use Rattle.rc_build.specs.inside.ValueTerminals.{arm_blocks, arms_of_rows, row_answers, value_behind}
-use Rattle.rc_build.specs.inside.Values.{AreShort, alternate_of}
+use Rattle.rc_build.specs.inside.ShortArms.{arm_blocks, AreShort, alternate_of}
+use Rattle.rc_build.specs.inside.StepRows.{IsRow, IsStep, IsThrowing, nested_row, throwing_row}
+use Rattle.rc_build.specs.inside.ValueLoops.{RowsLead, no_row, one_more, arms_of_rows, row_answers, value_behind}
 use Rattle.rc_build.proofs.MarksLemmas.{times_append}
 use Rattle.rc_build.proofs.MayThrowLemmas.{nested_stays}
 use Rattle.rc_build.proofs.ValueRowsLemmas.{behind_block, behind_row}
@@ -267,7 +269,7 @@ module _ {hir : HirFunction} {env : Environment} {around : Around} where
       → LastLead hir env around key rows row at newly
   lead_last rows row no_row e = absurd (not_empty rows row e)
   lead_last {key = key} rows row (one_more {rows = others} {at = mid} {newly = front} {used = used} other lead is) e =
-      let same = one_last others rows e in record {
+      let same = same_from_push others rows other row e in record {
         mid = mid;
         front = front;
         used = used;

@@ -21,8 +21,8 @@ use Rattle.rc_runs.specs.TreeOf.{instructions_of, value_of}
 use Rattle.rc_runs.specs.LastRow.{rows_then, after_rows}
 use Rattle.rc_runs.specs.Flattened.{rows_join}
 use Rattle.rc_build.specs.RuleFacts.{FaultFact}
-use Rattle.rc_build.specs.inside.ValueTerminals.{value_behind}
-use Rattle.rc_build.specs.inside.Values.{AreListed, HasRow, HasRows, behind_rows, row_of}
+use Rattle.rc_build.specs.inside.ValueLoops.{value_behind}
+use Rattle.rc_build.specs.inside.ValueRows.{AreListed, HasRow, HasRows, behind_rows, row_of}
 use Rattle.rc_build.proofs.RowsLemmas.{first_row, none_more, rows_more}
 
 module _ (hir : HirFunction) where

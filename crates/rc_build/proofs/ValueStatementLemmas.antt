@@ -14,9 +14,11 @@ use Rattle.rc_runs.specs.Frames.{is_jump_target}
 use Rattle.rc_runs.specs.ListContext.{ListContext}
 use Rattle.rc_runs.specs.PlainTree.{Statement, Statements}
 use Rattle.rc_runs.specs.TreeOf.{value_of}
-use Rattle.rc_runs.specs.Grammar.{falls_to, opens, SpellsTerminal, SpellsStatement, and_rest, value_statement}
-use Rattle.rc_runs.specs.ValueGrammar.{Nested, SpellsNested, SpellsShortArm, no_arm, own_arm}
-use Rattle.rc_runs.specs.ValueGrammar.{sequence_value, ternary_value, logical_value, optional_value}
+use Rattle.rc_runs.specs.Fallthrough.{falls_to, opens}
+use Rattle.rc_runs.specs.Grammar.{SpellsTerminal, SpellsStatement, and_rest, value_statement}
+use Rattle.rc_runs.specs.ShortArms.{SpellsShortArm, no_arm, own_arm}
+use Rattle.rc_runs.specs.ValueGrammar.{Nested, SpellsNested, sequence_value, ternary_value, logical_value}
+use Rattle.rc_runs.specs.ValueGrammar.{optional_value}
 use Rattle.rc_runs.proofs.OneValue.{one_nested}
 use Rattle.rc_build.specs.declared.builder.Marks.{Marks}
 use Rattle.rc_build.specs.declared.short_arms.ShortArm.{ShortArm}
@@ -32,8 +34,8 @@ use Rattle.rc_build.specs.inside.Marks.{MarksBlocks}
 use Rattle.rc_build.specs.inside.Setting.{Setting, open_block}
 use Rattle.rc_build.specs.inside.Task.{FromTerminal, Progress, Spells, left}
 use Rattle.rc_build.specs.inside.ValueKinds.{terminal_of, terminal_with, with_kind}
-use Rattle.rc_build.specs.inside.ValueTerminals.{CanBuildNested, CanBuildShort, NestedBuilt, ShortBuilt, arm_blocks}
-use Rattle.rc_build.specs.inside.Values.{alternate_of}
+use Rattle.rc_build.specs.inside.ShortArms.{CanBuildShort, ShortBuilt, arm_blocks, alternate_of}
+use Rattle.rc_build.specs.inside.ValueTerminals.{CanBuildNested, NestedBuilt}
 use Rattle.rc_build.proofs.BuiltLemmas.{is_some-opened, marking_beside, marking_drop, marking_then, refused_back, refused_front}
 use Rattle.rc_build.proofs.BuiltLemmas.{statement_prefix}
 use Rattle.rc_build.proofs.MarksLemmas.{referenced_fewer, times_append}

@@ -10,7 +10,7 @@ use Rattle.rc_runs.specs.declared.frames.Frame.TheVariants as frame_kinds
 use Rattle.rc_build.specs.declared.builder.Marks.{Marks}
 use Rattle.rc_hir.specs.Successors.{case_blocks}
 use Rattle.rc_build.specs.References.{referenced_blocks, tested_blocks, fallthrough_of, cases_of}
-use Rattle.rc_build.specs.RuleFacts.{BlockIs}
+use Rattle.rc_build.specs.BlockFacts.{BlockIs}
 use Rattle.rc_build.specs.inside.CanBuild.{AreReferenced, AreUsed, CanBuildList, CanBuildTerminal, IsUsed, IsUsedApart, IsFrameOf}
 use Rattle.rc_build.specs.inside.CanBuild.{pending_at, used_at, pending_blocks, used_blocks}
 use Rattle.rc_build.specs.inside.Marks.{MarksBlocks}

@@ -1,11 +1,9 @@
 -- What holds of the block that a fault names, one equation a rule.
-use Rattle.std.specs.Prelude.{◌≡◌, ◌≤◌, ◌⊎◌, ℕ, Bool, true, false, List, [], ◌∷◌, Option, Some, None, nat_eq}
-use Rattle.std.specs.Prelude.{slice_get}
+use Rattle.std.specs.Prelude.{◌≡◌, ◌≤◌, ◌⊎◌, ℕ, true, false, List, [], Some, None, nat_eq, slice_get}
 use Rattle.std.specs.List.{list_any}
-use Rattle.rc_names.specs.Numbers.{BlockId, InstructionId, EvaluationOrder, ScopeId, same_id, is_among, times}
-use Rattle.rc_names.specs.declared.span.Span.{Span}
+use Rattle.rc_names.specs.Numbers.{BlockId, InstructionId, ScopeId, same_id}
 use Rattle.rc_hir.specs.Terminal.{evaluation_order}
-use Rattle.rc_hir.specs.Model.{Place, Fault, Rule, Terminal, Instruction, BasicBlock, HirFunction}
+use Rattle.rc_hir.specs.Model.{Fault, Rule, Terminal, Instruction, BasicBlock, HirFunction}
 use Rattle.rc_hir.specs.declared.fault.Fault.TheVariants as faults
 use Rattle.rc_hir.specs.declared.fault.Rule.TheVariants as rules
 use Rattle.rc_hir.specs.declared.fault.TableName.TheVariants as table_names
@@ -16,38 +14,13 @@ use Rattle.rc_runs.specs.Silent.{is_unset}
 use Rattle.rc_runs.specs.LastRow.{ends_value}
 use Rattle.rc_runs.specs.Graph.{basic_block, ends_unreachable}
 use Rattle.rc_runs.specs.GraphRun.{Edge}
-use Rattle.rc_hir.specs.Successors.{case_blocks}
-use Rattle.rc_build.specs.References.{references, framed_blocks, fallthrough_of, scope_fallthrough, cases_of}
-use Rattle.rc_build.specs.References.{value_references, value_fallthrough, turn_block, is_while}
+use Rattle.rc_build.specs.References.{fallthrough_of, turn_block, is_while}
 use Rattle.rc_runs.specs.Spelled.{scope_named}
 use Rattle.rc_runs.specs.SwitchCases.{has_one_default, tests_past}
-
--- the block under a key, of which P holds
-pub record BlockIs (hir : HirFunction) (key : BlockId) (P : BasicBlock → Type 0) : Type 0 where
-  pub block : BasicBlock
-  pub found : basic_block hir key ≡ Some block
-  pub holds : P block
-
--- how many references of the graph are to a block
-abbrev pub times_referenced : HirFunction → BlockId → ℕ
-times_referenced hir key = times key (references hir)
-
--- a block other than b refers to the block by a field `test`, `init`, `update` or `fallthrough`, or as a case's
--- block
-pub record IsFramedApart (hir : HirFunction) (b key : BlockId) : Type 0 where
-  pub other : BlockId
-  pub apart : same_id other b ≡ false
-  pub frames : BlockIs hir other (λ block. is_among (framed_blocks block.terminal) key ≡ true)
-
--- the block is the fallthrough of a scope of the graph, kept or pruned
-abbrev pub IsScopeFallthrough : HirFunction → BlockId → Type 0
-IsScopeFallthrough hir key = (owner : BlockId)
-    × BlockIs hir owner (λ block. scope_fallthrough block.terminal ≡ Some key)
-
--- the block is that of a case of the graph
-abbrev pub IsCaseBlock : HirFunction → BlockId → Type 0
-IsCaseBlock hir key = (owner : BlockId)
-    × BlockIs hir owner (λ block. is_among (case_blocks (cases_of block.terminal)) key ≡ true)
+use Rattle.rc_build.specs.TerminalForms.{Jumps, is_continue, is_leave, names_handler, is_throw, is_branch, is_label}
+use Rattle.rc_build.specs.TerminalForms.{is_in_values}
+use Rattle.rc_build.specs.BlockFacts.{BlockIs, times_referenced, IsFramedApart, IsScopeFallthrough, IsCaseBlock, HasTry}
+use Rattle.rc_build.specs.BlockFacts.{IsValueFallthrough, ValueBlockIs, IsBranchArm, IsEmptyGoto}
 
 -- a row of the block has the id that means unset
 pub record HasUnsetRow (hir : HirFunction) (block : BasicBlock) : Type 0 where
@@ -56,15 +29,6 @@ pub record HasUnsetRow (hir : HirFunction) (block : BasicBlock) : Type 0 where
   pub among : list_any (λ other. nat_eq number.0 other.0) block.instructions ≡ true
   pub found : slice_get hir.instructions number.0 ≡ Some row
   pub unset : is_unset row.id ≡ true
-
--- the terminal is a jump to the target: a `Goto` of variant `Break`, or an arm of a `Branch`
-pub data Jumps : Terminal → BlockId → Type 0 where
-  goto_break : {target : BlockId} {id : EvaluationOrder} {span : Option Span} →
-      Jumps (terminals.Goto target variants.Break id span) target
-  first_arm : {test : Place} {consequent alternate : BlockId} {id : EvaluationOrder} {span : Option Span} →
-      Jumps (terminals.Branch test consequent alternate id span) consequent
-  second_arm : {test : Place} {consequent alternate : BlockId} {id : EvaluationOrder} {span : Option Span} →
-      Jumps (terminals.Branch test consequent alternate id span) alternate
 
 -- the terminal of block b is a `Goto` of variant `Break`, or a `Branch` with an arm that is framed apart
 -- from b
@@ -111,79 +75,6 @@ HasOddCases (terminals.Switch test cases fallthrough id span) =
     (has_one_default cases ≡ false) ⊎ (tests_past fallthrough cases ≡ true)
 HasOddCases _ = ⊥
 
--- the terminal is a `Goto` of variant `Continue`
-abbrev pub is_continue : Terminal → Bool
-is_continue (terminals.Goto target variants.Continue id span) = true
-is_continue _ = false
-
--- the terminal is a `Goto` of variant `Try`
-abbrev pub is_leave : Terminal → Bool
-is_leave (terminals.Goto target variants.Try id span) = true
-is_leave _ = false
-
--- the terminal is a `MaybeThrow` that names a handler
-abbrev pub names_handler : Terminal → Bool
-names_handler (terminals.MaybeThrow continuation (Some handler) id span) = true
-names_handler _ = false
-
-abbrev pub is_throw : Terminal → Bool
-is_throw (terminals.Throw value id span) = true
-is_throw _ = false
-
-abbrev pub is_try : Terminal → Bool
-is_try (terminals.Try block handler_binding handler fallthrough id span) = true
-is_try _ = false
-
--- a block of the graph ends in a `Try`
-abbrev pub HasTry : HirFunction → Type 0
-HasTry hir = (owner : BlockId) × BlockIs hir owner (λ block. is_try block.terminal ≡ true)
-
--- a block of the graph refers to the block as to a value
-abbrev pub IsValueReferenced : HirFunction → BlockId → Type 0
-IsValueReferenced hir key = (owner : BlockId)
-    × BlockIs hir owner (λ block. is_among (value_references block.terminal) key ≡ true)
-
--- the block is the fallthrough of a terminal that is a value
-abbrev pub IsValueFallthrough : HirFunction → BlockId → Type 0
-IsValueFallthrough hir key = (owner : BlockId)
-    × BlockIs hir owner (λ block. value_fallthrough block.terminal ≡ Some key)
-
--- a block of which P holds, and to which a block of the graph refers as to a value
-pub record ValueBlockIs (hir : HirFunction) (key : BlockId) (P : BasicBlock → Type 0) : Type 0 where
-  pub referenced : IsValueReferenced hir key
-  pub here : BlockIs hir key P
-
-abbrev pub is_branch : Terminal → Bool
-is_branch (terminals.Branch test consequent alternate id span) = true
-is_branch _ = false
-
--- the blocks between which a `Branch` chooses
-abbrev pub branch_arms : Terminal → List BlockId
-branch_arms (terminals.Branch test consequent alternate id span) = consequent ∷ alternate ∷ []
-branch_arms _ = []
-
--- the alternate of a `Branch`
-abbrev pub branch_alternate : Terminal → Option BlockId
-branch_alternate (terminals.Branch test consequent alternate id span) = Some alternate
-branch_alternate _ = None
-
--- a `Branch` of the graph leads to the block
-abbrev pub IsBranchArm : HirFunction → BlockId → Type 0
-IsBranchArm hir key = (owner : BlockId)
-    × BlockIs hir owner (λ block. is_among (branch_arms block.terminal) key ≡ true)
-
-abbrev pub is_goto : Terminal → Bool
-is_goto (terminals.Goto block variant id span) = true
-is_goto _ = false
-
-abbrev pub is_label : Terminal → Bool
-is_label (terminals.Label block fallthrough id span) = true
-is_label _ = false
-
--- the block under the key has no rows, and goes on at another one
-abbrev pub IsEmptyGoto : HirFunction → BlockId → Type 0
-IsEmptyGoto hir key = BlockIs hir key (λ block. (block.instructions ≡ []) × (is_goto block.terminal ≡ true))
-
 -- the terminal only leads to another block: it is a `Goto`, or a `MaybeThrow` before a block without rows that ends in
 -- one
 abbrev pub OnlyGoesOn : HirFunction → Terminal → Type 0
@@ -194,18 +85,6 @@ OnlyGoesOn hir _ = ⊥
 -- the block ends in a `Label`, and a block of the graph refers to it as to a value
 abbrev pub IsLabeledValue : HirFunction → BlockId → Type 0
 IsLabeledValue hir key = ValueBlockIs hir key (λ block. is_label block.terminal ≡ true)
-
--- a block of a value may end in the terminal, also where the value goes on behind it, or is refused for its `Label`
-abbrev pub is_in_values : Terminal → Bool
-is_in_values (terminals.Branch test consequent alternate id span) = true
-is_in_values (terminals.Goto block variant id span) = true
-is_in_values (terminals.Label block fallthrough id span) = true
-is_in_values (terminals.Logical operator test fallthrough id span) = true
-is_in_values (terminals.Ternary test fallthrough id span) = true
-is_in_values (terminals.Optional optional test fallthrough id span) = true
-is_in_values (terminals.Sequence block fallthrough id span) = true
-is_in_values (terminals.MaybeThrow continuation handler id span) = true
-is_in_values _ = false
 
 -- the fact that a rule's fault states of its block; of `OtherTree` no fault comes
 abbrev pub RuleFact : HirFunction → Rule → BlockId → Type 0

@@ -11,9 +11,16 @@ pub mod Enclosures
 pub mod Switches
 pub mod ValueKinds
 pub mod ValueSteps
+pub mod ValueRows
+pub mod ShortArms
 pub mod Values
+pub mod ValueEnds
 pub mod ValueTerminals
+pub mod TestParts
+pub mod StepRows
+pub mod ValueLoops
 pub mod SilentArms
 pub mod Flattening
 pub mod Answered
+pub mod LoopKinds
 pub mod Loops

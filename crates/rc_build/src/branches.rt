@@ -5,7 +5,7 @@ ghost use Rattle.rc_names.specs.Numbers.{BlockId, same_id};
 ghost use Rattle.rc_names.specs.declared.span.Span.{Span};
 ghost use Rattle.rc_hir.specs.declared.terminal.Terminal.TheVariants as terminals;
 ghost use Rattle.rc_tree.specs.declared.terminal.ReactiveTerminal.TheVariants as tree;
-ghost use Rattle.rc_runs.specs.Grammar.{falls_to};
+ghost use Rattle.rc_runs.specs.Fallthrough.{falls_to};
 ghost use Rattle.rc_runs.specs.declared.frames.Frame.TheVariants as frame_kinds;
 ghost use Rattle.rc_build.specs.inside.Depths.{frames_inside};
 ghost use Rattle.rc_build.specs.inside.CanBuild.{CanBuildList, CanBuildTerminal};

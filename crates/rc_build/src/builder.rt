@@ -2,7 +2,7 @@
 
 ghost use Rattle.std.specs.Prelude.{◌≡◌, [], IfOk, is_some};
 ghost use Rattle.rc_hir.specs.declared.fault.Fault.TheVariants as faults;
-ghost use Rattle.rc_runs.specs.Grammar as grammar;
+ghost use Rattle.rc_runs.specs.Fallthrough as spec;
 ghost use Rattle.rc_build.specs.inside.Setting as settings;
 ghost use Rattle.rc_build.specs.inside.Task as tasks;
 
@@ -106,7 +106,7 @@ impl<'g> Builder<'g> {
 
     /// The fallthrough of a scope, where it is opened: no jump can name it already.
     pub fn open(&self, fallthrough: BlockId) -> Option<BlockId>
-        ensures { result ≡ settings.open_block (grammar.opens self.now.frames fallthrough) fallthrough }
+        ensures { result ≡ settings.open_block (spec.opens self.now.frames fallthrough) fallthrough }
     {
         if self.frames.is_jump_target(fallthrough) {
             None
@@ -118,7 +118,7 @@ impl<'g> Builder<'g> {
     /// The fallthrough of any other statement, where it is opened: one that ends in `Unreachable` isn't.
     pub fn open_reachable(&self, fallthrough: BlockId) -> Option<BlockId>
         ensures { result ≡
-            settings.open_block (grammar.opens_reachable self.now.hir.now self.now.frames fallthrough) fallthrough }
+            settings.open_block (spec.opens_reachable self.now.hir.now self.now.frames fallthrough) fallthrough }
     {
         if self.frames.is_jump_target(fallthrough) || ends_unreachable(self.hir, fallthrough) {
             None
@@ -137,14 +137,14 @@ pub fn malformed(block: BlockId, rule: Rule) -> Fault
 
 /// Whether falling off reaches the block.
 pub fn is_next(next: Option<BlockId>, block: BlockId) -> bool
-    ensures { result ≡ grammar.is_next next block }
+    ensures { result ≡ spec.is_next next block }
 {
     next == Some(block)
 }
 
 /// Whether leaving a statement leads to its fallthrough, in the tree as in the graph.
 pub fn falls_to(opened: Option<BlockId>, fallthrough: BlockId, next: Option<BlockId>) -> bool
-    ensures { result ≡ grammar.falls_to (is_some opened) fallthrough next }
+    ensures { result ≡ spec.falls_to (is_some opened) fallthrough next }
 {
     opened.is_some() || is_next(next, fallthrough)
 }

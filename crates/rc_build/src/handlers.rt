@@ -3,7 +3,7 @@
 ghost use Rattle.std.specs.Prelude.{◌≡◌};
 ghost use Rattle.rc_runs.specs.Graph as graph;
 ghost use Rattle.rc_runs.specs.ListContext as contexts;
-ghost use Rattle.rc_build.specs.RuleFacts as facts;
+ghost use Rattle.rc_build.specs.TerminalForms as forms;
 ghost use Rattle.rc_build.specs.inside.Throws as spec;
 
 use rc_hir::{HirFunction, Terminal};
@@ -55,7 +55,7 @@ pub fn is_empty_goto(hir: &HirFunction, key: BlockId) -> bool
 
 /// Whether the terminal is a `Goto`, of any variant.
 fn is_goto(terminal: &Terminal) -> bool
-    ensures { result ≡ facts.is_goto terminal.now }
+    ensures { result ≡ forms.is_goto terminal.now }
 {
     matches!(terminal, Terminal::Goto { .. })
 }

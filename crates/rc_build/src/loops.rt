@@ -8,6 +8,7 @@ ghost use Rattle.std.specs.Prelude.{◌≡◌, ◌&&◌, ◌||◌, Some, IsSome}
 ghost use Rattle.rc_runs.specs.Frames.{is_jump_target};
 ghost use Rattle.rc_runs.specs.Graph.{ends_unreachable};
 ghost use Rattle.rc_runs.specs.LoopParts.{loop_frame, turn_start};
+ghost use Rattle.rc_build.specs.inside.LoopKinds as kinds;
 ghost use Rattle.rc_build.specs.inside.Loops as spec;
 ghost use Rattle.rc_build.specs.inside.Setting.{setting_of};
 ghost use Rattle.rc_build.specs.inside.Task.{FromTerminal, left, progress_of};
@@ -66,7 +67,7 @@ impl LoopKind {
         id: EvaluationOrder,
         span: Option<Span>,
     ) -> LoopTerminal
-        ensures { result ≡ spec.loop_with self test body fallthrough id span }
+        ensures { result ≡ kinds.loop_with self test body fallthrough id span }
     {
         LoopTerminal {
             kind: self,
@@ -82,7 +83,7 @@ impl LoopKind {
 impl LoopTerminal {
     /// The block of the value that runs once, before all turns.
     fn init(self) -> Option<BlockId>
-        ensures { result ≡ spec.init_of self.kind }
+        ensures { result ≡ kinds.init_of self.kind }
     {
         match self.kind {
             LoopKind::For { init, .. } => Some(init),
@@ -92,7 +93,7 @@ impl LoopTerminal {
 
     /// The block of the value with which each turn begins, before its test.
     fn before(self) -> Option<BlockId>
-        ensures { result ≡ spec.before_of self.kind }
+        ensures { result ≡ kinds.before_of self.kind }
     {
         match self.kind {
             LoopKind::For { update, .. } => update,
@@ -103,7 +104,7 @@ impl LoopTerminal {
 
     /// Whether the values of its turns are flattened.
     fn is_flat(self) -> bool
-        ensures { result ≡ spec.is_flat self.kind }
+        ensures { result ≡ kinds.is_flat self.kind }
     {
         match self.kind {
             LoopKind::ForOf { .. } | LoopKind::ForIn => true,
@@ -113,7 +114,7 @@ impl LoopTerminal {
 
     /// Whether it is a while, whose fallthrough mustn't end in `Unreachable`.
     fn is_while(self) -> bool
-        ensures { result ≡ spec.is_while_kind self.kind }
+        ensures { result ≡ kinds.is_while_kind self.kind }
     {
         match self.kind {
             LoopKind::While => true,
@@ -125,7 +126,7 @@ impl LoopTerminal {
 
     /// The block with which each turn begins, to which a continue goes.
     fn start(self) -> BlockId
-        ensures { result ≡ turn_start (spec.blocks_of self) }
+        ensures { result ≡ turn_start (kinds.blocks_of self) }
     {
         match self.before() {
             Some(before) => before,
@@ -135,7 +136,7 @@ impl LoopTerminal {
 
     /// The frame of its body.
     fn frame(self) -> Frame
-        ensures { result ≡ loop_frame (spec.blocks_of self) }
+        ensures { result ≡ loop_frame (kinds.blocks_of self) }
     {
         Frame::Loop {
             block: self.fallthrough,
@@ -157,8 +158,8 @@ impl<'g> Builder<'g> {
         terminal: LoopTerminal,
     ) -> Result<Option<BlockId>, Fault>
         requires { CanBuildTerminal self.old.hir.now self.old.marks site.handler self.old.frames site.block
-            (spec.terminal_of terminal) }
-        ensures { BuildsTask self.old self.new site (FromTerminal (spec.terminal_of terminal)) left result }
+            (kinds.terminal_of terminal) }
+        ensures { BuildsTask self.old self.new site (FromTerminal (kinds.terminal_of terminal)) left result }
     {
         if self.is_live(terminal) {
             return Err(malformed(site.block, Rule::LoopLive));
@@ -222,8 +223,8 @@ impl<'g> Builder<'g> {
     /// while whose fallthrough ends in `Unreachable`.
     fn is_live(&self, terminal: LoopTerminal) -> bool
         ensures { result ≡ (is_jump_target self.now.frames terminal.fallthrough
-            || (is_jump_target self.now.frames (turn_start (spec.blocks_of terminal))
-            || (spec.is_while_kind terminal.kind && ends_unreachable self.now.hir.now terminal.fallthrough))) }
+            || (is_jump_target self.now.frames (turn_start (kinds.blocks_of terminal))
+            || (kinds.is_while_kind terminal.kind && ends_unreachable self.now.hir.now terminal.fallthrough))) }
     {
         self.frames.is_jump_target(terminal.fallthrough)
             || self.frames.is_jump_target(terminal.start())
@@ -233,7 +234,7 @@ impl<'g> Builder<'g> {
 
 /// The loop of a terminal, if it is one.
 pub fn loop_of(terminal: &Terminal) -> Option<LoopTerminal>
-    ensures { result ≡ spec.loop_of terminal.now }
+    ensures { result ≡ kinds.loop_of terminal.now }
 {
     match terminal {
         Terminal::While {
@@ -256,7 +257,7 @@ pub fn loop_of(terminal: &Terminal) -> Option<LoopTerminal>
 
 /// The loop of a terminal, if it is one of the three that have an init.
 fn for_of(terminal: &Terminal) -> Option<LoopTerminal>
-    ensures { result ≡ spec.for_of terminal.now }
+    ensures { result ≡ kinds.for_of terminal.now }
 {
     match terminal {
         Terminal::For {

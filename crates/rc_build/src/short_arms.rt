@@ -2,15 +2,14 @@
 
 ghost use Rattle.std.specs.Prelude.{◌≡◌, IfErr, OnOk, drop};
 ghost use Rattle.rc_runs.specs.Silent as silent;
-ghost use Rattle.rc_runs.specs.ValueGrammar.{SpellsShortArm};
+ghost use Rattle.rc_runs.specs.ShortArms.{SpellsShortArm};
 ghost use Rattle.rc_build.specs.RuleFacts.{FaultFact};
 ghost use Rattle.rc_build.specs.declared.builder.Site.{Site};
 ghost use Rattle.rc_build.specs.inside.Built.{Builds, IfRefused, Refused};
 ghost use Rattle.rc_build.specs.inside.SilentArms.{AreArmBlocks, AreArmRows, ArmBlockBuilt, ArmBuilt, CanBuildArm};
 ghost use Rattle.rc_build.specs.inside.SilentArms.{CanCheckBlock, CanCheckSilent, HasNoArm, HasSilentRows, IsArmBlock};
 ghost use Rattle.rc_build.specs.inside.Task.{progress_of};
-ghost use Rattle.rc_build.specs.inside.ValueTerminals.{CanBuildShort, ShortBuilt};
-ghost use Rattle.rc_build.specs.inside.Values.{alternate_of};
+ghost use Rattle.rc_build.specs.inside.ShortArms.{CanBuildShort, ShortBuilt, alternate_of};
 
 use crate::blocks::block_with_id;
 use crate::builder::{Builder, malformed};

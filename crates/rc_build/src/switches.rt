@@ -8,7 +8,7 @@ ghost use Rattle.rc_hir.specs.declared.terminal.Terminal.TheVariants as terminal
 ghost use Rattle.rc_tree.specs.declared.terminal.ReactiveTerminal.TheVariants as tree;
 ghost use Rattle.rc_runs.specs.SwitchCases as spec;
 ghost use Rattle.rc_runs.specs.Frames.{is_jump_target};
-ghost use Rattle.rc_runs.specs.Grammar as grammar;
+ghost use Rattle.rc_runs.specs.Fallthrough as fallthroughs;
 ghost use Rattle.rc_build.specs.inside.CanBuild.{CanBuildTerminal};
 ghost use Rattle.rc_build.specs.inside.Depths.{frames_inside};
 ghost use Rattle.rc_build.specs.inside.Setting.{part_setting, setting_of};
@@ -134,7 +134,7 @@ fn leaves_elsewhere(
     opened: Option<BlockId>,
     next: Option<BlockId>,
 ) -> bool
-    ensures { result ≡ not (list_any successors.is_default kept.now || grammar.falls_to (is_some opened) fallthrough next) }
+    ensures { result ≡ not (list_any successors.is_default kept.now || fallthroughs.falls_to (is_some opened) fallthrough next) }
 {
     !(has_default(kept) || falls_to(opened, fallthrough, next))
 }

@@ -10,8 +10,9 @@ ghost use Rattle.rc_build.specs.declared.builder.Site.{Site};
 ghost use Rattle.rc_build.specs.inside.Built.{IfRefused};
 ghost use Rattle.rc_build.specs.inside.Throws.{may_throw, throw_at};
 ghost use Rattle.rc_build.specs.inside.ValueKinds.{value_terminal};
-ghost use Rattle.rc_build.specs.inside.Values.{HasRows};
-ghost use Rattle.rc_build.specs.inside.Values as spec;
+ghost use Rattle.rc_build.specs.inside.ValueRows.{AreListed, HasRows};
+ghost use Rattle.rc_build.specs.inside.Values.{BuildsValue, any_end};
+ghost use Rattle.rc_build.specs.inside.ValueEnds as spec;
 
 use crate::blocks::{block_with_id, find_block};
 use crate::builder::{Builder, malformed};
@@ -32,7 +33,7 @@ impl<'g> Builder<'g> {
     ) -> Result<BuiltValue<'g>, Fault>
         requires { spec.CanBuildLast self.old.hir.now self.old.marks key }
         ensures { (site : Site) (context : ValueContext) → context.handler ≡ handler →
-            spec.BuildsValue self.old self.new site key context spec.any_end result }
+            BuildsValue self.old self.new site key context any_end result }
     {
         match self.throw_at(key) {
             Some(throw) => self.build_last_throw(key, throw, handler),
@@ -53,7 +54,7 @@ impl<'g> Builder<'g> {
     ) -> Result<BuiltValue<'g>, Fault>
         requires { spec.CanBuildLastThrow self.old.hir.now self.old.marks key throw }
         ensures { (site : Site) (context : ValueContext) → context.handler ≡ handler →
-            spec.BuildsValue self.old self.new site key context spec.any_end result }
+            BuildsValue self.old self.new site key context any_end result }
     {
         let hir = self.hir;
         let block = block_with_id(hir, key)?;
@@ -89,7 +90,7 @@ impl<'g> Builder<'g> {
     fn build_end(&mut self, key: BlockId) -> Result<BuiltValue<'g>, Fault>
         requires { spec.CanBuildEnd self.old.hir.now self.old.marks key }
         ensures { (site : Site) (context : ValueContext) →
-            spec.BuildsValue self.old self.new site key context spec.any_end result }
+            BuildsValue self.old self.new site key context any_end result }
     {
         let hir = self.hir;
         let block = find_block(hir, key)?;
@@ -121,7 +122,7 @@ impl<'g> Builder<'g> {
         block: BlockId,
         terminal: &'g Terminal,
     ) -> Result<BuiltValue<'g>, Fault>
-        requires { spec.AreListed self.now.hir.now key (front.now ++ last ∷ []) }
+        requires { AreListed self.now.hir.now key (front.now ++ last ∷ []) }
         ensures ok { IfOk result (spec.IsValueOfRows self.now.hir.now self.now.env.now (front.now ++ last ∷ []) block
             terminal.now) }
         ensures refused { IfRefused result

@@ -11,7 +11,7 @@ ghost use Rattle.rc_runs.specs.PlainTree.{Base};
 ghost use Rattle.rc_runs.specs.TreeOf.{value_of};
 ghost use Rattle.rc_build.specs.RuleFacts.{FaultFact};
 ghost use Rattle.rc_build.specs.inside.Built.{IfRefused};
-ghost use Rattle.rc_build.specs.inside.Values.{AreListed, HasRow, HasRows, behind_rows, naming_of, row_of};
+ghost use Rattle.rc_build.specs.inside.ValueRows.{AreListed, HasRow, HasRows, behind_rows, naming_of, row_of};
 
 use crate::builder::malformed;
 use crate::rows::find_row;

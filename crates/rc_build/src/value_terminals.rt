@@ -7,13 +7,14 @@ ghost use Rattle.rc_names.specs.Numbers.{BlockId};
 ghost use Rattle.rc_hir.specs.Model.{LogicalOperator, HirFunction};
 ghost use Rattle.rc_runs.specs.PlainTree.{NoRows, Row, Sequence, Value};
 ghost use Rattle.rc_runs.specs.TreeOf.{value_of};
-ghost use Rattle.rc_runs.specs.ValueGrammar.{ValueEnd};
+ghost use Rattle.rc_runs.specs.ValueEnd.{ValueEnd};
 ghost use Rattle.rc_build.specs.declared.builder.Site.{Site};
 ghost use Rattle.rc_build.specs.declared.value_terminals.ValueKind.TheVariants as kinds;
 ghost use Rattle.rc_build.specs.inside.ValueKinds as spec;
 ghost use Rattle.rc_build.specs.inside.ValueTerminals.{BuildsNested, CanBuildNested};
 ghost use Rattle.rc_build.specs.inside.ValueSteps.{around_parts};
-ghost use Rattle.rc_build.specs.inside.Values.{IsBuilt, other_arm_of};
+ghost use Rattle.rc_build.specs.inside.ShortArms.{other_arm_of};
+ghost use Rattle.rc_build.specs.inside.Values.{IsBuilt};
 
 use crate::builder::{Builder, malformed};
 use crate::short_arms::ShortArm;

@@ -12,15 +12,19 @@ ghost use Rattle.rc_runs.specs.AnsweredTest as answered;
 ghost use Rattle.rc_runs.specs.ListContext.{ValueContext, value_context};
 ghost use Rattle.rc_runs.specs.PlainTree.{Base, Value};
 ghost use Rattle.rc_runs.specs.TreeOf.{value_of};
-ghost use Rattle.rc_runs.specs.ValueGrammar.{GoesTo, SpellsGoing, SpellsTest, ValueEnd};
-ghost use Rattle.rc_runs.specs.ValueGrammar as grammar;
+ghost use Rattle.rc_runs.specs.ValueEnd.{GoesTo, ValueEnd};
+ghost use Rattle.rc_runs.specs.LoopValues.{SpellsGoing, SpellsTest};
+ghost use Rattle.rc_runs.specs.LoopValues as loop_values;
 ghost use Rattle.rc_build.specs.declared.builder.Site.{Site};
 ghost use Rattle.rc_build.specs.inside.Built.{Builds};
 ghost use Rattle.rc_build.specs.inside.Marks.{IsUnusable};
 ghost use Rattle.rc_build.specs.inside.Setting.{setting_of};
 ghost use Rattle.rc_build.specs.inside.Task.{progress_of};
 ghost use Rattle.rc_build.specs.inside.ValueSteps as steps;
-ghost use Rattle.rc_build.specs.inside.ValueTerminals as rows;
+ghost use Rattle.rc_build.specs.inside.ShortArms.{CanBuildShort};
+ghost use Rattle.rc_build.specs.inside.StepRows.{CanBuildRow, CanBuildStep, CanBuildThrowing, IsRow, IsStep, IsThrowing, RowBuilt};
+ghost use Rattle.rc_build.specs.inside.ValueLoops as loops;
+ghost use Rattle.rc_build.specs.inside.ValueRows.{behind_rows};
 ghost use Rattle.rc_build.specs.inside.Values as spec;
 
 use crate::blocks::{block_with_id, find_block};
@@ -231,10 +235,10 @@ impl<'g> Builder<'g> {
     /// `Malformed`, `Todo`, `BadName`: as for a value terminal's row, or for a block that may throw.
     #[cycle(values)]
     fn build_step(&mut self, key: BlockId, step: Step, around: Around) -> Result<ValueRow, Fault>
-        requires { rows.CanBuildStep self.old.hir.now self.old.marks key step }
+        requires { CanBuildStep self.old.hir.now self.old.marks key step }
         ensures { (site : Site) (is_test : Bool) → Builds self.old self.new site
-            (λ row. rows.StepBuilt self.old.hir.now self.old.env.now around key row (progress_of self.old)
-            (progress_of self.new))
+            (λ row. RowBuilt self.old.hir.now (IsStep self.old.hir.now self.old.env.now around key) key row
+            (progress_of self.old) (progress_of self.new))
             (spec.HasNoValue self.old.hir.now self.old.env.now key (steps.value_at around is_test) spec.any_end
             self.old.marks.used) result }
     {
@@ -255,10 +259,10 @@ impl<'g> Builder<'g> {
         terminal: ValueTerminal,
         around: Around,
     ) -> Result<ValueRow, Fault>
-        requires { rows.CanBuildRow self.old.hir.now self.old.marks key terminal }
+        requires { CanBuildRow self.old.hir.now self.old.marks key terminal }
         ensures { (site : Site) (is_test : Bool) → Builds self.old self.new site
-            (λ row. rows.RowBuilt self.old.hir.now self.old.env.now around key row (progress_of self.old)
-            (progress_of self.new))
+            (λ row. RowBuilt self.old.hir.now (IsRow self.old.hir.now self.old.env.now around key) key row
+            (progress_of self.old) (progress_of self.new))
             (spec.HasNoValue self.old.hir.now self.old.env.now key (steps.value_at around is_test) spec.any_end
             self.old.marks.used) result }
     {
@@ -298,9 +302,10 @@ impl<'g> Builder<'g> {
         throw: MayThrow,
         handler: Option<BlockId>,
     ) -> Result<ValueRow, Fault>
-        requires { rows.CanBuildThrowing self.old.hir.now self.old.marks key throw }
+        requires { CanBuildThrowing self.old.hir.now self.old.marks key throw }
         ensures { (site : Site) (context : ValueContext) → context.handler ≡ handler → Builds self.old self.new site
-            (λ row. rows.ThrowingBuilt self.old.hir.now handler key row (progress_of self.old) (progress_of self.new))
+            (λ row. RowBuilt self.old.hir.now (IsThrowing self.old.hir.now handler key) key row
+            (progress_of self.old) (progress_of self.new))
             (spec.HasNoValue self.old.hir.now self.old.env.now key context spec.any_end self.old.marks.used) result }
     {
         let hir = self.hir;
@@ -328,10 +333,10 @@ impl<'g> Builder<'g> {
         is_test: bool,
         handler: Option<BlockId>,
     ) -> Result<BuiltValue<'g>, Fault>
-        requires { rows.CanBuildShort self.old.hir.now self.old.marks row.short }
+        requires { CanBuildShort self.old.hir.now self.old.marks row.short }
         ensures { (site : Site) (value : Value) (end : ValueEnd) →
             spec.IsBuilt self.old.hir.now value end built.entry →
-            rows.PutsBehind self.old self.new site handler row is_test value end result }
+            loops.PutsBehind self.old self.new site handler row is_test value end result }
     {
         let answers = row_answers(self.env, is_test, row.answer, built.value.get());
         let left_open = self.build_short_arm(
@@ -403,7 +408,7 @@ impl<'g> BuiltValue<'g> {
         rows: List<ReactiveInstruction>,
         left_open: Option<ShortArm>,
     ) -> Result<BuiltValue<'g>, AllocError>
-        ensures value { IfOk result (λ whole. whole.value ≡ spec.behind_rows rows self.entry.id self.entry.value) }
+        ensures value { IfOk result (λ whole. whole.value ≡ behind_rows rows self.entry.id self.entry.value) }
         ensures end { IfOk result (spec.EndsAlike self.entry left_open) }
     {
         let BuiltValue {
@@ -427,7 +432,7 @@ impl<'g> BuiltValue<'g> {
     /// The value as it stands in a loop. The only error is out of memory.
     fn shown(self, alloc: Global, showing: Showing) -> Result<Boxed<ReactiveValue>, AllocError>
         ensures { (hir : HirFunction) (value : Value) (end : ValueEnd) → spec.IsBuilt hir value end self.entry →
-            IfOk result (λ whole. whole ≡ value_of (grammar.shown showing.flat showing.span end value)) }
+            IfOk result (λ whole. whole ≡ value_of (loop_values.shown showing.flat showing.span end value)) }
     {
         let BuiltValue {
             value,
@@ -468,7 +473,7 @@ fn row_answers(
     answer: Option<Place>,
     value: &ReactiveValue,
 ) -> bool
-    ensures { (plain : Value) → value.now ≡ value_of plain → result ≡ rows.row_answers env.now is_test answer plain }
+    ensures { (plain : Value) → value.now ≡ value_of plain → result ≡ loops.row_answers env.now is_test answer plain }
 {
     match answer {
         Some(place) => is_test && answers_test(env, place, value),

@@ -13,12 +13,10 @@ use Rattle.rc_escape.specs.MemoWalk.{memoizes, node_of, dependencies_of, Progres
 use Rattle.rc_escape.specs.MemoWalk.{VisitsName, absent, again, first_time, VisitsNames, no_names, next_name}
 use Rattle.rc_escape.specs.MemoWalk.{DecidesNode, passes, memoizes_it}
 use Rattle.rc_escape.specs.MemoWalk.{TakesScopes, no_scopes, without_record, taken_before, takes_it}
-use Rattle.rc_escape.specs.inside.WalkFrames.{is_set, progress}
-use Rattle.rc_escape.specs.inside.WalkFrames.{IsNodeAt, IsScopeAt, FitsRecord}
-use Rattle.rc_escape.specs.inside.WalkFrames.{FinishesFrame, escaping, dependencies, scopes, scope_dependencies}
+use Rattle.rc_escape.specs.inside.WalkFrames.{is_set, progress, IsNodeAt, IsScopeAt, FitsRecord, FinishesFrame}
+use Rattle.rc_escape.specs.inside.WalkFrames.{escaping, dependencies, scopes, scope_dependencies, Finishes}
+use Rattle.rc_escape.specs.inside.WalkFrames.{ResumesFrame, BeginsVisit, BeginsDecision, TakesOne, BeginsScope}
 use Rattle.rc_escape.specs.inside.WalkFrames as frames
-use Rattle.rc_escape.specs.inside.WalkFrames.{Finishes, ResumesFrame, BeginsVisit}
-use Rattle.rc_escape.specs.inside.WalkFrames.{BeginsDecision, TakesOne, BeginsScope}
 use Rattle.rc_escape.proofs.ListLemmas.{drop-at, drop-past, reverse-push}
 use Rattle.rc_escape.proofs.PlaceLemmas.{place_of_distinct}
 use Rattle.rc_escape.proofs.RecordPlaces.{or_assoc, or_false, same_entry, seen_more, memoized_more, taken_more, seen_is}

@@ -1,7 +1,6 @@
 -- The walk memoizes the least set: dependencies of a name that it has visited are visited, and a name of level Memoized
 -- that it has visited is memoized.
-use Rattle.std.proofs.Common.{◌≡◌, ◌∙◌, inl, inr, Bool, true, false, List, Some, Contains}
-use Rattle.std.proofs.Common.{ap, arith, refl, subst, sym}
+use Rattle.std.proofs.Common.{◌≡◌, ◌∙◌, inl, inr, Bool, true, false, List, Some, Contains, ap, arith, refl, subst, sym}
 use Rattle.std.specs.Prelude.{◌||◌}
 use Rattle.rc_names.specs.Numbers.{DeclarationId, ScopeId, same_id}
 use Rattle.rc_names.proofs.NumbersLemmas.{ids_equivalence, same_id-eq}

@@ -1,7 +1,6 @@
 -- The lowest of a list of scopes, found one by one.
-use Rattle.std.proofs.Common.{◌≡◌, ◌∙◌, ◌⊎◌, ◌+◌, ◌<◌, ◌≤◌, ◌++◌, inl, inr, ℕ, Bool}
-use Rattle.std.proofs.Common.{true, false, List, [], ◌∷◌, Option, Some, None, Contains}
-use Rattle.std.proofs.Common.{ap, arith, cond, drop, length, refl, subst, sym, if◌then◌else◌}
+use Rattle.std.proofs.Common.{◌≡◌, ◌∙◌, ◌⊎◌, ◌+◌, ◌<◌, ◌≤◌, ◌++◌, inl, inr, ℕ, Bool, true, false, List, [], ◌∷◌, Option}
+use Rattle.std.proofs.Common.{Some, None, Contains, ap, arith, cond, drop, length, refl, subst, sym, if◌then◌else◌}
 use Rattle.std.specs.Prelude.{filter, flat_map, nat_lt, slice_get, MatchOption}
 use Rattle.std.proofs.lemmas.Option.{slice_get_cases, slice_get_past}
 use borrow.Author.Tests.{ltb-true, ltb-false}

@@ -1,6 +1,5 @@
 -- What the walk memoizes is in the greatest set.
-use Rattle.std.proofs.Common.{◌≡◌, ◌∙◌, ◌⊎◌, inl, inr, Bool, true, false, List, Some, Contains}
-use Rattle.std.proofs.Common.{refl, subst, sym}
+use Rattle.std.proofs.Common.{◌≡◌, ◌∙◌, ◌⊎◌, inl, inr, Bool, true, false, List, Some, Contains, refl, subst, sym}
 use Rattle.std.specs.Prelude.{◌||◌}
 use Rattle.rc_names.specs.Numbers.{DeclarationId, ScopeId, same_id}
 use Rattle.rc_names.proofs.NumbersLemmas.{same_id-eq}
@@ -8,9 +7,8 @@ use Rattle.rc_memo.specs.declared.level.MemoizationLevel.{MemoizationLevel}
 use Rattle.rc_memo.specs.declared.level.MemoizationLevel.TheVariants.{Memoized, Conditional, Unmemoized, Never}
 use Rattle.rc_memo.specs.declared.record.MemoNode.{MemoNode}
 use Rattle.rc_memo.specs.declared.record.MemoRecord.{MemoRecord}
-use Rattle.rc_escape.specs.MemoWalk.{memoizes, node_of, nothing_met, Progress, with_memoized}
-use Rattle.rc_escape.specs.MemoWalk.{VisitsName, absent, again, first_time, VisitsNames, no_names, next_name}
-use Rattle.rc_escape.specs.MemoWalk.{DecidesNode, passes, memoizes_it}
+use Rattle.rc_escape.specs.MemoWalk.{memoizes, node_of, nothing_met, Progress, with_memoized, VisitsName, absent, again}
+use Rattle.rc_escape.specs.MemoWalk.{first_time, VisitsNames, no_names, next_name, DecidesNode, passes, memoizes_it}
 use Rattle.rc_escape.specs.MemoWalk.{TakesScopes, no_scopes, without_record, taken_before, takes_it}
 use Rattle.rc_escape.specs.MemoBounds.{HasScopeDependency, CanBeReached, CanBeForced, IsInGreatestSet}
 use Rattle.rc_escape.specs.MemoBounds as bounds

@@ -3,7 +3,7 @@ use Rattle.std.proofs.Common.{◌≡◌, ◌∙◌, ◌↔◌, Bool, true, false
 use Rattle.std.specs.Prelude.{◌||◌}
 use Rattle.std.proofs.Math.Bool.{or_assoc}
 use Rattle.std.specs.List.{list_any}
-use Rattle.rc_escape.specs.NotEscaping.{has_output}
+use Rattle.rc_escape.specs.Outputs.{has_output}
 use Rattle.rc_names.specs.Numbers.{DeclarationId}
 
 module _ {X Y : Type 0} (f : X → DeclarationId) (g : Y → DeclarationId) where

@@ -1,7 +1,6 @@
 -- Rows of truth values, and the positions of names in a record.
-use Rattle.std.proofs.Common.{◌≡◌, ◌⊎◌, ◌∙◌, ◌<◌, inl, inr, ℕ, zero, suc, List}
-use Rattle.std.proofs.Common.{[], ◌∷◌, Option, Some, None, Bool, true, false, cond}
-use Rattle.std.proofs.Common.{refl, sym, ap, subst, length, arith, get_or, lt-ltb}
+use Rattle.std.proofs.Common.{◌≡◌, ◌⊎◌, ◌∙◌, ◌<◌, inl, inr, ℕ, zero, suc, List, [], ◌∷◌, Option, Some, None, Bool, true}
+use Rattle.std.proofs.Common.{false, cond, refl, sym, ap, subst, length, arith, get_or, lt-ltb}
 use Rattle.std.specs.Prelude.{◌||◌, nat_lt, option_map, slice_get, slice_set, position}
 use Rattle.std.specs.List.{IsDistinct, position_or_len}
 use Rattle.std.specs.Map.{keys_of, lookup, lookup_key}

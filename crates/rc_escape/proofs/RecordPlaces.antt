@@ -1,15 +1,13 @@
 -- Names and scopes by their positions in the record: what one more of them that the walk has met, memoized or taken is,
 -- and which one stands at a position.
-use Rattle.std.proofs.Common.{◌≡◌, ◌<◌, ℕ, Bool, true, false, List}
-use Rattle.std.proofs.Common.{Option, Some, ap, length, refl, subst, sym}
+use Rattle.std.proofs.Common.{◌≡◌, ◌<◌, ℕ, Bool, true, false, List, Option, Some, ap, length, refl, subst, sym}
 use Rattle.std.specs.Prelude.{◌||◌, slice_get, slice_set}
 use Rattle.rc_names.specs.Numbers.{DeclarationId, ScopeId}
 use Rattle.rc_memo.specs.declared.record.MemoNode.{MemoNode}
 use Rattle.rc_memo.specs.declared.record.MemoRecord.{MemoRecord}
 use Rattle.rc_escape.specs.declared.walk_state.WalkState.{WalkState}
 use Rattle.rc_escape.specs.MemoWalk.{with_seen, with_memoized, with_taken}
-use Rattle.rc_escape.specs.inside.WalkFrames.{is_set, is_set_at, node_place, scope_place, progress}
-use Rattle.rc_escape.specs.inside.WalkFrames.{IsNodeAt, IsScopeAt}
+use Rattle.rc_escape.specs.inside.WalkFrames.{is_set, is_set_at, node_place, scope_place, progress, IsNodeAt, IsScopeAt}
 use Rattle.rc_escape.proofs.ListLemmas.{one_value}
 use Rattle.rc_escape.proofs.PlaceLemmas.{key_at_place, set_puts, value_at_place}
 

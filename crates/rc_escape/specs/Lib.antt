@@ -1,8 +1,11 @@
--- Read in this order: the walk over a record, the sets between which its result lies, the memoized names, and the tree
--- without the scope blocks that compute none of them.
+-- Read in this order: the walk over a record, the sets between which its result lies, the memoized names, what the pass
+-- has met, which scope blocks give way, the flags, what a record may lack, and the tree without those blocks.
 pub mod MemoWalk
 pub mod MemoBounds
 pub mod MemoSet
 pub mod Met
+pub mod Outputs
+pub mod Flags
+pub mod WholeRecord
 pub mod NotEscaping
 pub mod inside

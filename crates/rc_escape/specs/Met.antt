@@ -1,7 +1,6 @@
 -- What the pass on scopes that don't escape has met: the scopes whose blocks gave way, and the names with a scope that
 -- were stored into a declaration.
-use Rattle.std.specs.Prelude.{Bool, List, [], ◌∷◌, Option, None, Some}
-use Rattle.std.specs.Prelude.{unwrap_or, if◌then◌else◌}
+use Rattle.std.specs.Prelude.{Bool, List, [], ◌∷◌, Option, None, Some, unwrap_or, if◌then◌else◌}
 use Rattle.std.specs.List.{list_all}
 use Rattle.std.specs.Map.{lookup}
 use Rattle.indexmap.specs.IndexSet.{insert_key}

@@ -3,7 +3,9 @@
 //! After oxc's prune_non_escaping_scopes.
 
 ghost use Rattle.std.specs.Prelude.{◌≡◌, Contains, IfErr, OnOk};
-ghost use Rattle.rc_escape.specs.NotEscaping.{block_scopes, IsEscapeFault, IsNeededOutput, IsWithoutNotEscaping};
+ghost use Rattle.rc_escape.specs.Outputs.{block_scopes};
+ghost use Rattle.rc_escape.specs.WholeRecord.{IsEscapeFault};
+ghost use Rattle.rc_escape.specs.NotEscaping.{IsNeededOutput, IsWithoutNotEscaping};
 ghost use Rattle.std.specs.List.{IsDistinct};
 ghost use Rattle.rc_names.specs.Numbers.{DeclarationId as Declaration, same_id, ScopeId as Scope};
 ghost use Rattle.rc_runs.specs.Erase.{erased};

@@ -15,8 +15,7 @@ use Rattle.rc_memo.specs.Record.{IsUninitialised}
 use Rattle.rc_memo.specs.declared.event.MemoEvent.{MemoEvent}
 use Rattle.rc_memo.specs.declared.nodes.Nodes.{Nodes}
 use Rattle.rc_memo.specs.declared.record.MemoNode.{MemoNode}
-use Rattle.rc_memo.specs.inside.Gathering.{Adds, AddsEvents, Gathers, HasGathered, Holds}
-use Rattle.rc_memo.specs.inside.Gathering.{resolved, with_loads}
+use Rattle.rc_memo.specs.inside.Gathering.{Adds, AddsEvents, Gathers, HasGathered, Holds, resolved, with_loads}
 
 -- the facts of some events and more
 facts_behind-append : (loads : List Loaded) (xs ys : List MemoEvent)

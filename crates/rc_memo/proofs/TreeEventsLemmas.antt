@@ -11,7 +11,7 @@ use Rattle.rc_tree.specs.Model.{ReactiveScopeBlock, ReactiveStatement, ReactiveS
 use Rattle.rc_tree.specs.declared.statement.ReactiveStatement.TheVariants as reactive
 use Rattle.rc_tree.specs.declared.statement.ReactiveStatement.TheViews.{out-ReactiveSwitchCase}
 use Rattle.rc_tree.specs.declared.statement.ReactiveStatement.TheViews.{roll-out-ReactiveSwitchCase}
-use Rattle.rc_memo.specs.RowEvents.{declaration_of}
+use Rattle.rc_memo.specs.Mentions.{declaration_of}
 use Rattle.rc_memo.specs.TreeEvents.{Events, events_of_parts, reassigned_by, reassigned_events}
 use Rattle.rc_memo.specs.declared.event.MemoEvent.{MemoEvent}
 use Rattle.rc_memo.specs.declared.event.MemoEvent.TheVariants as kinds

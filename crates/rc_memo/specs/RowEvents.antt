@@ -1,18 +1,16 @@
 -- What the rows of a tree tell, by the memo table.
 --
 -- A row tells of its own value. Where that is an expression over other values, the rows of the sequences inside come
--- first, one by one, and the row has the operands of the values that it may be. A number outside its table is in no
--- scope, stands for the declaration of its own number, and names a function without operands.
-use Rattle.std.specs.Prelude.{Bool, ◌&&◌, not, nat_le, nat_lt, List, [], ◌∷◌, ◌++◌, Option, None, Some, map, slice_get}
-use Rattle.std.specs.Prelude.{option_and_then, if◌then◌else◌}
+-- first, one by one, and the row has the operands of the values that it may be. A number outside the table of functions
+-- names a function without operands.
+use Rattle.std.specs.Prelude.{Bool, ◌&&◌, not, List, [], ◌∷◌, ◌++◌, Option, None, Some, map, if◌then◌else◌}
 use Rattle.std.specs.List.{flat_map}
-use Rattle.std.specs.Option.{option_map_or}
 use Rattle.std.specs.Result.{result_unwrap_or}
 use Rattle.rc_hir.specs.Environment.{has_no_alias_signature, is_hook}
-use Rattle.rc_hir.specs.Model.{Environment, InstructionValue, MutableRange, Place, PlaceOrSpread}
+use Rattle.rc_hir.specs.Model.{Environment, InstructionValue, Place, PlaceOrSpread}
 use Rattle.rc_hir.specs.Operands.{argument_places, operands}
 use Rattle.rc_hir.specs.declared.instruction.InstructionValue.TheVariants as kind
-use Rattle.rc_names.specs.Numbers.{DeclarationId, EvaluationOrder, IdentifierId, ScopeId, to_id}
+use Rattle.rc_names.specs.Numbers.{EvaluationOrder, IdentifierId}
 use Rattle.rc_tree.specs.Model.{ReactiveInstruction, ReactiveValue}
 use Rattle.rc_tree.specs.declared.value.ReactiveValue.TheFolds.{para-ReactiveInstruction, para-ReactiveValue}
 use Rattle.rc_tree.specs.declared.value.ReactiveValue.TheOpen as value
@@ -21,14 +19,9 @@ use Rattle.rc_tree.specs.declared.value.ReactiveValue.TheVariants as reactive_va
 use Rattle.rc_memo.specs.Table.{levels_of, memo_rule, own, recorded_of, written_levels}
 use Rattle.rc_memo.specs.declared.event.MemoEvent.{MemoEvent}
 use Rattle.rc_memo.specs.declared.event.MemoEvent.TheVariants as events
-use Rattle.rc_memo.specs.declared.event.Mention.{Mention}
-use Rattle.rc_memo.specs.declared.event.Target.{Target}
 use Rattle.rc_memo.specs.declared.level.MemoizationLevel.TheVariants.{Conditional}
 use Rattle.rc_memo.specs.declared.table.LevelGiven.{LevelGiven}
-
--- the id is in the range: not before its start, and before its end
-abbrev pub is_in_range : EvaluationOrder → MutableRange → Bool
-is_in_range id range = nat_le range.start.0 id.0 && nat_lt id.0 range.end.0
+use Rattle.rc_memo.specs.Mentions.{declaration_of, mention_of, target_of}
 
 -- the instruction of a value, where it is no expression over other values
 abbrev pub instruction_of : ReactiveValue → Option InstructionValue
@@ -51,32 +44,6 @@ both_parts first second = record {
 }
 
 module _ (env : Environment) where
-  -- the declaration of an identifier
-  abbrev pub declaration_of : IdentifierId → DeclarationId
-  declaration_of number =
-      option_map_or (λ identifier. identifier.declaration_id) (slice_get env.identifiers number.0) (to_id number.0)
-
-  -- a scope, where its range has the id
-  abbrev pub if_active : EvaluationOrder → ScopeId → Option ScopeId
-  if_active id scope = option_and_then (λ known. if is_in_range id known.range then Some scope else None)
-      (slice_get env.scopes scope.0)
-
-  -- the scope of an identifier, where it is active at the id
-  abbrev pub active_scope : EvaluationOrder → IdentifierId → Option ScopeId
-  active_scope id number = option_and_then (if_active id)
-      (option_and_then (λ identifier. identifier.scope) (slice_get env.identifiers number.0))
-
-  -- a place in a row of that id
-  unfoldable pub mention_of : EvaluationOrder → Place → Mention
-  mention_of id place = record {
-    name = declaration_of place.identifier;
-    scope = active_scope id place.identifier;
-  }
-
-  -- a place with its level
-  unfoldable pub target_of : EvaluationOrder → LevelGiven → Target
-  target_of id given = record { mention = mention_of id given.place; level = given.level }
-
   -- all operands of an instruction
   unfoldable pub places_read : InstructionValue → List Place
   places_read instruction = result_unwrap_or (operands env.functions instruction) []
@@ -88,13 +55,13 @@ module _ (env : Environment) where
   -- a row that loads a local name defines its target as that name
   unfoldable pub load_events : Option Place → InstructionValue → List MemoEvent
   load_events (Some target) (kind.LoadLocal place span) =
-      events.Load (declaration_of target.identifier) (declaration_of place.identifier) ∷ []
+      events.Load (declaration_of env target.identifier) (declaration_of env place.identifier) ∷ []
   load_events _ _ = []
 
   -- each argument escapes
   abbrev pub argument_events : PlaceOrSpread → List MemoEvent
   argument_events argument =
-      map (λ place. events.Escape (declaration_of place.identifier)) (argument_places argument)
+      map (λ place. events.Escape (declaration_of env place.identifier)) (argument_places argument)
 
   -- a call of a hook may keep its arguments, unless its signature excludes it
   abbrev pub lets_escape : IdentifierId → Bool
@@ -110,7 +77,7 @@ module _ (env : Environment) where
 
   -- a row with these operands and levels
   abbrev pub row_event : EvaluationOrder → List Place → List LevelGiven → MemoEvent
-  row_event id places given = events.Row (map (mention_of id) places) (map (target_of id) given)
+  row_event id places given = events.Row (map (mention_of env id) places) (map (target_of env id) given)
 
   -- what a row tells of itself, from the operands that are recorded of its value
   unfoldable pub own_events : EvaluationOrder → Option Place → Option InstructionValue → List Place → List MemoEvent

@@ -2,6 +2,7 @@
 
 ghost use Rattle.std.specs.Prelude.{◌≡◌, [], ◌∷◌, ◌++◌, IfOk, OnOk, map, if◌then◌else◌};
 ghost use Rattle.std.specs.List.{flat_map};
+ghost use Rattle.rc_memo.specs.Mentions as mentioned;
 ghost use Rattle.rc_memo.specs.RowEvents as spec;
 ghost use Rattle.rc_memo.specs.inside.RowsAdded.{AddsParts, AddsWalked};
 
@@ -25,7 +26,7 @@ pub struct RowReader<'a> {
 
 /// Returns whether the id is in the range, whose end is outside.
 fn is_in_range(id: EvaluationOrder, range: MutableRange) -> bool
-    ensures { result ≡ spec.is_in_range id range }
+    ensures { result ≡ mentioned.is_in_range id range }
 {
     range.start.0 <= id.0 && id.0 < range.end.0
 }
@@ -33,7 +34,7 @@ fn is_in_range(id: EvaluationOrder, range: MutableRange) -> bool
 impl<'a> RowReader<'a> {
     /// Returns the declaration of an identifier.
     pub fn declaration(&self, number: IdentifierId) -> DeclarationId
-        ensures { result ≡ spec.declaration_of self.now.env.now number }
+        ensures { result ≡ mentioned.declaration_of self.now.env.now number }
     {
         match self.env.identifiers.get(number) {
             Some(identifier) => identifier.declaration_id,
@@ -43,7 +44,7 @@ impl<'a> RowReader<'a> {
 
     /// Returns the scope, where its range has the id.
     fn if_active(&self, id: EvaluationOrder, scope: ScopeId) -> Option<ScopeId>
-        ensures { result ≡ spec.if_active self.now.env.now id scope }
+        ensures { result ≡ mentioned.if_active self.now.env.now id scope }
     {
         match self.env.scopes.get(scope) {
             Some(known) => if is_in_range(id, known.range) {
@@ -57,16 +58,16 @@ impl<'a> RowReader<'a> {
 
     /// Returns the scope of an identifier, where it is active at the id.
     fn active_scope(&self, id: EvaluationOrder, number: IdentifierId) -> Option<ScopeId>
-        ensures { result ≡ spec.active_scope self.now.env.now id number }
+        ensures { result ≡ mentioned.active_scope self.now.env.now id number }
     {
         let identifier = self.env.identifiers.get(number)?;
         let scope = identifier.scope?;
         self.if_active(id, scope)
     }
 
-    #[tactic(auto, unfolding(crate::specs::RowEvents::mention_of))]
+    #[tactic(auto, unfolding(crate::specs::Mentions::mention_of))]
     fn mention(&self, id: EvaluationOrder, place: Place) -> Mention
-        ensures { result ≡ spec.mention_of self.now.env.now id place }
+        ensures { result ≡ mentioned.mention_of self.now.env.now id place }
     {
         Mention {
             name: self.declaration(place.identifier),
@@ -74,9 +75,9 @@ impl<'a> RowReader<'a> {
         }
     }
 
-    #[tactic(auto, unfolding(crate::specs::RowEvents::target_of))]
+    #[tactic(auto, unfolding(crate::specs::Mentions::target_of))]
     fn target(&self, id: EvaluationOrder, given: LevelGiven) -> Target
-        ensures { result ≡ spec.target_of self.now.env.now id given }
+        ensures { result ≡ mentioned.target_of self.now.env.now id given }
     {
         Target {
             mention: self.mention(id, given.place),
@@ -89,7 +90,7 @@ impl<'a> RowReader<'a> {
         id: EvaluationOrder,
         places: &List<Place>,
     ) -> Result<List<Mention>, AllocError>
-        ensures { IfOk result (λ mentions. mentions ≡ map (spec.mention_of self.now.env.now id) places.now) }
+        ensures { IfOk result (λ mentions. mentions ≡ map (mentioned.mention_of self.now.env.now id) places.now) }
     {
         let mut mentions = List::new(self.alloc);
         for place in places.as_slice() {
@@ -103,7 +104,7 @@ impl<'a> RowReader<'a> {
         id: EvaluationOrder,
         given: &List<LevelGiven>,
     ) -> Result<List<Target>, AllocError>
-        ensures { IfOk result (λ targets. targets ≡ map (spec.target_of self.now.env.now id) given.now) }
+        ensures { IfOk result (λ targets. targets ≡ map (mentioned.target_of self.now.env.now id) given.now) }
     {
         let mut targets = List::new(self.alloc);
         for one in given.as_slice() {

@@ -5,7 +5,8 @@
 
 ghost use Rattle.std.specs.Prelude.{◌≡◌, [], ◌∷◌, ◌++◌, IfOk, OnOk};
 ghost use Rattle.std.specs.List.{flat_map};
-ghost use Rattle.rc_memo.specs.RowEvents.{declaration_of, walked_events};
+ghost use Rattle.rc_memo.specs.Mentions.{declaration_of};
+ghost use Rattle.rc_memo.specs.RowEvents.{walked_events};
 ghost use Rattle.rc_memo.specs.TreeEvents.{events_in, events_of_parts, reassigned_by, reassigned_events};
 ghost use Rattle.rc_memo.specs.declared.event.MemoEvent.TheVariants as kinds;
 ghost use Rattle.rc_names.specs.Numbers.{EvaluationOrder as Order};

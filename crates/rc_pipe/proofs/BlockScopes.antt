@@ -3,7 +3,7 @@ use Rattle.std.proofs.Common.{◌≡◌, ◌∙◌, List, ◌∷◌, ◌++◌, r
 use Rattle.std.proofs.lemmas.List.{map-append}
 use Rattle.rc_names.specs.Numbers.{ScopeId}
 use Rattle.rc_checks.specs.ScopeBlocks.{Contents, ScopeBlock, contents_of_parts, scopes_in, scopes_of}
-use Rattle.rc_escape.specs.NotEscaping.{block_parts, block_scopes}
+use Rattle.rc_escape.specs.Outputs.{block_parts, block_scopes}
 use Rattle.rc_tree.proofs.CollectedRelated.{RelatedParts, collected_related}
 use Rattle.rc_tree.specs.Model.{ReactiveBlock}
 

@@ -10,7 +10,7 @@ use Rattle.rc_runs.proofs.OneTree.{spells_one_function}
 use Rattle.rc_build.specs.BuildCauses.{IsBuildCause}
 use Rattle.rc_escape.proofs.OneRecord.{one_record}
 use Rattle.rc_escape.specs.MemoSet.{scopes_without_record}
-use Rattle.rc_escape.specs.NotEscaping.{HasWholeRecord, LacksNode, LacksScope}
+use Rattle.rc_escape.specs.WholeRecord.{HasWholeRecord, LacksNode, LacksScope}
 use Rattle.rc_memo.specs.Events.{facts_told}
 use Rattle.rc_memo.specs.Facts.{first_missing}
 use Rattle.rc_memo.specs.Record.{param_name}

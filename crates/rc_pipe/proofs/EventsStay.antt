@@ -1,13 +1,13 @@
 -- Label pruning keeps what the parts of a tree tell, and so the memo record.
-use Rattle.std.proofs.Common.{◌≡◌, ◌∙◌, Bool, true, false, [], ◌∷◌, None, Some, if◌then◌else◌, map, refl}
-use Rattle.std.proofs.Common.{sym, ap}
+use Rattle.std.proofs.Common.{◌≡◌, ◌∙◌, Bool, true, false, [], ◌∷◌, None, Some, if◌then◌else◌, map, refl, sym, ap}
 use Rattle.std.specs.List.{flat_map}
 use Rattle.rc_hir.specs.Model.{Environment}
 use Rattle.rc_names.specs.Numbers.{DeclarationId, ScopeId, same_id}
 use Rattle.rc_checks.specs.Labels.{IsWithoutUnusedLabels, Targets, flattened, in_place_of, is_named, label_rules}
 use Rattle.rc_checks.specs.Labels.{targets_behind}
 use Rattle.rc_escape.proofs.RebuiltRelated.{RelatesRules, rebuilt_related, stands}
-use Rattle.rc_escape.specs.NotEscaping.{IsNeededOutput, LacksNode, LacksScope}
+use Rattle.rc_escape.specs.WholeRecord.{LacksNode, LacksScope}
+use Rattle.rc_escape.specs.NotEscaping.{IsNeededOutput}
 use Rattle.rc_memo.specs.Events.{definitions_told, escaping_in, facts_told, loads_in, scopes_in}
 use Rattle.rc_memo.specs.Facts.{distinct, first_missing, nodes_told}
 use Rattle.rc_memo.specs.Record.{IsRecordOf, param_name, recorded_scopes}
@@ -18,8 +18,7 @@ use Rattle.rc_tree.proofs.CollectedLemmas.{collected-Scope, collected-Terminal}
 use Rattle.rc_tree.proofs.JoiningLemmas.{around_monoid, lists_monoid}
 use Rattle.rc_tree.specs.Collected.{Contributions, collected, collected_list, collected_statement, collected_terminal}
 use Rattle.rc_tree.specs.Joining.{IsMonoid, lists}
-use Rattle.rc_tree.specs.Model.{ReactiveBlock, ReactiveFunction, ReactiveStatement}
-use Rattle.rc_tree.specs.Model.{ReactiveTerminalStatement}
+use Rattle.rc_tree.specs.Model.{ReactiveBlock, ReactiveFunction, ReactiveStatement, ReactiveTerminalStatement}
 use Rattle.rc_tree.specs.Unrolled.{UnrolledTerminal}
 use Rattle.rc_tree.specs.declared.statement.ReactiveStatement.TheOpen as layer
 use Rattle.rc_tree.specs.declared.statement.ReactiveStatement.TheVariants as reactive

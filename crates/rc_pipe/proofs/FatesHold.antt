@@ -11,14 +11,15 @@ use Rattle.rc_pipe.specs.declared.fates.Fate.{Fate}
 use Rattle.rc_pipe.specs.declared.fates.Fate.TheVariants.{Kept, NotEscaping, Unused, MergedInto, DissolvedInto}
 use Rattle.rc_pipe.specs.declared.fates.Fate.TheVariants.{AlwaysInvalidating}
 use Rattle.rc_pipe.specs.declared.fates.ScopeFate.{ScopeFate}
-use Rattle.rc_pipe.specs.Fates.{AreFates, AreKeptExactly, DoesInvalidate, IsFate, IsNotEscaping, IsUnused}
-use Rattle.rc_pipe.specs.Fates.{IsUsed}
+use Rattle.rc_pipe.specs.Fates.{AreFates, AreKeptExactly, DoesInvalidate, IsFate, IsNotEscaping, IsUnused, IsUsed}
 use Rattle.rc_pipe.specs.inside.ListedFates.{AreListedFates, HasListedFate, IsListedFate, ScopeLists, left_scopes}
 use Rattle.rc_pipe.specs.inside.PrunedParts.{IsPrunedWith, as_passes}
 use Rattle.rc_pipe.specs.Passes.{PassState, IsPruned}
 use Rattle.rc_pipe.specs.declared.passes.LeftScopes.{LeftScopes}
 use Rattle.rc_memo.specs.Record.{IsRecordOf}
-use Rattle.rc_escape.specs.NotEscaping.{HasWholeRecord, IsNeededOutput, is_dissolved, staying_scopes}
+use Rattle.rc_escape.specs.Outputs.{is_dissolved, staying_scopes}
+use Rattle.rc_escape.specs.WholeRecord.{HasWholeRecord}
+use Rattle.rc_escape.specs.NotEscaping.{IsNeededOutput}
 use Rattle.rc_pipe.proofs.EventsStay.{events_stay, same_needed, same_record}
 use Rattle.rc_pipe.proofs.BlockScopes.{same_scopes}
 use Rattle.rc_pipe.proofs.EndedScopes.{ended_scopes}

@@ -1,7 +1,6 @@
 -- Fates that are listed from an ordered set of scopes.
 use Rattle.std.proofs.Common.{◌≡◌, ◌∙◌, ◌↔◌, ℕ, zero, suc, List, [], ◌∷◌, ◌++◌, append_assoc, map, get_or, ap, subst}
-use Rattle.std.proofs.Common.{refl, sym}
-use Rattle.std.proofs.Common.{arith, true, false, IsTrue, IfOk, Result, Ok, Err, All, Contains}
+use Rattle.std.proofs.Common.{refl, sym, arith, true, false, IsTrue, IfOk, Result, Ok, Err, All, Contains}
 use Rattle.std.proofs.lemmas.List.{map-append}
 use Rattle.std.proofs.lemmas.List.Elements.{All-append}
 use Rattle.std.specs.declared.alloc.AllocError.{AllocError}

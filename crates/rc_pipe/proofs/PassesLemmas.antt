@@ -16,7 +16,7 @@ use Rattle.rc_checks.specs.Membership.Visits.{visits_of}
 use Rattle.rc_pipe.specs.Headline.{IsAccepted, IsCause}
 use Rattle.rc_pipe.specs.Passes.{AreInside, EndsOutside, IsPassFault, PassState, state}
 use Rattle.rc_pipe.specs.inside.PrunedParts.{HasScopesPruned, IsChecked}
-use Rattle.rc_escape.specs.NotEscaping.{IsEscapeFault}
+use Rattle.rc_escape.specs.WholeRecord.{IsEscapeFault}
 use Rattle.rc_memo.specs.TreeEvents.{events_in}
 use Rattle.rc_pipe.proofs.EventsStay.{events_stay, same_node, same_scope}
 use Rattle.rc_pipe.proofs.RunsElsewhere.{runs_with_scopes}

@@ -4,15 +4,15 @@ use Rattle.rc_hir.specs.Model.{Environment, InstructionValue, Place, ReactiveSco
 use Rattle.rc_hir.specs.declared.instruction.InstructionValue.TheVariants as kinds
 use Rattle.rc_names.specs.Numbers.{EvaluationOrder}
 use Rattle.rc_tree.specs.Model.{ReactiveFunction, ReactiveLabel}
-use Rattle.rc_runs.specs.BodyRun.{Completion, Spot, IsBodyRun, RunsAfter, RunsAlternate, RunsCases, RunsChosen, RunsList}
-use Rattle.rc_runs.specs.BodyRun.{RunsLoop, RunsStatement, absent, and_then, break_implicit, break_labeled, break_unlabeled}
+use Rattle.rc_runs.specs.Completion.{Completion}
+use Rattle.rc_runs.specs.BodyRun.{Spot, IsBodyRun, RunsAfter, RunsAlternate, RunsCases, RunsChosen, RunsList, RunsLoop}
+use Rattle.rc_runs.specs.BodyRun.{RunsStatement, absent, and_then, break_implicit, break_labeled, break_unlabeled}
 use Rattle.rc_runs.specs.BodyRun.{chosen_here, chosen_later, continue_implicit, continue_labeled, continue_unlabeled}
 use Rattle.rc_runs.specs.BodyRun.{falls_into, goes_on, in_before, in_case, in_do_while, in_for_in, in_for_of, in_init}
 use Rattle.rc_runs.specs.BodyRun.{in_handler, in_label, in_pruned_scope, in_scope, in_test, in_try, in_while}
-use Rattle.rc_runs.specs.BodyRun.{leaves_case, leaves_list}
-use Rattle.rc_runs.specs.BodyRun.{leaves_loop, next_turn, no_more_cases, nothing, nothing_before, past_before, past_cases}
-use Rattle.rc_runs.specs.BodyRun.{past_init, present, returned, row, stopped, test_fails, test_holds, thrown, took_arm}
-use Rattle.rc_runs.specs.BodyRun.{took_other}
+use Rattle.rc_runs.specs.BodyRun.{leaves_case, leaves_list, leaves_loop, next_turn, no_more_cases, nothing}
+use Rattle.rc_runs.specs.BodyRun.{nothing_before, past_before, past_cases, past_init, present, returned, row, stopped}
+use Rattle.rc_runs.specs.BodyRun.{test_fails, test_holds, thrown, took_arm, took_other}
 use Rattle.rc_runs.specs.Event.{Event, End}
 use Rattle.rc_runs.specs.LoopParts.{LoopParts}
 use Rattle.rc_runs.specs.AnsweredTest.{answers_test}

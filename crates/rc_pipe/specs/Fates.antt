@@ -10,7 +10,7 @@ use Rattle.rc_pipe.specs.declared.fates.Fate.TheVariants.{AlwaysInvalidating}
 use Rattle.rc_pipe.specs.declared.fates.ScopeFate.{ScopeFate}
 use Rattle.rc_checks.specs.ScopeBlocks.{ScopeBlock, scope_blocks, scopes_in}
 use Rattle.rc_checks.specs.UnusedScopes.{stays}
-use Rattle.rc_escape.specs.NotEscaping.{is_dissolved}
+use Rattle.rc_escape.specs.Outputs.{is_dissolved}
 use Rattle.rc_flow.specs.AlwaysInvalidating.{IsInvalidating}
 use Rattle.rc_pipe.specs.Passes.{PassState, IsPruned}
 

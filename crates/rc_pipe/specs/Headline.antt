@@ -15,7 +15,9 @@ use Rattle.rc_runs.specs.BodyRun.{IsBodyRun}
 use Rattle.rc_runs.specs.EarlyReturns.{first_early_return, NoEarlyReturnSet}
 use Rattle.rc_build.specs.BuildCauses.{SpellsNone}
 use Rattle.rc_build.specs.RuleFacts.{IsLabeledValue, RuleFact}
-use Rattle.rc_escape.specs.NotEscaping.{HasWholeRecord, IsNeededOutput, LacksNode, LacksScope, staying_scopes}
+use Rattle.rc_escape.specs.Outputs.{staying_scopes}
+use Rattle.rc_escape.specs.WholeRecord.{HasWholeRecord, LacksNode, LacksScope}
+use Rattle.rc_escape.specs.NotEscaping.{IsNeededOutput}
 use Rattle.rc_pipe.specs.Causes.{HasRoom}
 use Rattle.rc_pipe.specs.Fates.{AreFates, AreKeptExactly}
 use Rattle.rc_pipe.specs.Passes.{AreInside, EndsOutside, IsPruned, state}

@@ -9,7 +9,8 @@ use Rattle.rc_checks.specs.Membership.{IsInside, IsLastOutside}
 use Rattle.rc_checks.specs.ScopeBlocks.{scope_blocks, scopes_in}
 use Rattle.rc_checks.specs.UnusedScopes.{IsWithoutUnusedScopes}
 use Rattle.rc_checks.specs.Membership.Visits.{visits_of}
-use Rattle.rc_escape.specs.NotEscaping.{IsWithoutNotEscaping, LacksNode, LacksScope}
+use Rattle.rc_escape.specs.WholeRecord.{LacksNode, LacksScope}
+use Rattle.rc_escape.specs.NotEscaping.{IsWithoutNotEscaping}
 use Rattle.rc_flow.specs.AlwaysInvalidating.{IsWithoutInvalidating}
 use Rattle.rc_flow.specs.ReactiveNames.{HasReactiveDependencies}
 

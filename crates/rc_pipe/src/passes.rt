@@ -1,7 +1,7 @@
 //! The checks and passes over a spelled function, in their order.
 
 ghost use Rattle.std.specs.Prelude.{◌≡◌, ◌↔◌, ◌⊎◌, List as Items, IfErr, IfOk, OnOk};
-ghost use Rattle.rc_escape.specs.NotEscaping.{IsEscapeFault};
+ghost use Rattle.rc_escape.specs.WholeRecord.{IsEscapeFault};
 ghost use Rattle.rc_hir.specs.Model.{HirFunction};
 ghost use Rattle.rc_hir.specs.Names.{NamesInTables};
 ghost use Rattle.rc_hir.specs.declared.fault.Fault.TheVariants as faults;

@@ -7,7 +7,7 @@ use Rattle.rc_pipe.specs.declared.pipeline.Pruned.{Pruned}
 use Rattle.rc_pipe.specs.Headline.{HasAnswer, IsAccepted, IsCause}
 use Rattle.rc_doc.specs.declared.document.Doc.{Doc}
 use Rattle.rc_program.specs.FaultLine.{fault_name}
-use Rattle.rc_program.specs.Status.{IsAnswerable}
+use Rattle.rc_program.specs.DueStatus.{IsAnswerable}
 
 -- a graph that has an answer gets it, unless memory runs out
 pub no_answer_of : (doc : Doc) (result : Result Pruned Fault) (fault : Fault) → result ≡ Err fault

@@ -11,9 +11,8 @@ use Rattle.rc_program.specs.declared.status.Status.{Status}
 use Rattle.rc_program.specs.declared.status.Status.TheVariants.{Done, Usage, NotJson, NotDoc, Refused, ReadFault}
 use Rattle.rc_program.specs.declared.status.Status.TheVariants.{WriteFault, TooLarge, NoMemory}
 use Rattle.rc_program.specs.Device.{IsReadToEnd}
-use Rattle.rc_program.specs.Status.{IsTree, IsJson, IsNoJson, IsJsonOfDoc, IsJsonOfOther, IsAnswerable, IsDue}
-use Rattle.rc_program.specs.Status.{CanReplace}
-use Rattle.rc_program.specs.Status.{HasTakenTooMany, HasReadDue, HasPrinted, IsOutcome}
+use Rattle.rc_program.specs.DueStatus.{IsJson, IsNoJson, IsJsonOfDoc, IsJsonOfOther, IsAnswerable, IsDue, CanReplace}
+use Rattle.rc_program.specs.Status.{IsTree, HasTakenTooMany, HasReadDue, HasPrinted, IsOutcome}
 
 module _ (bytes : List ℕ) where
   -- the bytes are JSON of one value

@@ -7,4 +7,5 @@ pub mod Lines
 pub mod FunctionLines
 pub mod FaultLine
 pub mod Stop
+pub mod DueStatus
 pub mod Status

@@ -3,7 +3,8 @@
 ghost use Rattle.std.specs.Prelude.{◌≡◌, ◌↔◌, ◌⊎◌, ℕ, List, Some};
 ghost use Rattle.rc_program.specs.declared.status.Status.{Status};
 ghost use Rattle.rc_program.specs.Device.{HasRisen};
-ghost use Rattle.rc_program.specs.Status.{IsDue, CanReplace, IsTree, IsOutcome};
+ghost use Rattle.rc_program.specs.DueStatus.{IsDue, CanReplace};
+ghost use Rattle.rc_program.specs.Status.{IsTree, IsOutcome};
 ghost use Rattle.rc_program.specs.Stop.{status_from};
 
 use crate::answer::answer_for;

@@ -19,9 +19,12 @@ use Rattle.rc_runs.specs.GraphRun.{Edge, HasNoUnreachableSuccessor, GraphRun, Gr
 use Rattle.rc_runs.specs.GraphRun as graph
 use Rattle.rc_runs.specs.PlainTree.{Statements, Nil}
 use Rattle.rc_runs.specs.ListContext.{ListContext, inside}
-use Rattle.rc_runs.specs.Grammar.{label_of, falls_to, rows_before, SpellsList, SpellsTerminal, SpellsRest}
+use Rattle.rc_runs.specs.Fallthrough.{label_of, falls_to}
+use Rattle.rc_runs.specs.SimpleStatements.{rows_before}
+use Rattle.rc_runs.specs.Grammar.{SpellsList, SpellsTerminal, SpellsRest}
 use Rattle.rc_runs.specs.Grammar as grammar
-use Rattle.rc_runs.specs.BodyRun.{Completion, Normal, Ended, leaves, caught, RunsList, RunsAfter}
+use Rattle.rc_runs.specs.Completion.{Completion, Normal, Ended, leaves, caught}
+use Rattle.rc_runs.specs.BodyRun.{RunsList, RunsAfter}
 use Rattle.rc_runs.specs.BodyRun as body
 use Rattle.rc_runs.proofs.GraphLemmas.{usable_block-at, ends_unreachable-at}
 use Rattle.rc_runs.proofs.SetIds.{usable_block-set}

@@ -9,9 +9,10 @@ use Rattle.rc_runs.specs.Graph.{Block, block_at, ends_unreachable}
 use Rattle.rc_runs.specs.GraphRun.{branch_true, branch_false, goes_to, HasNoUnreachableSuccessor}
 use Rattle.rc_runs.specs.PlainTree.{Value}
 use Rattle.rc_runs.specs.ListContext.{ValueContext}
-use Rattle.rc_runs.specs.ValueGrammar.{ValueEnd, GoesTo, Nested, SpellsValue, named_test, last_block, last_throw}
-use Rattle.rc_runs.specs.ValueGrammar.{may_throw, value_row, SpellsNested, sequence_value, ternary_value}
-use Rattle.rc_runs.specs.ValueGrammar.{logical_value, optional_value, SpellsTest}
+use Rattle.rc_runs.specs.ValueEnd.{ValueEnd, GoesTo}
+use Rattle.rc_runs.specs.LoopValues.{SpellsTest}
+use Rattle.rc_runs.specs.ValueGrammar.{Nested, SpellsValue, named_test, last_block, last_throw, may_throw, value_row}
+use Rattle.rc_runs.specs.ValueGrammar.{SpellsNested, sequence_value, ternary_value, logical_value, optional_value}
 use Rattle.rc_runs.proofs.GraphLemmas.{usable_block-at}
 
 module _ (hir : HirFunction) where

@@ -22,11 +22,12 @@ use Rattle.rc_runs.specs.ListContext.{ListContext, outermost}
 use Rattle.rc_runs.specs.LoopParts.{LoopBlocks, LoopParts}
 use Rattle.rc_runs.specs.SwitchCases.{case_context}
 use Rattle.rc_runs.specs.Frames.{is_jump_target}
-use Rattle.rc_runs.specs.Grammar.{unlabeled, falls_to, SpellsList, SpellsTerminal, SpellsStatement, SpellsCases}
+use Rattle.rc_runs.specs.SimpleStatements.{unlabeled}
+use Rattle.rc_runs.specs.Grammar.{SpellsList, SpellsTerminal, SpellsStatement, SpellsCases}
 use Rattle.rc_runs.specs.Grammar as grammar
 use Rattle.rc_runs.specs.Spelled.{SpellsBody, Spells}
-use Rattle.rc_runs.specs.BodyRun.{Completion, Normal, Ended, leaves, row_completion, Spot, RunsList, RunsStatement}
-use Rattle.rc_runs.specs.BodyRun.{RunsLoop, RunsCases, RunsChosen, IsBodyRun}
+use Rattle.rc_runs.specs.Completion.{Completion, Ended}
+use Rattle.rc_runs.specs.BodyRun.{Spot, RunsList, RunsStatement, RunsLoop, RunsCases, RunsChosen, IsBodyRun}
 use Rattle.rc_runs.specs.BodyRun as body
 use Rattle.rc_runs.specs.ValueRun.{unset_row, set_row}
 use Rattle.rc_names.proofs.NumbersLemmas.{same_id-eq}

@@ -19,8 +19,10 @@ use Rattle.rc_runs.specs.GraphRun as graph
 use Rattle.rc_runs.specs.PlainTree.{Statements, Cases}
 use Rattle.rc_runs.specs.ListContext.{ListContext, inside}
 use Rattle.rc_runs.specs.SwitchCases.{is_kept, kept_cases, has_one_default, case_context}
-use Rattle.rc_runs.specs.Grammar.{label_of, falls_to, SpellsList, SpellsCases}
-use Rattle.rc_runs.specs.BodyRun.{Completion, Normal, leaves, caught, has_default}
+use Rattle.rc_runs.specs.Fallthrough.{label_of, falls_to}
+use Rattle.rc_runs.specs.Grammar.{SpellsList, SpellsCases}
+use Rattle.rc_runs.specs.Completion.{Completion, Normal, leaves, caught}
+use Rattle.rc_runs.specs.BodyRun.{has_default}
 use Rattle.rc_runs.proofs.FramesLemmas.{Fits, fits_cases, leaving, aims_labeled, aims_cases}
 use Rattle.rc_runs.proofs.KeptCases.{in_any, same_default, is_there, leads_on, kept_or_past}
 use Rattle.rc_runs.proofs.AliveBlocks.{AllAlive}

@@ -12,7 +12,8 @@ use Rattle.rc_runs.specs.PlainTree.{Value, Statements, Nil, Cons, Statement, Row
 use Rattle.rc_runs.specs.PlainTree.{ScopeStatement, PrunedScopeStatement, TreeTerminal, Break, Continue, Return, Throw}
 use Rattle.rc_runs.specs.PlainTree.{Switch, DoWhile, While, For, ForOf, ForIn, If, Label, Try, Alternate, Absent}
 use Rattle.rc_runs.specs.PlainTree.{Present, Cases, NoCases, Case}
-use Rattle.rc_runs.specs.BodyRun.{Ended, RunsList, row, IsBodyRun}
+use Rattle.rc_runs.specs.Completion.{Ended}
+use Rattle.rc_runs.specs.BodyRun.{RunsList, row, IsBodyRun}
 use Rattle.rc_runs.specs.Erase.{erased_block, erased}
 use Rattle.rc_runs.proofs.PlainLists.{alone, labeled}
 use Rattle.rc_runs.proofs.ErasedValueRuns.{value_there, value_back, row_there, row_back}

@@ -10,8 +10,7 @@ use Rattle.rc_runs.specs.PlainTree.{PrunedScopeStatement, TreeTerminal, Break, C
 use Rattle.rc_runs.specs.PlainTree.{While, For, ForOf, ForIn, If, Label, Try, Alternate, Absent, Present, Cases}
 use Rattle.rc_runs.specs.PlainTree.{NoCases, Case}
 use Rattle.rc_runs.specs.TreeOf.{value_of, instructions_of, statements_of, statement_of, terminal_of, alternate_of}
-use Rattle.rc_runs.specs.TreeOf.{cases_of}
-use Rattle.rc_runs.specs.TreeOf.{block_of}
+use Rattle.rc_runs.specs.TreeOf.{cases_of, block_of}
 use Rattle.rc_runs.specs.Erase.{without_flag, erased_value, erased_row, erased_block, erased_statement, erased_case}
 use Rattle.rc_runs.specs.Erase.{erased_terminal, erased_statements}
 use Rattle.rc_runs.proofs.PlainLists.{alone, labeled, append, statements_of-append}

@@ -26,8 +26,7 @@ use Rattle.rc_runs.specs.PlainTree.{RowStatement, TerminalStatement, ScopeStatem
 use Rattle.rc_runs.specs.PlainTree.{Continue, Return, Throw, Switch, DoWhile, While, For, ForOf, ForIn, If, Label, Try}
 use Rattle.rc_runs.specs.PlainTree.{Alternate, Absent, Present, NoCases, Case}
 use Rattle.rc_runs.specs.TreeOf.{value_of, instructions_of, statements_of, statement_of, terminal_of, alternate_of}
-use Rattle.rc_runs.specs.TreeOf.{cases_of}
-use Rattle.rc_runs.specs.TreeOf.{block_of}
+use Rattle.rc_runs.specs.TreeOf.{cases_of, block_of}
 
 -- the part is the tree of a plain one
 abbrev pub IsPlain : {P X : Type 0} → (P → X) → X → Type 0

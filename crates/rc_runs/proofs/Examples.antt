@@ -7,12 +7,13 @@ use Rattle.rc_hir.specs.declared.instruction.InstructionValue.TheVariants as kin
 use Rattle.rc_hir.specs.declared.terminal.Terminal.TheVariants as terminals
 use Rattle.rc_tree.specs.Model.{ReactiveLabel}
 use Rattle.rc_tree.specs.declared.kind.ReactiveTerminalTargetKind.TheVariants.{Implicit, Labeled, Unlabeled}
-use Rattle.rc_runs.specs.BodyRun.{RunsStatement, Normal, and_then, leaves_list, goes_on, nothing, break_labeled}
+use Rattle.rc_runs.specs.Completion.{Normal}
+use Rattle.rc_runs.specs.BodyRun.{RunsStatement, and_then, leaves_list, goes_on, nothing, break_labeled}
 use Rattle.rc_runs.specs.BodyRun.{break_unlabeled, continue_implicit, continue_labeled, in_case, in_while, past_init}
 use Rattle.rc_runs.specs.BodyRun.{chosen_here, leaves_case, nothing_before, past_before, test_fails, test_holds}
 use Rattle.rc_runs.specs.BodyRun.{next_turn, leaves_loop, present}
 use Rattle.rc_runs.specs.Event.{Arm, Chose, Did, Open}
-use Rattle.rc_runs.specs.Grammar.{unlabeled}
+use Rattle.rc_runs.specs.SimpleStatements.{unlabeled}
 use Rattle.rc_runs.specs.GraphRun.{GraphRun, IsGraphRun, arrives, moved, then_arm}
 use Rattle.rc_runs.specs.PlainTree.{Value, Base, Break, Continue, Switch, While, For, TerminalStatement, Present}
 use Rattle.rc_runs.specs.PlainTree.{NoCases, Case}

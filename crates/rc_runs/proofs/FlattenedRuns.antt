@@ -18,8 +18,9 @@ use Rattle.rc_runs.specs.PlainTree.{Value, Base, Sequence, Rows, NoRows, Row}
 use Rattle.rc_runs.specs.LastRow.{last_value, after_rows}
 use Rattle.rc_runs.specs.ListContext.{ValueContext}
 use Rattle.rc_runs.specs.Flattened.{rows_join, flat_rows, final_value, loads_own, final_row, flattened}
-use Rattle.rc_runs.specs.ValueGrammar.{ValueEnd, SpellsValue, named_test, last_block, last_throw, may_throw, value_row}
-use Rattle.rc_runs.specs.ValueGrammar.{shown}
+use Rattle.rc_runs.specs.ValueEnd.{ValueEnd}
+use Rattle.rc_runs.specs.LoopValues.{shown}
+use Rattle.rc_runs.specs.ValueGrammar.{SpellsValue, named_test, last_block, last_throw, may_throw, value_row}
 use Rattle.rc_runs.specs.ValueRun.{Progress, Done, Short, Inside, goes_past, is_done, goes_past_row, is_row_of_test}
 use Rattle.rc_runs.specs.ValueRun.{RunsValue, value_stopped, quiet_value, did_value, did_and_stopped, in_sequence}
 use Rattle.rc_runs.specs.ValueRun.{in_condition, took_consequent, took_alternate, in_left, left_decides, took_right}

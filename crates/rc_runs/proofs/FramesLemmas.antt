@@ -14,9 +14,9 @@ use Rattle.rc_runs.specs.Frames.{break_block, fall_block, is_jump_target, is_loo
 use Rattle.rc_runs.specs.ListContext.{ListContext, outermost, inside, protected_by}
 use Rattle.rc_runs.specs.LoopParts.{LoopBlocks, turn_start, loop_frame}
 use Rattle.rc_runs.specs.SwitchCases.{case_context}
-use Rattle.rc_runs.specs.Grammar.{label_of, is_next, falls_to}
-use Rattle.rc_runs.specs.BodyRun.{Completion, Normal, BreakTo, BreakLoop, ContinueTo, ContinueLoop, Ended, leaves}
-use Rattle.rc_runs.specs.BodyRun.{caught, turns_again, left_loop}
+use Rattle.rc_runs.specs.Fallthrough.{label_of, is_next, falls_to}
+use Rattle.rc_runs.specs.Completion.{Completion, Normal, BreakTo, BreakLoop, ContinueTo, ContinueLoop, Ended, leaves}
+use Rattle.rc_runs.specs.Completion.{caught, turns_again, left_loop}
 use Rattle.rc_names.proofs.NumbersLemmas.{same_id-eq}
 
 -- if the frame is a loop's, no jump further out can name its break block

@@ -15,11 +15,12 @@ use Rattle.rc_runs.specs.GraphRun.{branch_true, branch_false, goes_to, goes_on a
 use Rattle.rc_runs.specs.GraphRun.{GraphRunAt, arrives, enters, IsGraphRun, GraphRun, stopped, moved, returned, thrown}
 use Rattle.rc_runs.specs.PlainTree.{Statements, Cons, Statement, If, Alternate, Present}
 use Rattle.rc_runs.specs.ListContext.{ListContext, outermost}
-use Rattle.rc_runs.specs.Grammar.{unlabeled, rows_before, SpellsList, SpellsTerminal, SpellsRest, from_block, returns}
-use Rattle.rc_runs.specs.Grammar.{throws, unreachable, breaks, continues, leaves_try, may_throw_last, may_throw}
-use Rattle.rc_runs.specs.Grammar.{branch_arms, branch_break, and_rest, no_rest, value_statement, has_rest}
+use Rattle.rc_runs.specs.SimpleStatements.{unlabeled, rows_before}
+use Rattle.rc_runs.specs.Grammar.{SpellsList, SpellsTerminal, SpellsRest, from_block, returns, throws, unreachable}
+use Rattle.rc_runs.specs.Grammar.{breaks, continues, leaves_try, may_throw_last, may_throw, branch_arms, branch_break}
+use Rattle.rc_runs.specs.Grammar.{and_rest, no_rest, value_statement, has_rest}
 use Rattle.rc_runs.specs.Spelled.{SpellsBody, Spells}
-use Rattle.rc_runs.specs.BodyRun.{Completion, Normal, BreakTo, BreakLoop, ContinueTo, ContinueLoop, Ended, leaves}
+use Rattle.rc_runs.specs.Completion.{Completion, Normal, BreakTo, BreakLoop, ContinueTo, ContinueLoop, Ended, leaves}
 use Rattle.rc_runs.specs.BodyRun.{RunsList, RunsStatement, IsBodyRun, stopped as stops, nothing, and_then, goes_on}
 use Rattle.rc_runs.specs.BodyRun.{leaves_list, returned as returns_here, thrown as throws_here, took_arm, took_other}
 use Rattle.rc_runs.specs.BodyRun.{present}

@@ -8,8 +8,9 @@ use Rattle.rc_runs.specs.PlainTree.{Statements, Present, Cases, Case as TreeCase
 use Rattle.rc_runs.specs.ListContext.{ListContext}
 use Rattle.rc_runs.specs.SwitchCases.{case_context}
 use Rattle.rc_runs.specs.Grammar.{SpellsList, SpellsCases, no_cases, one_case}
-use Rattle.rc_runs.specs.BodyRun.{Completion, Normal, leaves, RunsList, RunsCases, RunsChosen, present, no_more_cases}
-use Rattle.rc_runs.specs.BodyRun.{falls_into, leaves_case, chosen_here, chosen_later}
+use Rattle.rc_runs.specs.Completion.{Completion, Normal, leaves}
+use Rattle.rc_runs.specs.BodyRun.{RunsList, RunsCases, RunsChosen, present, no_more_cases, falls_into, leaves_case}
+use Rattle.rc_runs.specs.BodyRun.{chosen_here, chosen_later}
 use Rattle.rc_runs.proofs.FramesLemmas.{Fits, fits_cases, Aims, aims_cases, by_leaves}
 use Rattle.rc_runs.proofs.RunSize.{size_at, run_to}
 use Rattle.rc_runs.proofs.HandlerLemmas.{cases-handler, can_end}

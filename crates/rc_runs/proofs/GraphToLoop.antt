@@ -10,10 +10,10 @@ use Rattle.rc_tree.specs.Model.{ReactiveLabel}
 use Rattle.rc_runs.specs.ListContext.{ListContext, inside}
 use Rattle.rc_runs.specs.LoopParts.{LoopBlocks, LoopParts, first_of, turn_start, loop_frame}
 use Rattle.rc_runs.specs.Grammar.{SpellsBefore, no_value, some_value, SpellsTurns, turns}
-use Rattle.rc_runs.specs.BodyRun.{Completion, Ended, Spot, AtTurn, AtTest, AtBody, RunsList, RunsLoop, nothing_before}
-use Rattle.rc_runs.specs.BodyRun.{in_before, past_before, in_test, test_fails, test_holds, next_turn, leaves_loop}
-use Rattle.rc_runs.proofs.FramesLemmas.{Fits, fits_inside, leaving, loop_label, Rounded, to_turn, out_of_loop}
-use Rattle.rc_runs.proofs.FramesLemmas.{rounded}
+use Rattle.rc_runs.specs.Completion.{Completion, Ended}
+use Rattle.rc_runs.specs.BodyRun.{Spot, AtTurn, AtTest, AtBody, RunsList, RunsLoop, nothing_before, in_before}
+use Rattle.rc_runs.specs.BodyRun.{past_before, in_test, test_fails, test_holds, next_turn, leaves_loop}
+use Rattle.rc_runs.proofs.FramesLemmas.{Fits, fits_inside, leaving, loop_label, Rounded, to_turn, out_of_loop, rounded}
 use Rattle.rc_runs.proofs.RunSize.{size_at, run_to}
 use Rattle.rc_runs.proofs.HandlerLemmas.{can_end}
 use Rattle.rc_runs.proofs.Throws.{throw_behind, throw_room}

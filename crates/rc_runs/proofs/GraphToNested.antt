@@ -9,7 +9,8 @@ use Rattle.rc_runs.specs.Event.{Event, Arm, End}
 use Rattle.rc_runs.specs.Silent.{is_unset}
 use Rattle.rc_runs.specs.GraphRun.{branch_true, branch_false, GraphRunAt, GraphRun, stopped, moved}
 use Rattle.rc_runs.specs.PlainTree.{Value, Logical, Conditional, Sequence, Optional, NoRows, Row}
-use Rattle.rc_runs.specs.ValueGrammar.{Nested, SpellsSilentArm, SpellsShortArm, SpellsNested}
+use Rattle.rc_runs.specs.ShortArms.{SpellsSilentArm, SpellsShortArm}
+use Rattle.rc_runs.specs.ValueGrammar.{Nested, SpellsNested}
 use Rattle.rc_runs.specs.ValueRun.{Progress, Done, Short, goes_past_row, is_row_of_test, RunsValue, in_sequence}
 use Rattle.rc_runs.specs.ValueRun.{in_condition, took_consequent, took_alternate, in_left, left_decides, took_right}
 use Rattle.rc_runs.specs.ValueRun.{in_optional_test, took_short_end, took_rest, RunsRows, past_rows, past_row, in_row}

@@ -14,8 +14,10 @@ use Rattle.rc_runs.specs.GraphRun.{moved}
 use Rattle.rc_runs.specs.PlainTree.{Value, Base, NoRows}
 use Rattle.rc_runs.specs.ListContext.{is_current, ValueContext}
 use Rattle.rc_runs.specs.LastRow.{ends_value, last_value, rows_then, after_rows}
-use Rattle.rc_runs.specs.ValueGrammar.{ValueEnd, Nested, are_silent, SpellsSilentArm, silent_block, silent_chain}
-use Rattle.rc_runs.specs.ValueGrammar.{SpellsValue, SpellsNested, named_test, last_block, last_throw, may_throw, value_row}
+use Rattle.rc_runs.specs.ValueEnd.{ValueEnd}
+use Rattle.rc_runs.specs.ShortArms.{are_silent, SpellsSilentArm, silent_block, silent_chain}
+use Rattle.rc_runs.specs.ValueGrammar.{Nested, SpellsValue, SpellsNested, named_test, last_block, last_throw, may_throw}
+use Rattle.rc_runs.specs.ValueGrammar.{value_row}
 use Rattle.rc_runs.specs.ValueRun.{Done, RunsValue, quiet_value, RunsRows, past_rows, past_row}
 use Rattle.rc_runs.proofs.GraphLemmas.{one_held, usable_block-at}
 use Rattle.rc_runs.proofs.RunSize.{size, size_at}

@@ -19,15 +19,18 @@ use Rattle.rc_runs.specs.PlainTree.{Value, Statements, Statement, RowStatement, 
 use Rattle.rc_runs.specs.PlainTree.{PrunedScopeStatement, For, Switch, Try, Cases}
 use Rattle.rc_runs.specs.ListContext.{ListContext, inside, protected_by}
 use Rattle.rc_runs.specs.LoopParts.{LoopBlocks, LoopParts}
-use Rattle.rc_runs.specs.ValueGrammar.{Nested, SpellsSilentArm, SpellsShortArm}
+use Rattle.rc_runs.specs.ShortArms.{SpellsSilentArm, SpellsShortArm}
+use Rattle.rc_runs.specs.ValueGrammar.{Nested}
 use Rattle.rc_runs.specs.ValueRun.{set_row}
-use Rattle.rc_runs.specs.Grammar.{label_of, falls_to, SpellsList, SpellsStatement, SpellsCases, SpellsTurns, if_only}
-use Rattle.rc_runs.specs.Grammar.{if_else, label_statement, try_statement, scope_statement, pruned_scope_statement}
-use Rattle.rc_runs.specs.Grammar.{switch_statement}
-use Rattle.rc_runs.specs.Grammar.{while_loop, do_while_loop, for_loop, for_of_loop, for_in_loop, value_statement}
-use Rattle.rc_runs.specs.BodyRun.{Completion, Ended, caught, RunsList, RunsStatement, took_arm, took_other, in_case}
-use Rattle.rc_runs.specs.BodyRun.{past_cases, in_while, in_do_while, in_init, past_init, in_for_of, in_for_in, in_label}
-use Rattle.rc_runs.specs.BodyRun.{in_try, in_handler, row, in_scope, in_pruned_scope, absent, present}
+use Rattle.rc_runs.specs.Fallthrough.{label_of, falls_to}
+use Rattle.rc_runs.specs.Grammar.{SpellsList, SpellsStatement, SpellsCases, SpellsTurns, if_only, if_else}
+use Rattle.rc_runs.specs.Grammar.{label_statement, try_statement, scope_statement, pruned_scope_statement}
+use Rattle.rc_runs.specs.Grammar.{switch_statement, while_loop, do_while_loop, for_loop, for_of_loop, for_in_loop}
+use Rattle.rc_runs.specs.Grammar.{value_statement}
+use Rattle.rc_runs.specs.Completion.{Completion, Ended, caught}
+use Rattle.rc_runs.specs.BodyRun.{RunsList, RunsStatement, took_arm, took_other, in_case, past_cases, in_while}
+use Rattle.rc_runs.specs.BodyRun.{in_do_while, in_init, past_init, in_for_of, in_for_in, in_label, in_try, in_handler}
+use Rattle.rc_runs.specs.BodyRun.{row, in_scope, in_pruned_scope, absent, present}
 use Rattle.rc_names.proofs.NumbersLemmas.{same_id-eq}
 use Rattle.rc_runs.proofs.FramesLemmas.{IsApart, Fits, fits_inside, Aims, leaving, falls_to-next, caught-normal}
 use Rattle.rc_runs.proofs.FramesLemmas.{caught-ended, aims_labeled, aims_scope, aims_protected, fits_protected}

@@ -13,10 +13,10 @@ use Rattle.rc_runs.specs.GraphRun.{Edge, into_sequence, into_ternary, into_logic
 use Rattle.rc_runs.specs.GraphRun.{enters, GraphRun, stopped, moved, returned, thrown}
 use Rattle.rc_runs.specs.PlainTree.{Value}
 use Rattle.rc_runs.specs.ListContext.{ValueContext, part_context}
-use Rattle.rc_runs.specs.ValueGrammar.{ValueEnd, GoesTo, ChoosesBetween, Nested, SpellsValue, named_test, last_block}
-use Rattle.rc_runs.specs.ValueGrammar.{last_throw, may_throw, value_row, SpellsNested}
-use Rattle.rc_runs.specs.ValueGrammar.{sequence_value, ternary_value, logical_value, optional_value, shown, SpellsGoing}
-use Rattle.rc_runs.specs.ValueGrammar.{SpellsTest}
+use Rattle.rc_runs.specs.ValueEnd.{ValueEnd, GoesTo, ChoosesBetween}
+use Rattle.rc_runs.specs.LoopValues.{shown, SpellsGoing, SpellsTest}
+use Rattle.rc_runs.specs.ValueGrammar.{Nested, SpellsValue, named_test, last_block, last_throw, may_throw, value_row}
+use Rattle.rc_runs.specs.ValueGrammar.{SpellsNested, sequence_value, ternary_value, logical_value, optional_value}
 use Rattle.rc_runs.specs.ValueRun.{RunsValue, value_stopped, quiet_value, in_sequence, past_rows}
 use Rattle.rc_runs.proofs.GraphLemmas.{one_held, usable_block-at}
 use Rattle.rc_runs.proofs.RunSize.{size, size_at}
@@ -26,9 +26,8 @@ use Rattle.rc_runs.proofs.RowRuns.{after_rows-run}
 use Rattle.rc_runs.proofs.ShortArmLemmas.{same_alternate, nothing_left}
 use Rattle.rc_runs.proofs.ShortEnds.{nested_set}
 use Rattle.rc_runs.proofs.GraphToSilentArm.{runs_quietly}
-use Rattle.rc_runs.proofs.Passes.{AtLast, Passes, stops, passes, Goes, Chooses, pass_behind}
-use Rattle.rc_runs.proofs.Passes.{pass_events, goes_past, rows_pass, last_rows_pass, at_goto, at_branch, ends_in}
-use Rattle.rc_runs.proofs.Passes.{before_throw, at_throw}
+use Rattle.rc_runs.proofs.Passes.{AtLast, Passes, stops, passes, Goes, Chooses, pass_behind, pass_events, goes_past}
+use Rattle.rc_runs.proofs.Passes.{rows_pass, last_rows_pass, at_goto, at_branch, ends_in, before_throw, at_throw}
 use Rattle.rc_runs.proofs.GraphToNested.{NestedPasses, conditional_goes, logical_goes, optional_passes}
 use Rattle.rc_runs.proofs.GraphToNested.{nested_row_passes}
 

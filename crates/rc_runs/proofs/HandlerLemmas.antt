@@ -6,7 +6,7 @@ use Rattle.rc_runs.specs.declared.frames.Frame.{Frame}
 use Rattle.rc_runs.specs.Event.{End, Open, Returned, Thrown}
 use Rattle.rc_runs.specs.ListContext.{ListContext, inside, is_current}
 use Rattle.rc_runs.specs.SwitchCases.{case_context}
-use Rattle.rc_runs.specs.BodyRun.{Completion, Normal, BreakTo, BreakLoop, ContinueTo, ContinueLoop, Ended, is_thrown}
+use Rattle.rc_runs.specs.Completion.{Completion, Normal, BreakTo, BreakLoop, ContinueTo, ContinueLoop, Ended, is_thrown}
 use Rattle.rc_names.proofs.NumbersLemmas.{same_id-eq}
 use Rattle.rc_runs.proofs.FramesLemmas.{Aims}
 

@@ -8,7 +8,8 @@ use Rattle.rc_runs.specs.GraphRun.{Edge, HasNoUnreachableSuccessor, GraphRun}
 use Rattle.rc_runs.specs.GraphRun as graph
 use Rattle.rc_runs.specs.PlainTree.{Statements}
 use Rattle.rc_runs.specs.ListContext.{ListContext}
-use Rattle.rc_runs.specs.BodyRun.{Completion, Ended, RunsList}
+use Rattle.rc_runs.specs.Completion.{Completion, Ended}
+use Rattle.rc_runs.specs.BodyRun.{RunsList}
 use Rattle.rc_runs.specs.BodyRun as body
 use Rattle.rc_runs.proofs.FramesLemmas.{Aims}
 use Rattle.rc_runs.proofs.JumpsLemmas.{Jumps, falls_off, breaks_implicit, breaks_labeled, breaks_unlabeled}

@@ -18,7 +18,7 @@ use Rattle.rc_runs.specs.Frames.{resolve_from, resolve_break, continues_at, cont
 use Rattle.rc_runs.specs.Frames.{resolve_continue}
 use Rattle.rc_runs.specs.PlainTree.{Statements, Nil, Break, Continue}
 use Rattle.rc_runs.specs.ListContext.{ListContext}
-use Rattle.rc_runs.specs.Grammar.{unlabeled, break_statements, continue_statements}
+use Rattle.rc_runs.specs.SimpleStatements.{unlabeled, break_statements, continue_statements}
 use Rattle.rc_names.proofs.NumbersLemmas.{same_id-eq, ids_equivalence}
 use Rattle.rc_runs.proofs.FramesLemmas.{IsApart, AreApart, Fits, takes_labeled, has_target, loop_break, loop_continue}
 use Rattle.rc_runs.proofs.FramesLemmas.{continue_of}

@@ -8,11 +8,11 @@ use Rattle.rc_runs.specs.Event.{Event, Open}
 use Rattle.rc_runs.specs.PlainTree.{Statements, Nil, Cons, Statement, TerminalStatement, ScopeStatement}
 use Rattle.rc_runs.specs.PlainTree.{PrunedScopeStatement, TreeTerminal, Break, Continue, Return, Throw, If, Label, Try}
 use Rattle.rc_runs.specs.PlainTree.{Alternate, Absent, Present}
-use Rattle.rc_runs.specs.BodyRun.{Completion, Normal, BreakTo, BreakLoop, ContinueTo, ContinueLoop, Ended, caught}
+use Rattle.rc_runs.specs.Completion.{Completion, Normal, BreakTo, BreakLoop, ContinueTo, ContinueLoop, Ended, caught}
 use Rattle.rc_runs.specs.BodyRun.{RunsList, stopped, nothing, and_then, RunsAfter, goes_on, leaves_list, RunsStatement}
-use Rattle.rc_runs.specs.BodyRun.{returned, thrown, break_implicit, break_labeled, break_unlabeled}
-use Rattle.rc_runs.specs.BodyRun.{continue_implicit, continue_labeled, continue_unlabeled, took_arm, took_other}
-use Rattle.rc_runs.specs.BodyRun.{in_label, in_try, in_handler, in_scope, in_pruned_scope, RunsAlternate, present}
+use Rattle.rc_runs.specs.BodyRun.{returned, thrown, break_implicit, break_labeled, break_unlabeled, continue_implicit}
+use Rattle.rc_runs.specs.BodyRun.{continue_labeled, continue_unlabeled, took_arm, took_other, in_label, in_try}
+use Rattle.rc_runs.specs.BodyRun.{in_handler, in_scope, in_pruned_scope, RunsAlternate, present}
 use Rattle.rc_runs.proofs.LabelLemmas.{NameAlike, caught-alike}
 use Rattle.rc_runs.proofs.PlainLists.{alone, labeled, append}
 

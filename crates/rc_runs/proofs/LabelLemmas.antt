@@ -2,8 +2,8 @@
 use Rattle.std.proofs.Common.{◌≡◌, Option, None, Some, if◌then◌else◌, refl, ap}
 use Rattle.rc_names.specs.Numbers.{BlockId, same_id}
 use Rattle.rc_tree.specs.Model.{ReactiveLabel}
-use Rattle.rc_runs.specs.BodyRun.{Completion, Normal, BreakTo, BreakLoop, ContinueTo, ContinueLoop, Ended}
-use Rattle.rc_runs.specs.BodyRun.{caught, turns_again, left_loop}
+use Rattle.rc_runs.specs.Completion.{Completion, Normal, BreakTo, BreakLoop, ContinueTo, ContinueLoop, Ended, caught}
+use Rattle.rc_runs.specs.Completion.{turns_again, left_loop}
 
 -- the block that a label names, if there is a label
 abbrev pub named_block : Option ReactiveLabel → Option BlockId

@@ -14,11 +14,12 @@ use Rattle.rc_runs.specs.GraphRun.{GraphRunAt, GraphRun, stopped, quiet, did, mo
 use Rattle.rc_runs.specs.PlainTree.{Statements, Nil, Cons, Statement}
 use Rattle.rc_runs.specs.ListContext.{ListContext}
 use Rattle.rc_runs.specs.LoopParts.{LoopBlocks, LoopParts, turn_start}
-use Rattle.rc_runs.specs.Grammar.{rows_before, SpellsList, SpellsTurns}
-use Rattle.rc_runs.specs.BodyRun.{Completion, Normal, Ended, leaves, caught, AtTurn, RunsList, RunsStatement, RunsLoop}
-use Rattle.rc_runs.specs.BodyRun.{stopped as stops, nothing, and_then, goes_on, leaves_list, row, break_implicit}
-use Rattle.rc_runs.specs.BodyRun.{break_labeled, break_unlabeled, continue_implicit, continue_labeled}
-use Rattle.rc_runs.specs.BodyRun.{continue_unlabeled}
+use Rattle.rc_runs.specs.SimpleStatements.{rows_before}
+use Rattle.rc_runs.specs.Grammar.{SpellsList, SpellsTurns}
+use Rattle.rc_runs.specs.Completion.{Completion, Normal, Ended, leaves, caught}
+use Rattle.rc_runs.specs.BodyRun.{AtTurn, RunsList, RunsStatement, RunsLoop, stopped as stops, nothing, and_then}
+use Rattle.rc_runs.specs.BodyRun.{goes_on, leaves_list, row, break_implicit, break_labeled, break_unlabeled}
+use Rattle.rc_runs.specs.BodyRun.{continue_implicit, continue_labeled, continue_unlabeled}
 use Rattle.rc_runs.proofs.FramesLemmas.{Fits, Aims, leaving, caught-ended, by_leaves, loop_label}
 use Rattle.rc_runs.proofs.JumpsLemmas.{Jumps, falls_off, breaks_implicit, breaks_labeled, breaks_unlabeled}
 use Rattle.rc_runs.proofs.JumpsLemmas.{continues_implicit, continues_labeled, continues_unlabeled}

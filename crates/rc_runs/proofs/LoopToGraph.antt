@@ -9,10 +9,11 @@ use Rattle.rc_runs.specs.GraphRun.{branch_true, branch_false, GraphRunAt}
 use Rattle.rc_runs.specs.PlainTree.{Value}
 use Rattle.rc_runs.specs.ListContext.{ListContext, inside, value_context}
 use Rattle.rc_runs.specs.LoopParts.{LoopBlocks, LoopParts, first_of, turn_start, loop_frame}
-use Rattle.rc_runs.specs.ValueGrammar.{SpellsGoing, SpellsTest}
+use Rattle.rc_runs.specs.LoopValues.{SpellsGoing, SpellsTest}
 use Rattle.rc_runs.specs.Grammar.{SpellsList, SpellsBefore, no_value, some_value, SpellsTurns, turns}
 use Rattle.rc_runs.specs.ValueRun.{Progress, goes_past, RunsValue}
-use Rattle.rc_runs.specs.BodyRun.{Completion, Normal, Spot, AtTurn, AtTest, AtBody, turns_again, left_loop}
+use Rattle.rc_runs.specs.Completion.{Completion, Normal, turns_again, left_loop}
+use Rattle.rc_runs.specs.BodyRun.{Spot, AtTurn, AtTest, AtBody}
 use Rattle.rc_runs.proofs.FramesLemmas.{Fits, fits_inside, Aims, leaving, loop_label, to_turn, out_of_loop, rounded}
 use Rattle.rc_runs.proofs.ValueToGraph.{test_chooses}
 use Rattle.rc_runs.proofs.AliveBlocks.{AllAlive, alive_front, alive_behind, test_alive}

@@ -9,9 +9,10 @@ use Rattle.rc_runs.specs.Event.{Event}
 use Rattle.rc_runs.specs.PlainTree.{Value, Statements, DoWhile, While, For, ForOf, ForIn}
 use Rattle.rc_runs.specs.LoopParts.{LoopParts}
 use Rattle.rc_runs.specs.ValueRun.{Progress, RunsValue}
-use Rattle.rc_runs.specs.BodyRun.{Completion, Spot, RunsLoop, nothing_before, in_before, past_before, in_test}
-use Rattle.rc_runs.specs.BodyRun.{test_fails, test_holds, next_turn, leaves_loop, in_while, in_do_while, in_init}
-use Rattle.rc_runs.specs.BodyRun.{past_init, in_for_of, in_for_in}
+use Rattle.rc_runs.specs.Completion.{Completion}
+use Rattle.rc_runs.specs.BodyRun.{Spot, RunsLoop, nothing_before, in_before, past_before, in_test, test_fails}
+use Rattle.rc_runs.specs.BodyRun.{test_holds, next_turn, leaves_loop, in_while, in_do_while, in_init, past_init}
+use Rattle.rc_runs.specs.BodyRun.{in_for_of, in_for_in}
 use Rattle.rc_runs.proofs.LabelLemmas.{NameAlike, turns_again-alike, left_loop-alike}
 use Rattle.rc_runs.proofs.PlainLists.{labeled}
 use Rattle.rc_runs.proofs.KeepsRunsLemmas.{KeepsRuns, TerminalKeepsRuns, statement-keeps_runs}

@@ -14,7 +14,8 @@ use Rattle.rc_runs.specs.GraphRun.{GraphRun, stopped, GraphRunAt}
 use Rattle.rc_runs.specs.PlainTree.{Value, Sequence, Rows, NoRows, Row}
 use Rattle.rc_runs.specs.AnsweredTest.{answers_test}
 use Rattle.rc_runs.specs.LastRow.{rows_then}
-use Rattle.rc_runs.specs.ValueGrammar.{Nested, SpellsShortArm, no_arm, left_to_test, own_arm, SpellsNested}
+use Rattle.rc_runs.specs.ShortArms.{SpellsShortArm, no_arm, left_to_test, own_arm}
+use Rattle.rc_runs.specs.ValueGrammar.{Nested, SpellsNested}
 use Rattle.rc_runs.specs.ValueRun.{Progress, Short, goes_past, goes_past_row, RunsValue, value_stopped}
 use Rattle.rc_runs.specs.ValueRun.{in_sequence, RunsRows, past_rows, past_row, in_row, unset_row, set_row}
 use Rattle.rc_runs.proofs.ShortArmLemmas.{answer_ends, left_behind, row_of_test}

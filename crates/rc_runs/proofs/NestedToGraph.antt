@@ -1,7 +1,6 @@
 -- Each run of a value terminal's value is a run of the graph from the terminal to its fallthrough, or to the alternate
 -- of an optional. How the parts of the terminal run in the graph is given.
-use Rattle.std.proofs.Common.{◌≡◌, Bool, true, false, List, [], ◌∷◌, ◌++◌, Option, Some, None, refl, sym}
-use Rattle.std.proofs.Common.{subst}
+use Rattle.std.proofs.Common.{◌≡◌, Bool, true, false, List, [], ◌∷◌, ◌++◌, Option, Some, None, refl, sym, subst}
 use Rattle.std.proofs.lemmas.List.{append-nil}
 use Rattle.rc_names.specs.Numbers.{BlockId, EvaluationOrder}
 use Rattle.rc_names.specs.declared.span.Span.{Span}
@@ -12,7 +11,8 @@ use Rattle.rc_runs.specs.Silent.{is_unset}
 use Rattle.rc_runs.specs.GraphRun.{Edge, goes_to, branch_true, branch_false, into_sequence, into_ternary, into_logical}
 use Rattle.rc_runs.specs.GraphRun.{into_optional, GraphRun, stopped, moved, GraphRunAt, arrives}
 use Rattle.rc_runs.specs.PlainTree.{Value, Logical, Conditional, Sequence, Optional, NoRows, Row}
-use Rattle.rc_runs.specs.ValueGrammar.{ValueEnd, GoesTo, ChoosesBetween, shares_alternate}
+use Rattle.rc_runs.specs.ValueEnd.{ValueEnd, GoesTo, ChoosesBetween}
+use Rattle.rc_runs.specs.ShortArms.{shares_alternate}
 use Rattle.rc_runs.specs.ValueRun.{Progress, Done, Short, Inside, is_done, is_at, settled, RunsValue}
 use Rattle.rc_runs.specs.ValueRun.{value_stopped, in_sequence, in_condition, took_consequent, took_alternate, in_left}
 use Rattle.rc_runs.specs.ValueRun.{left_decides, took_right, in_optional_test, took_short_end, took_rest}

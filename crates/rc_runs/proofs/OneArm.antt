@@ -3,8 +3,8 @@ use Rattle.std.proofs.Common.{◌≡◌, Bool, List, ◌∷◌, Option, refl, ap
 use Rattle.rc_names.specs.Numbers.{BlockId}
 use Rattle.rc_hir.specs.Model.{HirFunction, Environment}
 use Rattle.rc_runs.specs.LastRow.{ends_value}
-use Rattle.rc_runs.specs.ValueGrammar.{SpellsSilentArm, silent_block, silent_chain, SpellsShortArm, no_arm}
-use Rattle.rc_runs.specs.ValueGrammar.{left_to_test, own_arm}
+use Rattle.rc_runs.specs.ShortArms.{SpellsSilentArm, silent_block, silent_chain, SpellsShortArm, no_arm, left_to_test}
+use Rattle.rc_runs.specs.ShortArms.{own_arm}
 use Rattle.rc_runs.proofs.GraphLemmas.{one_kind, one_continuation}
 
 module _ {hir : HirFunction} {env : Environment} where

@@ -17,15 +17,17 @@ use Rattle.rc_runs.specs.TreeOf.{block_of}
 use Rattle.rc_runs.specs.ListContext.{ListContext, inside, protected_by}
 use Rattle.rc_runs.specs.LoopParts.{LoopBlocks, LoopParts}
 use Rattle.rc_runs.specs.SwitchCases.{kept_cases}
-use Rattle.rc_runs.specs.ValueGrammar.{Nested, SpellsShortArm, SpellsNested, sequence_value, ternary_value, logical_value}
+use Rattle.rc_runs.specs.ShortArms.{SpellsShortArm}
+use Rattle.rc_runs.specs.ValueGrammar.{Nested, SpellsNested, sequence_value, ternary_value, logical_value}
 use Rattle.rc_runs.specs.ValueGrammar.{optional_value}
-use Rattle.rc_runs.specs.Grammar.{opens, label_of, SpellsBefore, no_value, some_value, SpellsList, SpellsTerminal}
-use Rattle.rc_runs.specs.Grammar.{SpellsStatement, SpellsCases, SpellsTurns, SpellsRest, from_block, returns, throws}
-use Rattle.rc_runs.specs.Grammar.{unreachable, breaks, continues, leaves_try, may_throw_last, may_throw, branch_arms}
-use Rattle.rc_runs.specs.Grammar.{branch_break, and_rest, if_only, if_else, label_statement, try_statement}
-use Rattle.rc_runs.specs.Grammar.{scope_statement, pruned_scope_statement, switch_statement, while_loop, do_while_loop}
-use Rattle.rc_runs.specs.Grammar.{for_loop, for_of_loop, for_in_loop, no_cases, one_case, value_statement, turns}
-use Rattle.rc_runs.specs.Grammar.{no_rest, has_rest}
+use Rattle.rc_runs.specs.Fallthrough.{opens, label_of}
+use Rattle.rc_runs.specs.Grammar.{SpellsBefore, no_value, some_value, SpellsList, SpellsTerminal, SpellsStatement}
+use Rattle.rc_runs.specs.Grammar.{SpellsCases, SpellsTurns, SpellsRest, from_block, returns, throws, unreachable}
+use Rattle.rc_runs.specs.Grammar.{breaks, continues, leaves_try, may_throw_last, may_throw, branch_arms, branch_break}
+use Rattle.rc_runs.specs.Grammar.{and_rest, if_only, if_else, label_statement, try_statement, scope_statement}
+use Rattle.rc_runs.specs.Grammar.{pruned_scope_statement, switch_statement, while_loop, do_while_loop, for_loop}
+use Rattle.rc_runs.specs.Grammar.{for_of_loop, for_in_loop, no_cases, one_case, value_statement, turns, no_rest}
+use Rattle.rc_runs.specs.Grammar.{has_rest}
 use Rattle.rc_runs.specs.Spelled.{with_header, SpellsBody, Spells}
 use Rattle.rc_runs.proofs.GraphLemmas.{one_held}
 use Rattle.rc_runs.proofs.OneArm.{one_short_arm}

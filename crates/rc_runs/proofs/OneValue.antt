@@ -1,6 +1,7 @@
 -- A graph spells at most one value from a block on, and the value's blocks are used in one order.
 use Rattle.std.proofs.Common.{◌≡◌, Bool, true, false, List, [], ◌∷◌, ◌++◌, Option, Some, None, refl, sym, ap, ◌∙◌}
 use Rattle.std.proofs.Common.{subst, if◌then◌else◌}
+use Rattle.std.proofs.lemmas.List.{same_from_push}
 use Rattle.rc_names.specs.Numbers.{BlockId, EvaluationOrder}
 use Rattle.rc_names.specs.declared.span.Span.{Span}
 use Rattle.rc_hir.specs.Model.{Place, Terminal, Instruction, HirFunction, Environment}
@@ -12,9 +13,11 @@ use Rattle.rc_runs.specs.PlainTree.{Value, Base, Logical, Conditional, Sequence,
 use Rattle.rc_runs.specs.ListContext.{ValueContext}
 use Rattle.rc_runs.specs.LastRow.{ends_value, last_value, last_answer, rows_then, after_rows}
 use Rattle.rc_runs.specs.AnsweredTest.{answers_test}
-use Rattle.rc_runs.specs.ValueGrammar.{ValueEnd, ChoosesBetween, Nested, SpellsShortArm, SpellsValue, named_test}
-use Rattle.rc_runs.specs.ValueGrammar.{last_block, last_throw, may_throw, value_row, SpellsNested, sequence_value}
-use Rattle.rc_runs.specs.ValueGrammar.{ternary_value, logical_value, optional_value, shown, SpellsGoing, SpellsTest}
+use Rattle.rc_runs.specs.ValueEnd.{ValueEnd, ChoosesBetween}
+use Rattle.rc_runs.specs.ShortArms.{SpellsShortArm}
+use Rattle.rc_runs.specs.LoopValues.{shown, SpellsGoing, SpellsTest}
+use Rattle.rc_runs.specs.ValueGrammar.{Nested, SpellsValue, named_test, last_block, last_throw, may_throw, value_row}
+use Rattle.rc_runs.specs.ValueGrammar.{SpellsNested, sequence_value, ternary_value, logical_value, optional_value}
 use Rattle.rc_runs.proofs.GraphLemmas.{one_held, is_empty_goto-at, one_kind, one_continuation}
 use Rattle.rc_runs.proofs.OneArm.{one_short_arm}
 
@@ -22,18 +25,6 @@ use Rattle.rc_runs.proofs.OneArm.{one_short_arm}
 pub not_empty : {A : Type 0} (front : List A) (last : A) → [] ≡ front ++ last ∷ [] → ⊥
 not_empty [] last e = let bad : ⊥ = cc in bad
 not_empty (first ∷ front) last e = let bad : ⊥ = cc in bad
-
--- equal lists have the same last element, and the same ones before it
-pub one_last : {A : Type 0} (front other : List A) {a b : A} → front ++ a ∷ [] ≡ other ++ b ∷ []
-    → (front ≡ other) × (a ≡ b)
-one_last [] [] e = (refl, cc)
-one_last [] (first ∷ other) {a} {b} e =
-    absurd (not_empty other b (let rest : [] ≡ other ++ b ∷ [] = cc in rest))
-one_last (first ∷ front) [] {a} {b} e =
-    absurd (not_empty front a (let rest : [] ≡ front ++ a ∷ [] = cc in rest))
-one_last (first ∷ front) (second ∷ other) {a} {b} e =
-    let h = one_last front other (let rest : front ++ a ∷ [] ≡ other ++ b ∷ [] = cc in rest) in
-    (cc, h.1)
 
 -- the same value with the same end, and the same used blocks
 abbrev pub SameValue : Value → ValueEnd → List BlockId → Value → ValueEnd → List BlockId → Type 0
@@ -158,7 +149,7 @@ module _ {hir : HirFunction} {env : Environment} where
     one_value (last_block {block = block} rows row found h whole)
         (last_block {block = other} rows' row' found' h' whole') =
         let same : block ≡ other = one_held found' found in
-        let alike = one_last rows rows' (sym whole ∙ ap (λ (b : Block). b.rows) same ∙ whole') in (
+        let alike = same_from_push rows rows' row row' (sym whole ∙ ap (λ (b : Block). b.rows) same ∙ whole') in (
           ap (λ (p : Instruction). block_value env rows p) alike.1 ∙ ap (λ front. block_value env front row') alike.0,
           ap (λ (p : Instruction). block_end env p block.terminal) alike.1
               ∙ ap (λ (b : Block). block_end env row' b.terminal) same,
@@ -169,7 +160,7 @@ module _ {hir : HirFunction} {env : Environment} where
         let same : block ≡ other = one_held found' found in
         let next : d ≡ c = one_continuation hir _ found ends found' ends' in
         let last : behind ≡ behind' = one_held goes' (ap (λ key. usable_block hir key) next ∙ goes) in
-        let alike = one_last rows rows' (sym whole ∙ ap (λ (b : Block). b.rows) same ∙ whole') in (
+        let alike = same_from_push rows rows' row row' (sym whole ∙ ap (λ (b : Block). b.rows) same ∙ whole') in (
           ap (λ (p : Instruction). block_value env rows p) alike.1 ∙ ap (λ front. block_value env front row') alike.0,
           ap (λ (p : Instruction). block_end env p behind.terminal) alike.1
               ∙ ap (λ (b : Block). block_end env row' b.terminal) last,

@@ -1,15 +1,14 @@
 -- How runs of the graph go on after a row: one of a block, or one that a value terminal is.
-use Rattle.std.proofs.Common.{◌≡◌, List, ◌++◌, Bool, true, false, Option, None, refl, sym}
-use Rattle.std.proofs.Common.{subst}
+use Rattle.std.proofs.Common.{◌≡◌, List, ◌++◌, Bool, true, false, Option, None, refl, sym, subst}
 use Rattle.rc_names.specs.Numbers.{BlockId}
 use Rattle.rc_hir.specs.Model.{HirFunction, Environment}
 use Rattle.rc_runs.specs.Event.{Event, End}
 use Rattle.rc_runs.specs.Graph.{ends_unreachable}
 use Rattle.rc_runs.specs.GraphRun.{GraphRunAt}
 use Rattle.rc_runs.specs.ListContext.{ListContext}
-use Rattle.rc_runs.specs.ValueGrammar.{SpellsShortArm}
-use Rattle.rc_runs.specs.Grammar.{falls_to}
-use Rattle.rc_runs.specs.BodyRun.{Completion, Normal, leaves, row_completion}
+use Rattle.rc_runs.specs.ShortArms.{SpellsShortArm}
+use Rattle.rc_runs.specs.Fallthrough.{falls_to}
+use Rattle.rc_runs.specs.Completion.{Completion, Normal, leaves, row_completion}
 use Rattle.rc_runs.specs.ValueRun.{Progress}
 use Rattle.rc_runs.proofs.FramesLemmas.{leaving, falls_to-next}
 use Rattle.rc_runs.proofs.Covers.{Covers, passes, cut_short, stays}

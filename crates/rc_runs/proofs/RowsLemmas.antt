@@ -9,7 +9,8 @@ use Rattle.rc_hir.specs.Terminal.{evaluation_order}
 use Rattle.rc_runs.specs.Silent.{is_unset}
 use Rattle.rc_runs.specs.PlainTree.{Base, Statements, Cons, RowStatement}
 use Rattle.rc_runs.specs.ListContext.{ListContext}
-use Rattle.rc_runs.specs.Grammar.{rows_before, SpellsTerminal, may_throw}
+use Rattle.rc_runs.specs.SimpleStatements.{rows_before}
+use Rattle.rc_runs.specs.Grammar.{SpellsTerminal, may_throw}
 
 -- the statements are those of the continuation of a block that may throw
 abbrev pub goes_further : {hir : HirFunction} {env : Environment} {terminal : Terminal} {context : ListContext}

@@ -8,9 +8,10 @@ use Rattle.rc_runs.specs.Event.{Event}
 use Rattle.rc_runs.specs.PlainTree.{Value, Base, NoRows}
 use Rattle.rc_runs.specs.AnsweredTest.{answers_test}
 use Rattle.rc_runs.specs.ListContext.{ValueContext}
-use Rattle.rc_runs.specs.ValueGrammar.{ValueEnd, Nested, SpellsShortArm, no_arm, left_to_test, own_arm, SpellsValue}
-use Rattle.rc_runs.specs.ValueGrammar.{named_test, last_block, last_throw, may_throw, value_row, SpellsNested}
-use Rattle.rc_runs.specs.ValueGrammar.{sequence_value, ternary_value, logical_value, optional_value, shares_alternate}
+use Rattle.rc_runs.specs.ValueEnd.{ValueEnd}
+use Rattle.rc_runs.specs.ShortArms.{SpellsShortArm, no_arm, left_to_test, own_arm, shares_alternate}
+use Rattle.rc_runs.specs.ValueGrammar.{Nested, SpellsValue, named_test, last_block, last_throw, may_throw, value_row}
+use Rattle.rc_runs.specs.ValueGrammar.{SpellsNested, sequence_value, ternary_value, logical_value, optional_value}
 use Rattle.rc_runs.specs.ValueRun.{Progress, Short, goes_past, goes_past_row, is_row_of_test, RunsValue}
 use Rattle.rc_names.proofs.NumbersLemmas.{same_id-eq}
 

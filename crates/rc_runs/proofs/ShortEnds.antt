@@ -1,14 +1,13 @@
 -- Where a short end of a value terminal leads: to the test that the value behind it answers, or through its own arm.
-use Rattle.std.proofs.Common.{◌≡◌, Bool, true, false, List, Option, Some, ◌⊎◌, inl, inr, refl, sym, ap}
-use Rattle.std.proofs.Common.{◌∙◌, subst}
+use Rattle.std.proofs.Common.{◌≡◌, Bool, true, false, List, Option, Some, ◌⊎◌, inl, inr, refl, sym, ap, ◌∙◌, subst}
 use Rattle.rc_names.specs.Numbers.{BlockId}
 use Rattle.rc_hir.specs.Model.{Terminal, HirFunction, Environment}
 use Rattle.rc_hir.specs.Terminal.{evaluation_order}
 use Rattle.rc_runs.specs.Event.{Event}
 use Rattle.rc_runs.specs.Silent.{is_unset}
 use Rattle.rc_runs.specs.PlainTree.{Value}
-use Rattle.rc_runs.specs.ValueGrammar.{Nested, SpellsSilentArm, SpellsShortArm, no_arm, left_to_test, own_arm}
-use Rattle.rc_runs.specs.ValueGrammar.{SpellsNested}
+use Rattle.rc_runs.specs.ShortArms.{SpellsSilentArm, SpellsShortArm, no_arm, left_to_test, own_arm}
+use Rattle.rc_runs.specs.ValueGrammar.{Nested, SpellsNested}
 use Rattle.rc_runs.specs.ValueRun.{Short, RunsValue}
 use Rattle.rc_runs.proofs.OneValue.{row_answers}
 use Rattle.rc_runs.proofs.ShortArmLemmas.{answer_ends, left_behind, nested_id}

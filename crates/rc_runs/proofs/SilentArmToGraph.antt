@@ -1,6 +1,5 @@
 -- A silent arm in the graph, and each run of its value: neither has an event.
-use Rattle.std.proofs.Common.{◌≡◌, Bool, true, List, [], ◌∷◌, ◌++◌, ◌||◌, ◌&&◌, Option, Some, refl, sym, ap}
-use Rattle.std.proofs.Common.{◌∙◌, subst}
+use Rattle.std.proofs.Common.{◌≡◌, Bool, true, List, [], ◌∷◌, ◌++◌, ◌||◌, ◌&&◌, Option, Some, refl, sym, ap, ◌∙◌, subst}
 use Rattle.std.proofs.lemmas.Bool.{and_parts}
 use Rattle.rc_names.specs.Numbers.{BlockId, EvaluationOrder}
 use Rattle.rc_names.specs.declared.span.Span.{Span}
@@ -13,8 +12,9 @@ use Rattle.rc_runs.specs.GraphRun.{Edge, goes_to, GraphRun, stopped, quiet, Grap
 use Rattle.rc_runs.specs.PlainTree.{Value, Base, NoRows}
 use Rattle.rc_runs.specs.ListContext.{ValueContext}
 use Rattle.rc_runs.specs.LastRow.{ends_value, last_value, rows_then, after_rows}
-use Rattle.rc_runs.specs.ValueGrammar.{ValueEnd, Nested, are_silent, SpellsSilentArm, silent_block, silent_chain}
-use Rattle.rc_runs.specs.ValueGrammar.{SpellsValue, named_test, last_block, last_throw, may_throw, value_row}
+use Rattle.rc_runs.specs.ValueEnd.{ValueEnd}
+use Rattle.rc_runs.specs.ShortArms.{are_silent, SpellsSilentArm, silent_block, silent_chain}
+use Rattle.rc_runs.specs.ValueGrammar.{Nested, SpellsValue, named_test, last_block, last_throw, may_throw, value_row}
 use Rattle.rc_runs.specs.ValueGrammar.{SpellsNested, sequence_value, ternary_value, logical_value, optional_value}
 use Rattle.rc_runs.specs.ValueRun.{Progress, RunsValue, value_stopped, quiet_value, did_value, did_and_stopped}
 use Rattle.rc_runs.specs.ValueRun.{in_sequence, RunsRows, past_rows, past_row, in_row, RunsRow, unset_row, set_row}

@@ -5,20 +5,19 @@ use Rattle.rc_names.specs.Numbers.{BlockId, EvaluationOrder}
 use Rattle.rc_hir.specs.GraphNames.{case_names, place_names, terminal_names}
 use Rattle.rc_hir.specs.ValueNames.{value_names}
 use Rattle.rc_hir.specs.Names.{FunctionInTables}
-use Rattle.rc_hir.specs.Model.{Environment, HirFunction, Instruction, Terminal}
-use Rattle.rc_hir.specs.Model.{Case as GraphCase}
+use Rattle.rc_hir.specs.Model.{Environment, HirFunction, Instruction, Terminal, Case as GraphCase}
 use Rattle.rc_tree.specs.Model.{ReactiveFunction}
 use Rattle.rc_tree.specs.TreeNames.{names_in}
 use Rattle.rc_runs.specs.ListContext.{ListContext}
 use Rattle.rc_runs.specs.LoopParts.{LoopBlocks, LoopParts}
 use Rattle.rc_runs.specs.SwitchCases.{is_kept, kept_cases}
+use Rattle.rc_runs.specs.SimpleStatements.{break_statements, continue_statements, rows_before, unlabeled}
 use Rattle.rc_runs.specs.Grammar.{SpellsList, SpellsRest, SpellsStatement, SpellsTerminal, SpellsCases, SpellsTurns}
-use Rattle.rc_runs.specs.Grammar.{break_statements, continue_statements, rows_before, unlabeled, from_block, returns}
-use Rattle.rc_runs.specs.Grammar.{throws, unreachable, breaks, continues, leaves_try, may_throw_last, may_throw}
-use Rattle.rc_runs.specs.Grammar.{branch_arms, branch_break, and_rest, if_only, if_else, label_statement, try_statement}
-use Rattle.rc_runs.specs.Grammar.{scope_statement, pruned_scope_statement, switch_statement, while_loop, do_while_loop}
-use Rattle.rc_runs.specs.Grammar.{for_loop, for_of_loop, for_in_loop, no_cases, one_case, value_statement, turns}
-use Rattle.rc_runs.specs.Grammar.{no_rest, has_rest}
+use Rattle.rc_runs.specs.Grammar.{from_block, returns, throws, unreachable, breaks, continues, leaves_try}
+use Rattle.rc_runs.specs.Grammar.{may_throw_last, may_throw, branch_arms, branch_break, and_rest, if_only, if_else}
+use Rattle.rc_runs.specs.Grammar.{label_statement, try_statement, scope_statement, pruned_scope_statement}
+use Rattle.rc_runs.specs.Grammar.{switch_statement, while_loop, do_while_loop, for_loop, for_of_loop, for_in_loop}
+use Rattle.rc_runs.specs.Grammar.{no_cases, one_case, value_statement, turns, no_rest, has_rest}
 use Rattle.rc_runs.specs.PlainTree.{Statement, Statements, Nil, Break, Continue, Cases}
 use Rattle.rc_runs.specs.Spelled.{Spells}
 use Rattle.rc_runs.specs.Frames.{resolve_break, resolve_continue}

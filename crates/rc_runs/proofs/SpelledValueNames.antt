@@ -1,6 +1,5 @@
 -- The numbers of a spelled value are in their tables if those of its graph are.
-use Rattle.std.proofs.Common.{◌≡◌, Bool, true, false, List, [], ◌∷◌, ◌++◌, Option, Some, if◌then◌else◌, sym}
-use Rattle.std.proofs.Common.{subst}
+use Rattle.std.proofs.Common.{◌≡◌, Bool, true, false, List, [], ◌∷◌, ◌++◌, Option, Some, if◌then◌else◌, sym, subst}
 use Rattle.std.proofs.lemmas.List.Elements.{All-nil}
 use Rattle.rc_names.specs.Numbers.{BlockId, EvaluationOrder}
 use Rattle.rc_names.specs.declared.span.Span.{Span}
@@ -15,9 +14,10 @@ use Rattle.rc_runs.specs.LastRow.{last_value, last_answer, rows_then, after_rows
 use Rattle.rc_runs.specs.Flattened.{rows_join, flat_rows, final_value, loads_own, final_row}
 use Rattle.rc_runs.specs.ListContext.{ListContext, ValueContext}
 use Rattle.rc_runs.specs.LoopParts.{LoopBlocks}
-use Rattle.rc_runs.specs.ValueGrammar.{ValueEnd, Nested, SpellsValue, named_test, last_block, last_throw, may_throw}
-use Rattle.rc_runs.specs.ValueGrammar.{value_row, SpellsNested, sequence_value, ternary_value, logical_value}
-use Rattle.rc_runs.specs.ValueGrammar.{optional_value, shown, SpellsGoing, SpellsTest}
+use Rattle.rc_runs.specs.ValueEnd.{ValueEnd}
+use Rattle.rc_runs.specs.LoopValues.{shown, SpellsGoing, SpellsTest}
+use Rattle.rc_runs.specs.ValueGrammar.{Nested, SpellsValue, named_test, last_block, last_throw, may_throw, value_row}
+use Rattle.rc_runs.specs.ValueGrammar.{SpellsNested, sequence_value, ternary_value, logical_value, optional_value}
 use Rattle.rc_runs.specs.Grammar.{SpellsBefore, no_value, some_value}
 use Rattle.rc_runs.proofs.AllLemmas.{All-left, All-right}
 use Rattle.rc_runs.proofs.BlockNames.{InTable, Held, RowsHeld, HeldByGraph, place_held, usable_block_held}

@@ -1,6 +1,5 @@
 -- A run of the graph that throws inside a part, and goes on from the current handler.
-use Rattle.std.proofs.Common.{◌≡◌, ℕ, ◌<◌, ◌≤◌, List, ◌∷◌, ◌++◌, Option, Some, sym, ap, ◌∙◌}
-use Rattle.std.proofs.Common.{subst, append_assoc, arith}
+use Rattle.std.proofs.Common.{◌≡◌, ℕ, ◌<◌, ◌≤◌, List, ◌∷◌, ◌++◌, Option, Some, sym, ap, ◌∙◌, subst, append_assoc, arith}
 use Rattle.rc_names.specs.Numbers.{BlockId}
 use Rattle.rc_hir.specs.Model.{HirFunction, Environment}
 use Rattle.rc_runs.specs.Event.{Event, Threw, End}

@@ -1,18 +1,20 @@
 -- A try whose protected block makes a call, as in `try { f() } catch { debugger } return f`: the tree that its graph
 -- spells, and a run in which the call throws, of the graph and of the body.
-use Rattle.std.proofs.Common.{◌≡◌, List, [], ◌∷◌, Some, None, true, false, not, refl, sym, ap}
-use Rattle.std.proofs.Common.{◌∙◌, subst}
+use Rattle.std.proofs.Common.{◌≡◌, List, [], ◌∷◌, Some, None, true, false, not, refl, sym, ap, ◌∙◌, subst}
 use Rattle.rc_names.specs.Numbers.{BlockId, to_id}
 use Rattle.rc_hir.specs.Model.{Environment, HirFunction, Instruction, Place, Terminal}
 use Rattle.rc_hir.specs.declared.instruction.InstructionValue.TheVariants as kinds
 use Rattle.rc_hir.specs.declared.terminal.GotoVariant.TheVariants as variants
 use Rattle.rc_hir.specs.declared.terminal.Terminal.TheVariants as terminals
 use Rattle.rc_tree.specs.declared.kind.ReactiveTerminalTargetKind.TheVariants.{Implicit}
-use Rattle.rc_runs.specs.BodyRun.{RunsList, Ended, row, returned, break_implicit, in_handler, and_then, goes_on}
-use Rattle.rc_runs.specs.BodyRun.{leaves_list, nothing, stopped}
+use Rattle.rc_runs.specs.Completion.{Ended}
+use Rattle.rc_runs.specs.BodyRun.{RunsList, row, returned, break_implicit, in_handler, and_then, goes_on, leaves_list}
+use Rattle.rc_runs.specs.BodyRun.{nothing, stopped}
 use Rattle.rc_runs.specs.Event.{Event, Did, Threw, End, Open, Returned}
-use Rattle.rc_runs.specs.Grammar.{SpellsList, rows_before, unlabeled, label_of, from_block, returns, breaks, leaves_try}
-use Rattle.rc_runs.specs.Grammar.{may_throw, try_statement, and_rest, has_rest}
+use Rattle.rc_runs.specs.Fallthrough.{label_of}
+use Rattle.rc_runs.specs.SimpleStatements.{rows_before, unlabeled}
+use Rattle.rc_runs.specs.Grammar.{SpellsList, from_block, returns, breaks, leaves_try, may_throw, try_statement}
+use Rattle.rc_runs.specs.Grammar.{and_rest, has_rest}
 use Rattle.rc_runs.specs.Graph.{Block, block_at, usable_block, ends_unreachable}
 use Rattle.rc_runs.specs.GraphRun as graph
 use Rattle.rc_runs.specs.GraphRun.{GraphRun, GraphRunAt, arrives, enters, quiet, did, moved}

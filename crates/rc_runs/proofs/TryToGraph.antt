@@ -8,8 +8,9 @@ use Rattle.rc_runs.specs.Event.{Event}
 use Rattle.rc_runs.specs.GraphRun.{Edge, HasNoUnreachableSuccessor, GraphRun}
 use Rattle.rc_runs.specs.PlainTree.{Statements}
 use Rattle.rc_runs.specs.ListContext.{ListContext, inside, protected_by}
-use Rattle.rc_runs.specs.Grammar.{label_of, SpellsList}
-use Rattle.rc_runs.specs.BodyRun.{Completion, caught}
+use Rattle.rc_runs.specs.Fallthrough.{label_of}
+use Rattle.rc_runs.specs.Grammar.{SpellsList}
+use Rattle.rc_runs.specs.Completion.{Completion, caught}
 use Rattle.rc_runs.proofs.FramesLemmas.{Fits, fits_inside, fits_protected, leaving, aims_labeled, aims_protected}
 use Rattle.rc_runs.proofs.AliveBlocks.{AllAlive}
 use Rattle.rc_runs.proofs.AfterParts.{After, Carries, behind_label, in_part}

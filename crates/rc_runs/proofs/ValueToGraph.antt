@@ -16,10 +16,10 @@ use Rattle.rc_runs.specs.Graph.{Block, usable_block, only_goes}
 use Rattle.rc_runs.specs.GraphRun.{Edge, GraphRun, stopped, moved, GraphRunAt, enters}
 use Rattle.rc_runs.specs.PlainTree.{Value, Base}
 use Rattle.rc_runs.specs.ListContext.{ValueContext, part_context}
-use Rattle.rc_runs.specs.ValueGrammar.{ValueEnd, Nested, SpellsValue}
-use Rattle.rc_runs.specs.ValueGrammar.{named_test, last_block, last_throw, may_throw, value_row, SpellsNested}
-use Rattle.rc_runs.specs.ValueGrammar.{sequence_value, ternary_value, logical_value, optional_value, SpellsGoing}
-use Rattle.rc_runs.specs.ValueGrammar.{SpellsTest}
+use Rattle.rc_runs.specs.ValueEnd.{ValueEnd}
+use Rattle.rc_runs.specs.LoopValues.{SpellsGoing, SpellsTest}
+use Rattle.rc_runs.specs.ValueGrammar.{Nested, SpellsValue, named_test, last_block, last_throw, may_throw, value_row}
+use Rattle.rc_runs.specs.ValueGrammar.{SpellsNested, sequence_value, ternary_value, logical_value, optional_value}
 use Rattle.rc_runs.specs.ValueRun.{Progress, Inside, goes_past, RunsValue, value_stopped}
 use Rattle.rc_runs.specs.ValueRun.{quiet_value, did_value, did_and_stopped}
 use Rattle.rc_runs.proofs.GraphLemmas.{usable_block-at}

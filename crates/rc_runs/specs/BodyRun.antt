@@ -1,65 +1,20 @@
 -- Runs of a body: the events of its statements, and the completion of each statement.
 use Rattle.std.specs.Prelude.{◌≡◌, Bool, true, false, List, [], ◌∷◌, ◌++◌, Option, Some, None, is_none, ◌||◌}
-use Rattle.std.specs.Prelude.{if◌then◌else◌}
-use Rattle.rc_names.specs.Numbers.{BlockId, ScopeId, EvaluationOrder, same_id}
+use Rattle.rc_names.specs.Numbers.{BlockId, ScopeId, EvaluationOrder}
 use Rattle.rc_names.specs.declared.span.Span.{Span}
 use Rattle.rc_hir.specs.Model.{Place, Environment}
 use Rattle.rc_tree.specs.declared.kind.ReactiveTerminalTargetKind.TheVariants.{Implicit, Labeled, Unlabeled}
 use Rattle.rc_tree.specs.Model.{ReactiveLabel, ReactiveFunction}
 use Rattle.rc_runs.specs.Event.{Event, Arm, Chose, Threw, End, Open, Returned, Thrown}
 use Rattle.rc_runs.specs.PlainTree.{Value, Statements, Nil, Cons, Statement, RowStatement, TerminalStatement}
-use Rattle.rc_runs.specs.PlainTree.{ScopeStatement, PrunedScopeStatement, Break, Continue, Return, Throw, Switch, DoWhile}
-use Rattle.rc_runs.specs.PlainTree.{While, For, ForOf, ForIn, If, Label, Try, Alternate, Absent, Present, Cases, NoCases, Case}
+use Rattle.rc_runs.specs.PlainTree.{ScopeStatement, PrunedScopeStatement, Break, Continue, Return, Throw, Switch}
+use Rattle.rc_runs.specs.PlainTree.{DoWhile, While, For, ForOf, ForIn, If, Label, Try, Alternate, Absent, Present}
+use Rattle.rc_runs.specs.PlainTree.{Cases, NoCases, Case}
 use Rattle.rc_runs.specs.LoopParts.{LoopParts}
 use Rattle.rc_runs.specs.ValueRun.{Progress, Inside, goes_past, RunsValue, RunsRow}
 use Rattle.rc_runs.specs.TreeOf.{block_of}
-
--- the way in which a statement completes: it goes on with the next statement, jumps out, or ends the run
-pub data Completion : Type 0 where
-  Normal : Completion
-  BreakTo : (target : BlockId) → Completion
-  BreakLoop : Completion
-  ContinueTo : (target : BlockId) → Completion
-  ContinueLoop : Completion
-  Ended : (end : End) → Completion
-
--- the completion doesn't go on with the next statement
-abbrev pub leaves : Completion → Bool
-leaves Normal = false
-leaves _ = true
-
--- the completion of a statement with that label: breaks to the label go on with the next statement
-abbrev pub caught : Option ReactiveLabel → Completion → Completion
-caught (Some label) (BreakTo target) = if same_id label.id target then Normal else BreakTo target
-caught _ outcome = outcome
-
--- the completion of a row, by where a run of it is
-abbrev pub row_completion : Progress → Completion
-row_completion Inside = Ended Open
-row_completion _ = Normal
-
--- after this completion of its body, a loop with that label begins its next turn
-abbrev pub turns_again : Option ReactiveLabel → Completion → Bool
-turns_again label Normal = true
-turns_again label ContinueLoop = true
-turns_again (Some label) (ContinueTo target) = same_id label.id target
-turns_again label _ = false
-
--- the completion of a loop with that label whose body leaves it
-abbrev pub left_loop : Option ReactiveLabel → Completion → Completion
-left_loop label BreakLoop = Normal
-left_loop label outcome = caught label outcome
-
--- the run ends by a throw statement
-abbrev pub is_thrown : Completion → Bool
-is_thrown (Ended (Thrown place)) = true
-is_thrown _ = false
-
--- from here a handler takes over: a row may throw wherever a run has come, and a throw statement throws
-abbrev pub reaches_handler : Completion → Bool
-reaches_handler (Ended Open) = true
-reaches_handler (Ended (Thrown place)) = true
-reaches_handler _ = false
+use Rattle.rc_runs.specs.Completion.{Completion, Normal, BreakTo, BreakLoop, ContinueTo, ContinueLoop, Ended, leaves}
+use Rattle.rc_runs.specs.Completion.{caught, row_completion, turns_again, left_loop, is_thrown, reaches_handler}
 
 -- one of the cases is a default
 abbrev pub has_default : Cases → Bool

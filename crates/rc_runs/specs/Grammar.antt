@@ -1,8 +1,5 @@
 -- The statements that a graph spells from a block on, and the blocks that they use.
 --
--- A fallthrough is the block where the parts of a statement meet again. If it is opened, the parts fall off to it, the
--- jumps in them may name it, and it is spelled once, after the statement. A fallthrough that a jump can name already
--- is spelled further out. So it isn't opened again, and the list ends with the statement.
 -- A loop always opens its fallthrough. Its body falls off to the block with which each turn begins.
 -- A value terminal is a row, after which the list goes on at its fallthrough.
 -- A block that may throw ends no list: the list goes on at its continuation, unless falling off reaches that.
@@ -10,77 +7,30 @@
 --
 -- The indices of each family are: a block or a terminal, the context of the list, the statements, and the used blocks
 -- in the order in which they are marked.
-use Rattle.std.specs.Prelude.{◌≡◌, Bool, true, false, List, [], ◌∷◌, ◌++◌, Option, Some, None, not, ◌||◌}
-use Rattle.std.specs.Prelude.{if◌then◌else◌}
+use Rattle.std.specs.Prelude.{◌≡◌, Bool, true, false, List, [], ◌∷◌, ◌++◌, Option, Some, None, ◌||◌}
 use Rattle.std.specs.List.{list_any}
 use Rattle.rc_names.specs.Numbers.{BlockId, ScopeId, EvaluationOrder, same_id}
 use Rattle.rc_names.specs.declared.span.Span.{Span}
-use Rattle.rc_hir.specs.Model.{Place, Case, Terminal, Instruction, HirFunction, Environment}
+use Rattle.rc_hir.specs.Model.{Place, Case, Terminal, HirFunction, Environment}
 use Rattle.rc_hir.specs.Successors.{is_default}
 use Rattle.rc_hir.specs.declared.terminal.GotoVariant.TheVariants as variants
 use Rattle.rc_hir.specs.declared.terminal.Terminal.TheVariants as terminals
 use Rattle.rc_tree.specs.Model.{ReactiveLabel}
-use Rattle.rc_runs.specs.declared.frames.Frame.{Frame}
 use Rattle.rc_runs.specs.declared.frames.Frame.TheVariants as frame_kinds
-use Rattle.rc_runs.specs.declared.frames.BreakResult.{BreakResult}
-use Rattle.rc_runs.specs.declared.frames.BreakResult.TheVariants.{NoFrame, LeavesScope, LeavesCase, FallsOff, Breaks}
-use Rattle.rc_runs.specs.declared.frames.ContinueResult.{ContinueResult}
-use Rattle.rc_runs.specs.declared.frames.ContinueResult.TheVariants.{NoLoop, Continues}
 use Rattle.rc_runs.specs.Graph.{Block, usable_block, ends_unreachable}
 use Rattle.rc_runs.specs.Frames.{is_jump_target, resolve_break, resolve_continue}
 use Rattle.rc_runs.specs.ListContext.{ListContext, inside, protected_by, is_current, value_context}
 use Rattle.rc_runs.specs.LoopParts.{LoopBlocks, LoopParts, turn_start, loop_frame}
 use Rattle.rc_runs.specs.SwitchCases.{kept_cases, has_one_default, tests_past, case_context}
-use Rattle.rc_runs.specs.ValueGrammar.{Nested, SpellsShortArm, SpellsNested, SpellsGoing, SpellsTest}
-use Rattle.rc_runs.specs.PlainTree.{Value, Base, Statements, Nil, Cons, Statement, RowStatement, TerminalStatement}
-use Rattle.rc_runs.specs.PlainTree.{ScopeStatement, PrunedScopeStatement, TreeTerminal, Break, Continue, Return, Throw}
-use Rattle.rc_runs.specs.PlainTree.{Switch, DoWhile, While, For, ForOf, ForIn, If, Label, Try, Absent, Present}
-use Rattle.rc_runs.specs.PlainTree.{Cases, NoCases, Case as TreeCase}
-
--- a fallthrough is opened unless a jump can name it already
-abbrev pub opens : List Frame → BlockId → Bool
-opens frames fallthrough = not (is_jump_target frames fallthrough)
-
--- the same, but a fallthrough that ends in `Unreachable` isn't opened either
-abbrev pub opens_reachable : HirFunction → List Frame → BlockId → Bool
-opens_reachable hir frames fallthrough =
-    if is_jump_target frames fallthrough then false else not (ends_unreachable hir fallthrough)
-
--- the label of a statement, which is its fallthrough if that is opened
-abbrev pub label_of : Bool → BlockId → Option ReactiveLabel
-label_of opened fallthrough = if opened then Some (record { id = fallthrough; implicit = false }) else None
-
--- falling off reaches the block
-abbrev pub is_next : Option BlockId → BlockId → Bool
-is_next None key = false
-is_next (Some next) key = same_id next key
-
--- leaving a statement leads to its fallthrough, in the tree as in the graph
-abbrev pub falls_to : Bool → BlockId → Option BlockId → Bool
-falls_to opened fallthrough next = if opened then true else is_next next fallthrough
-
--- the rows of a block, each with its target, and then these statements
-abbrev pub rows_before : List Instruction → Statements → Statements
-rows_before [] rest = rest
-rows_before (row ∷ rows) rest = Cons (RowStatement row.id (Some row.lvalue) (Base row.value) row.span)
-    (rows_before rows rest)
-
--- a statement without a label
-abbrev pub unlabeled : TreeTerminal → Statements
-unlabeled terminal = Cons (TerminalStatement terminal None) Nil
-
--- the statements of a break; none if the break can't be written
-abbrev pub break_statements : BreakResult → BlockId → EvaluationOrder → Option Statements
-break_statements NoFrame target id = None
-break_statements LeavesScope target id = None
-break_statements LeavesCase target id = None
-break_statements FallsOff target id = Some Nil
-break_statements (Breaks kind) target id = Some (unlabeled (Break target kind id))
-
--- the statements of a continue; none if no loop takes it
-abbrev pub continue_statements : ContinueResult → EvaluationOrder → Option Statements
-continue_statements NoLoop id = None
-continue_statements (Continues target kind) id = Some (unlabeled (Continue target kind id))
+use Rattle.rc_runs.specs.ShortArms.{SpellsShortArm}
+use Rattle.rc_runs.specs.LoopValues.{SpellsGoing, SpellsTest}
+use Rattle.rc_runs.specs.ValueGrammar.{Nested, SpellsNested}
+use Rattle.rc_runs.specs.PlainTree.{Value, Statements, Nil, Cons, Statement, RowStatement, TerminalStatement}
+use Rattle.rc_runs.specs.PlainTree.{ScopeStatement, PrunedScopeStatement, Return, Throw, Switch}
+use Rattle.rc_runs.specs.PlainTree.{DoWhile, While, For, ForOf, ForIn, If, Label, Try, Absent, Present, Cases, NoCases}
+use Rattle.rc_runs.specs.PlainTree.{Case as TreeCase}
+use Rattle.rc_runs.specs.Fallthrough.{opens, opens_reachable, label_of, is_next, falls_to}
+use Rattle.rc_runs.specs.SimpleStatements.{rows_before, unlabeled, break_statements, continue_statements}
 
 -- the value with which each turn of a loop begins before its test, if there is one
 pub data SpellsBefore (hir : HirFunction) (env : Environment) (blocks : LoopBlocks) (context : ListContext) :

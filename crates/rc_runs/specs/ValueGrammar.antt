@@ -1,51 +1,23 @@
 -- The value that a graph spells from a block on, its end, and the blocks that it uses.
 --
--- A value terminal is a row of the value in which it stands, and the value goes on at the fallthrough. The optional that
--- ends the test of another optional may answer that test: then both share one alternate, the short arm, which is used
--- once, by the outermost of them.
---
+-- A value terminal is a row of the value in which it stands, and the value goes on at the fallthrough.
 -- A block that may throw names the current handler, or none, and the value goes on at its continuation.
 --
 -- The indices are: a block, the context of the value, the value, its end, and the used blocks in the order in which they
 -- are marked.
-use Rattle.std.specs.Prelude.{◌≡◌, Bool, true, false, List, [], ◌∷◌, ◌++◌, Option, Some, None}
-use Rattle.std.specs.Prelude.{if◌then◌else◌}
-use Rattle.std.specs.List.{list_all}
-use Rattle.rc_names.specs.Numbers.{BlockId, EvaluationOrder, same_id}
+use Rattle.std.specs.Prelude.{◌≡◌, Bool, true, false, List, [], ◌∷◌, ◌++◌, Option, Some, None, if◌then◌else◌}
+use Rattle.rc_names.specs.Numbers.{BlockId, EvaluationOrder}
 use Rattle.rc_names.specs.declared.span.Span.{Span}
-use Rattle.rc_hir.specs.Model.{Place, LogicalOperator, GotoVariant, Terminal, Instruction, HirFunction, Environment}
+use Rattle.rc_hir.specs.Model.{Place, LogicalOperator, Terminal, Instruction, HirFunction, Environment}
 use Rattle.rc_hir.specs.declared.instruction.InstructionValue.TheVariants as kinds
 use Rattle.rc_hir.specs.declared.terminal.Terminal.TheVariants as terminals
-use Rattle.rc_runs.specs.Silent.{is_silent}
 use Rattle.rc_runs.specs.Graph.{Block, block_at, usable_block, only_goes, is_empty_goto}
 use Rattle.rc_runs.specs.PlainTree.{Value, Base, Logical, Conditional, Sequence, Optional, NoRows, Row}
 use Rattle.rc_runs.specs.ListContext.{is_current, ValueContext, part_context}
 use Rattle.rc_runs.specs.LastRow.{ends_value, last_value, last_answer, rows_then, after_rows}
-use Rattle.rc_runs.specs.AnsweredTest.{same_declaration, answers_test}
-use Rattle.rc_runs.specs.Flattened.{flattened}
-
--- the end of a value: the place with which it answers, its id, the terminal of its last block, and the alternate that
--- it leaves to the optional whose test it answers, if there is one
-pub record ValueEnd : Type 0 where
-  pub answer : Place
-  pub id : EvaluationOrder
-  pub last : Terminal
-  pub left_open : Option BlockId
-
--- after the value the graph goes on at the next block
-pub record GoesTo (next : BlockId) (end : ValueEnd) : Type 0 where
-  pub variant : GotoVariant
-  pub id : EvaluationOrder
-  pub span : Option Span
-  pub goes : end.last ≡ terminals.Goto next variant id span
-
--- the value chooses between two blocks by its answer
-pub record ChoosesBetween (env : Environment) (consequent alternate : BlockId) (end : ValueEnd) : Type 0 where
-  pub test : Place
-  pub id : EvaluationOrder
-  pub span : Option Span
-  pub chooses : end.last ≡ terminals.Branch test consequent alternate id span
-  pub answers : same_declaration env test end.answer ≡ true
+use Rattle.rc_runs.specs.AnsweredTest.{answers_test}
+use Rattle.rc_runs.specs.ValueEnd.{ValueEnd, GoesTo, ChoosesBetween}
+use Rattle.rc_runs.specs.ShortArms.{SpellsSilentArm, SpellsShortArm, shares_alternate}
 
 -- a value terminal: where the graph goes on after it, its id and span, its value, the place with which it answers, and
 -- the alternate of an optional, which leads to its short end
@@ -56,41 +28,6 @@ pub record Nested : Type 0 where
   pub value : Value
   pub answer : Place
   pub short : Option BlockId
-
--- no row has an event
-abbrev pub are_silent : Environment → List Instruction → Bool
-are_silent env rows = list_all (λ row. is_silent env row.id row.value) rows
-
--- a silent arm under a handler: a chain of blocks without events, after which the graph goes on at the next block
-pub data SpellsSilentArm (hir : HirFunction) (env : Environment) (handler : Option BlockId) (next : BlockId) :
-    BlockId → List BlockId → Type 0 where
-  silent_block : {key : BlockId} {block : Block} {variant : GotoVariant} {id : EvaluationOrder} {span : Option Span} →
-      usable_block hir key ≡ Some block → are_silent env block.rows ≡ true →
-      block.terminal ≡ terminals.Goto next variant id span →
-      SpellsSilentArm hir env handler next key (key ∷ [])
-  silent_chain : {key continuation : BlockId} {block : Block} {named : Option BlockId} {id : EvaluationOrder}
-      {span : Option Span} {used : List BlockId} →
-      usable_block hir key ≡ Some block → are_silent env block.rows ≡ true →
-      block.terminal ≡ terminals.MaybeThrow continuation named id span → is_current named handler ≡ true →
-      SpellsSilentArm hir env handler next continuation used →
-      SpellsSilentArm hir env handler next key (key ∷ used)
-
--- the short arm of a value terminal: there is none, it is left to the test that the value answers, or it is its own.
--- The alternate that is left open then, from the one that the value behind leaves open
-pub data SpellsShortArm (hir : HirFunction) (env : Environment) (handler : Option BlockId) (next : BlockId) : Bool →
-    Option BlockId → Option BlockId → Option BlockId → List BlockId → Type 0 where
-  no_arm : {answers : Bool} {behind : Option BlockId} →
-      SpellsShortArm hir env handler next answers None behind behind []
-  left_to_test : {alternate : BlockId} {behind : Option BlockId} →
-      SpellsShortArm hir env handler next true (Some alternate) behind (Some alternate) []
-  own_arm : {alternate : BlockId} {behind : Option BlockId} {used : List BlockId} →
-      SpellsSilentArm hir env handler next alternate used →
-      SpellsShortArm hir env handler next false (Some alternate) behind behind used
-
--- the alternate that a test leaves open, if there is one, is that of the optional
-abbrev pub shares_alternate : Option BlockId → BlockId → Bool
-shares_alternate None alternate = true
-shares_alternate (Some left) alternate = same_id left alternate
 
 mutual
   -- the value from a block on
@@ -232,25 +169,3 @@ mutual
           short = Some alternate;
         })
         used
-
--- a value as it stands in a loop, which flattens it or not
-abbrev pub shown : Bool → Option Span → ValueEnd → Value → Value
-shown flat span end value = if flat then flattened end.answer end.id span value else value
-
--- the value from a block on, after which the graph goes on at the next block
-pub record SpellsGoing (hir : HirFunction) (env : Environment) (flat : Bool) (key : BlockId) (context : ValueContext)
-    (next : BlockId) (shown_value : Value) (used : List BlockId) : Type 0 where
-  pub value : Value
-  pub end : ValueEnd
-  pub spelled : SpellsValue hir env key context value end used
-  pub goes : GoesTo next end
-  pub is_shown : shown_value ≡ shown flat context.around end value
-
--- the value from a block on, which chooses between two blocks by its answer
-pub record SpellsTest (hir : HirFunction) (env : Environment) (flat : Bool) (key : BlockId) (context : ValueContext)
-    (consequent alternate : BlockId) (shown_value : Value) (used : List BlockId) : Type 0 where
-  pub value : Value
-  pub end : ValueEnd
-  pub spelled : SpellsValue hir env key context value end used
-  pub chooses : ChoosesBetween env consequent alternate end
-  pub is_shown : shown_value ≡ shown flat context.around end value

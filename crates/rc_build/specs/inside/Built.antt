@@ -9,7 +9,7 @@ use Rattle.rc_build.specs.declared.builder.Site.{Site}
 use Rattle.rc_runs.specs.PlainTree.{Statements}
 use Rattle.rc_runs.specs.TreeOf.{alternate_of, statements_of}
 use Rattle.rc_runs.specs.Frames.{resolve_break}
-use Rattle.rc_runs.specs.Grammar.{break_statements}
+use Rattle.rc_runs.specs.SimpleStatements.{break_statements}
 use Rattle.rc_runs.specs.Spelled.{AreSound}
 use Rattle.rc_build.specs.RuleFacts.{FaultFact}
 use Rattle.rc_build.specs.inside.Marks.{MarksBlocks}

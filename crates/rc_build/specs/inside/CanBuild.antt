@@ -10,7 +10,9 @@ use Rattle.rc_build.specs.declared.builder.Marks.{Marks}
 use Rattle.rc_runs.specs.Graph.{basic_block}
 use Rattle.rc_runs.specs.Spelled.{AreSound, scope_at}
 use Rattle.rc_build.specs.References.{referenced_blocks, tested_blocks, fallthrough_of, scope_fallthrough, cases_of}
-use Rattle.rc_build.specs.RuleFacts.{BlockIs, HasTry, IsLostJump, Jumps}
+use Rattle.rc_build.specs.TerminalForms.{Jumps}
+use Rattle.rc_build.specs.BlockFacts.{BlockIs, HasTry}
+use Rattle.rc_build.specs.RuleFacts.{IsLostJump}
 
 -- the used blocks are sound and blocks of the graph, and the used scopes are theirs
 pub record AreMarked (hir : HirFunction) (marks : Marks) : Type 0 where

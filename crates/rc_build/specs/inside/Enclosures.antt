@@ -9,7 +9,7 @@ use Rattle.rc_tree.specs.declared.statement.ReactiveStatement.TheVariants as rea
 use Rattle.rc_tree.specs.declared.terminal.ReactiveTerminal.TheVariants as tree
 use Rattle.rc_runs.specs.declared.frames.Frame.{Frame}
 use Rattle.rc_runs.specs.declared.frames.Frame.TheVariants as frame_kinds
-use Rattle.rc_runs.specs.Grammar.{opens, opens_reachable}
+use Rattle.rc_runs.specs.Fallthrough.{opens, opens_reachable}
 use Rattle.rc_build.specs.declared.enclosures.Enclosure.{Enclosure}
 use Rattle.rc_build.specs.declared.enclosures.Enclosure.TheVariants as enclosures
 use Rattle.rc_build.specs.inside.Setting.{terminal_statement}

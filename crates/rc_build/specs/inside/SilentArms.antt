@@ -7,17 +7,17 @@ use Rattle.rc_hir.specs.Model.{Instruction, HirFunction, Environment}
 use Rattle.rc_runs.specs.Graph.{Block, rows_of, usable_block}
 use Rattle.rc_runs.specs.Silent.{is_unset}
 use Rattle.rc_runs.specs.Spelled.{AreSound}
-use Rattle.rc_runs.specs.ValueGrammar.{SpellsSilentArm, are_silent}
+use Rattle.rc_runs.specs.ShortArms.{SpellsSilentArm, are_silent}
 use Rattle.rc_build.specs.declared.builder.Builder.{Builder}
 use Rattle.rc_build.specs.declared.builder.Marks.{Marks}
 use Rattle.rc_build.specs.declared.builder.Site.{Site}
-use Rattle.rc_build.specs.RuleFacts.{BlockIs, IsBranchArm, times_referenced}
+use Rattle.rc_build.specs.BlockFacts.{BlockIs, IsBranchArm, times_referenced}
 use Rattle.rc_build.specs.inside.CanBuild.{AreMarked, AreReferenced, IsUsed}
 use Rattle.rc_build.specs.inside.Marks.{MarksBlocks}
 use Rattle.rc_build.specs.inside.Setting.{setting_of}
 use Rattle.rc_build.specs.inside.Task.{Progress, progress_of}
 use Rattle.rc_build.specs.inside.ValueKinds.{value_terminal}
-use Rattle.rc_build.specs.inside.Values.{AreListed}
+use Rattle.rc_build.specs.inside.ValueRows.{AreListed}
 
 -- the numbers are those of silent rows whose ids are set
 pub record HasSilentRows (hir : HirFunction) (env : Environment) (numbers : List InstructionId) : Type 0 where

@@ -14,7 +14,7 @@ use Rattle.rc_build.specs.declared.builder.Builder.{Builder}
 use Rattle.rc_build.specs.declared.builder.Marks.{Marks}
 use Rattle.rc_build.specs.declared.builder.Site.{Site}
 use Rattle.rc_build.specs.References as references
-use Rattle.rc_build.specs.RuleFacts.{BlockIs}
+use Rattle.rc_build.specs.BlockFacts.{BlockIs}
 use Rattle.rc_build.specs.inside.CanBuild.{AreMarked, AreOwned, AreReferenced, AreUsed, IsHandler, IsUsed, pending_blocks}
 use Rattle.rc_build.specs.inside.CanBuild.{used_blocks}
 use Rattle.rc_build.specs.inside.Marks.{MarksBlocks}

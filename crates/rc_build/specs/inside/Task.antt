@@ -7,7 +7,8 @@ use Rattle.rc_build.specs.declared.builder.Builder.{Builder}
 use Rattle.rc_build.specs.declared.builder.Marks.{Marks}
 use Rattle.rc_runs.specs.PlainTree.{Statements, Nil, Cons, Alternate, Absent, Present}
 use Rattle.rc_runs.specs.Frames.{is_jump_target, resolve_break}
-use Rattle.rc_runs.specs.Grammar.{SpellsList, SpellsTerminal, break_statements}
+use Rattle.rc_runs.specs.SimpleStatements.{break_statements}
+use Rattle.rc_runs.specs.Grammar.{SpellsList, SpellsTerminal}
 use Rattle.rc_build.specs.References.{referenced_blocks}
 use Rattle.rc_build.specs.inside.Setting.{Setting}
 

@@ -11,13 +11,12 @@ use Rattle.rc_tree.specs.Model.{ReactiveFunction, ReactiveLabel}
 use Rattle.rc_tree.specs.declared.terminal.ReactiveTerminal.{out-ReactiveTerminal}
 use Rattle.rc_tree.specs.declared.terminal.ReactiveTerminal.TheVariants as tree
 use Rattle.rc_runs.specs.Frames.{resolve_break, resolve_from, resolve_at, resolve_continue, continue_from}
-use Rattle.rc_runs.specs.Grammar.{SpellsList, SpellsRest, SpellsStatement, SpellsTerminal, break_statements}
-use Rattle.rc_runs.specs.Grammar.{continue_statements, rows_before, unlabeled, from_block, returns, throws}
+use Rattle.rc_runs.specs.SimpleStatements.{break_statements, continue_statements, rows_before, unlabeled}
+use Rattle.rc_runs.specs.Grammar.{SpellsList, SpellsRest, SpellsStatement, SpellsTerminal, from_block, returns, throws}
 use Rattle.rc_runs.specs.Grammar.{unreachable, breaks, continues, leaves_try, may_throw_last, may_throw, branch_arms}
 use Rattle.rc_runs.specs.Grammar.{branch_break, and_rest, if_only, if_else, label_statement, try_statement}
-use Rattle.rc_runs.specs.Grammar.{scope_statement, pruned_scope_statement, switch_statement}
-use Rattle.rc_runs.specs.Grammar.{while_loop, do_while_loop, for_loop, for_of_loop, for_in_loop, value_statement}
-use Rattle.rc_runs.specs.Grammar.{no_rest, has_rest}
+use Rattle.rc_runs.specs.Grammar.{scope_statement, pruned_scope_statement, switch_statement, while_loop, do_while_loop}
+use Rattle.rc_runs.specs.Grammar.{for_loop, for_of_loop, for_in_loop, value_statement, no_rest, has_rest}
 use Rattle.rc_runs.specs.ListContext.{ListContext, inside}
 use Rattle.rc_runs.specs.PlainTree.{Value, Base, Statement, RowStatement, TerminalStatement, Statements, Nil, Cons}
 use Rattle.rc_runs.specs.PlainTree.{TreeTerminal, Return, Throw, Switch, DoWhile, While, For, ForOf, ForIn, If, Label}
@@ -32,8 +31,7 @@ use Rattle.rc_runs.specs.declared.frames.ContinueResult.{ContinueResult}
 use Rattle.rc_runs.specs.declared.frames.ContinueResult.TheVariants.{NoLoop}
 use Rattle.rc_checks.specs.BreakTargets.{Terminals, met_in, met_at, target_of, IsFirstUnmet, IsJumpTo}
 use Rattle.rc_checks.proofs.BreakTargets.MetLemmas.{met_in-statements, met_at-Instruction, met_at-Terminal}
-use Rattle.rc_checks.proofs.BreakTargets.MetLemmas.{met_at-Scope}
-use Rattle.rc_checks.proofs.BreakTargets.MetLemmas.{met_at-PrunedScope}
+use Rattle.rc_checks.proofs.BreakTargets.MetLemmas.{met_at-Scope, met_at-PrunedScope}
 
 -- none of the terminals is a jump
 abbrev NoJumps : Terminals → Type 0

@@ -5,10 +5,8 @@ use Rattle.std.proofs.Common.{if◌then◌else◌, is_some, length, refl, sym, a
 use Rattle.std.proofs.lemmas.List.{append-nil, drop_at, take_at}
 use Rattle.rc_tree.proofs.StepLemmas.{Ok-injective}
 use Rattle.rc_checks.specs.inside.LabelPruning.{OpenLabel, as_label, put_behind, done_before, emptied_label, label_in}
-use Rattle.rc_checks.specs.inside.LabelPruning.{moved}
-use Rattle.rc_checks.specs.inside.LabelPruning.{opened, refilled}
-use Rattle.rc_checks.specs.Labels.{Targets, flattened, in_place_of, is_named, label_after, label_rules}
-use Rattle.rc_checks.specs.Labels.{targets_behind}
+use Rattle.rc_checks.specs.inside.LabelPruning.{moved, opened, refilled}
+use Rattle.rc_checks.specs.Labels.{Targets, flattened, in_place_of, is_named, label_after, label_rules, targets_behind}
 use Rattle.rc_hir.specs.Model.{Fault}
 use Rattle.rc_tree.proofs.RebuiltLemmas.{rebuilt-labeled, rebuilt-Terminal}
 use Rattle.rc_tree.specs.Unrolled.{UnrolledTerminal}

@@ -10,7 +10,8 @@ use Rattle.rc_tree.proofs.StepLemmas.{Ok-injective}
 use Rattle.rc_runs.specs.Event.{Event, End}
 use Rattle.rc_runs.specs.PlainTree.{Statements}
 use Rattle.rc_runs.specs.TreeOf.{block_of}
-use Rattle.rc_runs.specs.BodyRun.{Ended, RunsList, IsBodyRun}
+use Rattle.rc_runs.specs.Completion.{Ended}
+use Rattle.rc_runs.specs.BodyRun.{RunsList, IsBodyRun}
 use Rattle.rc_runs.proofs.TreeOfLemmas.{block_of-injective}
 use Rattle.rc_runs.proofs.EveryBlockIsPlain.{every_block_is_plain}
 use Rattle.rc_checks.specs.Labels.{Targets, label_rules, IsWithoutUnusedLabels}

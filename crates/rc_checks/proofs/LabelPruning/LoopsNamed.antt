@@ -8,7 +8,7 @@ use Rattle.rc_runs.specs.Event.{Event}
 use Rattle.rc_runs.specs.LoopParts.{LoopParts}
 use Rattle.rc_runs.specs.PlainTree.{Value, Statements, TerminalStatement, Switch, DoWhile, While, For, ForOf, ForIn}
 use Rattle.rc_runs.specs.PlainTree.{Alternate, Cases, NoCases, Case}
-use Rattle.rc_runs.specs.BodyRun.{Completion, Normal, BreakTo, BreakLoop, ContinueTo, ContinueLoop, Ended, left_loop}
+use Rattle.rc_runs.specs.Completion.{Completion, Normal, BreakTo, BreakLoop, ContinueTo, ContinueLoop, Ended, left_loop}
 use Rattle.rc_runs.specs.BodyRun.{RunsList, RunsStatement, RunsAlternate, RunsChosen, chosen_here, chosen_later}
 use Rattle.rc_runs.specs.BodyRun.{RunsCases, no_more_cases, falls_into, leaves_case, in_case, past_cases, Spot}
 use Rattle.rc_runs.specs.BodyRun.{RunsLoop, nothing_before, in_before, past_before, in_test, test_fails, test_holds}

@@ -7,9 +7,8 @@ use Rattle.rc_tree.specs.Model.{PrunedReactiveScopeBlock, ReactiveScopeBlock, Re
 use Rattle.rc_tree.specs.declared.terminal.ReactiveSwitchCase.{out-roll-ReactiveSwitchCase, roll-ReactiveSwitchCase}
 use Rattle.rc_tree.specs.declared.terminal.ReactiveTerminal.TheVariants as tree
 use Rattle.rc_tree.proofs.RebuiltLemmas.{rebuilt-block, rebuilt-scope, rebuilt-pruned_scope, rebuilt-case}
-use Rattle.rc_tree.proofs.RebuiltLemmas.{rebuilt-Instruction}
-use Rattle.rc_tree.proofs.RebuiltLemmas.{rebuilt-Scope, rebuilt-PrunedScope, rebuilt-Break, rebuilt-Continue}
-use Rattle.rc_tree.proofs.RebuiltLemmas.{rebuilt-Return, rebuilt-Throw, rebuilt-If, rebuilt-Try}
+use Rattle.rc_tree.proofs.RebuiltLemmas.{rebuilt-Instruction, rebuilt-Scope, rebuilt-PrunedScope, rebuilt-Break}
+use Rattle.rc_tree.proofs.RebuiltLemmas.{rebuilt-Continue, rebuilt-Return, rebuilt-Throw, rebuilt-If, rebuilt-Try}
 use Rattle.rc_runs.specs.PlainTree.{Statements, Nil, Cons, Statement, RowStatement, TerminalStatement, ScopeStatement}
 use Rattle.rc_runs.specs.PlainTree.{PrunedScopeStatement, TreeTerminal, Break, Continue, Return, Throw, Switch, DoWhile}
 use Rattle.rc_runs.specs.PlainTree.{While, For, ForOf, ForIn, If, Label, Try, Alternate, Absent, Present, Cases}

@@ -12,7 +12,8 @@ use Rattle.rc_tree.proofs.RebuiltLemmas.{if_some, rebuilt-block, rebuilt-labeled
 use Rattle.rc_runs.specs.Event.{Event}
 use Rattle.rc_runs.specs.PlainTree.{Statements, Statement, TerminalStatement, TreeTerminal, Label, Alternate, Cases}
 use Rattle.rc_runs.specs.TreeOf.{statements_of, statement_of, terminal_of, alternate_of, cases_of, block_of}
-use Rattle.rc_runs.specs.BodyRun.{Completion, RunsList, RunsStatement, RunsAlternate}
+use Rattle.rc_runs.specs.Completion.{Completion}
+use Rattle.rc_runs.specs.BodyRun.{RunsList, RunsStatement, RunsAlternate}
 use Rattle.rc_runs.proofs.PlainLists.{alone, labeled}
 use Rattle.rc_runs.proofs.KeepsRunsLemmas.{CatchesNothing, SameRuns, SameAlternateRuns, label-keeps_runs}
 use Rattle.rc_runs.proofs.KeepsRunsLemmas.{flat-keeps_runs, keeps_runs-flat}

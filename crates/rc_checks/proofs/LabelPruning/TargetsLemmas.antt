@@ -13,12 +13,12 @@ use Rattle.rc_runs.specs.PlainTree.{Value, Statements, Nil, Cons, Statement, Row
 use Rattle.rc_runs.specs.PlainTree.{ScopeStatement, PrunedScopeStatement, Break, Continue, Return, Throw, If, Label}
 use Rattle.rc_runs.specs.PlainTree.{Try, Alternate, Absent, Present}
 use Rattle.rc_runs.specs.ValueRun.{Progress, Done, Short, Inside}
-use Rattle.rc_runs.specs.BodyRun.{Completion, Normal, BreakTo, BreakLoop, ContinueTo, ContinueLoop, Ended, caught}
-use Rattle.rc_runs.specs.BodyRun.{row_completion, RunsList, stopped, nothing, and_then, goes_on, leaves_list}
-use Rattle.rc_runs.specs.BodyRun.{RunsStatement, row, returned, thrown, break_implicit, break_labeled}
-use Rattle.rc_runs.specs.BodyRun.{break_unlabeled, continue_implicit, continue_labeled, continue_unlabeled, took_arm}
-use Rattle.rc_runs.specs.BodyRun.{took_other, in_label, in_try, in_handler, in_scope, in_pruned_scope, RunsAlternate}
-use Rattle.rc_runs.specs.BodyRun.{absent, present}
+use Rattle.rc_runs.specs.Completion.{Completion, Normal, BreakTo, BreakLoop, ContinueTo, ContinueLoop, Ended, caught}
+use Rattle.rc_runs.specs.Completion.{row_completion}
+use Rattle.rc_runs.specs.BodyRun.{RunsList, stopped, nothing, and_then, goes_on, leaves_list, RunsStatement, row}
+use Rattle.rc_runs.specs.BodyRun.{returned, thrown, break_implicit, break_labeled, break_unlabeled, continue_implicit}
+use Rattle.rc_runs.specs.BodyRun.{continue_labeled, continue_unlabeled, took_arm, took_other, in_label, in_try}
+use Rattle.rc_runs.specs.BodyRun.{in_handler, in_scope, in_pruned_scope, RunsAlternate, absent, present}
 use Rattle.rc_names.proofs.NumbersLemmas.{ids_equivalence, same_id-eq}
 use Rattle.rc_runs.proofs.LabelLemmas.{NameAlike}
 use Rattle.rc_checks.specs.Labels.{Targets, is_target, with_jump, is_named, label_after}

@@ -17,8 +17,7 @@ use Rattle.rc_tree.proofs.StepLemmas.{Err-injective}
 use Rattle.rc_runs.proofs.AnyLemmas.{Any-made, Any-one, Any-right}
 use Rattle.rc_checks.specs.Membership.{IsFirstUnknown, outside}
 use Rattle.rc_checks.specs.Membership.Visits.{PlacedOperand, Visit, Visits, of_operands, operand_visit, visits_joining}
-use Rattle.rc_checks.specs.Membership.Visits.{visits_of}
-use Rattle.rc_checks.specs.Membership.Visits.{visits_of_parts, visits_of_values}
+use Rattle.rc_checks.specs.Membership.Visits.{visits_of, visits_of_parts, visits_of_values}
 use Rattle.rc_checks.proofs.FaultNames as covering
 use Rattle.rc_checks.proofs.FaultNames.{alone, behind, both, none, of_body}
 use Rattle.rc_checks.proofs.MembershipCheck.UnknownOperands.{CoversRead, IsUnknownPlace, operand_unknown, operands_read}

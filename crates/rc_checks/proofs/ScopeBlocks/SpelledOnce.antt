@@ -1,57 +1,42 @@
 -- A spelled tree has each scope in one scope block: its scopes are among those that its used blocks open, each of which
 -- is opened once.
 use Rattle.std.proofs.Common.{◌≡◌, ◌∙◌, ◌≤◌, ◌+◌, ℕ, Bool, true, List, [], ◌∷◌, ◌++◌, Option, None, Some}
-use Rattle.std.proofs.Common.{option_and_then, option_map, arith, refl, ap, subst}
+use Rattle.std.proofs.Common.{option_and_then, option_map, arith, ap}
 use Rattle.std.specs.List.{filter_map}
 use Rattle.std.proofs.lemmas.List.Elements.{filter_map-append}
 use Rattle.rc_names.specs.Numbers.{BlockId, ScopeId, EvaluationOrder, times}
-use Rattle.rc_names.specs.declared.span.Span.{Span}
-use Rattle.rc_hir.specs.Model.{Environment, HirFunction, Instruction, Place, Terminal}
-use Rattle.rc_hir.specs.Model.{Case as GraphCase}
-use Rattle.rc_tree.specs.Collected.{collected, collected_case, collected_cases, collected_list, collected_statement}
-use Rattle.rc_tree.specs.Collected.{collected_terminal}
-use Rattle.rc_tree.specs.Model.{ReactiveFunction, ReactiveLabel}
+use Rattle.rc_hir.specs.Model.{Environment, HirFunction, Terminal, Case as GraphCase}
+use Rattle.rc_tree.specs.Collected.{collected, collected_case, collected_cases, collected_statement}
+use Rattle.rc_tree.specs.Model.{ReactiveFunction}
 use Rattle.rc_tree.specs.declared.terminal.ReactiveSwitchCase.{roll-ReactiveSwitchCase}
-use Rattle.rc_tree.proofs.CollectedLemmas.{collected-block, collected-case, collected-Instruction, collected-Terminal}
-use Rattle.rc_tree.proofs.CollectedLemmas.{collected-Scope, collected-PrunedScope, collected-Break, collected-Continue}
-use Rattle.rc_tree.proofs.CollectedLemmas.{collected-Return, collected-Throw, collected-Switch, collected-DoWhile}
-use Rattle.rc_tree.proofs.CollectedLemmas.{collected-While, collected-For, collected-ForOf, collected-ForIn}
-use Rattle.rc_tree.proofs.CollectedLemmas.{collected-If, collected-Label, collected-Try}
+use Rattle.rc_tree.proofs.CollectedLemmas.{collected-case, collected-Scope, collected-PrunedScope, collected-Return}
+use Rattle.rc_tree.proofs.CollectedLemmas.{collected-Throw, collected-Switch, collected-DoWhile, collected-While}
+use Rattle.rc_tree.proofs.CollectedLemmas.{collected-For, collected-ForOf, collected-ForIn, collected-If}
+use Rattle.rc_tree.proofs.CollectedLemmas.{collected-Label, collected-Try}
 use Rattle.rc_runs.specs.Frames.{resolve_break, resolve_continue}
 use Rattle.rc_runs.specs.Graph.{Block, block_at}
+use Rattle.rc_runs.specs.Fallthrough.{label_of}
+use Rattle.rc_runs.specs.SimpleStatements.{rows_before}
 use Rattle.rc_runs.specs.Grammar.{SpellsList, SpellsRest, SpellsStatement, SpellsTerminal, SpellsCases, SpellsTurns}
-use Rattle.rc_runs.specs.Grammar.{break_statements, continue_statements, label_of, rows_before, unlabeled, from_block}
-use Rattle.rc_runs.specs.Grammar.{returns, throws, unreachable, breaks, continues, leaves_try, may_throw_last}
-use Rattle.rc_runs.specs.Grammar.{may_throw, branch_arms, branch_break, and_rest, if_only, if_else, label_statement}
-use Rattle.rc_runs.specs.Grammar.{try_statement, scope_statement, pruned_scope_statement}
-use Rattle.rc_runs.specs.Grammar.{while_loop, do_while_loop, for_loop, for_of_loop, for_in_loop, no_cases, one_case}
+use Rattle.rc_runs.specs.Grammar.{from_block, returns, throws, unreachable, breaks, continues, leaves_try}
+use Rattle.rc_runs.specs.Grammar.{may_throw_last, may_throw, branch_arms, branch_break, and_rest, if_only, if_else}
+use Rattle.rc_runs.specs.Grammar.{label_statement, try_statement, scope_statement, pruned_scope_statement, while_loop}
+use Rattle.rc_runs.specs.Grammar.{do_while_loop, for_loop, for_of_loop, for_in_loop, no_cases, one_case}
 use Rattle.rc_runs.specs.Grammar.{switch_statement, value_statement, turns, no_rest, has_rest}
 use Rattle.rc_runs.specs.ListContext.{ListContext}
 use Rattle.rc_runs.specs.LoopParts.{LoopBlocks, LoopParts}
-use Rattle.rc_runs.specs.PlainTree.{Value, Base, Statement, RowStatement, TerminalStatement, Statements, Nil, Cons}
-use Rattle.rc_runs.specs.PlainTree.{TreeTerminal, Break, Continue, Return, Throw, Switch, DoWhile, While, For, ForOf}
-use Rattle.rc_runs.specs.PlainTree.{ForIn, If, Label, Try, Absent, Present, Cases}
+use Rattle.rc_runs.specs.PlainTree.{Statement, Statements, Return, Throw, Switch, DoWhile, While, For, ForOf, ForIn, If}
+use Rattle.rc_runs.specs.PlainTree.{Label, Try, Absent, Present, Cases}
 use Rattle.rc_runs.specs.Spelled.{Spells, scope_at, scope_named}
-use Rattle.rc_runs.specs.TreeOf.{value_of, block_of, cases_of, statement_of, statements_of, terminal_of}
-use Rattle.rc_runs.specs.declared.frames.BreakResult.{BreakResult}
-use Rattle.rc_runs.specs.declared.frames.BreakResult.TheVariants.{NoFrame, LeavesScope, LeavesCase, FallsOff, Breaks}
-use Rattle.rc_runs.specs.declared.frames.ContinueResult.{ContinueResult}
-use Rattle.rc_runs.specs.declared.frames.ContinueResult.TheVariants.{NoLoop, Continues}
+use Rattle.rc_runs.specs.TreeOf.{value_of, block_of, cases_of, statement_of}
 use Rattle.rc_runs.proofs.GraphLemmas.{usable_block-at}
-use Rattle.rc_checks.specs.ScopeBlocks.{Contents, contents_of_parts, HasScopesOnce, scopes_in, scopes_of}
-use Rattle.rc_checks.specs.ScopeBlocks.{joining}
-use Rattle.rc_checks.proofs.ScopeBlocks.ContentsLemmas.{scopes_of-both}
+use Rattle.rc_checks.specs.ScopeBlocks.{contents_of_parts, HasScopesOnce, scopes_in, joining}
 use Rattle.rc_checks.proofs.ScopeBlocks.DistinctLemmas.{times-append, at_most_once, differ}
+use Rattle.rc_checks.proofs.ScopeBlocks.TimesLemmas.{contents_times, tree_times, contents_times-both, tree-Cons}
+use Rattle.rc_checks.proofs.ScopeBlocks.TimesLemmas.{labeled_times, alone_times, row_times, tree-rows, jump_times}
+use Rattle.rc_checks.proofs.ScopeBlocks.TimesLemmas.{continue_times, part_times, two_times, branch_times}
 
 module _ (hir : HirFunction) (env : Environment) (s : ScopeId) where
-  -- how often the scope is that of a scope block in the contents of a part
-  abbrev contents_times : Contents → ℕ
-  contents_times part = times s (scopes_of part)
-
-  -- in statements
-  abbrev tree_times : Statements → ℕ
-  tree_times statements = contents_times (collected_list contents_of_parts (statements_of statements))
-
   -- how often a terminal opens the scope
   abbrev own_times : Option ScopeId → ℕ
   own_times None = 0
@@ -77,154 +62,64 @@ module _ (hir : HirFunction) (env : Environment) (s : ScopeId) where
       split None is = rw is (omega arith)
       split (Some x) is = rw is (omega arith)
 
-  contents_times-both : (x y : Contents) → contents_times (contents_of_parts.joining.both x y)
-      ≡ contents_times x + contents_times y
-  contents_times-both x y = ap (times s) (scopes_of-both x y) ∙ times-append s (scopes_of x) (scopes_of y)
-
-  tree-Cons : (statement : Statement) (rest : Statements)
-      → tree_times (Cons statement rest)
-      ≡ contents_times (collected_statement contents_of_parts (statement_of statement)) + tree_times rest
-  tree-Cons statement rest =
-      contents_times-both (collected_statement contents_of_parts (statement_of statement))
-      (collected_list contents_of_parts (statements_of rest))
-
-  -- a label holds nothing
-  labeled_times : (terminal : TreeTerminal) (own : Option ReactiveLabel) {part : Contents}
-      → collected_terminal contents_of_parts (terminal_of terminal) ≡ part
-      → contents_times (collected_statement contents_of_parts (statement_of (TerminalStatement terminal own)))
-      ≡ contents_times part
-  labeled_times terminal own e =
-      ap contents_times (collected-Terminal contents_of_parts (record { terminal = terminal_of terminal; label = own })
-      ∙ ap (λ part. contents_of_parts.joining.both joining.nothing part) e)
-
-  -- a terminal alone
-  alone_times : (terminal : TreeTerminal) {part : Contents}
-      → collected_terminal contents_of_parts (terminal_of terminal) ≡ part
-      → tree_times (unlabeled terminal) ≡ contents_times part
-  alone_times terminal e =
-      omega (arith, tree-Cons (TerminalStatement terminal None) Nil, labeled_times terminal None e)
-
-  -- rows have no scope blocks
-  row_times : (id : EvaluationOrder) (target : Option Place) (value : Value) (span : Option Span)
-      → contents_times (collected_statement contents_of_parts (statement_of (RowStatement id target value span))) ≡ 0
-  row_times id target value span =
-      ap contents_times (collected-Instruction contents_of_parts
-      (record { id = id; lvalue = target; value = value_of value; span = span }))
-
-  tree-rows : (rows : List Instruction) (rest : Statements) → tree_times (rows_before rows rest) ≡ tree_times rest
-  tree-rows [] rest = refl
-  tree-rows (row ∷ rows) rest =
-      omega (
-        arith,
-        tree-Cons (RowStatement row.id (Some row.lvalue) (Base row.value) row.span) (rows_before rows rest),
-        tree-rows rows rest,
-        row_times row.id (Some row.lvalue) (Base row.value) row.span,
-      )
-
-  -- a jump has none
-  jump_times : (way : BreakResult) (target : BlockId) (id : EvaluationOrder) (statements : Statements)
-      → break_statements way target id ≡ Some statements → tree_times statements ≡ 0
-  jump_times NoFrame target id statements e = absurd (let no : ⊥ = cc in no)
-  jump_times LeavesScope target id statements e = absurd (let no : ⊥ = cc in no)
-  jump_times LeavesCase target id statements e = absurd (let no : ⊥ = cc in no)
-  jump_times FallsOff target id statements e =
-      subst (λ x. tree_times x ≡ 0) (let same : Nil ≡ statements = cc in same) refl
-  jump_times (Breaks kind) target id statements e =
-      subst (λ x. tree_times x ≡ 0) (let same : unlabeled (Break target kind id) ≡ statements = cc in same)
-      (alone_times (Break target kind id) (collected-Break contents_of_parts target kind id))
-
-  continue_times : (result : ContinueResult) (id : EvaluationOrder) (statements : Statements)
-      → continue_statements result id ≡ Some statements → tree_times statements ≡ 0
-  continue_times NoLoop id statements e = absurd (let no : ⊥ = cc in no)
-  continue_times (Continues target kind) id statements e =
-      subst (λ x. tree_times x ≡ 0) (let same : unlabeled (Continue target kind id) ≡ statements = cc in same)
-      (alone_times (Continue target kind id) (collected-Continue contents_of_parts target kind id))
-
-  part_times : (part : Statements) → contents_times (collected contents_of_parts (block_of part)) ≡ tree_times part
-  part_times part = ap contents_times (collected-block contents_of_parts (block_of part))
-
-  -- two lists of one statement
-  two_times : (part other : Statements)
-      → contents_times (contents_of_parts.joining.both (collected contents_of_parts (block_of part))
-      (collected contents_of_parts (block_of other))) ≡ tree_times part + tree_times other
-  two_times part other =
-      omega (
-        arith,
-        contents_times-both (collected contents_of_parts (block_of part))
-            (collected contents_of_parts (block_of other)),
-        part_times part,
-        part_times other,
-      )
-
-  -- the arms of a branch
-  branch_times : (test : Place) (part other : Statements) (id : EvaluationOrder)
-      → tree_times (unlabeled (If test part (Present other) id)) ≡ tree_times part + tree_times other
-  branch_times test part other id =
-      omega (
-        arith,
-        alone_times (If test part (Present other) id)
-            (collected-If contents_of_parts test (block_of part) (Some (block_of other)) id),
-        two_times part other,
-      )
-
   mutual
     -- the scopes of a list are opened by its used blocks
     list_times : {key : BlockId} {context : ListContext} {statements : Statements} {used : List BlockId}
-        → SpellsList hir env key context statements used → tree_times statements ≤ used_times used
+        → SpellsList hir env key context statements used → tree_times s statements ≤ used_times used
     list_times (from_block {key = key} {rest = rest} {used = used} {block = found} usable apart terminal is) =
         let first = used-cons key found used (usable_block-at hir key found usable) in
-        let rows : tree_times (rows_before found.rows rest) ≡ tree_times rest = tree-rows found.rows rest in
+        let rows : tree_times s (rows_before found.rows rest) ≡ tree_times s rest = tree-rows s found.rows rest in
         rw is (omega (arith, first, rows, terminal_times terminal))
 
     terminal_times : {terminal : Terminal} {context : ListContext} {statements : Statements} {used : List BlockId}
         → SpellsTerminal hir env terminal context statements used
-        → tree_times statements ≤ own_times (scope_named terminal) + used_times used
+        → tree_times s statements ≤ own_times (scope_named terminal) + used_times used
     terminal_times (returns {value = value} {id = id}) =
-        omega (arith, alone_times (Return value id) (collected-Return contents_of_parts value id))
+        omega (arith, alone_times s (Return value id) (collected-Return contents_of_parts value id))
     terminal_times (unreachable {id = id} {span = span}) = omega arith
     terminal_times (breaks {target = target} {id = id} {context = around} {statements = statements} e) =
-        omega (arith, jump_times (resolve_break around.frames target) target id statements e)
+        omega (arith, jump_times s (resolve_break around.frames target) target id statements e)
     terminal_times (throws {value = value} {id = id} outside) =
-        omega (arith, alone_times (Throw value id) (collected-Throw contents_of_parts value id))
+        omega (arith, alone_times s (Throw value id) (collected-Throw contents_of_parts value id))
     terminal_times (continues {target = target} {id = id} {context = around} {statements = statements} e) =
-        omega (arith, continue_times (resolve_continue around.frames target) id statements e)
+        omega (arith, continue_times s (resolve_continue around.frames target) id statements e)
     terminal_times (leaves_try falls) = omega arith
     terminal_times (may_throw_last current falls) = omega arith
     terminal_times (may_throw current goes d) = omega (arith, list_times d)
     terminal_times (branch_arms {test = test} {id = id} {part = part} {other = other} {part_used = a} {other_used = b}
         d e is) =
-        rw is (omega (arith, branch_times test part other id, used-append a b, list_times d, list_times e))
+        rw is (omega (arith, branch_times s test part other id, used-append a b, list_times d, list_times e))
     terminal_times (branch_break {test = test} {consequent = target} {id = id} {context = around} {part = part}
         {other = other} names e d) =
         omega (
           arith,
-          branch_times test part other id,
-          jump_times (resolve_break around.frames target) target id part e,
+          branch_times s test part other id,
+          jump_times s (resolve_break around.frames target) target id part e,
           list_times d,
         )
     terminal_times (and_rest {statement = statement} {rest = rest} {part_used = a} {rest_used = b} d r is) =
-        rw is (omega (arith, tree-Cons statement rest, used-append a b, statement_times d, rest_times r))
+        rw is (omega (arith, tree-Cons s statement rest, used-append a b, statement_times d, rest_times r))
 
     statement_times : {terminal : Terminal} {context : ListContext} {o : Bool} {f : BlockId} {statement : Statement}
         {used : List BlockId} → SpellsStatement hir env terminal context o f statement used
-        → contents_times (collected_statement contents_of_parts (statement_of statement))
+        → contents_times s (collected_statement contents_of_parts (statement_of statement))
         ≤ own_times (scope_named terminal) + used_times used
     statement_times (if_only {test = test} {id = id} {label = own} {part = part} i l same falls d) =
         let x = collected contents_of_parts (block_of part) in
         omega (
           arith,
-          labeled_times (If test part Absent id) own (collected-If contents_of_parts test (block_of part) None id),
-          contents_times-both x joining.nothing,
-          part_times part,
+          labeled_times s (If test part Absent id) own (collected-If contents_of_parts test (block_of part) None id),
+          contents_times-both s x joining.nothing,
+          part_times s part,
           list_times d,
         )
     statement_times (if_else {test = test} {id = id} {label = own} {part = part} {other = other}
         {part_used = a} {other_used = b} i l same d e is) =
         rw is (omega (
           arith,
-          labeled_times (If test part (Present other) id) own
+          labeled_times s (If test part (Present other) id) own
               (collected-If contents_of_parts test (block_of part) (Some (block_of other)) id),
-          two_times part other,
+          two_times s part other,
           list_times d,
           list_times e,
           used-append a b,
@@ -232,107 +127,107 @@ module _ (hir : HirFunction) (env : Environment) (s : ScopeId) where
     statement_times (label_statement {id = id} {label = own} {part = part} i l d) =
         omega (
           arith,
-          labeled_times (Label part id) own (collected-Label contents_of_parts (block_of part) id),
-          part_times part,
+          labeled_times s (Label part id) own (collected-Label contents_of_parts (block_of part) id),
+          part_times s part,
           list_times d,
         )
     statement_times (try_statement {binding = place} {id = id} {label = own} {part = part} {other = other}
         {part_used = a} {other_used = b} i l d e is) =
         rw is (omega (
           arith,
-          labeled_times (Try part place other id) own
+          labeled_times s (Try part place other id) own
               (collected-Try contents_of_parts (block_of part) place (block_of other) id),
-          two_times part other,
+          two_times s part other,
           list_times d,
           list_times e,
           used-append a b,
         ))
     statement_times (scope_statement {scope = of} {part = part} i d) =
-        let e = ap contents_times (collected-Scope contents_of_parts
+        let e = ap (contents_times s) (collected-Scope contents_of_parts
         (record { scope = of; instructions = block_of part })) in
-        omega (arith, e, part_times part, list_times d)
+        omega (arith, e, part_times s part, list_times d)
     statement_times (pruned_scope_statement {scope = of} {part = part} i d) =
-        let e = ap contents_times (collected-PrunedScope contents_of_parts
+        let e = ap (contents_times s) (collected-PrunedScope contents_of_parts
         (record { scope = of; instructions = block_of part })) in
-        omega (arith, e, part_times part, list_times d)
+        omega (arith, e, part_times s part, list_times d)
     statement_times (switch_statement {test = test} {id = id} {label = own} {parts = parts} o l one past kept last d) =
         omega (
           arith,
-          labeled_times (Switch test parts id) own (collected-Switch contents_of_parts test (cases_of parts) id),
+          labeled_times s (Switch test parts id) own (collected-Switch contents_of_parts test (cases_of parts) id),
           cases_times id d,
         )
     statement_times (while_loop {fallthrough = f} {id = id} {parts = parts} reachable d) =
         omega (
           arith,
-          labeled_times (While parts.test parts.body id) (label_of true f)
+          labeled_times s (While parts.test parts.body id) (label_of true f)
               (collected-While contents_of_parts (value_of parts.test) (block_of parts.body) id),
-          part_times parts.body,
+          part_times s parts.body,
           turns_times d,
         )
     statement_times (do_while_loop {fallthrough = f} {id = id} {parts = parts} d) =
         omega (
           arith,
-          labeled_times (DoWhile parts.body parts.test id) (label_of true f)
+          labeled_times s (DoWhile parts.body parts.test id) (label_of true f)
               (collected-DoWhile contents_of_parts (block_of parts.body) (value_of parts.test) id),
-          contents_times-both (collected contents_of_parts (block_of parts.body)) joining.nothing,
-          part_times parts.body,
+          contents_times-both s (collected contents_of_parts (block_of parts.body)) joining.nothing,
+          part_times s parts.body,
           turns_times d,
         )
     statement_times (for_loop {fallthrough = f} {id = id} {init_value = init} {parts = parts} {init_used = a}
         {turns_used = b} v d is) =
         rw is (omega (
           arith,
-          labeled_times (For init parts.test parts.before parts.body id) (label_of true f)
+          labeled_times s (For init parts.test parts.before parts.body id) (label_of true f)
               (collected-For contents_of_parts (value_of init) (value_of parts.test)
               (option_map value_of parts.before) (block_of parts.body) id),
-          contents_times-both (collected contents_of_parts (block_of parts.body)) joining.nothing,
-          part_times parts.body,
+          contents_times-both s (collected contents_of_parts (block_of parts.body)) joining.nothing,
+          part_times s parts.body,
           used-append a b,
           turns_times d,
         ))
     statement_times (for_of_loop {fallthrough = f} {id = id} {span = span} {init_value = init} {parts = parts} e d) =
         omega (
           arith,
-          labeled_times (ForOf init parts.test parts.body span id) (label_of true f)
+          labeled_times s (ForOf init parts.test parts.body span id) (label_of true f)
               (collected-ForOf contents_of_parts (value_of init) (value_of parts.test) (block_of parts.body) span id),
-          part_times parts.body,
+          part_times s parts.body,
           turns_times d,
         )
     statement_times (for_in_loop {fallthrough = f} {id = id} {span = span} {parts = parts} d) =
         omega (
           arith,
-          labeled_times (ForIn parts.test parts.body span id) (label_of true f)
+          labeled_times s (ForIn parts.test parts.body span id) (label_of true f)
               (collected-ForIn contents_of_parts (value_of parts.test) (block_of parts.body) span id),
-          part_times parts.body,
+          part_times s parts.body,
           turns_times d,
         )
     statement_times (value_statement {nested = n} opened falls d arm is) =
-        omega (arith, row_times n.id (Some n.answer) n.value n.span)
+        omega (arith, row_times s n.id (Some n.answer) n.value n.span)
 
     cases_times : {cases : List GraphCase} {context : ListContext} {parts : Cases} {used : List BlockId}
         (id : EvaluationOrder) → SpellsCases hir env cases context parts used
-        → contents_times (collected_cases contents_of_parts id (cases_of parts)) ≤ used_times used
+        → contents_times s (collected_cases contents_of_parts id (cases_of parts)) ≤ used_times used
     cases_times id no_cases = omega arith
     cases_times id (one_case {case = case} {part = part} {parts = rest} {later_used = a} {part_used = b} later d is) =
         let first = collected_case contents_of_parts
         (roll-ReactiveSwitchCase (record { test = case.test; block = Some (block_of part) })) id in
         rw is (omega (
           arith,
-          contents_times-both first (collected_cases contents_of_parts id (cases_of rest)),
-          ap contents_times (collected-case contents_of_parts case.test (Some (block_of part)) id),
-          part_times part,
+          contents_times-both s first (collected_cases contents_of_parts id (cases_of rest)),
+          ap (contents_times s) (collected-case contents_of_parts case.test (Some (block_of part)) id),
+          part_times s part,
           used-append a b,
           list_times d,
           cases_times id later,
         ))
 
     turns_times : {blocks : LoopBlocks} {context : ListContext} {parts : LoopParts} {used : List BlockId}
-        → SpellsTurns hir env blocks context parts used → tree_times parts.body ≤ used_times used
+        → SpellsTurns hir env blocks context parts used → tree_times s parts.body ≤ used_times used
     turns_times (turns {test_used = a} {before_used = b} {body_used = c} apart again test before d is) =
         rw is (omega (arith, used-append a (b ++ c), used-append b c, list_times d))
 
     rest_times : {o : Bool} {f : BlockId} {context : ListContext} {statements : Statements} {used : List BlockId}
-        → SpellsRest hir env o f context statements used → tree_times statements ≤ used_times used
+        → SpellsRest hir env o f context statements used → tree_times s statements ≤ used_times used
     rest_times no_rest = omega arith
     rest_times (has_rest d) = list_times d
 
@@ -343,7 +238,7 @@ spelled_once hir env func spelled =
     differ (scopes_in func.body) (λ s. rw spelled.whole
     (omega (
       arith,
-      part_times hir env s spelled.statements,
+      part_times s spelled.statements,
       list_times hir env s spelled.body.list,
       at_most_once (filter_map (scope_at hir) spelled.body.used) spelled.body.sound.scopes_once s,
     )))

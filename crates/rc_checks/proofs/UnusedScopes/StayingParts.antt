@@ -19,8 +19,7 @@ use Rattle.rc_tree.specs.Model.{ReactiveSwitchCase, ReactiveTerminalStatement}
 use Rattle.rc_tree.specs.declared.statement.ReactiveStatement.TheVariants as reactive
 use Rattle.rc_tree.specs.declared.terminal.ReactiveTerminal.{ReactiveTerminal, out-ReactiveTerminal}
 use Rattle.std.proofs.Common.{◌≡◌, ◌∙◌, Bool, true, false, List, [], ◌∷◌, Option, None, Some, Result, Ok, Err, refl}
-use Rattle.std.proofs.Common.{sym}
-use Rattle.std.proofs.Common.{ap, subst, slice_get, arith, ◌||◌}
+use Rattle.std.proofs.Common.{sym, ap, subst, slice_get, arith, ◌||◌}
 use Rattle.std.proofs.Math.Bool.{or-false, or_assoc}
 use Rattle.std.proofs.lemmas.Bool.{or_parts}
 use Rattle.std.proofs.lemmas.List.Elements.{filter-append, Contains-append_left, Contains-append_right}

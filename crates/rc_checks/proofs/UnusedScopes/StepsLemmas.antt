@@ -11,8 +11,7 @@ use Rattle.rc_checks.specs.ScopeBlocks.{scope_blocks}
 use Rattle.rc_checks.specs.UnusedScopes.{IsScopeOutside, staying_blocks, IsFirstScopeOutside, IsWithoutUnusedScopes}
 use Rattle.rc_checks.specs.UnusedScopes.{has_entry, judged, kept_if, is_used, unused_scope_rules}
 use Rattle.rc_checks.specs.inside.UnusedScopesSteps.{scope_answer, answer_if, last_flag, outside_scope}
-use Rattle.rc_checks.specs.inside.UnusedScopesSteps.{unused_scope_steps}
-use Rattle.rc_checks.specs.inside.UnusedScopesSteps.{without_last}
+use Rattle.rc_checks.specs.inside.UnusedScopesSteps.{unused_scope_steps, without_last}
 use Rattle.rc_checks.specs.declared.unused_scopes.Returns.{Returns}
 use Rattle.rc_hir.specs.Model.{Environment, Fault, HirFunction, ReactiveScope}
 use Rattle.rc_hir.specs.declared.fault.Fault.TheVariants.{NoMemory}

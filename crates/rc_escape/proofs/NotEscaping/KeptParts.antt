@@ -1,6 +1,5 @@
 -- The pass keeps the tree without its scopes, and numbers that are in their tables stay in them.
-use Rattle.std.proofs.Common.{◌≡◌, ◌∙◌, Bool, true, false, List, [], ◌∷◌, ◌++◌, All, refl}
-use Rattle.std.proofs.Common.{sym, ap, subst}
+use Rattle.std.proofs.Common.{◌≡◌, ◌∙◌, Bool, true, false, List, [], ◌∷◌, ◌++◌, All, refl, sym, ap, subst}
 use Rattle.std.proofs.lemmas.List.Elements.{All-append}
 use Rattle.std.specs.List.{flat_map}
 use Rattle.rc_hir.specs.Model.{Environment, InstructionValue}
@@ -27,8 +26,9 @@ use Rattle.rc_tree.specs.Model.{ReactiveScopeBlock, ReactiveStatement, ReactiveV
 use Rattle.rc_tree.specs.declared.statement.ReactiveStatement.TheVariants as reactive
 use Rattle.rc_tree.specs.declared.value.ReactiveValue.TheVariants as reactive_values
 use Rattle.rc_escape.proofs.RebuiltRelated.{RelatesRules, rebuilt_related, stands}
-use Rattle.rc_escape.specs.NotEscaping.{IsRebuiltFor, flagged, flagged_row, flagged_value, in_place_of, is_dissolved}
-use Rattle.rc_escape.specs.NotEscaping.{not_escaping_rules}
+use Rattle.rc_escape.specs.Outputs.{is_dissolved}
+use Rattle.rc_escape.specs.Flags.{flagged, flagged_row, flagged_value}
+use Rattle.rc_escape.specs.NotEscaping.{IsRebuiltFor, in_place_of, not_escaping_rules}
 use Rattle.rc_escape.specs.Met.{nothing_met}
 use Rattle.rc_escape.specs.declared.not_escaping.met.Met.{Met}
 

@@ -12,10 +12,10 @@ use Rattle.rc_tree.specs.Collected.{collected_list, collected_statement, collect
 use Rattle.rc_tree.specs.Model.{ReactiveBlock, ReactiveFunction, ReactiveScopeBlock, ReactiveStatement}
 use Rattle.rc_tree.specs.declared.statement.ReactiveStatement.TheVariants as reactive
 use Rattle.rc_escape.proofs.RebuiltRelated.{RelatesRules, rebuilt_related, stands}
-use Rattle.rc_escape.specs.NotEscaping.{block_parts, block_scopes}
-use Rattle.rc_escape.specs.NotEscaping.{AreMemoized, IsRebuiltFor, IsWithoutNotEscaping}
-use Rattle.rc_escape.specs.NotEscaping.{flagged_row, in_place_of, is_dissolved, not_escaping_rules}
-use Rattle.rc_escape.specs.NotEscaping.{staying_scopes}
+use Rattle.rc_escape.specs.Outputs.{block_parts, block_scopes, is_dissolved, staying_scopes}
+use Rattle.rc_escape.specs.Flags.{flagged_row}
+use Rattle.rc_escape.specs.WholeRecord.{AreMemoized}
+use Rattle.rc_escape.specs.NotEscaping.{IsRebuiltFor, IsWithoutNotEscaping, in_place_of, not_escaping_rules}
 use Rattle.rc_escape.specs.Met.{nothing_met}
 
 -- the scopes in one statement

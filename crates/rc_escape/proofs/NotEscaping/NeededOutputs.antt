@@ -14,8 +14,9 @@ use Rattle.rc_escape.proofs.ListLemmas.{Contains-cases, Contains-first, Contains
 use Rattle.rc_escape.proofs.MemoSetLemmas.{least_in}
 use Rattle.rc_escape.proofs.OneRecord.{one_record}
 use Rattle.rc_escape.specs.MemoBounds.{IsInLeastSet}
-use Rattle.rc_escape.specs.NotEscaping.{AreMemoized, IsNeededOutput, IsWithoutNotEscaping, gives_way, is_dissolved}
-use Rattle.rc_escape.specs.NotEscaping.{block_scopes, has_output, outputs_of}
+use Rattle.rc_escape.specs.Outputs.{gives_way, is_dissolved, block_scopes, has_output, outputs_of}
+use Rattle.rc_escape.specs.WholeRecord.{AreMemoized}
+use Rattle.rc_escape.specs.NotEscaping.{IsNeededOutput, IsWithoutNotEscaping}
 
 -- an element of a list that passes a test settles it
 any_passes : {X : Type 0} (p : X → Bool) (xs : List X) (x : X) → Contains xs x → p x ≡ true → list_any p xs ≡ true

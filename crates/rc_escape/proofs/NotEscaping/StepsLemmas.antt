@@ -16,7 +16,9 @@ use Rattle.rc_memo.specs.declared.record.MemoRecord.{MemoRecord}
 use Rattle.rc_tree.specs.Model.{ReactiveBlock, ReactiveFunction, ReactiveScopeBlock}
 use Rattle.rc_tree.specs.declared.statement.ReactiveStatement.TheVariants as reactive
 use Rattle.rc_escape.specs.MemoSet.{IsNoScopeNode}
-use Rattle.rc_escape.specs.NotEscaping.{IsEscapeFault, IsRebuiltFor, in_place_of, is_dissolved, not_escaping_rules}
+use Rattle.rc_escape.specs.Outputs.{is_dissolved}
+use Rattle.rc_escape.specs.WholeRecord.{IsEscapeFault}
+use Rattle.rc_escape.specs.NotEscaping.{IsRebuiltFor, in_place_of, not_escaping_rules}
 use Rattle.rc_escape.specs.Met.{nothing_met}
 use Rattle.rc_escape.specs.inside.NotEscapingSteps.{answer_if, enters_no_deeper, not_escaping_steps}
 use Rattle.rc_escape.specs.declared.not_escaping.met.Met.{Met}

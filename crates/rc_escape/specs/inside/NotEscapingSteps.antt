@@ -7,9 +7,9 @@ use Rattle.rc_tree.specs.Model.{ReactiveScopeBlock, ReactiveStatement, Transform
 use Rattle.rc_tree.specs.NoDeeper.{goes_inside_no_deeper, skips_no_deeper}
 use Rattle.rc_tree.specs.RewriteSteps.{EntersNoDeeper, RewriteSteps, idle, skips}
 use Rattle.rc_tree.specs.declared.hooks.Transformed.TheVariants.{Keep, ReplaceMany}
-use Rattle.rc_escape.specs.NotEscaping.{flagged_row, is_dissolved, stored_by_value}
-use Rattle.rc_escape.specs.Met.{Stores, with_dissolved_if}
-use Rattle.rc_escape.specs.Met.{with_store, with_store_if}
+use Rattle.rc_escape.specs.Outputs.{is_dissolved}
+use Rattle.rc_escape.specs.Flags.{flagged_row, stored_by_value}
+use Rattle.rc_escape.specs.Met.{Stores, with_dissolved_if, with_store, with_store_if}
 use Rattle.rc_escape.specs.declared.not_escaping.met.Met.{Met}
 use Rattle.rc_escape.specs.declared.not_escaping.met.Store.{Store}
 

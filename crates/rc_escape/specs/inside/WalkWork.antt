@@ -1,7 +1,6 @@
 -- How many steps the walk by a stack has left.
-use Rattle.std.specs.Prelude.{◌+◌, ◌-◌, ℕ, Bool, List}
-use Rattle.std.specs.Prelude.{[], ◌∷◌, Option, None, Some, length}
-use Rattle.std.specs.Prelude.{map, slice_get, sum_by, if◌then◌else◌}
+use Rattle.std.specs.Prelude.{◌+◌, ◌-◌, ℕ, Bool, List, [], ◌∷◌, Option, None, Some, length, map, slice_get, sum_by}
+use Rattle.std.specs.Prelude.{if◌then◌else◌}
 use Rattle.rc_names.specs.Numbers.{DeclarationId, ScopeId}
 use Rattle.rc_memo.specs.declared.record.MemoNode.{MemoNode}
 use Rattle.rc_memo.specs.declared.record.MemoRecord.{MemoRecord}

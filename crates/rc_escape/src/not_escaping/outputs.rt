@@ -2,9 +2,10 @@
 
 ghost use Rattle.std.specs.Prelude.{◌≡◌};
 ghost use Rattle.std.specs.List.{list_any};
-ghost use Rattle.rc_escape.specs.NotEscaping as spec;
+ghost use Rattle.rc_escape.specs.Flags as flags;
+ghost use Rattle.rc_escape.specs.Outputs as spec;
 ghost use Rattle.rc_hir.specs.Model as model;
-ghost use Rattle.rc_memo.specs.RowEvents.{declaration_of};
+ghost use Rattle.rc_memo.specs.Mentions.{declaration_of};
 ghost use Rattle.rc_names.specs.Numbers.{is_among};
 
 use crate::DeclSet;
@@ -23,7 +24,7 @@ pub fn declaration_of(env: &Environment, number: IdentifierId) -> DeclarationId
 
 /// Returns the scope of an identifier.
 pub fn scope_of(env: &Environment, number: IdentifierId) -> Option<ScopeId>
-    ensures { result ≡ spec.scope_of env.now number }
+    ensures { result ≡ flags.scope_of env.now number }
 {
     let identifier = env.identifiers.get(number)?;
     identifier.scope

@@ -1,7 +1,7 @@
 //! The rows that the pass looks at: those that store a name, and `FinishMemoize`.
 
 ghost use Rattle.std.specs.Prelude.{◌≡◌, None, if◌then◌else◌};
-ghost use Rattle.rc_escape.specs.NotEscaping as spec;
+ghost use Rattle.rc_escape.specs.Flags as spec;
 
 use crate::not_escaping::met::{Met, Store};
 use crate::not_escaping::outputs::{declaration_of, scope_of};
@@ -42,7 +42,7 @@ fn loaded(env: &Environment, target: Option<Place>, place: Place) -> Option<Stor
 }
 
 /// Returns the name that an instruction with this target stores.
-#[tactic(auto, unfolding(crate::specs::NotEscaping::stored_by))]
+#[tactic(auto, unfolding(crate::specs::Flags::stored_by))]
 fn stored_by(
     env: &Environment,
     target: Option<Place>,
@@ -78,7 +78,7 @@ fn is_pruned(env: &Environment, met: &Met, name: IdentifierId) -> bool
 }
 
 /// Sets the flag of a `FinishMemoize` that is pruned.
-#[tactic(auto, unfolding(crate::specs::NotEscaping::flagged))]
+#[tactic(auto, unfolding(crate::specs::Flags::flagged))]
 fn set_flag(env: &Environment, met: &Met, instruction: &mut InstructionValue)
     ensures { instruction.new ≡ spec.flagged env.now met.now instruction.old }
 {

@@ -4,7 +4,8 @@ use Rattle.std.specs.List.{IsDistinct}
 use Rattle.rc_names.specs.Numbers.{DeclarationId, ScopeId, same_id}
 use Rattle.rc_checks.specs.ScopeBlocks.{scopes_in}
 use Rattle.rc_checks.specs.UnusedScopes.{staying_blocks}
-use Rattle.rc_escape.specs.NotEscaping.{IsNeededOutput, block_scopes}
+use Rattle.rc_escape.specs.Outputs.{block_scopes}
+use Rattle.rc_escape.specs.NotEscaping.{IsNeededOutput}
 use Rattle.rc_flow.specs.AlwaysInvalidating.{LeavesOthers}
 use Rattle.rc_pipe.specs.Passes.{AfterDependencies, AfterEscape, AfterInvalidating, AfterLabels, AfterUnusedScopes}
 use Rattle.rc_pipe.specs.Passes.{AreInside, IsPruned, PassState}

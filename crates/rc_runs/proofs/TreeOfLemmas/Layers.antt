@@ -13,8 +13,7 @@ use Rattle.rc_tree.specs.declared.terminal.ReactiveTerminal.TheVariants as tree
 use Rattle.rc_runs.specs.PlainTree.{Value, Base, Logical, Conditional, Sequence, Optional, Statement, RowStatement}
 use Rattle.rc_runs.specs.PlainTree.{TerminalStatement, ScopeStatement, PrunedScopeStatement, TreeTerminal, Break}
 use Rattle.rc_runs.specs.PlainTree.{Continue, Return, Throw, Switch, DoWhile, While, For, ForOf, ForIn, If, Label, Try}
-use Rattle.rc_runs.specs.TreeOf.{value_of, instructions_of, statement_of, terminal_of, alternate_of, cases_of}
-use Rattle.rc_runs.specs.TreeOf.{block_of}
+use Rattle.rc_runs.specs.TreeOf.{value_of, instructions_of, statement_of, terminal_of, alternate_of, cases_of, block_of}
 
 -- the form of a value's tree
 abbrev pub value_layer : Value → ReactiveValue-F ReactiveValue ReactiveInstruction

@@ -1,5 +1,5 @@
 use Rattle.std.proofs.Common.{take}
-use Rattle.rc_build.specs.inside.Values.{HasRows}
+use Rattle.rc_build.specs.inside.ValueRows.{HasRows}
 use Rattle.rc_build.proofs.value_rows.sequence_rows.Given as goal
 
 abbrev pub invariant-loop-number : goal.invariant-loop-number

@@ -6,12 +6,10 @@ use Rattle.rc_checks.proofs.LabelPruning.Depths.{most_drop, size_label}
 use Rattle.rc_checks.proofs.LabelPruning.FrontPruned.{all_put, front_begins, one_gives_way, one_stays}
 use Rattle.rc_checks.proofs.LabelPruning.Judged.{given_way, stayed, stayed_alone}
 use Rattle.rc_checks.proofs.LabelPruning.PruningLemmas.{all_cases, behind_nothing, block_pruned, next_case, next_put}
-use Rattle.rc_checks.proofs.LabelPruning.PruningLemmas.{no_last}
-use Rattle.rc_checks.proofs.LabelPruning.PruningLemmas.{pruned_scope_stays, puts_last, row_stays, scope_stays}
+use Rattle.rc_checks.proofs.LabelPruning.PruningLemmas.{no_last, pruned_scope_stays, puts_last, row_stays, scope_stays}
 use Rattle.rc_checks.proofs.LabelPruning.Opened.{opened-Break, opened-Continue, opened-Return, opened-Throw}
-use Rattle.rc_checks.proofs.LabelPruning.Opened.{opened-Switch}
-use Rattle.rc_checks.proofs.LabelPruning.Opened.{opened-DoWhile, opened-While, opened-For, opened-ForOf, opened-ForIn}
-use Rattle.rc_checks.proofs.LabelPruning.Opened.{opened-If, opened-Label, opened-Try}
+use Rattle.rc_checks.proofs.LabelPruning.Opened.{opened-Switch, opened-DoWhile, opened-While, opened-For, opened-ForOf}
+use Rattle.rc_checks.proofs.LabelPruning.Opened.{opened-ForIn, opened-If, opened-Label, opened-Try}
 use Rattle.rc_tree.proofs.PlaceLemmas.{most_place, most_pop}
 use Rattle.rc_tree.proofs.FuelLemmas.{most-reverse}
 use Rattle.rc_tree.proofs.statement.ReactiveBlock.TheLaws as block

@@ -5,8 +5,7 @@ use Rattle.rc_hir.specs.declared.fault.Fault.TheVariants.{BadName}
 use Rattle.rc_checks.specs.ScopeBlocks.{scopes_in}
 use Rattle.rc_checks.proofs.FaultNames.{no_name_outside}
 use Rattle.rc_checks.proofs.MembershipCheck.CheckLemmas.{failed_bad_name, failed_completed, failed_only}
-use Rattle.rc_checks.proofs.MembershipCheck.CheckLemmas.{found_completed}
-use Rattle.rc_checks.proofs.MembershipCheck.CheckLemmas.{none_outside}
+use Rattle.rc_checks.proofs.MembershipCheck.CheckLemmas.{found_completed, none_outside}
 use Rattle.rc_checks.proofs.MembershipCheck.UnknownVisits.{first_unknown_outside}
 use Rattle.rc_checks.proofs.membership.assert_scope_instructions_within_scopes.Goals as goal
 

@@ -6,8 +6,7 @@ use Rattle.rc_checks.proofs.UnusedScopes.NamesStay.{unused_scopes_keep_names}
 use Rattle.rc_checks.proofs.UnusedScopes.ScopesOnce.{left_once}
 use Rattle.rc_checks.proofs.UnusedScopes.Faults.{named_outside, only_memory}
 use Rattle.rc_checks.proofs.UnusedScopes.StepsLemmas.{left_without_unused, left_staying, left_erased}
-use Rattle.rc_checks.proofs.UnusedScopes.StepsLemmas.{left_first_outside}
-use Rattle.rc_checks.proofs.UnusedScopes.StepsLemmas.{left_outside}
+use Rattle.rc_checks.proofs.UnusedScopes.StepsLemmas.{left_first_outside, left_outside}
 use Rattle.rc_checks.proofs.unused_scopes.prune_unused_scopes.Goals as goal
 
 -- the environment that the pass looks into is the caller's

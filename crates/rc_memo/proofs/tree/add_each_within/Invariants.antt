@@ -1,6 +1,6 @@
 use Rattle.std.proofs.Common.{◌≡◌, [], ◌∷◌, ◌++◌, take}
 use Rattle.std.specs.List.{flat_map}
-use Rattle.rc_memo.specs.RowEvents.{declaration_of}
+use Rattle.rc_memo.specs.Mentions.{declaration_of}
 use Rattle.rc_memo.specs.declared.event.MemoEvent.TheVariants as kinds
 use Rattle.rc_memo.proofs.tree.add_each_within.Given as goal
 

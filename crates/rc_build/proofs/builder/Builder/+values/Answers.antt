@@ -5,15 +5,18 @@ use Rattle.rc_hir.specs.declared.fault.Rule.TheVariants as rules
 use Rattle.rc_runs.specs.PlainTree.{NoRows, Row, Sequence}
 use Rattle.rc_runs.specs.Silent.{is_unset}
 use Rattle.rc_runs.specs.TreeOf.{value_of}
-use Rattle.rc_runs.specs.ValueGrammar.{GoesTo, SpellsNested}
+use Rattle.rc_runs.specs.ValueEnd.{GoesTo}
+use Rattle.rc_runs.specs.ValueGrammar.{SpellsNested}
 use Rattle.rc_build.specs.declared.value_terminals.ValueKind.TheVariants as kinds
 use Rattle.rc_build.specs.declared.values.Around.{Around}
 use Rattle.rc_build.specs.inside.Setting.{Setting}
 use Rattle.rc_build.specs.inside.Task.{progress_of}
 use Rattle.rc_build.specs.inside.ValueKinds.{terminal_of}
 use Rattle.rc_build.specs.inside.ValueSteps.{value_at}
-use Rattle.rc_build.specs.inside.ValueTerminals.{CanBuildNested, NestedBuilt, RowsSoFar}
-use Rattle.rc_build.specs.inside.Values.{HasRows, IsChoice, any_end}
+use Rattle.rc_build.specs.inside.ValueLoops.{RowsSoFar}
+use Rattle.rc_build.specs.inside.ValueTerminals.{CanBuildNested, NestedBuilt}
+use Rattle.rc_build.specs.inside.ValueRows.{HasRows}
+use Rattle.rc_build.specs.inside.Values.{IsChoice, any_end}
 use Rattle.rc_build.proofs.BuildsLemmas.{any_site, breaks_rule, builds_at, fails, fails_at, is_built, passes_on}
 use Rattle.rc_build.proofs.BuildsLemmas.{refused_in, same_graph}
 use Rattle.rc_build.proofs.ListLemmas.{as_few_left, fewer_left, same_blocks, used_longer}
@@ -25,8 +28,8 @@ use Rattle.rc_build.proofs.RowBuiltLemmas.{row_unset_refused}
 use Rattle.rc_build.proofs.ShortArmLemmas.{other_none, other_some, short_fact}
 use Rattle.rc_build.proofs.SilentValueLemmas.{arm_silent}
 use Rattle.rc_build.proofs.StepLemmas.{row_can, row_step, throwing_can, throwing_step}
-use Rattle.rc_build.proofs.TestPartLemmas.{arm_at, logical_parts, logical_tests, optional_tests, shares_same}
-use Rattle.rc_build.proofs.TestPartLemmas.{ternary_tests, tested_parts}
+use Rattle.rc_build.specs.inside.TestParts.{logical_tests, optional_tests, ternary_tests}
+use Rattle.rc_build.proofs.TestPartLemmas.{arm_at, logical_parts, shares_same, tested_parts}
 use Rattle.rc_build.proofs.TestedLemmas.{arm_there, first_arm_can, first_fails, first_silent, same_behind}
 use Rattle.rc_build.proofs.TestedLemmas.{second_arm_can, second_fails, silent_arm_can, silent_since, test_fails}
 use Rattle.rc_build.proofs.ValueEndLemmas.{arms_as, arms_none, arms_unlike, declared_in, end_elsewhere, ends_as}

@@ -2,7 +2,7 @@
 -- marks the functions call each other in one order.
 use Rattle.std.proofs.Common.{ℕ, ◌+◌, ◌-◌, ◌*◌, length}
 use Rattle.rc_build.specs.declared.builder.Builder.{Builder}
-use Rattle.rc_build.specs.inside.ValueTerminals.{BackSoFar, RowsSoFar}
+use Rattle.rc_build.specs.inside.ValueLoops.{BackSoFar, RowsSoFar}
 use Rattle.rc_build.proofs.builder.Builder.+values.Given as goal
 
 -- ten for each block that isn't used

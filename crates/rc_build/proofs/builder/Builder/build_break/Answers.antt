@@ -1,10 +1,9 @@
-use Rattle.std.proofs.Common.{None}
+use Rattle.std.proofs.Common.{None, refl}
 use Rattle.rc_hir.specs.declared.terminal.GotoVariant.TheVariants as variants
 use Rattle.rc_hir.specs.declared.terminal.Terminal.TheVariants as terminals
 use Rattle.rc_build.specs.inside.Setting.{setting_of}
 use Rattle.rc_build.proofs.BuildsLemmas.{is_built, passes_on}
 use Rattle.rc_build.proofs.JumpLemmas.{break_built, break_refused, goto_can}
-use Rattle.std.proofs.Common.{refl}
 use Rattle.rc_build.proofs.builder.Builder.build_break.Goals as goal
 
 pub put_break-requires : goal.put_break-requires

@@ -4,7 +4,8 @@ use Rattle.rc_hir.specs.declared.terminal.GotoVariant.TheVariants as variants
 use Rattle.rc_hir.specs.declared.terminal.Terminal.TheVariants as terminals
 use Rattle.rc_tree.specs.Model.{ReactiveStatement}
 use Rattle.rc_runs.specs.PlainTree.{Continue}
-use Rattle.rc_runs.specs.Grammar.{continue_statements, continues, unlabeled}
+use Rattle.rc_runs.specs.SimpleStatements.{continue_statements, unlabeled}
+use Rattle.rc_runs.specs.Grammar.{continues}
 use Rattle.rc_build.specs.inside.Setting.{setting_of}
 use Rattle.rc_build.proofs.BuildsLemmas.{breaks_rule}
 use Rattle.rc_build.proofs.JumpLemmas.{builds_end, continue_at, continue_refused}

@@ -2,7 +2,7 @@ use Rattle.std.proofs.Common.{refl, subst}
 use Rattle.rc_build.specs.declared.values.Around.{Around}
 use Rattle.rc_build.specs.inside.Task.{progress_of}
 use Rattle.rc_build.proofs.BuildsLemmas.{is_built, passes_on}
-use Rattle.rc_build.proofs.TestPartLemmas.{ArmBuilt, HasNoArm}
+use Rattle.rc_build.specs.inside.TestParts.{ArmBuilt, HasNoArm}
 use Rattle.rc_build.proofs.ValueEndLemmas.{going_built, going_refused}
 use Rattle.rc_build.proofs.builder.Builder.build_going.Goals as goal
 

@@ -4,7 +4,8 @@ use Rattle.rc_runs.specs.ListContext.{is_current}
 use Rattle.rc_build.specs.inside.Marks.{IsUnusable}
 use Rattle.rc_build.specs.inside.Setting.{Setting}
 use Rattle.rc_build.specs.inside.Task.{progress_of}
-use Rattle.rc_build.specs.inside.Values.{CanMark, HasRows, Marked, any_end}
+use Rattle.rc_build.specs.inside.ValueRows.{HasRows}
+use Rattle.rc_build.specs.inside.Values.{CanMark, Marked, any_end}
 use Rattle.rc_build.proofs.BuildsLemmas.{breaks_rule, fails, is_built, passes_on, same_graph, any_site}
 use Rattle.rc_build.proofs.LastThrowLemmas.{first_can_mark, last_can_mark, last_empty, last_empty_fact, last_missing}
 use Rattle.rc_build.proofs.LastThrowLemmas.{last_referenced, last_throw_built, last_unusable, none_listed}

@@ -7,7 +7,7 @@ use Rattle.rc_build.specs.inside.Task.{progress_of}
 use Rattle.rc_build.specs.inside.ValueSteps.{value_at}
 use Rattle.rc_build.specs.inside.Values.{HasNoValue, IsChoice}
 use Rattle.rc_build.proofs.BuildsLemmas.{breaks_rule, is_built, passes_on}
-use Rattle.rc_build.proofs.TestPartLemmas.{ConditionBuilt}
+use Rattle.rc_build.specs.inside.TestParts.{ConditionBuilt}
 use Rattle.rc_build.proofs.ValueEndLemmas.{arms_differ, end_elsewhere, test_built, test_elsewhere, test_refused_value}
 use Rattle.rc_build.proofs.builder.Builder.build_test.Goals as goal
 

@@ -1,5 +1,6 @@
 use Rattle.std.proofs.Common.{[], Err, refl, sym, ap, ◌∙◌, subst}
-use Rattle.rc_build.specs.inside.Values.{HasRows, any_end}
+use Rattle.rc_build.specs.inside.ValueRows.{HasRows}
+use Rattle.rc_build.specs.inside.Values.{any_end}
 use Rattle.rc_build.proofs.BuildsLemmas.{fails, is_built, passes_on}
 use Rattle.rc_build.proofs.MarksLemmas.{referenced_once}
 use Rattle.rc_build.proofs.ThrowingLemmas.{block_throws, other_handler, throwing_built, throwing_can_mark}

@@ -1,11 +1,10 @@
 use Rattle.std.proofs.Common.{[], ◌∷◌, ◌++◌, None, false, refl, sym, ap, ◌∙◌, subst}
 use Rattle.rc_hir.specs.declared.fault.Rule.TheVariants.{FallsElsewhere}
-use Rattle.rc_runs.specs.ValueGrammar.{SpellsShortArm}
+use Rattle.rc_runs.specs.ShortArms.{SpellsShortArm}
 use Rattle.rc_build.specs.inside.Built.{Refused}
 use Rattle.rc_build.specs.inside.Setting.{Setting, setting_of}
 use Rattle.rc_build.specs.inside.Task.{progress_of}
-use Rattle.rc_build.specs.inside.ValueTerminals.{CanBuildShort, ShortBuilt}
-use Rattle.rc_build.specs.inside.Values.{alternate_of}
+use Rattle.rc_build.specs.inside.ShortArms.{CanBuildShort, ShortBuilt, alternate_of}
 use Rattle.rc_build.proofs.BuildsLemmas.{breaks_rule, is_built, passes_on, same_graph}
 use Rattle.rc_build.proofs.ValueStatementLemmas.{falls_fact, nested_can, nested_short_can, value_elsewhere}
 use Rattle.rc_build.proofs.ValueStatementLemmas.{value_prefix, value_refused, value_refused_arm}

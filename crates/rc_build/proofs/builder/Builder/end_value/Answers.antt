@@ -1,5 +1,5 @@
 use Rattle.std.proofs.Common.{sym, ◌∙◌, subst}
-use Rattle.rc_build.specs.inside.Values.{IsRead}
+use Rattle.rc_build.specs.inside.ValueEnds.{IsRead}
 use Rattle.rc_build.proofs.ValueMadeLemmas.{read_refused, read_result}
 use Rattle.rc_build.proofs.builder.Builder.end_value.Goals as goal
 

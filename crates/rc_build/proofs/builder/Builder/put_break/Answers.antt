@@ -3,7 +3,7 @@ use Rattle.std.proofs.lemmas.List.{append-nil}
 use Rattle.rc_hir.specs.declared.fault.Rule.TheVariants as rules
 use Rattle.rc_tree.specs.Model.{ReactiveStatement}
 use Rattle.rc_runs.specs.PlainTree.{Nil, Break}
-use Rattle.rc_runs.specs.Grammar.{break_statements, unlabeled}
+use Rattle.rc_runs.specs.SimpleStatements.{break_statements, unlabeled}
 use Rattle.rc_build.specs.inside.CanBuild.{IsUsedApart}
 use Rattle.rc_build.proofs.BuildsLemmas.{breaks_rule, is_built}
 use Rattle.rc_build.proofs.JumpLemmas.{jump_at, lost_at}

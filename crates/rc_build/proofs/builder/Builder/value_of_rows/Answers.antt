@@ -1,5 +1,5 @@
 use Rattle.std.proofs.Common.{refl, ap, ◌∙◌}
-use Rattle.rc_build.specs.inside.Values.{behind_rows}
+use Rattle.rc_build.specs.inside.ValueRows.{behind_rows}
 use Rattle.rc_build.proofs.BuildsLemmas.{passed_on}
 use Rattle.rc_build.proofs.ValueMadeLemmas.{listed_front, listed_last, rows_made, rows_without_front, rows_without_last}
 use Rattle.rc_build.proofs.builder.Builder.value_of_rows.Goals as goal

@@ -1,5 +1,4 @@
-use Rattle.rc_memo.proofs.RowEventsLemmas.{as_walked, walks-Conditional, walks-Logical}
-use Rattle.rc_memo.proofs.RowEventsLemmas.{walks-Optional, walks-Sequence}
+use Rattle.rc_memo.proofs.RowEventsLemmas.{as_walked, walks-Conditional, walks-Logical, walks-Optional, walks-Sequence}
 use Rattle.rc_memo.proofs.rows.RowReader.+walked.Goals as goal
 
 pub returns-in_ok-add_walked-in-LogicalExpression-2 : goal.returns-in_ok-add_walked-in-LogicalExpression-2

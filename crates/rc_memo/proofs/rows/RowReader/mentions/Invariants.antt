@@ -1,5 +1,5 @@
 use Rattle.std.proofs.Common.{◌≡◌, map, take}
-use Rattle.rc_memo.specs.RowEvents.{mention_of}
+use Rattle.rc_memo.specs.Mentions.{mention_of}
 use Rattle.rc_memo.proofs.rows.RowReader.mentions.Given as goal
 
 abbrev pub invariant-loop-place : goal.invariant-loop-place

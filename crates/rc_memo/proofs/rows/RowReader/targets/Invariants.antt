@@ -1,5 +1,5 @@
 use Rattle.std.proofs.Common.{◌≡◌, map, take}
-use Rattle.rc_memo.specs.RowEvents.{target_of}
+use Rattle.rc_memo.specs.Mentions.{target_of}
 use Rattle.rc_memo.proofs.rows.RowReader.targets.Given as goal
 
 abbrev pub invariant-loop-one : goal.invariant-loop-one

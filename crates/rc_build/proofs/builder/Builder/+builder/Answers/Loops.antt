@@ -4,14 +4,16 @@ use Rattle.rc_runs.specs.LoopParts.{loop_frame}
 use Rattle.rc_build.specs.inside.Built.{BuiltList, Refused}
 use Rattle.rc_build.specs.inside.CanBuild.{CanBuildList}
 use Rattle.rc_build.specs.inside.Depths.{frames_inside}
-use Rattle.rc_build.specs.inside.Loops.{CanBuildBefore, CanBuildTurns, SpellsTurnsOf, TurnsBuilt, before_of, blocks_of}
+use Rattle.rc_build.specs.inside.LoopKinds.{before_of, blocks_of}
+use Rattle.rc_build.specs.inside.Loops.{CanBuildBefore, CanBuildTurns, SpellsTurnsOf, TurnsBuilt}
 use Rattle.rc_build.specs.inside.Setting.{Setting, setting_of, terminal_statement}
 use Rattle.rc_build.specs.inside.Task.{FromBlock, Spells, progress_of}
 use Rattle.rc_build.proofs.BuildsLemmas.{breaks_rule, is_built, passes_on, refused_in, same_graph}
 use Rattle.rc_build.proofs.ListLemmas.{as_few_left, same_blocks, used_longer}
-use Rattle.rc_build.proofs.LoopLemmas.{SpellsLoopBefore, before_at, before_can, body_can, in_frame, init_can}
-use Rattle.rc_build.proofs.LoopLemmas.{start_marked, test_at, test_can, turns_built, turns_can, turns_refused_before}
-use Rattle.rc_build.proofs.LoopLemmas.{turns_refused_body, turns_refused_test, values_built, values_marked}
+use Rattle.rc_build.proofs.CanBuildTurnsLemmas.{before_can, body_can, init_can, test_can, turns_can}
+use Rattle.rc_build.proofs.LoopLemmas.{SpellsLoopBefore, before_at, in_frame, start_marked, test_at, turns_built}
+use Rattle.rc_build.proofs.LoopLemmas.{turns_refused_before, turns_refused_body, turns_refused_test, values_built}
+use Rattle.rc_build.proofs.LoopLemmas.{values_marked}
 use Rattle.rc_build.proofs.LoopStatementLemmas.{init_refused, live_fact, live_refused, loop_built, loop_refused}
 use Rattle.rc_build.proofs.LoopStatementLemmas.{not_live, tree_there}
 use Rattle.rc_build.proofs.builder.Builder.+builder.Goals as goal

@@ -14,7 +14,8 @@ use Rattle.rc_build.specs.inside.Task.{progress_of}
 use Rattle.rc_build.proofs.BuildsLemmas.{breaks_rule, is_built, passes_on, same_graph}
 use Rattle.rc_build.proofs.ListLemmas.{used_longer}
 use Rattle.rc_build.proofs.StatementLemmas.{at_part_site, falls_badly, setting_left}
-use Rattle.rc_build.proofs.SwitchLemmas.{case_can, cases_done, cases_further, cases_left, cases_refused, cases_setting}
+use Rattle.rc_build.proofs.CanBuildCasesLemmas.{case_can}
+use Rattle.rc_build.proofs.SwitchLemmas.{cases_done, cases_further, cases_left, cases_refused, cases_setting}
 use Rattle.rc_build.proofs.SwitchLemmas.{cases_start, popped_last, popped_none}
 use Rattle.rc_build.proofs.SwitchStatementLemmas.{kept_chosen, odd_cases, odd_none, odd_parts, odd_refused, or_parts}
 use Rattle.rc_build.proofs.SwitchStatementLemmas.{switch_built, switch_can, switch_elsewhere, switch_refused}

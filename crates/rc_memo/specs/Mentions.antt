@@ -1,0 +1,41 @@
+-- What a place in a row names: its declaration, and its scope where that is active at the row.
+--
+-- A number outside its table is in no scope, and stands for the declaration of its own number.
+use Rattle.std.specs.Prelude.{Bool, ◌&&◌, nat_le, nat_lt, Option, None, Some, slice_get, option_and_then, if◌then◌else◌}
+use Rattle.std.specs.Option.{option_map_or}
+use Rattle.rc_hir.specs.Model.{Environment, MutableRange, Place}
+use Rattle.rc_names.specs.Numbers.{DeclarationId, EvaluationOrder, IdentifierId, ScopeId, to_id}
+use Rattle.rc_memo.specs.declared.event.Mention.{Mention}
+use Rattle.rc_memo.specs.declared.event.Target.{Target}
+use Rattle.rc_memo.specs.declared.table.LevelGiven.{LevelGiven}
+
+-- the id is in the range: not before its start, and before its end
+abbrev pub is_in_range : EvaluationOrder → MutableRange → Bool
+is_in_range id range = nat_le range.start.0 id.0 && nat_lt id.0 range.end.0
+
+module _ (env : Environment) where
+  -- the declaration of an identifier
+  abbrev pub declaration_of : IdentifierId → DeclarationId
+  declaration_of number =
+      option_map_or (λ identifier. identifier.declaration_id) (slice_get env.identifiers number.0) (to_id number.0)
+
+  -- a scope, where its range has the id
+  abbrev pub if_active : EvaluationOrder → ScopeId → Option ScopeId
+  if_active id scope = option_and_then (λ known. if is_in_range id known.range then Some scope else None)
+      (slice_get env.scopes scope.0)
+
+  -- the scope of an identifier, where it is active at the id
+  abbrev pub active_scope : EvaluationOrder → IdentifierId → Option ScopeId
+  active_scope id number = option_and_then (if_active id)
+      (option_and_then (λ identifier. identifier.scope) (slice_get env.identifiers number.0))
+
+  -- a place in a row of that id
+  unfoldable pub mention_of : EvaluationOrder → Place → Mention
+  mention_of id place = record {
+    name = declaration_of place.identifier;
+    scope = active_scope id place.identifier;
+  }
+
+  -- a place with its level
+  unfoldable pub target_of : EvaluationOrder → LevelGiven → Target
+  target_of id given = record { mention = mention_of id given.place; level = given.level }

@@ -1,0 +1,66 @@
+-- The status that is due for the bytes of a source, and which one may come in its place.
+use Rattle.std.specs.Prelude.{◌≡◌, ℕ, ◌≤◌, ◌<◌, List, length, None, Some, ⊤}
+use Rattle.std.specs.Str.{IsUtf8}
+use Rattle.serde_json.specs.Data.{Data}
+use Rattle.serde_json.specs.Read.{read}
+use Rattle.rc_tree.specs.Model.{ReactiveFunction}
+use Rattle.rc_pipe.specs.Headline.{HasAnswer, IsAccepted}
+use Rattle.rc_doc.specs.declared.document.Doc.{Doc}
+use Rattle.rc_doc.specs.Document.{doc_of}
+use Rattle.rc_program.specs.declared.stop.Stop.{Stop}
+use Rattle.rc_program.specs.declared.stop.Stop.TheVariants as stops
+use Rattle.rc_program.specs.declared.status.Status.{Status}
+use Rattle.rc_program.specs.declared.status.Status.TheVariants.{Done, NotJson, NotDoc, Refused, ReadFault, WriteFault}
+use Rattle.rc_program.specs.declared.status.Status.TheVariants.{TooLarge, NoMemory}
+use Rattle.rc_program.specs.Device.{most_bytes}
+use Rattle.rc_program.specs.Stop.{status_of}
+
+-- the bytes are JSON of this value
+pub record IsJson (bytes : List ℕ) (value : Data) : Type 0 where
+  pub utf8 : IsUtf8 bytes
+  pub reads : read bytes ≡ Some value
+
+-- the bytes are JSON of no value
+abbrev pub IsNoJson : List ℕ → Type 0
+IsNoJson bytes = IsUtf8 bytes → read bytes ≡ None
+
+-- the bytes are JSON of this document
+pub record IsJsonOfDoc (bytes : List ℕ) (doc : Doc) : Type 0 where
+  pub value : Data
+  pub json : IsJson bytes value
+  pub document : doc_of value ≡ Some doc
+
+-- the bytes are JSON of a value that is no document
+pub record IsJsonOfOther (bytes : List ℕ) : Type 0 where
+  pub value : Data
+  pub json : IsJson bytes value
+  pub other : doc_of value ≡ None
+
+-- the document's graph is accepted and has an answer
+pub record IsAnswerable (doc : Doc) : Type 0 where
+  pub accepted : IsAccepted doc.hir doc.env
+  pub func : ReactiveFunction
+  pub answer : HasAnswer doc.hir doc.env func
+
+-- The status that is due for the bytes of a source.
+abbrev pub IsDue : List ℕ → Status → Type 0
+IsDue bytes TooLarge = most_bytes < length bytes
+IsDue bytes NotJson = (length bytes ≤ most_bytes) × IsNoJson bytes
+IsDue bytes NotDoc = (length bytes ≤ most_bytes) × IsJsonOfOther bytes
+IsDue bytes Refused = (length bytes ≤ most_bytes) × ((doc : Doc) × IsJsonOfDoc bytes doc × ¬ IsAnswerable doc)
+IsDue bytes Done = (length bytes ≤ most_bytes) × ((doc : Doc) × IsJsonOfDoc bytes doc × IsAnswerable doc)
+IsDue bytes _ = ⊥
+
+-- A status that may come instead of the due one: `NoMemory`, or the fault of a device whose count rose. The sink's
+-- fault may come only for a document, since nothing else is written.
+abbrev pub CanReplace : Type 0 → Type 0 → Status → Status → Type 0
+CanReplace source_rose sink_rose due NoMemory = ⊤
+CanReplace source_rose sink_rose due ReadFault = source_rose
+CanReplace source_rose sink_rose Done WriteFault = sink_rose
+CanReplace source_rose sink_rose Refused WriteFault = sink_rose
+CanReplace source_rose sink_rose due _ = ⊥
+
+-- a step over these bytes stopped with the status that is due for them, or ran out of memory
+abbrev pub IsStopFor : List ℕ → Stop → Type 0
+IsStopFor bytes stops.NoMemory = ⊤
+IsStopFor bytes stop = IsDue bytes (status_of stop)
