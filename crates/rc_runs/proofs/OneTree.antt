@@ -2,7 +2,7 @@
 --
 -- Two derivations with the same graph and context are compared. A terminal adds one case of `one_statement`, or of
 -- `one_terminal` if it ends its list.
-use Rattle.std.proofs.Common.{◌≡◌, List, ◌∷◌, ◌++◌, Option, None, Some, Bool, true, false, ◌||◌, refl, sym, ap, ◌∙◌}
+use Rattle.std.proofs.Common.{◌≡◌, List, ◌∷◌, ◌++◌, Option, None, Some, Bool, false, ◌||◌, refl, sym, ap, ◌∙◌}
 use Rattle.std.proofs.Common.{subst}
 use Rattle.rc_names.specs.Numbers.{BlockId}
 use Rattle.rc_hir.specs.Model.{Case, Terminal, HirFunction, Environment}
@@ -11,7 +11,7 @@ use Rattle.rc_runs.specs.declared.frames.Frame.{Frame}
 use Rattle.rc_runs.specs.declared.frames.Frame.TheVariants as frame_kinds
 use Rattle.rc_runs.specs.Graph.{Block}
 use Rattle.rc_runs.specs.Frames.{is_jump_target}
-use Rattle.rc_runs.specs.PlainTree.{Value, Statements, Statement, RowStatement, TerminalStatement, While, DoWhile, ForIn}
+use Rattle.rc_runs.specs.PlainTree.{Value, Statements, Statement, RowStatement}
 use Rattle.rc_runs.specs.PlainTree.{Cases}
 use Rattle.rc_runs.specs.TreeOf.{block_of}
 use Rattle.rc_runs.specs.ListContext.{ListContext, inside, protected_by}
@@ -20,7 +20,7 @@ use Rattle.rc_runs.specs.SwitchCases.{kept_cases}
 use Rattle.rc_runs.specs.ShortArms.{SpellsShortArm}
 use Rattle.rc_runs.specs.ValueGrammar.{Nested, SpellsNested, sequence_value, ternary_value, logical_value}
 use Rattle.rc_runs.specs.ValueGrammar.{optional_value}
-use Rattle.rc_runs.specs.Fallthrough.{opens, label_of}
+use Rattle.rc_runs.specs.Fallthrough.{opens}
 use Rattle.rc_runs.specs.Grammar.{SpellsBefore, no_value, some_value, SpellsList, SpellsTerminal, SpellsStatement}
 use Rattle.rc_runs.specs.Grammar.{SpellsCases, SpellsTurns, SpellsRest, from_block, returns, throws, unreachable}
 use Rattle.rc_runs.specs.Grammar.{breaks, continues, leaves_try, may_throw_last, may_throw, branch_arms, branch_break}
@@ -132,12 +132,8 @@ module _ {hir : HirFunction} {env : Environment} where
       let back : b.nested ≡ a.nested = sym same.0 in
       let arm = one_short_arm a.arm
       (subst (λ (n : Nested). SpellsShortArm hir env context.handler n.fallthrough false n.short None None b.arm_used)
-      back b.arm) in (
-        a.is_opened ∙ ap (λ (n : Nested). opens context.frames n.fallthrough) same.0 ∙ sym b.is_opened,
-        a.falls ∙ ap (λ (n : Nested). n.fallthrough) same.0 ∙ sym b.falls,
-        a.row ∙ ap (λ (n : Nested). RowStatement n.id (Some n.answer) n.value n.span) same.0 ∙ sym b.row,
-        a.whole ∙ ap (λ used. used ++ a.arm_used) same.1 ∙ ap (λ used. b.nested_used ++ used) arm.1 ∙ sym b.whole,
-      )
+      back b.arm) in
+      (cc, cc, cc, cc)
 
   -- the value before the test of a loop
   pub one_before : {blocks : LoopBlocks} {context : ListContext} {key : Option BlockId} {v w : Option Value}
@@ -248,12 +244,12 @@ module _ {hir : HirFunction} {env : Environment} where
         k' ∙ ap (λ v. kept_cases (v || is_jump_target around.frames f) f cases) same ∙ sym k in
         let h = one_cases d (cases_at (frame_kinds.Switch f) around kept other o p alike same d') in
         (sym same, refl, cc, h.1)
-    one_statement (while_loop {fallthrough = f} {id = id} h d) (while_loop h' d') =
+    one_statement (while_loop h d) (while_loop h' d') =
         let k = one_turns d d' in
-        (refl, refl, ap (λ (p : LoopParts). TerminalStatement (While p.test p.body id) (label_of true f)) k.0, k.1)
-    one_statement (do_while_loop {fallthrough = f} {id = id} d) (do_while_loop d') =
+        (refl, refl, cc, k.1)
+    one_statement (do_while_loop d) (do_while_loop d') =
         let k = one_turns d d' in
-        (refl, refl, ap (λ (p : LoopParts). TerminalStatement (DoWhile p.body p.test id) (label_of true f)) k.0, k.1)
+        (refl, refl, cc, k.1)
     one_statement (for_loop g d w) (for_loop g' d' w') =
         let h = one_going g g' in
         let k = one_turns d d' in
@@ -261,9 +257,9 @@ module _ {hir : HirFunction} {env : Environment} where
     one_statement (for_of_loop e d) (for_of_loop e' d') =
         let k = one_turns d d' in
         (refl, refl, cc, k.1)
-    one_statement (for_in_loop {fallthrough = f} {id = id} {span = span} d) (for_in_loop d') =
+    one_statement (for_in_loop d) (for_in_loop d') =
         let k = one_turns d d' in
-        (refl, refl, ap (λ (p : LoopParts). TerminalStatement (ForIn p.test p.body span id) (label_of true f)) k.0, k.1)
+        (refl, refl, cc, k.1)
 
     pub one_cases : {cases : List Case} {context : ListContext} {a b : Cases} {u v : List BlockId}
         → SpellsCases hir env cases context a u → SpellsCases hir env cases context b v → Same a u b v

@@ -1,21 +1,19 @@
 -- A graph spells at most one value from a block on, and the value's blocks are used in one order.
-use Rattle.std.proofs.Common.{◌≡◌, Bool, true, false, List, [], ◌∷◌, ◌++◌, Option, Some, None, refl, sym, ap, ◌∙◌}
-use Rattle.std.proofs.Common.{subst, if◌then◌else◌}
+use Rattle.std.proofs.Common.{◌≡◌, Bool, true, false, List, [], ◌∷◌, ◌++◌, Option, Some, refl, sym, ap, ◌∙◌, subst}
+use Rattle.std.proofs.Common.{if◌then◌else◌}
 use Rattle.std.proofs.lemmas.List.{same_from_push}
 use Rattle.rc_names.specs.Numbers.{BlockId, EvaluationOrder}
 use Rattle.rc_names.specs.declared.span.Span.{Span}
-use Rattle.rc_hir.specs.Model.{Place, Terminal, Instruction, HirFunction, Environment}
-use Rattle.rc_hir.specs.Terminal.{evaluation_order}
-use Rattle.rc_hir.specs.declared.instruction.InstructionValue.TheVariants as kinds
+use Rattle.rc_hir.specs.Model.{Terminal, HirFunction, Environment}
 use Rattle.rc_hir.specs.declared.terminal.Terminal.TheVariants as terminals
 use Rattle.rc_runs.specs.Graph.{Block, block_at, usable_block, only_goes, is_empty_goto}
-use Rattle.rc_runs.specs.PlainTree.{Value, Base, Logical, Conditional, Sequence, Optional, Row, NoRows}
+use Rattle.rc_runs.specs.PlainTree.{Value}
 use Rattle.rc_runs.specs.ListContext.{ValueContext}
-use Rattle.rc_runs.specs.LastRow.{ends_value, last_value, last_answer, rows_then, after_rows}
+use Rattle.rc_runs.specs.LastRow.{ends_value}
 use Rattle.rc_runs.specs.AnsweredTest.{answers_test}
 use Rattle.rc_runs.specs.ValueEnd.{ValueEnd, ChoosesBetween}
 use Rattle.rc_runs.specs.ShortArms.{SpellsShortArm}
-use Rattle.rc_runs.specs.LoopValues.{shown, SpellsGoing, SpellsTest}
+use Rattle.rc_runs.specs.LoopValues.{SpellsGoing, SpellsTest}
 use Rattle.rc_runs.specs.ValueGrammar.{Nested, SpellsValue, named_test, last_block, last_throw, may_throw, value_row}
 use Rattle.rc_runs.specs.ValueGrammar.{SpellsNested, sequence_value, ternary_value, logical_value, optional_value}
 use Rattle.rc_runs.proofs.GraphLemmas.{one_held, is_empty_goto-at, one_kind, one_continuation}
@@ -30,42 +28,9 @@ not_empty (first ∷ front) last e = let bad : ⊥ = cc in bad
 abbrev pub SameValue : Value → ValueEnd → List BlockId → Value → ValueEnd → List BlockId → Type 0
 SameValue v e v_used w f w_used = (v ≡ w) × (e ≡ f) × (v_used ≡ w_used)
 
--- the value of a last block, and its end
-abbrev block_value : Environment → List Instruction → Instruction → Value
-block_value env rows row = after_rows rows row.id (Base (last_value env row.value))
-
-abbrev block_end : Environment → Instruction → Terminal → ValueEnd
-block_end env row last =
-    record { answer = last_answer env row.lvalue row.value; id = row.id; last = last; left_open = None }
-
--- a value terminal as a row, and the value behind it
-abbrev row_value : Option Span → List Instruction → Nested → EvaluationOrder → Value → Value
-row_value span rows nested id value =
-    Sequence (rows_then rows (Row nested.id (Some nested.answer) nested.value span NoRows)) id value
-
 -- whether the row answers the test that the whole value is
 abbrev pub row_answers : Environment → Bool → Nested → Value → Bool
 row_answers env is_test nested value = if is_test then answers_test env nested.answer value else false
-
--- the end of a value behind a row
-abbrev end_with : Option BlockId → ValueEnd → ValueEnd
-end_with left behind = record behind { left_open = left }
-
--- a value terminal as the value of one row, with the place with which the whole answers
-abbrev nested_of : Terminal → BlockId → Value → Place → Option BlockId → Option Span → Nested
-nested_of terminal fallthrough value answer short span = record {
-  fallthrough = fallthrough;
-  id = evaluation_order terminal;
-  span = span;
-  value = value;
-  answer = answer;
-  short = short;
-}
-
--- the first part of a logical or an optional: its test as a row, and the value of the consequent
-abbrev tested : Option Span → ValueEnd → Value → ValueEnd → Value → Value
-tested span condition_end condition end value =
-    Sequence (Row condition_end.id (Some condition_end.answer) condition span NoRows) end.id value
 
 -- the block with that terminal may throw
 abbrev is_may_throw : Terminal → Bool
@@ -139,7 +104,7 @@ module _ {hir : HirFunction} {env : Environment} where
         sym ends ∙ ap (λ (b : Block). b.terminal) same ∙ ends' in
         let place : test ≡ test' = cc in
         let number : id ≡ id' = cc in
-        (ap (λ (t : Place). Base (kinds.LoadLocal t t.span)) place, cc, refl)
+        (cc, cc, refl)
     one_value (named_test {block = block} found empty ends) (last_block {block = other} rows row found' h whole) =
         let same : block ≡ other = one_held found' found in
         absurd (not_empty rows row (sym empty ∙ ap (λ (b : Block). b.rows) same ∙ whole))
@@ -149,33 +114,20 @@ module _ {hir : HirFunction} {env : Environment} where
     one_value (last_block {block = block} rows row found h whole)
         (last_block {block = other} rows' row' found' h' whole') =
         let same : block ≡ other = one_held found' found in
-        let alike = same_from_push rows rows' row row' (sym whole ∙ ap (λ (b : Block). b.rows) same ∙ whole') in (
-          ap (λ (p : Instruction). block_value env rows p) alike.1 ∙ ap (λ front. block_value env front row') alike.0,
-          ap (λ (p : Instruction). block_end env p block.terminal) alike.1
-              ∙ ap (λ (b : Block). block_end env row' b.terminal) same,
-          refl,
-        )
+        let alike = same_from_push rows rows' row row' (sym whole ∙ ap (λ (b : Block). b.rows) same ∙ whole') in
+        (cc, cc, refl)
     one_value (last_throw {continuation = c} {block = block} {behind = behind} rows row found ends h whole goes only)
         (last_throw {continuation = d} {block = other} {behind = behind'} rows' row' found' ends' h' whole' goes' only') =
         let same : block ≡ other = one_held found' found in
         let next : d ≡ c = one_continuation hir _ found ends found' ends' in
         let last : behind ≡ behind' = one_held goes' (ap (λ key. usable_block hir key) next ∙ goes) in
-        let alike = same_from_push rows rows' row row' (sym whole ∙ ap (λ (b : Block). b.rows) same ∙ whole') in (
-          ap (λ (p : Instruction). block_value env rows p) alike.1 ∙ ap (λ front. block_value env front row') alike.0,
-          ap (λ (p : Instruction). block_end env p behind.terminal) alike.1
-              ∙ ap (λ (b : Block). block_end env row' b.terminal) last,
-          cc,
-        )
+        let alike = same_from_push rows rows' row row' (sym whole ∙ ap (λ (b : Block). b.rows) same ∙ whole') in
+        (cc, cc, cc)
     one_value (may_throw {block = block} {value = v} {end = e} found ends h more d w)
         (may_throw {block = other} {value = v'} {end = e'} found' ends' h' more' d' w') =
         let same : block ≡ other = one_held found' found in
-        let k = one_value d (value_at (one_continuation hir _ found ends found' ends') d') in (
-          w ∙ ap (λ (b : Block). after_rows b.rows e.id v) same
-              ∙ ap (λ (e : ValueEnd). after_rows other.rows e.id v) k.1
-              ∙ ap (λ v. after_rows other.rows e'.id v) k.0 ∙ sym w',
-          k.1,
-          cc,
-        )
+        let k = one_value d (value_at (one_continuation hir _ found ends found' ends') d') in
+        (cc, k.1, cc)
     one_value (last_throw rows row found ends h whole goes only) (may_throw found' ends' h' more d w) =
         absurd (ends_or_goes_on hir _ found ends goes only found' ends' more)
     one_value (may_throw found ends h more d w) (last_throw rows row found' ends' h' whole goes only) =
@@ -220,84 +172,36 @@ module _ {hir : HirFunction} {env : Environment} where
         (subst (λ (b : Block). SpellsNested hir env context.handler b.terminal m x) same d') in
         let back : m ≡ n = sym row.0 in
         let value = one_value e (value_at (ap (λ (n : Nested). n.fallthrough) back) e') in
-        let arm = one_short_arm s (arm_at context.is_test back (sym value.0) (sym value.1) s') in (
-          w ∙ ap (λ (p : Block). row_value context.around p.rows n b.id v) (sym same)
-              ∙ ap (λ n. row_value context.around other.rows n b.id v) row.0
-              ∙ ap (λ (b : ValueEnd). row_value context.around other.rows m b.id v) value.1
-              ∙ ap (λ v. row_value context.around other.rows m b'.id v) value.0 ∙ sym w',
-          g ∙ ap (λ end. end_with l end) value.1 ∙ ap (λ left. end_with left b') arm.0 ∙ sym g',
-          cc,
-        )
+        let arm = one_short_arm s (arm_at context.is_test back (sym value.0) (sym value.1) s') in
+        (cc, cc, cc)
 
     pub one_nested : {handler : Option BlockId} {terminal : Terminal} {n m : Nested} {a b : List BlockId}
         → SpellsNested hir env handler terminal n a → SpellsNested hir env handler terminal m b → (n ≡ m) × (a ≡ b)
-    one_nested {terminal = t} (sequence_value {fallthrough = f} {span = s} {value = v} {end = e} d g)
-        (sequence_value {value = v'} {end = e'} d' g') =
-        let h = one_value d d' in (
-          ap (λ v. nested_of t f v e.answer None s) h.0
-              ∙ ap (λ (e : ValueEnd). nested_of t f v' e.answer None s) h.1,
-          h.2,
-        )
-    one_nested {terminal = t} (ternary_value {fallthrough = f} {span = s} {condition = p} {value = v} {other = o}
-        {end = e} test choice d g x y u)
-        (ternary_value {condition = p'} {value = v'} {other = o'} {end = e'} test' choice' d' g' x' y' u') =
+    one_nested (sequence_value d g) (sequence_value d' g') =
+        let h = one_value d d' in (cc, h.2)
+    one_nested (ternary_value test choice d g x y u) (ternary_value test' choice' d' g' x' y' u') =
         let h = one_value test test' in
         let arms = one_choice h.1 choice choice' in
         let k = one_value d (value_at (sym arms.0) d') in
-        let l = one_value x (value_at (sym arms.1) x') in (
-          ap (λ p. nested_of t f (Conditional p v o) e.answer None s) h.0
-              ∙ ap (λ v. nested_of t f (Conditional p' v o) e.answer None s) k.0
-              ∙ ap (λ (e : ValueEnd). nested_of t f (Conditional p' v' o) e.answer None s) k.1
-              ∙ ap (λ o. nested_of t f (Conditional p' v' o) e'.answer None s) l.0,
-          cc,
-        )
-    one_nested {terminal = t} (logical_value {operator = op} {fallthrough = f} {span = s} {condition = p} {value = v}
-        {other = o} {condition_end = c} {end = e} test choice d silent x y u)
-        (logical_value {condition = p'} {value = v'} {other = o'} {condition_end = c'} {end = e'} test' choice' d' silent'
-        x' y' u') =
+        let l = one_value x (value_at (sym arms.1) x') in (cc, cc)
+    one_nested (logical_value test choice d silent x y u) (logical_value test' choice' d' silent' x' y' u') =
         let h = one_value test test' in
         let arms = one_choice h.1 choice choice' in
         let k = one_value d (value_at (sym arms.0) d') in
-        let l = one_value x (value_at (sym arms.1) x') in (
-          ap (λ p. nested_of t f (Logical op (tested s c p e v) o) e.answer None s) h.0
-              ∙ ap (λ c. nested_of t f (Logical op (tested s c p' e v) o) e.answer None s) h.1
-              ∙ ap (λ v. nested_of t f (Logical op (tested s c' p' e v) o) e.answer None s) k.0
-              ∙ ap (λ (e : ValueEnd). nested_of t f (Logical op (tested s c' p' e v') o) e.answer None s) k.1
-              ∙ ap (λ o. nested_of t f (Logical op (tested s c' p' e' v') o) e'.answer None s) l.0,
-          cc,
-        )
-    one_nested {terminal = t} (optional_value {optional = q} {alternate = a} {fallthrough = f} {span = s} {condition = p}
-        {value = v} {condition_end = c} {end = e} test choice shares d g u)
-        (optional_value {alternate = a'} {condition = p'} {value = v'} {condition_end = c'} {end = e'} test' choice'
-        shares' d' g' u') =
+        let l = one_value x (value_at (sym arms.1) x') in (cc, cc)
+    one_nested (optional_value test choice shares d g u) (optional_value test' choice' shares' d' g' u') =
         let h = one_value test test' in
         let arms = one_choice h.1 choice choice' in
-        let k = one_value d (value_at (sym arms.0) d') in (
-          ap (λ p. nested_of t f (Optional (tested choice.span c p e v) q) e.answer (Some a) s) h.0
-              ∙ ap (λ c. nested_of t f (Optional (tested choice.span c p' e v) q) e.answer (Some a) s) h.1
-              ∙ ap (λ span. nested_of t f (Optional (tested span c' p' e v) q) e.answer (Some a) s) arms.2
-              ∙ ap (λ v. nested_of t f (Optional (tested choice'.span c' p' e v) q) e.answer (Some a) s) k.0
-              ∙ ap (λ (e : ValueEnd). nested_of t f (Optional (tested choice'.span c' p' e v') q) e.answer (Some a) s) k.1
-              ∙ ap (λ a. nested_of t f (Optional (tested choice'.span c' p' e' v') q) e'.answer (Some a) s) arms.1,
-          cc,
-        )
+        let k = one_value d (value_at (sym arms.0) d') in (cc, cc)
 
   pub one_going : {flat : Bool} {key next : BlockId} {context : ValueContext} {v w : Value} {a b : List BlockId}
       → SpellsGoing hir env flat key context next v a → SpellsGoing hir env flat key context next w b
       → (v ≡ w) × (a ≡ b)
-  one_going {flat} {context = context} d d' =
-      let h = one_value d.spelled d'.spelled in (
-        d.is_shown ∙ ap (λ e. shown flat context.around e d.value) h.1
-            ∙ ap (λ v. shown flat context.around d'.end v) h.0 ∙ sym d'.is_shown,
-        h.2,
-      )
+  one_going d d' =
+      let h = one_value d.spelled d'.spelled in (cc, h.2)
 
   pub one_test : {flat : Bool} {key consequent alternate : BlockId} {context : ValueContext} {v w : Value}
       {a b : List BlockId} → SpellsTest hir env flat key context consequent alternate v a
       → SpellsTest hir env flat key context consequent alternate w b → (v ≡ w) × (a ≡ b)
-  one_test {flat} {context = context} d d' =
-      let h = one_value d.spelled d'.spelled in (
-        d.is_shown ∙ ap (λ e. shown flat context.around e d.value) h.1
-            ∙ ap (λ v. shown flat context.around d'.end v) h.0 ∙ sym d'.is_shown,
-        h.2,
-      )
+  one_test d d' =
+      let h = one_value d.spelled d'.spelled in (cc, h.2)
