@@ -1,7 +1,6 @@
 -- The sets of names to which the steps add names: which names are in one afterwards.
-use Rattle.std.proofs.Common.{◌≡◌, ◌∙◌, ◌⊎◌, Bool, true, false, ◌||◌, List, []}
-use Rattle.std.proofs.Common.{◌∷◌, ◌++◌, inl, inr, Some, map, refl, sym, ap, subst}
-use Rattle.std.proofs.Common.{if◌then◌else◌, true≢false}
+use Rattle.std.proofs.Common.{◌≡◌, ◌∙◌, ◌⊎◌, Bool, true, false, ◌||◌, List, [], ◌∷◌, ◌++◌, inl, inr, Some, map, refl}
+use Rattle.std.proofs.Common.{sym, ap, subst, if◌then◌else◌, true≢false}
 use Rattle.std.specs.List.{list_any}
 use Rattle.std.proofs.lemmas.Bool.{or_cases, or_left, or_right}
 use Rattle.rc_hir.specs.Model.{DeclarationEntry, ReactiveScope, ReactiveScopeDependency}

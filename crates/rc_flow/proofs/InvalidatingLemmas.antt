@@ -1,18 +1,17 @@
 -- The two sets that grow over the steps are those of the chains, and the answers are those for each scope block.
-use Rattle.std.proofs.Common.{◌≡◌, ◌∙◌, ◌<◌, ◌≤◌, ◌+◌, ◌⊎◌, ◌↔◌, ℕ, suc, Bool, true, false, List, []}
-use Rattle.std.proofs.Common.{◌∷◌, ◌++◌, inl, inr, Option, None, Some, slice_get, refl, sym, ap, subst}
-use Rattle.std.proofs.Common.{true≢false, arith, add-zero, append_assoc, append-nil}
-use Rattle.std.proofs.lemmas.Bool.{cases_lt}
+use Rattle.std.proofs.Common.{◌≡◌, ◌∙◌, ◌≤◌, ◌+◌, ◌⊎◌, ◌↔◌, ℕ, Bool, true, false, List, [], ◌∷◌, ◌++◌, inl, inr, Option}
+use Rattle.std.proofs.Common.{None, Some, slice_get, refl, sym, ap, subst, true≢false, arith, append_assoc, append-nil}
 use Rattle.rc_hir.specs.Model.{Environment, ReactiveScope}
 use Rattle.rc_names.specs.Numbers.{IdentifierId}
 use Rattle.rc_flow.specs.declared.invalidating.marks.Marks.{Marks}
 use Rattle.rc_flow.specs.declared.value_step.ValueStep.{ValueStep}
 use Rattle.rc_flow.specs.declared.value_step.ValueStep.TheVariants.{Makes, Copies, Ends}
 use Rattle.rc_flow.specs.Reached.{dependencies_if, outputs_if}
-use Rattle.rc_flow.specs.Unmemoized.{AreAnswers, no_more, makes, copies, ends, IsAlwaysNew, made, copied}
-use Rattle.rc_flow.specs.Unmemoized.{IsUnmemoized, outside, passed_on, dropped}
-use Rattle.rc_flow.specs.inside.Invalidating.{after_step, after_steps, answers_of, depends_on, ended}
-use Rattle.rc_flow.specs.inside.Invalidating.{ended_if, no_marks}
+use Rattle.rc_flow.specs.Unmemoized.{AreAnswers, no_more, makes, copies, ends, IsAlwaysNew, made, copied, IsUnmemoized}
+use Rattle.rc_flow.specs.Unmemoized.{outside, passed_on, dropped}
+use Rattle.rc_flow.specs.inside.Invalidating.{after_step, after_steps, answers_of, depends_on, ended, ended_if}
+use Rattle.rc_flow.specs.inside.Invalidating.{no_marks}
+use Rattle.rc_flow.proofs.ListLemmas.{StandsAt, by_place, first_at, one_at, rest_at, stands_whole}
 use Rattle.rc_flow.proofs.SetLemmas.{Names, In, among_some, insert_cases, insert_new, insert_old, some_among}
 use Rattle.rc_flow.proofs.GrowingSets.{copy_cases, copy_old, copy_new, among_cases, among_old, among_new, outputs_in}
 use Rattle.rc_flow.proofs.GrowingSets.{any_of}
@@ -93,9 +92,6 @@ ended_new (Some scope) s n f =
         (among_new s.always (outputs_if (Some scope)) s.unmemoized n f.3 f.4)
     by false e = absurd (true≢false (sym e))
 
-some_same : {A : Type 0} {x y : A} → Some x ≡ Some y → x ≡ y
-some_same e = cc
-
 module _ (env : Environment) where
   abbrev next : ValueStep → Marks → Marks
   next = after_step env
@@ -161,59 +157,36 @@ module _ (env : Environment) where
       | inr f ↦ dropped at (omega arith) f.1 ((fits.unmemoized f.0).0 f.2) f.3 ((fits.always n).0 f.4)
     ]
 
-    same_step : {p k : ℕ} {x y : ValueStep} → p ≡ k → slice_get steps p ≡ Some x → slice_get steps k ≡ Some y → x ≡ y
-    same_step e f g = some_same (sym f ∙ ap (slice_get steps) e ∙ g)
-
     now_always : (k j : ℕ) (step : ValueStep) (s : Marks) (n : IdentifierId) → slice_get steps k ≡ Some step
         → Fits k s → j ≡ k + 1 → Always j n → In n (next step s).always
-    now_always k j step s n at fits is (made {earlier = p} {in_scope = b} f below) = go (cases_lt p k)
-      where
-        go : (p < k) ⊎ (k ≤ p) → In n (next step s).always
-        go (inl lt) = always_old step s n ((fits.always n).1 (made f lt))
-        go (inr ge) =
-            let here : p ≡ k = omega arith in
-            subst (λ x. In n (next x s).always) (same_step here f at) (insert_new s.always n)
-    now_always k j step s n at fits is (copied {earlier = p} {from = from} f below r) = go (cases_lt p k)
-      where
-        go : (p < k) ⊎ (k ≤ p) → In n (next step s).always
-        go (inl lt) = always_old step s n ((fits.always n).1 (copied f lt r))
-        go (inr ge) =
-            let here : p ≡ k = omega arith in
-            subst (λ x. In n (next x s).always) (same_step here f at)
-            (copy_new from n s.always ((fits.always from).1 (subst (λ q. Always q from) here r)))
+    now_always k j step s n at fits is (made {earlier = p} {in_scope = b} f below) = by_place p k below is
+        (λ lt. always_old step s n ((fits.always n).1 (made f lt)))
+        (λ here. subst (λ x. In n (next x s).always) (one_at steps here f at) (insert_new s.always n))
+    now_always k j step s n at fits is (copied {earlier = p} {from = from} f below r) = by_place p k below is
+        (λ lt. always_old step s n ((fits.always n).1 (copied f lt r)))
+        (λ here. subst (λ x. In n (next x s).always) (one_at steps here f at)
+        (copy_new from n s.always ((fits.always from).1 (subst (λ q. Always q from) here r))))
 
     now_unmemoized : (k j : ℕ) (step : ValueStep) (s : Marks) (n : IdentifierId) → slice_get steps k ≡ Some step
         → Fits k s → j ≡ k + 1 → Unmemoized j n → In n (next step s).unmemoized
-    now_unmemoized k j step s n at fits is (outside {earlier = p} f below) = go (cases_lt p k)
-      where
-        go : (p < k) ⊎ (k ≤ p) → In n (next step s).unmemoized
-        go (inl lt) = unmemoized_old step s n ((fits.unmemoized n).1 (outside f lt))
-        go (inr ge) =
-            let here : p ≡ k = omega arith in
-            subst (λ x. In n (next x s).unmemoized) (same_step here f at) (insert_new s.unmemoized n)
-    now_unmemoized k j step s n at fits is (passed_on {earlier = p} {from = from} f below r) = go (cases_lt p k)
-      where
-        go : (p < k) ⊎ (k ≤ p) → In n (next step s).unmemoized
-        go (inl lt) = unmemoized_old step s n ((fits.unmemoized n).1 (passed_on f lt r))
-        go (inr ge) =
-            let here : p ≡ k = omega arith in
-            subst (λ x. In n (next x s).unmemoized) (same_step here f at)
-            (copy_new from n s.unmemoized ((fits.unmemoized from).1 (subst (λ q. Unmemoized q from) here r)))
-    now_unmemoized k j step s n at fits is
-        (dropped {earlier = p} {scope = scope} {cause = a} f below d u o always) = go (cases_lt p k)
-      where
-        go : (p < k) ⊎ (k ≤ p) → In n (next step s).unmemoized
-        go (inl lt) = unmemoized_old step s n ((fits.unmemoized n).1 (dropped f lt d u o always))
-        go (inr ge) =
-            let here : p ≡ k = omega arith in
-            subst (λ x. In n (next x s).unmemoized) (same_step here f at)
-            (ended_new (slice_get env.scopes scope.0) s n (
-              a,
-              d,
-              (fits.unmemoized a).1 (subst (λ q. Unmemoized q a) here u),
-              o,
-              (fits.always n).1 (subst (λ q. Always q n) here always),
-            ))
+    now_unmemoized k j step s n at fits is (outside {earlier = p} f below) = by_place p k below is
+        (λ lt. unmemoized_old step s n ((fits.unmemoized n).1 (outside f lt)))
+        (λ here. subst (λ x. In n (next x s).unmemoized) (one_at steps here f at) (insert_new s.unmemoized n))
+    now_unmemoized k j step s n at fits is (passed_on {earlier = p} {from = from} f below r) = by_place p k below is
+        (λ lt. unmemoized_old step s n ((fits.unmemoized n).1 (passed_on f lt r)))
+        (λ here. subst (λ x. In n (next x s).unmemoized) (one_at steps here f at)
+        (copy_new from n s.unmemoized ((fits.unmemoized from).1 (subst (λ q. Unmemoized q from) here r))))
+    now_unmemoized k j step s n at fits is (dropped {earlier = p} {scope = scope} {cause = a} f below d u o always) =
+        by_place p k below is
+        (λ lt. unmemoized_old step s n ((fits.unmemoized n).1 (dropped f lt d u o always)))
+        (λ here. subst (λ x. In n (next x s).unmemoized) (one_at steps here f at)
+        (ended_new (slice_get env.scopes scope.0) s n (
+          a,
+          d,
+          (fits.unmemoized a).1 (subst (λ q. Unmemoized q a) here u),
+          o,
+          (fits.always n).1 (subst (λ q. Always q n) here always),
+        )))
 
     fits_next : (k : ℕ) (step : ValueStep) (s : Marks) → slice_get steps k ≡ Some step → Fits k s
         → Fits (k + 1) (next step s)
@@ -237,41 +210,30 @@ module _ (env : Environment) where
         none_unmemoized n (passed_on at below r) = omega arith
         none_unmemoized n (dropped at below d u o a) = omega arith
 
-    -- the rest of the steps stands from that place on
-    abbrev StandsAt : ℕ → List ValueStep → Type 0
-    StandsAt k rest = (j : ℕ) → slice_get steps (k + j) ≡ slice_get rest j
-
-    first_at : (k : ℕ) (x : ValueStep) (xs : List ValueStep) → StandsAt k (x ∷ xs) → slice_get steps k ≡ Some x
-    first_at k x xs stands = ap (slice_get steps) (sym (add-zero k)) ∙ stands 0
-
-    rest_at : (k : ℕ) (x : ValueStep) (xs : List ValueStep) → StandsAt k (x ∷ xs) → StandsAt (k + 1) xs
-    rest_at k x xs stands j =
-        (let place : k + 1 + j ≡ k + suc j = omega arith in ap (slice_get steps) place) ∙ stands (suc j)
-
     -- the answers that the rest adds
     record Adds (k : ℕ) (rest : List ValueStep) (s : Marks) : Type 0 where
       pub answers : List Bool
       pub behind : (after_steps env rest s).dropped ≡ s.dropped ++ answers
       pub right : AreAnswers env steps k rest answers
 
-    adds : (k : ℕ) (rest : List ValueStep) (s : Marks) → StandsAt k rest → Fits k s → Adds k rest s
+    adds : (k : ℕ) (rest : List ValueStep) (s : Marks) → StandsAt steps k rest → Fits k s → Adds k rest s
     adds k [] s stands fits = record { answers = []; behind = sym (append-nil s.dropped); right = no_more }
     adds k (Makes name in_scope ∷ xs) s stands fits =
         let step = Makes name in_scope in
-        let it = adds (k + 1) xs (next step s) (rest_at k step xs stands)
-        (fits_next k step s (first_at k step xs stands) fits) in
+        let it = adds (k + 1) xs (next step s) (rest_at steps k step xs stands)
+        (fits_next k step s (first_at steps k step xs stands) fits) in
         record { answers = it.answers; behind = it.behind; right = makes it.right }
     adds k (Copies from to ∷ xs) s stands fits =
         let step = Copies from to in
-        let it = adds (k + 1) xs (next step s) (rest_at k step xs stands)
-        (fits_next k step s (first_at k step xs stands) fits) in
+        let it = adds (k + 1) xs (next step s) (rest_at steps k step xs stands)
+        (fits_next k step s (first_at steps k step xs stands) fits) in
         record { answers = it.answers; behind = it.behind; right = copies it.right }
     adds k (Ends scope ∷ xs) s stands fits =
         let step = Ends scope in
         let o = slice_get env.scopes scope.0 in
         let answer = answer_for o s.unmemoized in
-        let it = adds (k + 1) xs (next step s) (rest_at k step xs stands)
-        (fits_next k step s (first_at k step xs stands) fits) in
+        let it = adds (k + 1) xs (next step s) (rest_at steps k step xs stands)
+        (fits_next k step s (first_at steps k step xs stands) fits) in
         record {
           answers = answer ∷ it.answers;
           behind = it.behind ∙ ap (λ all. all ++ it.answers) (ended_dropped o s)
@@ -287,5 +249,5 @@ module _ (env : Environment) where
     -- the answers of all the steps
     pub answers_right : AreAnswers env steps 0 steps (answers_of env steps)
     answers_right =
-        let it = adds 0 steps no_marks (λ j. (let e : 0 + j ≡ j = omega arith in ap (slice_get steps) e)) fits_start in
+        let it = adds 0 steps no_marks (stands_whole steps) fits_start in
         subst (AreAnswers env steps 0 steps) (sym it.behind) it.right

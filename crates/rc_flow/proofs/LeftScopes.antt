@@ -1,7 +1,7 @@
 -- Which scopes have a scope block left, where the blocks that depend on an unmemoized value became pruned ones.
-use Rattle.std.proofs.Common.{◌≡◌, ◌∙◌, ◌+◌, ◌<◌, ◌⊎◌, inl, inr, ℕ, zero, suc, Bool, true, false, List, []}
-use Rattle.std.proofs.Common.{◌∷◌, ◌++◌, Option, None, Some, Contains, length, get_or, slice_get, drop, arith, add-zero}
-use Rattle.std.proofs.Common.{refl, sym, ap, subst, true≢false}
+use Rattle.std.proofs.Common.{◌≡◌, ◌∙◌, ◌+◌, ◌<◌, ◌⊎◌, inl, inr, ℕ, zero, suc, Bool, true, false, List, [], ◌∷◌, ◌++◌}
+use Rattle.std.proofs.Common.{Option, None, Some, Contains, length, get_or, slice_get, drop, arith, add-zero, refl, sym}
+use Rattle.std.proofs.Common.{ap, subst, true≢false}
 use Rattle.std.proofs.lemmas.List.Elements.{Contains-append_right}
 use Rattle.rc_hir.specs.Model.{Environment, InstructionValue, Place}
 use Rattle.rc_hir.specs.declared.instruction.InstructionValue.TheVariants as kinds
@@ -109,9 +109,6 @@ staying_among (x ∷ xs) answers scope there =
       | inl same ↦ first_one x scope xs same
       | inr rest ↦ later rest
     ]
-
-some_same : {A : Type 0} {x y : A} → Some x ≡ Some y → x ≡ y
-some_same e = cc
 
 not_made : (name : IdentifierId) (in_scope : Bool) (scope : ScopeId) → Some (Makes name in_scope) ≡ Some (Ends scope) → ⊥
 not_made name in_scope scope e = let bad : ⊥ = cc in bad

@@ -1,6 +1,7 @@
 mod ListLemmas
 mod SetLemmas
 mod SpreadSteps
+mod ReachedLemmas
 mod SpreadLemmas
 mod PositionLemmas
 mod FlowsLemmas

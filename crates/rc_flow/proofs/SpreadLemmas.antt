@@ -1,8 +1,7 @@
--- The names that grow over the steps are those that chains of steps reach, and a dependency stays where it was reached
--- at each end of a block of its scope.
-use Rattle.std.proofs.Common.{◌≡◌, ◌∙◌, ◌<◌, ◌≤◌, ◌+◌, ℕ, zero, suc, Bool, true, false, List, [], ◌∷◌, ◌++◌, ◌⊎◌}
-use Rattle.std.proofs.Common.{◌↔◌, inl, inr, Option, None, Some, take, length, slice_get, refl, sym, ap, subst}
-use Rattle.std.proofs.Common.{if◌then◌else◌, true≢false, arith, add-zero, take_all, length-append}
+-- A dependency stays where it was reached at each end of a block of its scope.
+use Rattle.std.proofs.Common.{◌≡◌, ◌∙◌, ◌<◌, ◌≤◌, ◌+◌, ℕ, zero, suc, Bool, true, false, List, [], ◌∷◌, ◌++◌, ◌↔◌, inl}
+use Rattle.std.proofs.Common.{inr, Option, None, Some, take, length, slice_get, refl, sym, ap, subst, if◌then◌else◌}
+use Rattle.std.proofs.Common.{true≢false, arith, add-zero, take_all, length-append}
 use Rattle.std.specs.List.{list_any}
 use Rattle.std.specs.Map.{lookup}
 use Rattle.std.proofs.lemmas.Bool.{cases_lt, or_cases, or_left, or_right}
@@ -15,77 +14,23 @@ use Rattle.rc_names.proofs.NumbersLemmas.{ids_equivalence, same_id-eq}
 use Rattle.rc_flow.specs.declared.spread.Spread.{Spread}
 use Rattle.rc_flow.specs.declared.step.Step.{Step}
 use Rattle.rc_flow.specs.declared.step.Step.TheVariants.{Marks, Carries, Ends}
-use Rattle.rc_flow.specs.Reached.{IsReached, marked, carried, sources, targets}
-use Rattle.rc_flow.specs.inside.Spread.{after_step, after_steps, is_early, noted, noted_if, nothing}
-use Rattle.rc_flow.specs.inside.Spread.{with_all, with_names}
-use Rattle.rc_flow.proofs.SetLemmas.{Names, In, carried_cases}
-use Rattle.rc_flow.proofs.SetLemmas.{insert_cases, insert_new}
-use Rattle.rc_flow.proofs.SpreadSteps.{some_same, ended_ends, next_names, after_names, next_grows, next_old, next_new}
+use Rattle.rc_flow.specs.Reached.{IsReached, marked, carried}
+use Rattle.rc_flow.specs.inside.Spread.{after_step, after_steps, is_early, noted, noted_if, nothing, with_all}
+use Rattle.rc_flow.specs.inside.Spread.{with_names}
+use Rattle.rc_flow.proofs.ListLemmas.{StandsAt, first_at, one_at, rest_at, some_same, stands_whole}
+use Rattle.rc_flow.proofs.SetLemmas.{Names, In}
+use Rattle.rc_flow.proofs.SpreadSteps.{ended_ends, next_names, after_names, next_grows}
+use Rattle.rc_flow.proofs.ReachedLemmas.{Agrees, agrees_next}
 
 module _ (env : Environment) where
   module _ (steps : List Step) where
-    abbrev Reached : ℕ → IdentifierId → Type 0
-    Reached = IsReached env steps
-
-    pub reached_later : {k n : ℕ} {name : IdentifierId} → Reached k name → k ≤ n → Reached n name
-    reached_later (marked at below) le = marked at (omega arith)
-    reached_later (carried at below f r t) le = carried at (omega arith) f r t
-
-    -- the set has the names that are reactive at that place
-    abbrev pub Agrees : ℕ → Names → Type 0
-    Agrees k set = (n : IdentifierId) → In n set ↔ Reached k n
-
-    reached_now : (k : ℕ) (step : Step) (set : Names) (n : IdentifierId) → slice_get steps k ≡ Some step
-        → Agrees k set → In n (next_names env step set) → Reached (k + 1) n
-    reached_now k (Marks name) set n at inv h = elim (insert_cases set name n h) [
-      | inl o ↦ reached_later ((inv n).0 o) (omega arith)
-      | inr e ↦ subst (Reached (k + 1)) (sym e) (marked at (omega arith))
-    ]
-    reached_now k (Carries from to) set n at inv h = elim (carried_cases from to set n h) [
-      | inl o ↦ reached_later ((inv n).0 o) (omega arith)
-      | inr c ↦ carried at (omega arith) c.1 ((inv c.0).0 c.2) c.3
-    ]
-    reached_now k (Ends scope) set n at inv h =
-        elim (carried_cases (sources env (Ends scope)) (targets env (Ends scope)) set n h) [
-          | inl o ↦ reached_later ((inv n).0 o) (omega arith)
-          | inr c ↦ carried at (omega arith) c.1 ((inv c.0).0 c.2) c.3
-        ]
-
-    same_step : {p k : ℕ} {x y : Step} → p ≡ k → slice_get steps p ≡ Some x → slice_get steps k ≡ Some y → x ≡ y
-    same_step {x = x} {y = y} e f g = some_same (sym f ∙ ap (slice_get steps) e ∙ g)
-
-    now_reached : (k j : ℕ) (step : Step) (set : Names) (n : IdentifierId) → slice_get steps k ≡ Some step
-        → Agrees k set → j ≡ k + 1 → Reached j n → In n (next_names env step set)
-    now_reached k j step set n at inv is (marked {earlier = p} f below) = go (cases_lt p k)
-      where
-        go : (p < k) ⊎ (k ≤ p) → In n (next_names env step set)
-        go (inl lt) = next_old env step set n ((inv n).1 (marked f lt))
-        go (inr ge) =
-            let here : p ≡ k = omega arith in
-            subst (λ x. In n (next_names env x set)) (same_step here f at) (insert_new set n)
-    now_reached k j step set n at inv is (carried {earlier = p} {step = other} {source = a} f below from r to) =
-        go (cases_lt p k)
-      where
-        go : (p < k) ⊎ (k ≤ p) → In n (next_names env step set)
-        go (inl lt) = next_old env step set n ((inv n).1 (carried f lt from r to))
-        go (inr ge) =
-            let here : p ≡ k = omega arith in
-            let same : other ≡ step = same_step here f at in
-            next_new env step set n a (subst (λ x. In a (sources env x)) same from)
-            ((inv a).1 (subst (λ q. Reached q a) here r)) (subst (λ x. In n (targets env x)) same to)
-
-    agrees_next : (k : ℕ) (step : Step) (set : Names) → slice_get steps k ≡ Some step → Agrees k set
-        → Agrees (k + 1) (next_names env step set)
-    agrees_next k step set at inv n =
-        (reached_now k step set n at inv, now_reached k (k + 1) step set n at inv refl)
-
     -- wherever a block of the scope ended before that place, the name was reactive
     abbrev pub ReachedAtEnds : ℕ → ScopeId → IdentifierId → Type 0
-    ReachedAtEnds k scope n = (p : ℕ) → slice_get steps p ≡ Some (Ends scope) → p < k → Reached p n
+    ReachedAtEnds k scope n = (p : ℕ) → slice_get steps p ≡ Some (Ends scope) → p < k → IsReached env steps p n
 
     -- what holds of the state at that place
     pub record Good (k : ℕ) (s : Spread) : Type 0 where
-      pub agrees : Agrees k s.names
+      pub agrees : Agrees env steps k s.names
       pub sizes : (scope : ScopeId) (size : ℕ) → lookup (same_id scope) s.ends ≡ Some size → size ≤ length s.names
       pub early : (scope : ScopeId) (n : IdentifierId)
           → (is_early s.names n (lookup (same_id scope) s.ends) ≡ true) ↔ ReachedAtEnds k scope n
@@ -114,7 +59,7 @@ module _ (env : Environment) where
         let grown = next_grows env step s.names in
         let whole : names ≡ s.names ++ grown.0 = is ∙ grown.1 in
         record {
-          agrees = subst (Agrees (k + 1)) (sym is) (agrees_next k step s.names at good.agrees);
+          agrees = subst (Agrees env steps (k + 1)) (sym is) (agrees_next env steps k step s.names at good.agrees);
           sizes = λ scope size found.
               let below : size ≤ length s.names = good.sizes scope size found in
               let long : length names ≡ length s.names + length grown.0 =
@@ -127,7 +72,7 @@ module _ (env : Environment) where
               ∙ early_grown s.names grown.0 n (lookup (same_id scope) s.ends) (good.sizes scope) in (
                 (λ h p found below. elim (cases_lt p k) [
                   | inl lt ↦ (good.early scope n).0 (sym same ∙ h) p found lt
-                  | inr ge ↦ let here : k ≡ p = omega arith in absurd (no_end scope (same_step here at found))
+                  | inr ge ↦ let here : k ≡ p = omega arith in absurd (no_end scope (one_at steps here at found))
                 ]),
                 (λ h. same ∙ (good.early scope n).1 (λ p found lt. h p found (omega arith))),
               );
@@ -150,18 +95,18 @@ module _ (env : Environment) where
       | inl below ↦ h p found below
       | inr ge ↦
           let here : k ≡ p = omega arith in
-          let same : scope ≡ other = ends_same (same_step here at found) in
+          let same : scope ≡ other = ends_same (one_at steps here at found) in
           absurd (true≢false (sym (subst (λ x. same_id scope x ≡ true) same (ids_equivalence.refl scope)) ∙ apart))
     ]
       where
         ends_same : Ends scope ≡ Ends other → scope ≡ other
         ends_same e = cc
 
-    ends_here : (k : ℕ) (other : ScopeId) (n : IdentifierId) → ReachedAtEnds k other n → Reached k n
+    ends_here : (k : ℕ) (other : ScopeId) (n : IdentifierId) → ReachedAtEnds k other n → IsReached env steps k n
         → ReachedAtEnds (k + 1) other n
     ends_here k other n h r p found lt = elim (cases_lt p k) [
       | inl below ↦ h p found below
-      | inr ge ↦ let here : k ≡ p = omega arith in subst (λ q. Reached q n) here r
+      | inr ge ↦ let here : k ≡ p = omega arith in subst (λ q. IsReached env steps q n) here r
     ]
 
     noted_well : (k : ℕ) (scope : ScopeId) (s : Spread) → slice_get steps k ≡ Some (Ends scope) → Good k s
@@ -238,7 +183,7 @@ module _ (env : Environment) where
         let whole : after.names ≡ s.names ++ grown.0 = names ∙ grown.1 in
         let ends : after.ends ≡ t.ends = ended_ends (slice_get env.scopes scope.0) t in
         record {
-          agrees = subst (Agrees (k + 1)) (sym names) (agrees_next k (Ends scope) s.names at good.agrees);
+          agrees = subst (Agrees env steps (k + 1)) (sym names) (agrees_next env steps k (Ends scope) s.names at good.agrees);
           sizes = λ other size found.
               let below : size ≤ length s.names =
               well.sizes other size (sym (ap (lookup (same_id other)) ends) ∙ found) in
@@ -285,36 +230,28 @@ module _ (env : Environment) where
       early = λ scope n. ((λ h p found lt. absurd (omega arith)), (λ h. refl));
     }
       where
-        none_before : (n : IdentifierId) → Reached 0 n → ⊥
+        none_before : (n : IdentifierId) → IsReached env steps 0 n → ⊥
         none_before n (marked at below) = omega arith
         none_before n (carried at below f r t) = omega arith
 
         none_noted : {size : ℕ} → None ≡ Some size → ⊥
         none_noted e = let bad : ⊥ = cc in bad
 
-    -- the rest of the steps stands from that place on
-    abbrev StandsAt : ℕ → List Step → Type 0
-    StandsAt k rest = (j : ℕ) → slice_get steps (k + j) ≡ slice_get rest j
-
-    good_steps : (k : ℕ) (rest : List Step) (s : Spread) → StandsAt k rest → Good k s
+    good_steps : (k : ℕ) (rest : List Step) (s : Spread) → StandsAt steps k rest → Good k s
         → Good (k + length rest) (after_steps env rest s)
     good_steps k [] s stands good = subst (λ n. Good n s) (sym (add-zero k)) good
     good_steps k (x ∷ xs) s stands good =
-        let first : slice_get steps k ≡ Some x = ap (slice_get steps) (sym (add-zero k)) ∙ stands 0 in
         let count : k + 1 + length xs ≡ k + length (x ∷ xs) = omega arith in
         subst (λ n. Good n (after_steps env (x ∷ xs) s)) count
-        (good_steps (k + 1) xs (after_step env x s)
-        (λ j. (let place : k + 1 + j ≡ k + suc j = omega arith in ap (slice_get steps) place) ∙ stands (suc j))
-        (good_next k s x first good))
+        (good_steps (k + 1) xs (after_step env x s) (rest_at steps k x xs stands)
+        (good_next k s x (first_at steps k x xs stands) good))
 
     -- behind all the steps
     pub good_all : Good (length steps) (after_steps env steps nothing)
     good_all =
-        subst (λ n. Good n (after_steps env steps nothing)) (zero_plus (length steps))
-        (good_steps 0 steps nothing (λ j. ap (slice_get steps) (zero_plus j)) good_start)
-      where
-        zero_plus : (n : ℕ) → 0 + n ≡ n
-        zero_plus n = omega arith
+        let whole : 0 + length steps ≡ length steps = omega arith in
+        subst (λ n. Good n (after_steps env steps nothing)) whole
+        (good_steps 0 steps nothing (stands_whole steps) good_start)
 
   -- steps, and then others
   pub steps-append : (first second : List Step) (s : Spread)

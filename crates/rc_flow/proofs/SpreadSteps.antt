@@ -1,7 +1,6 @@
 -- The names that are reactive behind one step.
-use Rattle.std.proofs.Common.{◌≡◌, ◌∙◌, ℕ, Bool, true, false, ◌||◌, List, [], ◌∷◌, ◌++◌}
-use Rattle.std.proofs.Common.{Option, None, Some, map, slice_get, refl, sym, ap}
-use Rattle.std.proofs.Common.{if◌then◌else◌, true≢false}
+use Rattle.std.proofs.Common.{◌≡◌, ◌∙◌, ℕ, Bool, true, false, ◌||◌, List, [], ◌∷◌, ◌++◌, Option, None, Some, map}
+use Rattle.std.proofs.Common.{slice_get, refl, sym, ap, if◌then◌else◌, true≢false}
 use Rattle.std.specs.List.{list_any}
 use Rattle.std.specs.Map.{lookup}
 use Rattle.rc_hir.specs.Model.{DeclarationEntry, Environment, ReactiveScope, ReactiveScopeDependency}
@@ -10,13 +9,10 @@ use Rattle.rc_flow.specs.declared.spread.Spread.{Spread}
 use Rattle.rc_flow.specs.declared.step.Step.{Step}
 use Rattle.rc_flow.specs.declared.step.Step.TheVariants.{Marks, Carries, Ends}
 use Rattle.rc_flow.specs.Reached.{dependencies_if, outputs_if, sources, targets}
-use Rattle.rc_flow.specs.inside.Spread.{after_step, ended, is_of, noted, noted_if}
-use Rattle.rc_flow.specs.inside.Spread.{with_all, with_declared, with_names, with_outputs}
-use Rattle.rc_flow.proofs.SetLemmas.{Names, In, carried_set, carried_grows, carried_new, carried_old}
-use Rattle.rc_flow.proofs.SetLemmas.{all-append, insert_grows, insert_old}
-
-pub some_same : {A : Type 0} {x y : A} → Some x ≡ Some y → x ≡ y
-some_same e = cc
+use Rattle.rc_flow.specs.inside.Spread.{after_step, ended, is_of, noted, noted_if, with_all, with_declared, with_names}
+use Rattle.rc_flow.specs.inside.Spread.{with_outputs}
+use Rattle.rc_flow.proofs.SetLemmas.{Names, In, carried_set, carried_grows, carried_new, carried_old, all-append}
+use Rattle.rc_flow.proofs.SetLemmas.{insert_grows, insert_old}
 
 -- the ends of scope blocks as steps from names to names
 

@@ -4,8 +4,7 @@
 -- stay by the answers in front of it, and to leave the answers behind its own.
 use Rattle.std.proofs.Common.{◌≡◌, ◌∙◌, Bool, List, [], ◌∷◌, ◌++◌, Option, None, Some, Ok}
 use Rattle.std.proofs.Common.{map, option_map, refl, sym, ap, subst}
-use Rattle.rc_flow.specs.AlwaysInvalidating.{dropping_rules, ended_in, ended_parts}
-use Rattle.rc_flow.specs.AlwaysInvalidating.{IsRebuiltBy}
+use Rattle.rc_flow.specs.AlwaysInvalidating.{dropping_rules, ended_in, ended_parts, IsRebuiltBy}
 use Rattle.rc_hir.specs.Model.{Place}
 use Rattle.rc_names.specs.Numbers.{EvaluationOrder}
 use Rattle.rc_runs.proofs.EveryBlockIsPlain.{every_block_is_plain}
@@ -26,8 +25,7 @@ use Rattle.rc_tree.proofs.RebuiltLemmas.{rebuilt-case, rebuilt-Instruction, rebu
 use Rattle.rc_tree.proofs.RebuiltLemmas.{rebuilt-PrunedScope, rebuilt-Break, rebuilt-Continue, rebuilt-Return}
 use Rattle.rc_tree.proofs.RebuiltLemmas.{rebuilt-Throw, rebuilt-Switch, rebuilt-DoWhile, rebuilt-While, rebuilt-For}
 use Rattle.rc_tree.proofs.RebuiltLemmas.{rebuilt-ForOf, rebuilt-ForIn, rebuilt-If, rebuilt-Label, rebuilt-Try}
-use Rattle.rc_tree.specs.Rebuilt.{in_order, joined, rebuilt_block, rebuilt_case, rebuilt_statement}
-use Rattle.rc_tree.specs.Rebuilt.{rebuilt_terminal}
+use Rattle.rc_tree.specs.Rebuilt.{in_order, joined, rebuilt_block, rebuilt_case, rebuilt_statement, rebuilt_terminal}
 use Rattle.rc_tree.specs.Step.{bind}
 use Rattle.rc_tree.specs.Model.{PrunedReactiveScopeBlock, ReactiveScopeBlock, ReactiveBlock, ReactiveInstruction}
 use Rattle.rc_tree.specs.Model.{ReactiveTerminalStatement}

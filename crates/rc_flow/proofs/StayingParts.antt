@@ -3,18 +3,15 @@
 -- own.
 use Rattle.std.proofs.Common.{◌≡◌, ◌∙◌, Bool, true, false, List, [], ◌∷◌, ◌++◌, Option, Result, Ok, Err}
 use Rattle.std.proofs.Common.{map, drop, refl, sym, ap, subst}
-use Rattle.rc_flow.specs.AlwaysInvalidating.{as_pruned, dropping_rules, ended_in, ended_parts, first_answer}
-use Rattle.rc_flow.specs.AlwaysInvalidating.{pruned_if}
+use Rattle.rc_flow.specs.AlwaysInvalidating.{as_pruned, dropping_rules, ended_in, ended_parts, first_answer, pruned_if}
 use Rattle.rc_hir.specs.Model.{Fault}
 use Rattle.rc_names.specs.Numbers.{EvaluationOrder, ScopeId}
-use Rattle.rc_tree.proofs.CollectedLemmas.{collected-block}
-use Rattle.rc_tree.proofs.CollectedLemmas.{collected-Scope, collected-PrunedScope}
+use Rattle.rc_tree.proofs.CollectedLemmas.{collected-block, collected-Scope, collected-PrunedScope}
 use Rattle.rc_tree.proofs.JoiningLemmas.{lists_monoid}
 use Rattle.rc_tree.proofs.RebuiltLemmas.{rebuilt-block}
 use Rattle.rc_tree.specs.Collected.{collected_case, collected_cases, collected_if, collected_list, collected_statement}
 use Rattle.rc_tree.specs.Collected.{collected_terminal}
-use Rattle.rc_tree.specs.Rebuilt.{Rebuilds, joined, rebuilt_block, rebuilt_statement}
-use Rattle.rc_tree.specs.Rebuilt.{rebuilt_terminal}
+use Rattle.rc_tree.specs.Rebuilt.{Rebuilds, joined, rebuilt_block, rebuilt_statement, rebuilt_terminal}
 use Rattle.rc_tree.specs.Step.{bind}
 use Rattle.rc_tree.specs.Model.{PrunedReactiveScopeBlock, ReactiveScopeBlock, ReactiveBlock}
 use Rattle.rc_tree.specs.Model.{ReactiveStatement, ReactiveTerminalStatement}

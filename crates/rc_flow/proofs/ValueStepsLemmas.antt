@@ -8,9 +8,16 @@ use Rattle.rc_tree.specs.Collected.{collected, collected_case, collected_cases, 
 use Rattle.rc_tree.specs.declared.statement.ReactiveStatement.TheViews.{out-ReactiveSwitchCase}
 use Rattle.rc_tree.specs.declared.statement.ReactiveStatement.TheViews.{roll-out-ReactiveSwitchCase}
 use Rattle.rc_tree.specs.declared.terminal.ReactiveTerminal.TheVariants as tree
-use Rattle.rc_tree.specs.Model.{ReactiveBlock, ReactiveSwitchCase, ReactiveValue}
+use Rattle.rc_tree.specs.Model.{ReactiveBlock, ReactiveSwitchCase, ReactiveTerminal, ReactiveValue}
 use Rattle.rc_flow.specs.ValueSteps.{steps_joining, value_step_parts}
 use Rattle.rc_flow.specs.declared.value_step.ValueStep.{ValueStep}
+
+-- what is added for the form of a terminal is added for it
+pub added_form : {terminal form : ReactiveTerminal} {new steps : List ValueStep} (in_scope : Bool)
+    (old : List ValueStep) → terminal ≡ form → collected_terminal value_step_parts form in_scope ≡ steps
+    → new ≡ old ++ steps → new ≡ old ++ collected_terminal value_step_parts terminal in_scope
+added_form in_scope old is form added = added ∙ ap (λ steps. old ++ steps)
+    (sym (ap (λ x. collected_terminal value_step_parts x in_scope) is ∙ form))
 
 -- the values of a loop have no steps
 pub steps-DoWhile : (body : ReactiveBlock) (test : ReactiveValue) (id : EvaluationOrder) (in_scope : Bool)

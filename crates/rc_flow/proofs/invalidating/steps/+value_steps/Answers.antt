@@ -4,7 +4,7 @@ use Rattle.rc_tree.proofs.CollectedLemmas.{collected-ForIn, collected-ForOf, col
 use Rattle.rc_tree.proofs.CollectedLemmas.{collected-If, collected-Scope, collected-Switch, collected-Try}
 use Rattle.rc_tree.specs.Collected.{collected, collected_cases, collected_if, collected_statement, collected_terminal}
 use Rattle.rc_flow.proofs.ListLemmas.{added}
-use Rattle.rc_flow.proofs.ValueStepsLemmas.{added_case, steps-DoWhile, steps-For}
+use Rattle.rc_flow.proofs.ValueStepsLemmas.{added_case, added_form, steps-DoWhile, steps-For}
 use Rattle.rc_flow.proofs.invalidating.steps.+value_steps.Goals as goal
 use Rattle.rc_flow.specs.ValueSteps.{value_step_parts as parts}
 use Rattle.rc_flow.specs.declared.value_step.ValueStep.TheVariants.{Ends}
@@ -64,49 +64,32 @@ add_terminal-returns-in_ok-add_block-in-Try t c =
 
 pub add_terminal-returns-in-DoWhile : goal.add_terminal-returns-in-DoWhile
 add_terminal-returns-in-DoWhile t c =
-    let in_scope = c.args.in_scope in
-    on_ok_weaker c.add_block.result
-    (λ all. all ∙ ap (λ steps. c.args.steps.now ++ steps)
-    (sym (ap (λ x. collected_terminal parts x in_scope) c.in-DoWhile.is
-    ∙ steps-DoWhile c.in-DoWhile.loop_block c.in-DoWhile.test c.in-DoWhile.id in_scope)))
-    c.add_block.ensures
+    let arm = c.in-DoWhile in
+    on_ok_weaker c.add_block.result (added_form c.args.in_scope c.args.steps.now arm.is
+    (steps-DoWhile arm.loop_block arm.test arm.id c.args.in_scope)) c.add_block.ensures
 
 pub add_terminal-returns-in-For : goal.add_terminal-returns-in-For
 add_terminal-returns-in-For t c =
-    let in_scope = c.args.in_scope in
     let arm = c.in-For in
-    on_ok_weaker c.add_block-in-For.result
-    (λ all. all ∙ ap (λ steps. c.args.steps.now ++ steps)
-    (sym (ap (λ x. collected_terminal parts x in_scope) arm.is
-    ∙ steps-For arm.init arm.test arm.update arm.loop_block arm.id in_scope)))
-    c.add_block-in-For.ensures
+    on_ok_weaker c.add_block-in-For.result (added_form c.args.in_scope c.args.steps.now arm.is
+    (steps-For arm.init arm.test arm.update arm.loop_block arm.id c.args.in_scope)) c.add_block-in-For.ensures
 
 pub add_terminal-returns-in-While : goal.add_terminal-returns-in-While
 add_terminal-returns-in-While t c =
-    let in_scope = c.args.in_scope in
     let arm = c.in-While in
-    on_ok_weaker c.add_block-in-While.result
-    (λ all. all ∙ ap (λ steps. c.args.steps.now ++ steps)
-    (sym (ap (λ x. collected_terminal parts x in_scope) arm.is
-    ∙ ap (λ steps. steps in_scope) (collected-While parts arm.test arm.loop_block arm.id))))
-    c.add_block-in-While.ensures
+    on_ok_weaker c.add_block-in-While.result (added_form c.args.in_scope c.args.steps.now arm.is
+    (ap (λ steps. steps c.args.in_scope) (collected-While parts arm.test arm.loop_block arm.id))) c.add_block-in-While.ensures
 
 pub add_terminal-returns-in-ForOf : goal.add_terminal-returns-in-ForOf
 add_terminal-returns-in-ForOf t c =
-    let in_scope = c.args.in_scope in
     let arm = c.in-ForOf in
-    on_ok_weaker c.add_block-in-ForOf.result
-    (λ all. all ∙ ap (λ steps. c.args.steps.now ++ steps)
-    (sym (ap (λ x. collected_terminal parts x in_scope) arm.is
-    ∙ ap (λ steps. steps in_scope) (collected-ForOf parts arm.init arm.test arm.loop_block arm.span arm.id))))
-    c.add_block-in-ForOf.ensures
+    on_ok_weaker c.add_block-in-ForOf.result (added_form c.args.in_scope c.args.steps.now arm.is
+    (ap (λ steps. steps c.args.in_scope)
+    (collected-ForOf parts arm.init arm.test arm.loop_block arm.span arm.id))) c.add_block-in-ForOf.ensures
 
 pub add_terminal-returns-in-ForIn : goal.add_terminal-returns-in-ForIn
 add_terminal-returns-in-ForIn t c =
-    let in_scope = c.args.in_scope in
     let arm = c.in-ForIn in
-    on_ok_weaker c.add_block-in-ForIn.result
-    (λ all. all ∙ ap (λ steps. c.args.steps.now ++ steps)
-    (sym (ap (λ x. collected_terminal parts x in_scope) arm.is
-    ∙ ap (λ steps. steps in_scope) (collected-ForIn parts arm.init arm.loop_block arm.span arm.id))))
-    c.add_block-in-ForIn.ensures
+    on_ok_weaker c.add_block-in-ForIn.result (added_form c.args.in_scope c.args.steps.now arm.is
+    (ap (λ steps. steps c.args.in_scope)
+    (collected-ForIn parts arm.init arm.loop_block arm.span arm.id))) c.add_block-in-ForIn.ensures
