@@ -29,7 +29,7 @@ some_same e = cc
 
 -- a place before the next one is before this one, or is this one
 pub by_place : {A : Type 0} {j : ℕ} (p k : ℕ) → p < j → j ≡ k + 1 → (p < k → A) → (p ≡ k → A) → A
-by_place p k below next before here = elim (cases_lt p k) [ | inl lt ↦ before lt | inr ge ↦ here (omega arith) ]
+by_place p k below next before here = elim (cases_lt p k) [ inl lt ↦ before lt | inr ge ↦ here (omega arith) ]
 
 module _ {X : Type 0} (all : List X) where
   -- at one place stands one entry
