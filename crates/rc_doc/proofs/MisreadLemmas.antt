@@ -1,11 +1,11 @@
 -- The part to which a walk goes isn't read as it is asked, and nests less deep than the value that it is a part of.
-use Rattle.std.proofs.Common.{◌≡◌, ◌<◌, ◌≤◌, ◌+◌, ℕ, suc, max, Bool, true, false, List, [], ◌∷◌, Option, Some, None}
+use Rattle.std.proofs.Common.{◌≡◌, ◌<◌, ◌≤◌, ◌+◌, ℕ, max, Bool, true, false, List, [], ◌∷◌, Option, Some, None}
 use Rattle.std.proofs.Common.{Ordering, Less, Equal, Greater, refl, subst, sym, ap, arith, nat_cmp, option_and_then, unwrap_or}
 use Rattle.std.proofs.Common.{if◌then◌else◌, ◌++◌, ◌∙◌, map, option_map}
 use Rattle.std.proofs.lemmas.List.{map-append}
 use Rattle.std.specs.Cmp.Lexicographic.{slice_cmp}
 use Rattle.std.specs.Ordering.{match_ordering}
-use Rattle.serde_json.specs.Data.{Data, null, boolean, number, string, array, object, Items, no_items, item, Members}
+use Rattle.serde_json.specs.Data.{Data, null, array, object, Items, no_items, item, Members}
 use Rattle.serde_json.specs.Data.{no_members, member, depth, items_depth, members_depth}
 use Rattle.serde_json.specs.Find.{as_array, get, get_member}
 use Rattle.serde_json.specs.View.{view}

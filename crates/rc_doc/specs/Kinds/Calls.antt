@@ -1,5 +1,5 @@
 -- Kinds that call, that make functions, and that mark a place in the source.
-use Rattle.std.specs.Prelude.{[], ◌∷◌, Option, Some, codes}
+use Rattle.std.specs.Prelude.{ℕ, List, [], ◌∷◌, Option, Some, codes}
 use Rattle.serde_json.specs.Data.{Data}
 use Rattle.rc_hir.specs.Model.{InstructionValue}
 use Rattle.rc_hir.specs.declared.instruction.InstructionValue.TheVariants as kinds
@@ -77,3 +77,16 @@ finish_memoize_of d = do
   pruned ← flag_field (codes "pruned") d
   span ← option_field span_of (codes "span") d
   Some (kinds.FinishMemoize manual_memo_id decl pruned span)
+
+-- the kinds of this family, by their names
+abbrev pub call_kinds : Data → List (List ℕ × Option InstructionValue)
+call_kinds d =
+    (codes "NewExpression", new_expression_of d)
+    ∷ (codes "CallExpression", call_expression_of d)
+    ∷ (codes "MethodCall", method_call_of d)
+    ∷ (codes "ObjectMethod", object_method_of d)
+    ∷ (codes "FunctionExpression", function_expression_of d)
+    ∷ (codes "Debugger", debugger_of d)
+    ∷ (codes "StartMemoize", start_memoize_of d)
+    ∷ (codes "FinishMemoize", finish_memoize_of d)
+    ∷ []

@@ -1,5 +1,5 @@
 -- Kinds that compute a value from texts and operands.
-use Rattle.std.specs.Prelude.{[], ◌∷◌, Option, Some, codes}
+use Rattle.std.specs.Prelude.{ℕ, List, [], ◌∷◌, Option, Some, codes}
 use Rattle.serde_json.specs.Data.{Data}
 use Rattle.rc_hir.specs.Model.{InstructionValue}
 use Rattle.rc_hir.specs.declared.instruction.InstructionValue.TheVariants as kinds
@@ -119,3 +119,21 @@ next_property_of_of d = do
   value ← field place_of (codes "value") d
   span ← option_field span_of (codes "span") d
   Some (kinds.NextPropertyOf value span)
+
+-- the kinds of this family, by their names
+abbrev pub expression_kinds : Data → List (List ℕ × Option InstructionValue)
+expression_kinds d =
+    (codes "Primitive", primitive_of d)
+    ∷ (codes "JSXText", jsx_text_of d)
+    ∷ (codes "BinaryExpression", binary_expression_of d)
+    ∷ (codes "UnaryExpression", unary_expression_of d)
+    ∷ (codes "TypeCastExpression", type_cast_expression_of d)
+    ∷ (codes "Await", await_of d)
+    ∷ (codes "RegExpLiteral", regexp_literal_of d)
+    ∷ (codes "MetaProperty", meta_property_of d)
+    ∷ (codes "TaggedTemplateExpression", tagged_template_expression_of d)
+    ∷ (codes "TemplateLiteral", template_literal_of d)
+    ∷ (codes "GetIterator", get_iterator_of d)
+    ∷ (codes "IteratorNext", iterator_next_of d)
+    ∷ (codes "NextPropertyOf", next_property_of_of d)
+    ∷ []

@@ -1,5 +1,5 @@
 -- Kinds that make objects, arrays and JSX, and that reach into them.
-use Rattle.std.specs.Prelude.{[], ◌∷◌, Option, Some, codes}
+use Rattle.std.specs.Prelude.{ℕ, List, [], ◌∷◌, Option, Some, codes}
 use Rattle.serde_json.specs.Data.{Data}
 use Rattle.rc_hir.specs.Model.{InstructionValue}
 use Rattle.rc_hir.specs.declared.instruction.InstructionValue.TheVariants as kinds
@@ -97,3 +97,18 @@ computed_store_of d = do
   value ← field place_of (codes "value") d
   span ← option_field span_of (codes "span") d
   Some (kinds.ComputedStore object property value span)
+
+-- the kinds of this family, by their names
+abbrev pub object_kinds : Data → List (List ℕ × Option InstructionValue)
+object_kinds d =
+    (codes "ObjectExpression", object_expression_of d)
+    ∷ (codes "ArrayExpression", array_expression_of d)
+    ∷ (codes "JsxExpression", jsx_expression_of d)
+    ∷ (codes "JsxFragment", jsx_fragment_of d)
+    ∷ (codes "PropertyLoad", property_load_of d)
+    ∷ (codes "PropertyDelete", property_delete_of d)
+    ∷ (codes "PropertyStore", property_store_of d)
+    ∷ (codes "ComputedLoad", computed_load_of d)
+    ∷ (codes "ComputedDelete", computed_delete_of d)
+    ∷ (codes "ComputedStore", computed_store_of d)
+    ∷ []

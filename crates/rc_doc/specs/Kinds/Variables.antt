@@ -1,5 +1,5 @@
 -- Kinds that read, declare and write variables.
-use Rattle.std.specs.Prelude.{[], ◌∷◌, Option, Some, codes}
+use Rattle.std.specs.Prelude.{ℕ, List, [], ◌∷◌, Option, Some, codes}
 use Rattle.serde_json.specs.Data.{Data}
 use Rattle.rc_hir.specs.Model.{InstructionValue}
 use Rattle.rc_hir.specs.declared.instruction.InstructionValue.TheVariants as kinds
@@ -103,3 +103,19 @@ postfix_update_of d = do
   value ← field place_of (codes "value") d
   span ← option_field span_of (codes "span") d
   Some (kinds.PostfixUpdate lvalue operation value span)
+
+-- the kinds of this family, by their names
+abbrev pub variable_kinds : Data → List (List ℕ × Option InstructionValue)
+variable_kinds d =
+    (codes "LoadLocal", load_local_of d)
+    ∷ (codes "LoadContext", load_context_of d)
+    ∷ (codes "DeclareLocal", declare_local_of d)
+    ∷ (codes "DeclareContext", declare_context_of d)
+    ∷ (codes "StoreLocal", store_local_of d)
+    ∷ (codes "StoreContext", store_context_of d)
+    ∷ (codes "Destructure", destructure_of d)
+    ∷ (codes "LoadGlobal", load_global_of d)
+    ∷ (codes "StoreGlobal", store_global_of d)
+    ∷ (codes "PrefixUpdate", prefix_update_of d)
+    ∷ (codes "PostfixUpdate", postfix_update_of d)
+    ∷ []

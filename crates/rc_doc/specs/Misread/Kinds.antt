@@ -1,53 +1,16 @@
 -- The fields of each kind of instruction value.
-use Rattle.std.specs.Prelude.{ℕ, List, [], ◌∷◌, Option, Some, codes}
-use Rattle.rc_doc.specs.declared.misread.form.Form.TheVariants as forms
-use Rattle.rc_doc.specs.declared.misread.form.Need.TheVariants as needs
+pub mod Variables
+pub mod Expressions
+pub mod Calls
+pub mod Objects
+use Rattle.std.specs.Prelude.{ℕ, List, ◌++◌, Option}
 use Rattle.rc_doc.specs.Misread.Forms.{Row}
+use Rattle.rc_doc.specs.Misread.Kinds.Variables.{variable_fields}
+use Rattle.rc_doc.specs.Misread.Kinds.Expressions.{expression_fields}
+use Rattle.rc_doc.specs.Misread.Kinds.Calls.{call_fields}
+use Rattle.rc_doc.specs.Misread.Kinds.Objects.{object_fields}
 use Rattle.rc_doc.specs.Reading.{named}
 
 -- the fields of the instruction value of the kind with this name, in the order in which they are read
 abbrev pub value_fields : List ℕ → Option (List Row)
-value_fields = named (
-    (codes "LoadLocal", (codes "place", needs.Required, forms.Place) ∷ (codes "span", needs.Optional, forms.Span) ∷ [])
-    ∷ (codes "LoadContext", (codes "place", needs.Required, forms.Place) ∷ (codes "span", needs.Optional, forms.Span) ∷ [])
-    ∷ (codes "DeclareLocal", (codes "lvalue", needs.Required, forms.LValue) ∷ (codes "span", needs.Optional, forms.Span) ∷ [])
-    ∷ (codes "DeclareContext", (codes "lvalue", needs.Required, forms.LValue) ∷ (codes "span", needs.Optional, forms.Span) ∷ [])
-    ∷ (codes "StoreLocal", (codes "lvalue", needs.Required, forms.LValue) ∷ (codes "value", needs.Required, forms.Place) ∷ (codes "span", needs.Optional, forms.Span) ∷ [])
-    ∷ (codes "StoreContext", (codes "lvalue", needs.Required, forms.LValue) ∷ (codes "value", needs.Required, forms.Place) ∷ (codes "span", needs.Optional, forms.Span) ∷ [])
-    ∷ (codes "Destructure", (codes "lvalue", needs.Required, forms.LValuePattern) ∷ (codes "value", needs.Required, forms.Place) ∷ (codes "span", needs.Optional, forms.Span) ∷ [])
-    ∷ (codes "Primitive", (codes "value", needs.Required, forms.PrimitiveValue) ∷ (codes "span", needs.Optional, forms.Span) ∷ [])
-    ∷ (codes "JSXText", (codes "value", needs.Required, forms.Text) ∷ (codes "span", needs.Optional, forms.Span) ∷ [])
-    ∷ (codes "BinaryExpression", (codes "operator", needs.Required, forms.Text) ∷ (codes "left", needs.Required, forms.Place) ∷ (codes "right", needs.Required, forms.Place) ∷ (codes "span", needs.Optional, forms.Span) ∷ [])
-    ∷ (codes "UnaryExpression", (codes "operator", needs.Required, forms.Text) ∷ (codes "value", needs.Required, forms.Place) ∷ (codes "span", needs.Optional, forms.Span) ∷ [])
-    ∷ (codes "TypeCastExpression", (codes "value", needs.Required, forms.Place) ∷ (codes "annotation", needs.Required, forms.Text) ∷ (codes "span", needs.Optional, forms.Span) ∷ [])
-    ∷ (codes "Await", (codes "value", needs.Required, forms.Place) ∷ (codes "span", needs.Optional, forms.Span) ∷ [])
-    ∷ (codes "NewExpression", (codes "callee", needs.Required, forms.Place) ∷ (codes "args", needs.List, forms.Argument) ∷ (codes "span", needs.Optional, forms.Span) ∷ [])
-    ∷ (codes "CallExpression", (codes "callee", needs.Required, forms.Place) ∷ (codes "args", needs.List, forms.Argument) ∷ (codes "span", needs.Optional, forms.Span) ∷ [])
-    ∷ (codes "MethodCall", (codes "receiver", needs.Required, forms.Place) ∷ (codes "property", needs.Required, forms.Place) ∷ (codes "args", needs.List, forms.Argument) ∷ (codes "span", needs.Optional, forms.Span) ∷ [])
-    ∷ (codes "ObjectExpression", (codes "properties", needs.List, forms.Property) ∷ (codes "span", needs.Optional, forms.Span) ∷ [])
-    ∷ (codes "ObjectMethod", (codes "lowered_func", needs.Required, forms.LoweredFunction) ∷ (codes "span", needs.Optional, forms.Span) ∷ [])
-    ∷ (codes "FunctionExpression", (codes "name", needs.Optional, forms.Text) ∷ (codes "lowered_func", needs.Required, forms.LoweredFunction) ∷ (codes "span", needs.Optional, forms.Span) ∷ [])
-    ∷ (codes "ArrayExpression", (codes "elements", needs.List, forms.Element) ∷ (codes "span", needs.Optional, forms.Span) ∷ [])
-    ∷ (codes "JsxExpression", (codes "tag", needs.Required, forms.JsxTag) ∷ (codes "props", needs.List, forms.JsxAttribute) ∷ (codes "children", needs.OptionalList, forms.Place) ∷ (codes "span", needs.Optional, forms.Span) ∷ [])
-    ∷ (codes "JsxFragment", (codes "children", needs.List, forms.Place) ∷ (codes "span", needs.Optional, forms.Span) ∷ [])
-    ∷ (codes "RegExpLiteral", (codes "pattern", needs.Required, forms.Text) ∷ (codes "flags", needs.Required, forms.Text) ∷ (codes "span", needs.Optional, forms.Span) ∷ [])
-    ∷ (codes "MetaProperty", (codes "meta", needs.Required, forms.Text) ∷ (codes "property", needs.Required, forms.Text) ∷ (codes "span", needs.Optional, forms.Span) ∷ [])
-    ∷ (codes "PropertyLoad", (codes "object", needs.Required, forms.Place) ∷ (codes "property", needs.Required, forms.PropertyLiteral) ∷ (codes "span", needs.Optional, forms.Span) ∷ [])
-    ∷ (codes "PropertyDelete", (codes "object", needs.Required, forms.Place) ∷ (codes "property", needs.Required, forms.PropertyLiteral) ∷ (codes "span", needs.Optional, forms.Span) ∷ [])
-    ∷ (codes "PropertyStore", (codes "object", needs.Required, forms.Place) ∷ (codes "property", needs.Required, forms.PropertyLiteral) ∷ (codes "value", needs.Required, forms.Place) ∷ (codes "span", needs.Optional, forms.Span) ∷ [])
-    ∷ (codes "ComputedLoad", (codes "object", needs.Required, forms.Place) ∷ (codes "property", needs.Required, forms.Place) ∷ (codes "span", needs.Optional, forms.Span) ∷ [])
-    ∷ (codes "ComputedDelete", (codes "object", needs.Required, forms.Place) ∷ (codes "property", needs.Required, forms.Place) ∷ (codes "span", needs.Optional, forms.Span) ∷ [])
-    ∷ (codes "ComputedStore", (codes "object", needs.Required, forms.Place) ∷ (codes "property", needs.Required, forms.Place) ∷ (codes "value", needs.Required, forms.Place) ∷ (codes "span", needs.Optional, forms.Span) ∷ [])
-    ∷ (codes "LoadGlobal", (codes "binding", needs.Required, forms.Binding) ∷ (codes "span", needs.Optional, forms.Span) ∷ [])
-    ∷ (codes "StoreGlobal", (codes "name", needs.Required, forms.Text) ∷ (codes "value", needs.Required, forms.Place) ∷ (codes "span", needs.Optional, forms.Span) ∷ [])
-    ∷ (codes "TaggedTemplateExpression", (codes "tag", needs.Required, forms.Place) ∷ (codes "quasi", needs.Required, forms.Text) ∷ (codes "span", needs.Optional, forms.Span) ∷ [])
-    ∷ (codes "TemplateLiteral", (codes "subexprs", needs.List, forms.Place) ∷ (codes "quasis", needs.List, forms.Text) ∷ (codes "span", needs.Optional, forms.Span) ∷ [])
-    ∷ (codes "GetIterator", (codes "collection", needs.Required, forms.Place) ∷ (codes "span", needs.Optional, forms.Span) ∷ [])
-    ∷ (codes "IteratorNext", (codes "iterator", needs.Required, forms.Place) ∷ (codes "collection", needs.Required, forms.Place) ∷ (codes "span", needs.Optional, forms.Span) ∷ [])
-    ∷ (codes "NextPropertyOf", (codes "value", needs.Required, forms.Place) ∷ (codes "span", needs.Optional, forms.Span) ∷ [])
-    ∷ (codes "PrefixUpdate", (codes "lvalue", needs.Required, forms.Place) ∷ (codes "operation", needs.Required, forms.Text) ∷ (codes "value", needs.Required, forms.Place) ∷ (codes "span", needs.Optional, forms.Span) ∷ [])
-    ∷ (codes "PostfixUpdate", (codes "lvalue", needs.Required, forms.Place) ∷ (codes "operation", needs.Required, forms.Text) ∷ (codes "value", needs.Required, forms.Place) ∷ (codes "span", needs.Optional, forms.Span) ∷ [])
-    ∷ (codes "Debugger", (codes "span", needs.Optional, forms.Span) ∷ [])
-    ∷ (codes "StartMemoize", (codes "manual_memo_id", needs.Required, forms.Number) ∷ (codes "deps", needs.List, forms.Place) ∷ (codes "span", needs.Optional, forms.Span) ∷ [])
-    ∷ (codes "FinishMemoize", (codes "manual_memo_id", needs.Required, forms.Number) ∷ (codes "decl", needs.Required, forms.Place) ∷ (codes "pruned", needs.Flag, forms.Flag) ∷ (codes "span", needs.Optional, forms.Span) ∷ [])
-    ∷ [])
+value_fields = named (variable_fields ++ expression_fields ++ call_fields ++ object_fields)

@@ -1,5 +1,5 @@
 -- Terminals that go into one block and then on at their fallthrough.
-use Rattle.std.specs.Prelude.{[], ◌∷◌, Option, Some, codes}
+use Rattle.std.specs.Prelude.{ℕ, List, [], ◌∷◌, Option, Some, codes}
 use Rattle.serde_json.specs.Data.{Data}
 use Rattle.rc_hir.specs.Model.{Terminal}
 use Rattle.rc_hir.specs.declared.terminal.Terminal.TheVariants as terminals
@@ -61,3 +61,13 @@ try_of d = do
   id ← field id_of (codes "id") d
   span ← option_field span_of (codes "span") d
   Some (terminals.Try block handler_binding handler fallthrough id span)
+
+-- the terminals of this family, by their names
+abbrev pub block_terminals : Data → List (List ℕ × Option Terminal)
+block_terminals d =
+    (codes "Sequence", sequence_of d)
+    ∷ (codes "Label", label_of d)
+    ∷ (codes "Scope", scope_of d)
+    ∷ (codes "PrunedScope", pruned_scope_of d)
+    ∷ (codes "Try", try_of d)
+    ∷ []

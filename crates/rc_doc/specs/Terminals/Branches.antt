@@ -95,3 +95,14 @@ switch_of d = do
   id ← field id_of (codes "id") d
   span ← option_field span_of (codes "span") d
   Some (terminals.Switch test cases fallthrough id span)
+
+-- the terminals of this family, by their names
+abbrev pub branch_terminals : Data → List (List ℕ × Option Terminal)
+branch_terminals d =
+    (codes "If", if_of d)
+    ∷ (codes "Branch", branch_of d)
+    ∷ (codes "Logical", logical_of d)
+    ∷ (codes "Ternary", ternary_of d)
+    ∷ (codes "Optional", optional_of d)
+    ∷ (codes "Switch", switch_of d)
+    ∷ []

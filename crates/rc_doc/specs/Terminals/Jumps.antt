@@ -66,3 +66,13 @@ maybe_throw_of d = do
   id ← field id_of (codes "id") d
   span ← option_field span_of (codes "span") d
   Some (terminals.MaybeThrow continuation handler id span)
+
+-- the terminals of this family, by their names
+abbrev pub jump_terminals : Data → List (List ℕ × Option Terminal)
+jump_terminals d =
+    (codes "Throw", throw_of d)
+    ∷ (codes "Return", return_of d)
+    ∷ (codes "Goto", goto_of d)
+    ∷ (codes "Unreachable", unreachable_of d)
+    ∷ (codes "MaybeThrow", maybe_throw_of d)
+    ∷ []

@@ -1,5 +1,5 @@
 -- Terminals that loop.
-use Rattle.std.specs.Prelude.{[], ◌∷◌, Option, Some, codes}
+use Rattle.std.specs.Prelude.{ℕ, List, [], ◌∷◌, Option, Some, codes}
 use Rattle.serde_json.specs.Data.{Data}
 use Rattle.rc_hir.specs.Model.{Terminal}
 use Rattle.rc_hir.specs.declared.terminal.Terminal.TheVariants as terminals
@@ -66,3 +66,13 @@ for_in_of d = do
   id ← field id_of (codes "id") d
   span ← option_field span_of (codes "span") d
   Some (terminals.ForIn init loop_block fallthrough id span)
+
+-- the terminals of this family, by their names
+abbrev pub loop_terminals : Data → List (List ℕ × Option Terminal)
+loop_terminals d =
+    (codes "DoWhile", do_while_of d)
+    ∷ (codes "While", while_of d)
+    ∷ (codes "For", for_of d)
+    ∷ (codes "ForOf", for_of_of d)
+    ∷ (codes "ForIn", for_in_of d)
+    ∷ []

@@ -1,4 +1,5 @@
-//! The reader of terminals: one function a terminal, in families.
+//! The reader of terminals: one function a terminal, in families, each of which hands the name of another family's
+//! terminal on to the next.
 
 mod blocks;
 mod branches;
@@ -18,29 +19,7 @@ impl Read for Terminal {
 
     #[tactic(auto, unfolding(crate::specs::Terminals::terminal_of))]
     fn read(alloc: Global, from: &Value) -> Result<Terminal, Refusal> {
-        match or_refuse(tag(from))? {
-            "If" => branches::if_terminal(alloc, from),
-            "Branch" => branches::branch(alloc, from),
-            "Logical" => branches::logical(alloc, from),
-            "Ternary" => branches::ternary(alloc, from),
-            "Optional" => branches::optional_terminal(alloc, from),
-            "Sequence" => blocks::sequence(alloc, from),
-            "Throw" => jumps::throw(alloc, from),
-            "Return" => jumps::return_terminal(alloc, from),
-            "Goto" => jumps::goto(alloc, from),
-            "Switch" => branches::switch(alloc, from),
-            "DoWhile" => loops::do_while(alloc, from),
-            "While" => loops::while_terminal(alloc, from),
-            "For" => loops::for_terminal(alloc, from),
-            "ForOf" => loops::for_of(alloc, from),
-            "ForIn" => loops::for_in(alloc, from),
-            "Label" => blocks::label(alloc, from),
-            "Unreachable" => jumps::unreachable(alloc, from),
-            "MaybeThrow" => jumps::maybe_throw(alloc, from),
-            "Scope" => blocks::scope(alloc, from),
-            "PrunedScope" => blocks::pruned_scope(alloc, from),
-            "Try" => blocks::try_terminal(alloc, from),
-            _ => Err(Refusal::NotDoc),
-        }
+        let name = or_refuse(tag(from))?;
+        branches::terminal_named(alloc, name, from)
     }
 }

@@ -1,19 +1,44 @@
 //! Readers of the kinds that call, that make functions, and that mark a place in the source.
 
+ghost use Rattle.std.specs.Prelude.{◌++◌};
 ghost use Rattle.serde_json.specs.View.{view};
-ghost use Rattle.rc_doc.specs.Kinds.Calls.{call_expression_of, debugger_of, finish_memoize_of, function_expression_of};
-ghost use Rattle.rc_doc.specs.Kinds.Calls.{method_call_of, new_expression_of, object_method_of, start_memoize_of};
-ghost use Rattle.rc_doc.specs.Reading.{IsRead};
+ghost use Rattle.rc_doc.specs.Kinds.Calls.{call_expression_of, call_kinds, debugger_of, finish_memoize_of};
+ghost use Rattle.rc_doc.specs.Kinds.Calls.{function_expression_of, method_call_of, new_expression_of, object_method_of};
+ghost use Rattle.rc_doc.specs.Kinds.Calls.{start_memoize_of};
+ghost use Rattle.rc_doc.specs.Kinds.Objects.{object_kinds};
+ghost use Rattle.rc_doc.specs.Reading.{IsRead, variant};
 
 use crate::fields::{flag, list_or_empty, optional, required};
 use crate::known::known_names;
+use crate::read::instruction::objects;
 use crate::refusal::Refusal;
 use rc_hir::InstructionValue;
 use serde_json::Value;
 use std::alloc::Global;
 
+/// The value of the kind with this name, of this family or of one after it.
+pub(super) fn value_named(
+    alloc: Global,
+    name: &str,
+    from: &Value,
+) -> Result<InstructionValue, Refusal>
+    ensures { IsRead result (variant (call_kinds (view from.now) ++ object_kinds (view from.now)) name.now) }
+{
+    match name {
+        "NewExpression" => new_expression(alloc, from),
+        "CallExpression" => call_expression(alloc, from),
+        "MethodCall" => method_call(alloc, from),
+        "ObjectMethod" => object_method(alloc, from),
+        "FunctionExpression" => function_expression(alloc, from),
+        "Debugger" => debugger(alloc, from),
+        "StartMemoize" => start_memoize(alloc, from),
+        "FinishMemoize" => finish_memoize(alloc, from),
+        _ => objects::value_named(alloc, name, from),
+    }
+}
+
 #[tactic(auto, unfolding(crate::specs::Kinds::Calls::new_expression_of))]
-pub(super) fn new_expression(alloc: Global, from: &Value) -> Result<InstructionValue, Refusal>
+fn new_expression(alloc: Global, from: &Value) -> Result<InstructionValue, Refusal>
     ensures { IsRead result (new_expression_of (view from.now)) }
 {
     known_names(from, &["args", "callee", "k", "span"])?;
@@ -24,7 +49,7 @@ pub(super) fn new_expression(alloc: Global, from: &Value) -> Result<InstructionV
 }
 
 #[tactic(auto, unfolding(crate::specs::Kinds::Calls::call_expression_of))]
-pub(super) fn call_expression(alloc: Global, from: &Value) -> Result<InstructionValue, Refusal>
+fn call_expression(alloc: Global, from: &Value) -> Result<InstructionValue, Refusal>
     ensures { IsRead result (call_expression_of (view from.now)) }
 {
     known_names(from, &["args", "callee", "k", "span"])?;
@@ -35,7 +60,7 @@ pub(super) fn call_expression(alloc: Global, from: &Value) -> Result<Instruction
 }
 
 #[tactic(auto, unfolding(crate::specs::Kinds::Calls::method_call_of))]
-pub(super) fn method_call(alloc: Global, from: &Value) -> Result<InstructionValue, Refusal>
+fn method_call(alloc: Global, from: &Value) -> Result<InstructionValue, Refusal>
     ensures { IsRead result (method_call_of (view from.now)) }
 {
     known_names(from, &["args", "k", "property", "receiver", "span"])?;
@@ -52,7 +77,7 @@ pub(super) fn method_call(alloc: Global, from: &Value) -> Result<InstructionValu
 }
 
 #[tactic(auto, unfolding(crate::specs::Kinds::Calls::object_method_of))]
-pub(super) fn object_method(alloc: Global, from: &Value) -> Result<InstructionValue, Refusal>
+fn object_method(alloc: Global, from: &Value) -> Result<InstructionValue, Refusal>
     ensures { IsRead result (object_method_of (view from.now)) }
 {
     known_names(from, &["k", "lowered_func", "span"])?;
@@ -62,7 +87,7 @@ pub(super) fn object_method(alloc: Global, from: &Value) -> Result<InstructionVa
 }
 
 #[tactic(auto, unfolding(crate::specs::Kinds::Calls::function_expression_of))]
-pub(super) fn function_expression(alloc: Global, from: &Value) -> Result<InstructionValue, Refusal>
+fn function_expression(alloc: Global, from: &Value) -> Result<InstructionValue, Refusal>
     ensures { IsRead result (function_expression_of (view from.now)) }
 {
     known_names(from, &["k", "lowered_func", "name", "span"])?;
@@ -77,7 +102,7 @@ pub(super) fn function_expression(alloc: Global, from: &Value) -> Result<Instruc
 }
 
 #[tactic(auto, unfolding(crate::specs::Kinds::Calls::debugger_of))]
-pub(super) fn debugger(alloc: Global, from: &Value) -> Result<InstructionValue, Refusal>
+fn debugger(alloc: Global, from: &Value) -> Result<InstructionValue, Refusal>
     ensures { IsRead result (debugger_of (view from.now)) }
 {
     known_names(from, &["k", "span"])?;
@@ -86,7 +111,7 @@ pub(super) fn debugger(alloc: Global, from: &Value) -> Result<InstructionValue, 
 }
 
 #[tactic(auto, unfolding(crate::specs::Kinds::Calls::start_memoize_of))]
-pub(super) fn start_memoize(alloc: Global, from: &Value) -> Result<InstructionValue, Refusal>
+fn start_memoize(alloc: Global, from: &Value) -> Result<InstructionValue, Refusal>
     ensures { IsRead result (start_memoize_of (view from.now)) }
 {
     known_names(from, &["deps", "k", "manual_memo_id", "span"])?;
@@ -101,7 +126,7 @@ pub(super) fn start_memoize(alloc: Global, from: &Value) -> Result<InstructionVa
 }
 
 #[tactic(auto, unfolding(crate::specs::Kinds::Calls::finish_memoize_of))]
-pub(super) fn finish_memoize(alloc: Global, from: &Value) -> Result<InstructionValue, Refusal>
+fn finish_memoize(alloc: Global, from: &Value) -> Result<InstructionValue, Refusal>
     ensures { IsRead result (finish_memoize_of (view from.now)) }
 {
     known_names(from, &["decl", "k", "manual_memo_id", "pruned", "span"])?;

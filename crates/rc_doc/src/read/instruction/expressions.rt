@@ -1,21 +1,51 @@
 //! Readers of the kinds that compute a value from texts and operands.
 
+ghost use Rattle.std.specs.Prelude.{◌++◌};
 ghost use Rattle.serde_json.specs.View.{view};
-ghost use Rattle.rc_doc.specs.Kinds.Expressions.{await_of, binary_expression_of, get_iterator_of, iterator_next_of};
-ghost use Rattle.rc_doc.specs.Kinds.Expressions.{jsx_text_of, meta_property_of, next_property_of_of, primitive_of};
-ghost use Rattle.rc_doc.specs.Kinds.Expressions.{regexp_literal_of, tagged_template_expression_of, template_literal_of};
-ghost use Rattle.rc_doc.specs.Kinds.Expressions.{type_cast_expression_of, unary_expression_of};
-ghost use Rattle.rc_doc.specs.Reading.{IsRead};
+ghost use Rattle.rc_doc.specs.Kinds.Calls.{call_kinds};
+ghost use Rattle.rc_doc.specs.Kinds.Expressions.{await_of, binary_expression_of, expression_kinds, get_iterator_of};
+ghost use Rattle.rc_doc.specs.Kinds.Expressions.{iterator_next_of, jsx_text_of, meta_property_of, next_property_of_of};
+ghost use Rattle.rc_doc.specs.Kinds.Expressions.{primitive_of, regexp_literal_of, tagged_template_expression_of};
+ghost use Rattle.rc_doc.specs.Kinds.Expressions.{template_literal_of, type_cast_expression_of, unary_expression_of};
+ghost use Rattle.rc_doc.specs.Kinds.Objects.{object_kinds};
+ghost use Rattle.rc_doc.specs.Reading.{IsRead, variant};
 
 use crate::fields::{list_or_empty, optional, required};
 use crate::known::known_names;
+use crate::read::instruction::calls;
 use crate::refusal::Refusal;
 use rc_hir::InstructionValue;
 use serde_json::Value;
 use std::alloc::Global;
 
+/// The value of the kind with this name, of this family or of one after it.
+pub(super) fn value_named(
+    alloc: Global,
+    name: &str,
+    from: &Value,
+) -> Result<InstructionValue, Refusal>
+    ensures { IsRead result (variant (expression_kinds (view from.now) ++ call_kinds (view from.now) ++ object_kinds (view from.now)) name.now) }
+{
+    match name {
+        "Primitive" => primitive(alloc, from),
+        "JSXText" => jsx_text(alloc, from),
+        "BinaryExpression" => binary_expression(alloc, from),
+        "UnaryExpression" => unary_expression(alloc, from),
+        "TypeCastExpression" => type_cast_expression(alloc, from),
+        "Await" => await_value(alloc, from),
+        "RegExpLiteral" => regexp_literal(alloc, from),
+        "MetaProperty" => meta_property(alloc, from),
+        "TaggedTemplateExpression" => tagged_template_expression(alloc, from),
+        "TemplateLiteral" => template_literal(alloc, from),
+        "GetIterator" => get_iterator(alloc, from),
+        "IteratorNext" => iterator_next(alloc, from),
+        "NextPropertyOf" => next_property_of(alloc, from),
+        _ => calls::value_named(alloc, name, from),
+    }
+}
+
 #[tactic(auto, unfolding(crate::specs::Kinds::Expressions::primitive_of))]
-pub(super) fn primitive(alloc: Global, from: &Value) -> Result<InstructionValue, Refusal>
+fn primitive(alloc: Global, from: &Value) -> Result<InstructionValue, Refusal>
     ensures { IsRead result (primitive_of (view from.now)) }
 {
     known_names(from, &["k", "span", "value"])?;
@@ -25,7 +55,7 @@ pub(super) fn primitive(alloc: Global, from: &Value) -> Result<InstructionValue,
 }
 
 #[tactic(auto, unfolding(crate::specs::Kinds::Expressions::jsx_text_of))]
-pub(super) fn jsx_text(alloc: Global, from: &Value) -> Result<InstructionValue, Refusal>
+fn jsx_text(alloc: Global, from: &Value) -> Result<InstructionValue, Refusal>
     ensures { IsRead result (jsx_text_of (view from.now)) }
 {
     known_names(from, &["k", "span", "value"])?;
@@ -35,7 +65,7 @@ pub(super) fn jsx_text(alloc: Global, from: &Value) -> Result<InstructionValue, 
 }
 
 #[tactic(auto, unfolding(crate::specs::Kinds::Expressions::binary_expression_of))]
-pub(super) fn binary_expression(alloc: Global, from: &Value) -> Result<InstructionValue, Refusal>
+fn binary_expression(alloc: Global, from: &Value) -> Result<InstructionValue, Refusal>
     ensures { IsRead result (binary_expression_of (view from.now)) }
 {
     known_names(from, &["k", "left", "operator", "right", "span"])?;
@@ -52,7 +82,7 @@ pub(super) fn binary_expression(alloc: Global, from: &Value) -> Result<Instructi
 }
 
 #[tactic(auto, unfolding(crate::specs::Kinds::Expressions::unary_expression_of))]
-pub(super) fn unary_expression(alloc: Global, from: &Value) -> Result<InstructionValue, Refusal>
+fn unary_expression(alloc: Global, from: &Value) -> Result<InstructionValue, Refusal>
     ensures { IsRead result (unary_expression_of (view from.now)) }
 {
     known_names(from, &["k", "operator", "span", "value"])?;
@@ -67,7 +97,7 @@ pub(super) fn unary_expression(alloc: Global, from: &Value) -> Result<Instructio
 }
 
 #[tactic(auto, unfolding(crate::specs::Kinds::Expressions::type_cast_expression_of))]
-pub(super) fn type_cast_expression(alloc: Global, from: &Value) -> Result<InstructionValue, Refusal>
+fn type_cast_expression(alloc: Global, from: &Value) -> Result<InstructionValue, Refusal>
     ensures { IsRead result (type_cast_expression_of (view from.now)) }
 {
     known_names(from, &["annotation", "k", "span", "value"])?;
@@ -82,7 +112,7 @@ pub(super) fn type_cast_expression(alloc: Global, from: &Value) -> Result<Instru
 }
 
 #[tactic(auto, unfolding(crate::specs::Kinds::Expressions::await_of))]
-pub(super) fn await_value(alloc: Global, from: &Value) -> Result<InstructionValue, Refusal>
+fn await_value(alloc: Global, from: &Value) -> Result<InstructionValue, Refusal>
     ensures { IsRead result (await_of (view from.now)) }
 {
     known_names(from, &["k", "span", "value"])?;
@@ -92,7 +122,7 @@ pub(super) fn await_value(alloc: Global, from: &Value) -> Result<InstructionValu
 }
 
 #[tactic(auto, unfolding(crate::specs::Kinds::Expressions::regexp_literal_of))]
-pub(super) fn regexp_literal(alloc: Global, from: &Value) -> Result<InstructionValue, Refusal>
+fn regexp_literal(alloc: Global, from: &Value) -> Result<InstructionValue, Refusal>
     ensures { IsRead result (regexp_literal_of (view from.now)) }
 {
     known_names(from, &["flags", "k", "pattern", "span"])?;
@@ -107,7 +137,7 @@ pub(super) fn regexp_literal(alloc: Global, from: &Value) -> Result<InstructionV
 }
 
 #[tactic(auto, unfolding(crate::specs::Kinds::Expressions::meta_property_of))]
-pub(super) fn meta_property(alloc: Global, from: &Value) -> Result<InstructionValue, Refusal>
+fn meta_property(alloc: Global, from: &Value) -> Result<InstructionValue, Refusal>
     ensures { IsRead result (meta_property_of (view from.now)) }
 {
     known_names(from, &["k", "meta", "property", "span"])?;
@@ -122,10 +152,7 @@ pub(super) fn meta_property(alloc: Global, from: &Value) -> Result<InstructionVa
 }
 
 #[tactic(auto, unfolding(crate::specs::Kinds::Expressions::tagged_template_expression_of))]
-pub(super) fn tagged_template_expression(
-    alloc: Global,
-    from: &Value,
-) -> Result<InstructionValue, Refusal>
+fn tagged_template_expression(alloc: Global, from: &Value) -> Result<InstructionValue, Refusal>
     ensures { IsRead result (tagged_template_expression_of (view from.now)) }
 {
     known_names(from, &["k", "quasi", "span", "tag"])?;
@@ -136,7 +163,7 @@ pub(super) fn tagged_template_expression(
 }
 
 #[tactic(auto, unfolding(crate::specs::Kinds::Expressions::template_literal_of))]
-pub(super) fn template_literal(alloc: Global, from: &Value) -> Result<InstructionValue, Refusal>
+fn template_literal(alloc: Global, from: &Value) -> Result<InstructionValue, Refusal>
     ensures { IsRead result (template_literal_of (view from.now)) }
 {
     known_names(from, &["k", "quasis", "span", "subexprs"])?;
@@ -151,7 +178,7 @@ pub(super) fn template_literal(alloc: Global, from: &Value) -> Result<Instructio
 }
 
 #[tactic(auto, unfolding(crate::specs::Kinds::Expressions::get_iterator_of))]
-pub(super) fn get_iterator(alloc: Global, from: &Value) -> Result<InstructionValue, Refusal>
+fn get_iterator(alloc: Global, from: &Value) -> Result<InstructionValue, Refusal>
     ensures { IsRead result (get_iterator_of (view from.now)) }
 {
     known_names(from, &["collection", "k", "span"])?;
@@ -161,7 +188,7 @@ pub(super) fn get_iterator(alloc: Global, from: &Value) -> Result<InstructionVal
 }
 
 #[tactic(auto, unfolding(crate::specs::Kinds::Expressions::iterator_next_of))]
-pub(super) fn iterator_next(alloc: Global, from: &Value) -> Result<InstructionValue, Refusal>
+fn iterator_next(alloc: Global, from: &Value) -> Result<InstructionValue, Refusal>
     ensures { IsRead result (iterator_next_of (view from.now)) }
 {
     known_names(from, &["collection", "iterator", "k", "span"])?;
@@ -176,7 +203,7 @@ pub(super) fn iterator_next(alloc: Global, from: &Value) -> Result<InstructionVa
 }
 
 #[tactic(auto, unfolding(crate::specs::Kinds::Expressions::next_property_of_of))]
-pub(super) fn next_property_of(alloc: Global, from: &Value) -> Result<InstructionValue, Refusal>
+fn next_property_of(alloc: Global, from: &Value) -> Result<InstructionValue, Refusal>
     ensures { IsRead result (next_property_of_of (view from.now)) }
 {
     known_names(from, &["k", "span", "value"])?;

@@ -3,9 +3,9 @@
 ghost use Rattle.serde_json.specs.View.{view};
 ghost use Rattle.rc_doc.specs.Kinds.Objects.{array_expression_of, computed_delete_of, computed_load_of};
 ghost use Rattle.rc_doc.specs.Kinds.Objects.{computed_store_of, jsx_expression_of, jsx_fragment_of};
-ghost use Rattle.rc_doc.specs.Kinds.Objects.{object_expression_of, property_delete_of, property_load_of};
+ghost use Rattle.rc_doc.specs.Kinds.Objects.{object_expression_of, object_kinds, property_delete_of, property_load_of};
 ghost use Rattle.rc_doc.specs.Kinds.Objects.{property_store_of};
-ghost use Rattle.rc_doc.specs.Reading.{IsRead};
+ghost use Rattle.rc_doc.specs.Reading.{IsRead, variant};
 
 use crate::fields::{list_or_empty, optional, required};
 use crate::known::known_names;
@@ -14,8 +14,31 @@ use rc_hir::InstructionValue;
 use serde_json::Value;
 use std::alloc::Global;
 
+/// The value of the kind of this family with this name.
+pub(super) fn value_named(
+    alloc: Global,
+    name: &str,
+    from: &Value,
+) -> Result<InstructionValue, Refusal>
+    ensures { IsRead result (variant (object_kinds (view from.now)) name.now) }
+{
+    match name {
+        "ObjectExpression" => object_expression(alloc, from),
+        "ArrayExpression" => array_expression(alloc, from),
+        "JsxExpression" => jsx_expression(alloc, from),
+        "JsxFragment" => jsx_fragment(alloc, from),
+        "PropertyLoad" => property_load(alloc, from),
+        "PropertyDelete" => property_delete(alloc, from),
+        "PropertyStore" => property_store(alloc, from),
+        "ComputedLoad" => computed_load(alloc, from),
+        "ComputedDelete" => computed_delete(alloc, from),
+        "ComputedStore" => computed_store(alloc, from),
+        _ => Err(Refusal::NotDoc),
+    }
+}
+
 #[tactic(auto, unfolding(crate::specs::Kinds::Objects::object_expression_of))]
-pub(super) fn object_expression(alloc: Global, from: &Value) -> Result<InstructionValue, Refusal>
+fn object_expression(alloc: Global, from: &Value) -> Result<InstructionValue, Refusal>
     ensures { IsRead result (object_expression_of (view from.now)) }
 {
     known_names(from, &["k", "properties", "span"])?;
@@ -25,7 +48,7 @@ pub(super) fn object_expression(alloc: Global, from: &Value) -> Result<Instructi
 }
 
 #[tactic(auto, unfolding(crate::specs::Kinds::Objects::array_expression_of))]
-pub(super) fn array_expression(alloc: Global, from: &Value) -> Result<InstructionValue, Refusal>
+fn array_expression(alloc: Global, from: &Value) -> Result<InstructionValue, Refusal>
     ensures { IsRead result (array_expression_of (view from.now)) }
 {
     known_names(from, &["elements", "k", "span"])?;
@@ -35,7 +58,7 @@ pub(super) fn array_expression(alloc: Global, from: &Value) -> Result<Instructio
 }
 
 #[tactic(auto, unfolding(crate::specs::Kinds::Objects::jsx_expression_of))]
-pub(super) fn jsx_expression(alloc: Global, from: &Value) -> Result<InstructionValue, Refusal>
+fn jsx_expression(alloc: Global, from: &Value) -> Result<InstructionValue, Refusal>
     ensures { IsRead result (jsx_expression_of (view from.now)) }
 {
     known_names(from, &["children", "k", "props", "span", "tag"])?;
@@ -52,7 +75,7 @@ pub(super) fn jsx_expression(alloc: Global, from: &Value) -> Result<InstructionV
 }
 
 #[tactic(auto, unfolding(crate::specs::Kinds::Objects::jsx_fragment_of))]
-pub(super) fn jsx_fragment(alloc: Global, from: &Value) -> Result<InstructionValue, Refusal>
+fn jsx_fragment(alloc: Global, from: &Value) -> Result<InstructionValue, Refusal>
     ensures { IsRead result (jsx_fragment_of (view from.now)) }
 {
     known_names(from, &["children", "k", "span"])?;
@@ -62,7 +85,7 @@ pub(super) fn jsx_fragment(alloc: Global, from: &Value) -> Result<InstructionVal
 }
 
 #[tactic(auto, unfolding(crate::specs::Kinds::Objects::property_load_of))]
-pub(super) fn property_load(alloc: Global, from: &Value) -> Result<InstructionValue, Refusal>
+fn property_load(alloc: Global, from: &Value) -> Result<InstructionValue, Refusal>
     ensures { IsRead result (property_load_of (view from.now)) }
 {
     known_names(from, &["k", "object", "property", "span"])?;
@@ -77,7 +100,7 @@ pub(super) fn property_load(alloc: Global, from: &Value) -> Result<InstructionVa
 }
 
 #[tactic(auto, unfolding(crate::specs::Kinds::Objects::property_delete_of))]
-pub(super) fn property_delete(alloc: Global, from: &Value) -> Result<InstructionValue, Refusal>
+fn property_delete(alloc: Global, from: &Value) -> Result<InstructionValue, Refusal>
     ensures { IsRead result (property_delete_of (view from.now)) }
 {
     known_names(from, &["k", "object", "property", "span"])?;
@@ -92,7 +115,7 @@ pub(super) fn property_delete(alloc: Global, from: &Value) -> Result<Instruction
 }
 
 #[tactic(auto, unfolding(crate::specs::Kinds::Objects::property_store_of))]
-pub(super) fn property_store(alloc: Global, from: &Value) -> Result<InstructionValue, Refusal>
+fn property_store(alloc: Global, from: &Value) -> Result<InstructionValue, Refusal>
     ensures { IsRead result (property_store_of (view from.now)) }
 {
     known_names(from, &["k", "object", "property", "span", "value"])?;
@@ -109,7 +132,7 @@ pub(super) fn property_store(alloc: Global, from: &Value) -> Result<InstructionV
 }
 
 #[tactic(auto, unfolding(crate::specs::Kinds::Objects::computed_load_of))]
-pub(super) fn computed_load(alloc: Global, from: &Value) -> Result<InstructionValue, Refusal>
+fn computed_load(alloc: Global, from: &Value) -> Result<InstructionValue, Refusal>
     ensures { IsRead result (computed_load_of (view from.now)) }
 {
     known_names(from, &["k", "object", "property", "span"])?;
@@ -124,7 +147,7 @@ pub(super) fn computed_load(alloc: Global, from: &Value) -> Result<InstructionVa
 }
 
 #[tactic(auto, unfolding(crate::specs::Kinds::Objects::computed_delete_of))]
-pub(super) fn computed_delete(alloc: Global, from: &Value) -> Result<InstructionValue, Refusal>
+fn computed_delete(alloc: Global, from: &Value) -> Result<InstructionValue, Refusal>
     ensures { IsRead result (computed_delete_of (view from.now)) }
 {
     known_names(from, &["k", "object", "property", "span"])?;
@@ -139,7 +162,7 @@ pub(super) fn computed_delete(alloc: Global, from: &Value) -> Result<Instruction
 }
 
 #[tactic(auto, unfolding(crate::specs::Kinds::Objects::computed_store_of))]
-pub(super) fn computed_store(alloc: Global, from: &Value) -> Result<InstructionValue, Refusal>
+fn computed_store(alloc: Global, from: &Value) -> Result<InstructionValue, Refusal>
     ensures { IsRead result (computed_store_of (view from.now)) }
 {
     known_names(from, &["k", "object", "property", "span", "value"])?;

@@ -1,6 +1,7 @@
 //! Readers of the kinds that read, declare and write variables.
 
 ghost use Rattle.serde_json.specs.View.{view};
+ghost use Rattle.rc_doc.specs.Kinds.{value_named};
 ghost use Rattle.rc_doc.specs.Kinds.Variables.{declare_context_of, declare_local_of, destructure_of, load_context_of};
 ghost use Rattle.rc_doc.specs.Kinds.Variables.{load_global_of, load_local_of, postfix_update_of, prefix_update_of};
 ghost use Rattle.rc_doc.specs.Kinds.Variables.{store_context_of, store_global_of, store_local_of};
@@ -8,13 +9,38 @@ ghost use Rattle.rc_doc.specs.Reading.{IsRead};
 
 use crate::fields::{optional, required};
 use crate::known::known_names;
+use crate::read::instruction::expressions;
 use crate::refusal::Refusal;
 use rc_hir::InstructionValue;
 use serde_json::Value;
 use std::alloc::Global;
 
+/// The value of the kind with this name, of this family or of one after it.
+pub(super) fn value_named(
+    alloc: Global,
+    name: &str,
+    from: &Value,
+) -> Result<InstructionValue, Refusal>
+    ensures { IsRead result (value_named (view from.now) name.now) }
+{
+    match name {
+        "LoadLocal" => load_local(alloc, from),
+        "LoadContext" => load_context(alloc, from),
+        "DeclareLocal" => declare_local(alloc, from),
+        "DeclareContext" => declare_context(alloc, from),
+        "StoreLocal" => store_local(alloc, from),
+        "StoreContext" => store_context(alloc, from),
+        "Destructure" => destructure(alloc, from),
+        "LoadGlobal" => load_global(alloc, from),
+        "StoreGlobal" => store_global(alloc, from),
+        "PrefixUpdate" => prefix_update(alloc, from),
+        "PostfixUpdate" => postfix_update(alloc, from),
+        _ => expressions::value_named(alloc, name, from),
+    }
+}
+
 #[tactic(auto, unfolding(crate::specs::Kinds::Variables::load_local_of))]
-pub(super) fn load_local(alloc: Global, from: &Value) -> Result<InstructionValue, Refusal>
+fn load_local(alloc: Global, from: &Value) -> Result<InstructionValue, Refusal>
     ensures { IsRead result (load_local_of (view from.now)) }
 {
     known_names(from, &["k", "place", "span"])?;
@@ -24,7 +50,7 @@ pub(super) fn load_local(alloc: Global, from: &Value) -> Result<InstructionValue
 }
 
 #[tactic(auto, unfolding(crate::specs::Kinds::Variables::load_context_of))]
-pub(super) fn load_context(alloc: Global, from: &Value) -> Result<InstructionValue, Refusal>
+fn load_context(alloc: Global, from: &Value) -> Result<InstructionValue, Refusal>
     ensures { IsRead result (load_context_of (view from.now)) }
 {
     known_names(from, &["k", "place", "span"])?;
@@ -34,7 +60,7 @@ pub(super) fn load_context(alloc: Global, from: &Value) -> Result<InstructionVal
 }
 
 #[tactic(auto, unfolding(crate::specs::Kinds::Variables::declare_local_of))]
-pub(super) fn declare_local(alloc: Global, from: &Value) -> Result<InstructionValue, Refusal>
+fn declare_local(alloc: Global, from: &Value) -> Result<InstructionValue, Refusal>
     ensures { IsRead result (declare_local_of (view from.now)) }
 {
     known_names(from, &["k", "lvalue", "span"])?;
@@ -44,7 +70,7 @@ pub(super) fn declare_local(alloc: Global, from: &Value) -> Result<InstructionVa
 }
 
 #[tactic(auto, unfolding(crate::specs::Kinds::Variables::declare_context_of))]
-pub(super) fn declare_context(alloc: Global, from: &Value) -> Result<InstructionValue, Refusal>
+fn declare_context(alloc: Global, from: &Value) -> Result<InstructionValue, Refusal>
     ensures { IsRead result (declare_context_of (view from.now)) }
 {
     known_names(from, &["k", "lvalue", "span"])?;
@@ -54,7 +80,7 @@ pub(super) fn declare_context(alloc: Global, from: &Value) -> Result<Instruction
 }
 
 #[tactic(auto, unfolding(crate::specs::Kinds::Variables::store_local_of))]
-pub(super) fn store_local(alloc: Global, from: &Value) -> Result<InstructionValue, Refusal>
+fn store_local(alloc: Global, from: &Value) -> Result<InstructionValue, Refusal>
     ensures { IsRead result (store_local_of (view from.now)) }
 {
     known_names(from, &["k", "lvalue", "span", "value"])?;
@@ -69,7 +95,7 @@ pub(super) fn store_local(alloc: Global, from: &Value) -> Result<InstructionValu
 }
 
 #[tactic(auto, unfolding(crate::specs::Kinds::Variables::store_context_of))]
-pub(super) fn store_context(alloc: Global, from: &Value) -> Result<InstructionValue, Refusal>
+fn store_context(alloc: Global, from: &Value) -> Result<InstructionValue, Refusal>
     ensures { IsRead result (store_context_of (view from.now)) }
 {
     known_names(from, &["k", "lvalue", "span", "value"])?;
@@ -84,7 +110,7 @@ pub(super) fn store_context(alloc: Global, from: &Value) -> Result<InstructionVa
 }
 
 #[tactic(auto, unfolding(crate::specs::Kinds::Variables::destructure_of))]
-pub(super) fn destructure(alloc: Global, from: &Value) -> Result<InstructionValue, Refusal>
+fn destructure(alloc: Global, from: &Value) -> Result<InstructionValue, Refusal>
     ensures { IsRead result (destructure_of (view from.now)) }
 {
     known_names(from, &["k", "lvalue", "span", "value"])?;
@@ -99,7 +125,7 @@ pub(super) fn destructure(alloc: Global, from: &Value) -> Result<InstructionValu
 }
 
 #[tactic(auto, unfolding(crate::specs::Kinds::Variables::load_global_of))]
-pub(super) fn load_global(alloc: Global, from: &Value) -> Result<InstructionValue, Refusal>
+fn load_global(alloc: Global, from: &Value) -> Result<InstructionValue, Refusal>
     ensures { IsRead result (load_global_of (view from.now)) }
 {
     known_names(from, &["binding", "k", "span"])?;
@@ -109,7 +135,7 @@ pub(super) fn load_global(alloc: Global, from: &Value) -> Result<InstructionValu
 }
 
 #[tactic(auto, unfolding(crate::specs::Kinds::Variables::store_global_of))]
-pub(super) fn store_global(alloc: Global, from: &Value) -> Result<InstructionValue, Refusal>
+fn store_global(alloc: Global, from: &Value) -> Result<InstructionValue, Refusal>
     ensures { IsRead result (store_global_of (view from.now)) }
 {
     known_names(from, &["k", "name", "span", "value"])?;
@@ -120,7 +146,7 @@ pub(super) fn store_global(alloc: Global, from: &Value) -> Result<InstructionVal
 }
 
 #[tactic(auto, unfolding(crate::specs::Kinds::Variables::prefix_update_of))]
-pub(super) fn prefix_update(alloc: Global, from: &Value) -> Result<InstructionValue, Refusal>
+fn prefix_update(alloc: Global, from: &Value) -> Result<InstructionValue, Refusal>
     ensures { IsRead result (prefix_update_of (view from.now)) }
 {
     known_names(from, &["k", "lvalue", "operation", "span", "value"])?;
@@ -137,7 +163,7 @@ pub(super) fn prefix_update(alloc: Global, from: &Value) -> Result<InstructionVa
 }
 
 #[tactic(auto, unfolding(crate::specs::Kinds::Variables::postfix_update_of))]
-pub(super) fn postfix_update(alloc: Global, from: &Value) -> Result<InstructionValue, Refusal>
+fn postfix_update(alloc: Global, from: &Value) -> Result<InstructionValue, Refusal>
     ensures { IsRead result (postfix_update_of (view from.now)) }
 {
     known_names(from, &["k", "lvalue", "operation", "span", "value"])?;

@@ -1,8 +1,9 @@
 //! Readers of the terminals that go into one block and then on at their fallthrough.
 
 ghost use Rattle.serde_json.specs.View.{view};
-ghost use Rattle.rc_doc.specs.Reading.{IsRead};
-ghost use Rattle.rc_doc.specs.Terminals.Blocks.{label_of, pruned_scope_of, scope_of, sequence_of, try_of};
+ghost use Rattle.rc_doc.specs.Reading.{IsRead, variant};
+ghost use Rattle.rc_doc.specs.Terminals.Blocks.{block_terminals, label_of, pruned_scope_of, scope_of, sequence_of};
+ghost use Rattle.rc_doc.specs.Terminals.Blocks.{try_of};
 
 use crate::fields::{optional, required};
 use crate::known::known_names;
@@ -11,8 +12,22 @@ use rc_hir::Terminal;
 use serde_json::Value;
 use std::alloc::Global;
 
+/// The terminal of this family with this name.
+pub(super) fn terminal_named(alloc: Global, name: &str, from: &Value) -> Result<Terminal, Refusal>
+    ensures { IsRead result (variant (block_terminals (view from.now)) name.now) }
+{
+    match name {
+        "Sequence" => sequence(alloc, from),
+        "Label" => label(alloc, from),
+        "Scope" => scope(alloc, from),
+        "PrunedScope" => pruned_scope(alloc, from),
+        "Try" => try_terminal(alloc, from),
+        _ => Err(Refusal::NotDoc),
+    }
+}
+
 #[tactic(auto, unfolding(crate::specs::Terminals::Blocks::sequence_of))]
-pub(super) fn sequence(alloc: Global, from: &Value) -> Result<Terminal, Refusal>
+fn sequence(alloc: Global, from: &Value) -> Result<Terminal, Refusal>
     ensures { IsRead result (sequence_of (view from.now)) }
 {
     known_names(from, &["block", "fallthrough", "id", "k", "span"])?;
@@ -29,7 +44,7 @@ pub(super) fn sequence(alloc: Global, from: &Value) -> Result<Terminal, Refusal>
 }
 
 #[tactic(auto, unfolding(crate::specs::Terminals::Blocks::label_of))]
-pub(super) fn label(alloc: Global, from: &Value) -> Result<Terminal, Refusal>
+fn label(alloc: Global, from: &Value) -> Result<Terminal, Refusal>
     ensures { IsRead result (label_of (view from.now)) }
 {
     known_names(from, &["block", "fallthrough", "id", "k", "span"])?;
@@ -46,7 +61,7 @@ pub(super) fn label(alloc: Global, from: &Value) -> Result<Terminal, Refusal>
 }
 
 #[tactic(auto, unfolding(crate::specs::Terminals::Blocks::scope_of))]
-pub(super) fn scope(alloc: Global, from: &Value) -> Result<Terminal, Refusal>
+fn scope(alloc: Global, from: &Value) -> Result<Terminal, Refusal>
     ensures { IsRead result (scope_of (view from.now)) }
 {
     known_names(from, &["block", "fallthrough", "id", "k", "scope", "span"])?;
@@ -65,7 +80,7 @@ pub(super) fn scope(alloc: Global, from: &Value) -> Result<Terminal, Refusal>
 }
 
 #[tactic(auto, unfolding(crate::specs::Terminals::Blocks::pruned_scope_of))]
-pub(super) fn pruned_scope(alloc: Global, from: &Value) -> Result<Terminal, Refusal>
+fn pruned_scope(alloc: Global, from: &Value) -> Result<Terminal, Refusal>
     ensures { IsRead result (pruned_scope_of (view from.now)) }
 {
     known_names(from, &["block", "fallthrough", "id", "k", "scope", "span"])?;
@@ -84,7 +99,7 @@ pub(super) fn pruned_scope(alloc: Global, from: &Value) -> Result<Terminal, Refu
 }
 
 #[tactic(auto, unfolding(crate::specs::Terminals::Blocks::try_of))]
-pub(super) fn try_terminal(alloc: Global, from: &Value) -> Result<Terminal, Refusal>
+fn try_terminal(alloc: Global, from: &Value) -> Result<Terminal, Refusal>
     ensures { IsRead result (try_of (view from.now)) }
 {
     known_names(

@@ -3,15 +3,32 @@
 ghost use Rattle.std.specs.Prelude.{◌≡◌};
 ghost use Rattle.serde_json.specs.View.{view};
 ghost use Rattle.rc_doc.specs.Reading.{IsRead};
+ghost use Rattle.rc_doc.specs.Terminals.{terminal_named};
 ghost use Rattle.rc_doc.specs.Terminals.Branches.{branch_of, case_of, if_of, logical_of, logical_operator_of};
 ghost use Rattle.rc_doc.specs.Terminals.Branches.{operator_named, optional_of, switch_of, ternary_of};
 
 use crate::fields::{Read, flag, list_or_empty, optional, or_refuse, required};
 use crate::known::known_names;
+use crate::read::terminal::loops;
 use crate::refusal::Refusal;
 use rc_hir::{Case, LogicalOperator, Terminal};
 use serde_json::Value;
 use std::alloc::Global;
+
+/// The terminal with this name, of this family or of one after it.
+pub(super) fn terminal_named(alloc: Global, name: &str, from: &Value) -> Result<Terminal, Refusal>
+    ensures { IsRead result (terminal_named (view from.now) name.now) }
+{
+    match name {
+        "If" => if_terminal(alloc, from),
+        "Branch" => branch(alloc, from),
+        "Logical" => logical(alloc, from),
+        "Ternary" => ternary(alloc, from),
+        "Optional" => optional_terminal(alloc, from),
+        "Switch" => switch(alloc, from),
+        _ => loops::terminal_named(alloc, name, from),
+    }
+}
 
 fn operator_named(name: &str) -> Option<LogicalOperator>
     ensures { result ≡ operator_named name.now }
@@ -46,7 +63,7 @@ impl Read for Case {
 }
 
 #[tactic(auto, unfolding(crate::specs::Terminals::Branches::if_of))]
-pub(super) fn if_terminal(alloc: Global, from: &Value) -> Result<Terminal, Refusal>
+fn if_terminal(alloc: Global, from: &Value) -> Result<Terminal, Refusal>
     ensures { IsRead result (if_of (view from.now)) }
 {
     known_names(
@@ -78,7 +95,7 @@ pub(super) fn if_terminal(alloc: Global, from: &Value) -> Result<Terminal, Refus
 }
 
 #[tactic(auto, unfolding(crate::specs::Terminals::Branches::branch_of))]
-pub(super) fn branch(alloc: Global, from: &Value) -> Result<Terminal, Refusal>
+fn branch(alloc: Global, from: &Value) -> Result<Terminal, Refusal>
     ensures { IsRead result (branch_of (view from.now)) }
 {
     known_names(
@@ -100,7 +117,7 @@ pub(super) fn branch(alloc: Global, from: &Value) -> Result<Terminal, Refusal>
 }
 
 #[tactic(auto, unfolding(crate::specs::Terminals::Branches::logical_of))]
-pub(super) fn logical(alloc: Global, from: &Value) -> Result<Terminal, Refusal>
+fn logical(alloc: Global, from: &Value) -> Result<Terminal, Refusal>
     ensures { IsRead result (logical_of (view from.now)) }
 {
     known_names(
@@ -122,7 +139,7 @@ pub(super) fn logical(alloc: Global, from: &Value) -> Result<Terminal, Refusal>
 }
 
 #[tactic(auto, unfolding(crate::specs::Terminals::Branches::ternary_of))]
-pub(super) fn ternary(alloc: Global, from: &Value) -> Result<Terminal, Refusal>
+fn ternary(alloc: Global, from: &Value) -> Result<Terminal, Refusal>
     ensures { IsRead result (ternary_of (view from.now)) }
 {
     known_names(from, &["fallthrough", "id", "k", "span", "test"])?;
@@ -139,7 +156,7 @@ pub(super) fn ternary(alloc: Global, from: &Value) -> Result<Terminal, Refusal>
 }
 
 #[tactic(auto, unfolding(crate::specs::Terminals::Branches::optional_of))]
-pub(super) fn optional_terminal(alloc: Global, from: &Value) -> Result<Terminal, Refusal>
+fn optional_terminal(alloc: Global, from: &Value) -> Result<Terminal, Refusal>
     ensures { IsRead result (optional_of (view from.now)) }
 {
     known_names(
@@ -161,7 +178,7 @@ pub(super) fn optional_terminal(alloc: Global, from: &Value) -> Result<Terminal,
 }
 
 #[tactic(auto, unfolding(crate::specs::Terminals::Branches::switch_of))]
-pub(super) fn switch(alloc: Global, from: &Value) -> Result<Terminal, Refusal>
+fn switch(alloc: Global, from: &Value) -> Result<Terminal, Refusal>
     ensures { IsRead result (switch_of (view from.now)) }
 {
     known_names(from, &["cases", "fallthrough", "id", "k", "span", "test"])?;

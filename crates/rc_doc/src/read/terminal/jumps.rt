@@ -1,17 +1,33 @@
 //! Readers of the terminals that jump or end a run, and of the one that may throw.
 
-ghost use Rattle.std.specs.Prelude.{◌≡◌};
+ghost use Rattle.std.specs.Prelude.{◌≡◌, ◌++◌};
 ghost use Rattle.serde_json.specs.View.{view};
-ghost use Rattle.rc_doc.specs.Reading.{IsRead};
-ghost use Rattle.rc_doc.specs.Terminals.Jumps.{goto_named, goto_of, goto_variant_of, maybe_throw_of, return_of};
-ghost use Rattle.rc_doc.specs.Terminals.Jumps.{throw_of, unreachable_of};
+ghost use Rattle.rc_doc.specs.Reading.{IsRead, variant};
+ghost use Rattle.rc_doc.specs.Terminals.Blocks.{block_terminals};
+ghost use Rattle.rc_doc.specs.Terminals.Jumps.{goto_named, goto_of, goto_variant_of, jump_terminals, maybe_throw_of};
+ghost use Rattle.rc_doc.specs.Terminals.Jumps.{return_of, throw_of, unreachable_of};
 
 use crate::fields::{Read, optional, or_refuse, required};
 use crate::known::known_names;
+use crate::read::terminal::blocks;
 use crate::refusal::Refusal;
 use rc_hir::{GotoVariant, Terminal};
 use serde_json::Value;
 use std::alloc::Global;
+
+/// The terminal with this name, of this family or of one after it.
+pub(super) fn terminal_named(alloc: Global, name: &str, from: &Value) -> Result<Terminal, Refusal>
+    ensures { IsRead result (variant (jump_terminals (view from.now) ++ block_terminals (view from.now)) name.now) }
+{
+    match name {
+        "Throw" => throw(alloc, from),
+        "Return" => return_terminal(alloc, from),
+        "Goto" => goto(alloc, from),
+        "Unreachable" => unreachable(alloc, from),
+        "MaybeThrow" => maybe_throw(alloc, from),
+        _ => blocks::terminal_named(alloc, name, from),
+    }
+}
 
 fn goto_named(name: &str) -> Option<GotoVariant>
     ensures { result ≡ goto_named name.now }
@@ -34,7 +50,7 @@ impl Read for GotoVariant {
 }
 
 #[tactic(auto, unfolding(crate::specs::Terminals::Jumps::throw_of))]
-pub(super) fn throw(alloc: Global, from: &Value) -> Result<Terminal, Refusal>
+fn throw(alloc: Global, from: &Value) -> Result<Terminal, Refusal>
     ensures { IsRead result (throw_of (view from.now)) }
 {
     known_names(from, &["id", "k", "span", "value"])?;
@@ -45,7 +61,7 @@ pub(super) fn throw(alloc: Global, from: &Value) -> Result<Terminal, Refusal>
 }
 
 #[tactic(auto, unfolding(crate::specs::Terminals::Jumps::return_of))]
-pub(super) fn return_terminal(alloc: Global, from: &Value) -> Result<Terminal, Refusal>
+fn return_terminal(alloc: Global, from: &Value) -> Result<Terminal, Refusal>
     ensures { IsRead result (return_of (view from.now)) }
 {
     known_names(from, &["id", "k", "span", "value"])?;
@@ -56,7 +72,7 @@ pub(super) fn return_terminal(alloc: Global, from: &Value) -> Result<Terminal, R
 }
 
 #[tactic(auto, unfolding(crate::specs::Terminals::Jumps::goto_of))]
-pub(super) fn goto(alloc: Global, from: &Value) -> Result<Terminal, Refusal>
+fn goto(alloc: Global, from: &Value) -> Result<Terminal, Refusal>
     ensures { IsRead result (goto_of (view from.now)) }
 {
     known_names(from, &["block", "id", "k", "span", "variant"])?;
@@ -73,7 +89,7 @@ pub(super) fn goto(alloc: Global, from: &Value) -> Result<Terminal, Refusal>
 }
 
 #[tactic(auto, unfolding(crate::specs::Terminals::Jumps::unreachable_of))]
-pub(super) fn unreachable(alloc: Global, from: &Value) -> Result<Terminal, Refusal>
+fn unreachable(alloc: Global, from: &Value) -> Result<Terminal, Refusal>
     ensures { IsRead result (unreachable_of (view from.now)) }
 {
     known_names(from, &["id", "k", "span"])?;
@@ -83,7 +99,7 @@ pub(super) fn unreachable(alloc: Global, from: &Value) -> Result<Terminal, Refus
 }
 
 #[tactic(auto, unfolding(crate::specs::Terminals::Jumps::maybe_throw_of))]
-pub(super) fn maybe_throw(alloc: Global, from: &Value) -> Result<Terminal, Refusal>
+fn maybe_throw(alloc: Global, from: &Value) -> Result<Terminal, Refusal>
     ensures { IsRead result (maybe_throw_of (view from.now)) }
 {
     known_names(from, &["continuation", "handler", "id", "k", "span"])?;

@@ -1,18 +1,36 @@
 //! Readers of the terminals that loop.
 
+ghost use Rattle.std.specs.Prelude.{◌++◌};
 ghost use Rattle.serde_json.specs.View.{view};
-ghost use Rattle.rc_doc.specs.Reading.{IsRead};
-ghost use Rattle.rc_doc.specs.Terminals.Loops.{do_while_of, for_in_of, for_of, for_of_of, while_of};
+ghost use Rattle.rc_doc.specs.Reading.{IsRead, variant};
+ghost use Rattle.rc_doc.specs.Terminals.Blocks.{block_terminals};
+ghost use Rattle.rc_doc.specs.Terminals.Jumps.{jump_terminals};
+ghost use Rattle.rc_doc.specs.Terminals.Loops.{do_while_of, for_in_of, for_of, for_of_of, loop_terminals, while_of};
 
 use crate::fields::{optional, required};
 use crate::known::known_names;
+use crate::read::terminal::jumps;
 use crate::refusal::Refusal;
 use rc_hir::Terminal;
 use serde_json::Value;
 use std::alloc::Global;
 
+/// The terminal with this name, of this family or of one after it.
+pub(super) fn terminal_named(alloc: Global, name: &str, from: &Value) -> Result<Terminal, Refusal>
+    ensures { IsRead result (variant (loop_terminals (view from.now) ++ jump_terminals (view from.now) ++ block_terminals (view from.now)) name.now) }
+{
+    match name {
+        "DoWhile" => do_while(alloc, from),
+        "While" => while_terminal(alloc, from),
+        "For" => for_terminal(alloc, from),
+        "ForOf" => for_of(alloc, from),
+        "ForIn" => for_in(alloc, from),
+        _ => jumps::terminal_named(alloc, name, from),
+    }
+}
+
 #[tactic(auto, unfolding(crate::specs::Terminals::Loops::do_while_of))]
-pub(super) fn do_while(alloc: Global, from: &Value) -> Result<Terminal, Refusal>
+fn do_while(alloc: Global, from: &Value) -> Result<Terminal, Refusal>
     ensures { IsRead result (do_while_of (view from.now)) }
 {
     known_names(
@@ -34,7 +52,7 @@ pub(super) fn do_while(alloc: Global, from: &Value) -> Result<Terminal, Refusal>
 }
 
 #[tactic(auto, unfolding(crate::specs::Terminals::Loops::while_of))]
-pub(super) fn while_terminal(alloc: Global, from: &Value) -> Result<Terminal, Refusal>
+fn while_terminal(alloc: Global, from: &Value) -> Result<Terminal, Refusal>
     ensures { IsRead result (while_of (view from.now)) }
 {
     known_names(
@@ -56,7 +74,7 @@ pub(super) fn while_terminal(alloc: Global, from: &Value) -> Result<Terminal, Re
 }
 
 #[tactic(auto, unfolding(crate::specs::Terminals::Loops::for_of))]
-pub(super) fn for_terminal(alloc: Global, from: &Value) -> Result<Terminal, Refusal>
+fn for_terminal(alloc: Global, from: &Value) -> Result<Terminal, Refusal>
     ensures { IsRead result (for_of (view from.now)) }
 {
     known_names(
@@ -91,7 +109,7 @@ pub(super) fn for_terminal(alloc: Global, from: &Value) -> Result<Terminal, Refu
 }
 
 #[tactic(auto, unfolding(crate::specs::Terminals::Loops::for_of_of))]
-pub(super) fn for_of(alloc: Global, from: &Value) -> Result<Terminal, Refusal>
+fn for_of(alloc: Global, from: &Value) -> Result<Terminal, Refusal>
     ensures { IsRead result (for_of_of (view from.now)) }
 {
     known_names(
@@ -123,7 +141,7 @@ pub(super) fn for_of(alloc: Global, from: &Value) -> Result<Terminal, Refusal>
 }
 
 #[tactic(auto, unfolding(crate::specs::Terminals::Loops::for_in_of))]
-pub(super) fn for_in(alloc: Global, from: &Value) -> Result<Terminal, Refusal>
+fn for_in(alloc: Global, from: &Value) -> Result<Terminal, Refusal>
     ensures { IsRead result (for_in_of (view from.now)) }
 {
     known_names(
