@@ -1,4 +1,3 @@
 mod Blocks
 mod KnownNames
 mod Lengths
-pub mod MisreadLemmas

@@ -8,4 +8,3 @@ pub mod Terminals
 pub mod Graph
 pub mod Environment
 pub mod Document
-pub mod Misread

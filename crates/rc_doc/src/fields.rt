@@ -13,7 +13,7 @@ use serde_json::Value;
 use std::alloc::Global;
 
 /// A type that is a part of documents.
-pub(crate) trait Read: Sized {
+pub trait Read: Sized {
     /// The value of this type that a JSON value gives, if it gives one.
     ghost reads: { Data → Option Self };
 
@@ -112,7 +112,7 @@ pub(crate) fn item<T: Read>(alloc: Global, value: &Value, at: usize) -> Result<T
 }
 
 /// The name of an enum's variant that has fields.
-pub(crate) fn tag(value: &Value) -> Option<&str>
+pub fn tag(value: &Value) -> Option<&str>
     ensures { option_map (λ name. name.now) result ≡ tag_of (view value.now) }
 {
     value.get("k").and_then(Value::as_str)

@@ -4,12 +4,10 @@
 mod document;
 mod fields;
 mod known;
-mod misread;
 mod read;
 mod refusal;
 
 pub use document::{Doc, read_doc, read_instruction_value};
-pub use misread::form::{Asked, Form};
-pub use misread::words::misread_words;
-pub use misread::{Misread, Step, find_misread};
+pub use fields::{Read, tag};
 pub use read::place::read_place;
+pub use refusal::Refusal;

@@ -7,7 +7,7 @@ use std::alloc::{AllocError, AllocFailed};
 
 /// The reason why a value isn't read.
 #[derive(Clone, Copy, Debug, PartialEq, Eq)]
-pub(crate) enum Refusal {
+pub enum Refusal {
     /// Memory ran out.
     Memory,
     /// The value isn't of the type that was asked for.

@@ -2,7 +2,7 @@
 //! finds no memory is left out.
 
 use crate::printing::fault_sentence;
-use rc_doc::misread_words;
+use rc_misread::misread_words;
 use rc_hir::Fault;
 use rc_names::Text;
 use serde_json::Value;

@@ -1,0 +1,5 @@
+pub mod Forms
+pub mod Kinds
+pub mod Terminals
+pub mod Fields
+pub mod Misread
