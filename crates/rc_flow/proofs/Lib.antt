@@ -1,4 +1,5 @@
 mod ListLemmas
+pub mod EmptyLists
 mod SetLemmas
 mod SpreadSteps
 mod ReachedLemmas
@@ -8,12 +9,13 @@ mod FlowsLemmas
 mod ValuesLemmas
 mod ValueStepsLemmas
 mod GrowingSets
-mod InvalidatingLemmas
+pub mod InvalidatingLemmas
 mod StayingParts
 mod StayingBlocks
-mod LeftScopes
+pub mod LeftScopes
 mod DroppingLemmas
 mod RecordedFaults
+pub mod UnreadOperands
 mod ReactiveNamesLemmas
 mod KnownLemmas
 mod PrunedLemmas

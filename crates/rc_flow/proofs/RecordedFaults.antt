@@ -31,8 +31,22 @@ abbrev Steps : Type 0
 Steps = List Step
 
 -- a walk that never faults
-abbrev IsQuiet : Walk Steps → Type 0
+abbrev pub IsQuiet : Walk Steps → Type 0
 IsQuiet walk = (s : Steps) → (t : Steps) × (walk s ≡ Ok (tt, t))
+
+-- it doesn't where each of its steps doesn't
+pub each_quiet : (step : Place → Walk Steps) → ((x : Place) → IsQuiet (step x)) → (xs : List Place)
+    → IsQuiet (each step xs)
+each_quiet step quiet [] s = (s, refl)
+each_quiet step quiet (x ∷ xs) s =
+    let done = quiet x s in
+    let rest = each_quiet step quiet xs done.0 in
+    (rest.0, ap (λ r. bind r (λ a. each step xs a.1)) done.1 ∙ rest.1)
+
+pub perhaps_quiet : (step : Place → Walk Steps) → ((x : Place) → IsQuiet (step x)) → (x : Option Place)
+    → IsQuiet (perhaps step x)
+perhaps_quiet step quiet None s = (s, refl)
+perhaps_quiet step quiet (Some x) s = quiet x s
 
 module _ (env : Environment) (fault : Fault) where
   abbrev hooks : ReadSteps Steps
@@ -78,19 +92,6 @@ module _ (env : Environment) (fault : Fault) where
 
   target_quiet : (id : EvaluationOrder) (place : Place) → IsQuiet (hooks.visit_lvalue id place)
   target_quiet id place s = (_, refl)
-
-  each_quiet : (step : Place → Walk Steps) → ((x : Place) → IsQuiet (step x)) → (xs : List Place)
-      → IsQuiet (each step xs)
-  each_quiet step quiet [] s = (s, refl)
-  each_quiet step quiet (x ∷ xs) s =
-      let done = quiet x s in
-      let rest = each_quiet step quiet xs done.0 in
-      (rest.0, ap (λ r. bind r (λ a. each step xs a.1)) done.1 ∙ rest.1)
-
-  perhaps_quiet : (step : Place → Walk Steps) → ((x : Place) → IsQuiet (step x)) → (x : Option Place)
-      → IsQuiet (perhaps step x)
-  perhaps_quiet step quiet None s = (s, refl)
-  perhaps_quiet step quiet (Some x) s = quiet x s
 
   quiet_names : (walk : Walk Steps) (names : List Name) → IsQuiet walk → IsNamed walk names
   quiet_names walk names quiet s e = absurd (not_err _ fault (sym (quiet s).1 ∙ e))
