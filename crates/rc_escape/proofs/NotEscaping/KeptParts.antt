@@ -7,7 +7,7 @@ use Rattle.rc_hir.specs.Names.{IsInTable, lengths}
 use Rattle.rc_hir.specs.PartNames.{Name, parameter_names, scope_name}
 use Rattle.rc_hir.specs.ValueNames.{value_names}
 use Rattle.rc_hir.specs.declared.instruction.InstructionValue.TheVariants as kinds
-use Rattle.rc_names.specs.Numbers.{DeclarationId, ScopeId}
+use Rattle.rc_names.specs.Numbers.{DeclarationId, EvaluationOrder, ScopeId}
 use Rattle.rc_runs.proofs.AllLemmas.{All-left, All-right}
 use Rattle.rc_runs.proofs.ErasedPartLemmas.{erased-block}
 use Rattle.rc_runs.proofs.EraseLemmas.{erase_laws, erase_measure, flag_left, scope_left}
@@ -17,7 +17,7 @@ use Rattle.rc_tree.proofs.CollectedKeeps.{value_laws}
 use Rattle.rc_tree.proofs.CollectedLemmas.{collected-Base, collected-block, collected-Instruction, collected-PrunedScope}
 use Rattle.rc_tree.proofs.CollectedLemmas.{collected-Scope, collected-Terminal}
 use Rattle.rc_tree.proofs.JoiningLemmas.{lists_monoid}
-use Rattle.rc_tree.specs.CollectedValues.{collected_value}
+use Rattle.rc_tree.specs.CollectedValues.{ValueContributions, collected_row, collected_value}
 use Rattle.rc_tree.specs.TreeNames.{Names, TreeInTables, names_in, names_in_list, names_in_statement, names_of_parts}
 use Rattle.rc_tree.specs.TreeNames.{names_in_terminal, names_of_values}
 use Rattle.rc_tree.specs.inside.RewriteKeeps.{one}
@@ -76,16 +76,23 @@ module _ (env : Environment) (set : List DeclarationId) where
   flag_names met (kinds.FinishMemoize manual_memo_id decl pruned span) = refl
   flag_names met x = refl
 
-  value_names_kept : (met : Met) (x : ReactiveValue)
-      → collected_value names_of_values (flagged_value env met x) ≡ collected_value names_of_values x
-  value_names_kept met (reactive_values.Instruction x) = λ i id.
-      (collected-Base names_of_values (flagged env met x) id ∙ flag_names met x
-      ∙ sym (collected-Base names_of_values x id)) i
-  value_names_kept met _ = refl
+  -- what is collected of a row stays where the flag adds nothing to what is collected of an instruction
+  module _ {A : Type 0} (adds : ValueContributions A)
+      (same : (met : Met) (id : EvaluationOrder) (x : InstructionValue)
+      → adds.instruction id (flagged env met x) ≡ adds.instruction id x) where
+    flagged_value_kept : (met : Met) (x : ReactiveValue)
+        → collected_value adds (flagged_value env met x) ≡ collected_value adds x
+    flagged_value_kept met (reactive_values.Instruction x) = λ i id.
+        (collected-Base adds (flagged env met x) id ∙ same met id x ∙ sym (collected-Base adds x id)) i
+    flagged_value_kept met _ = refl
+
+    pub flagged_row_kept : (met : Met) (x : ReactiveInstruction)
+        → collected_row adds (flagged_row env met x) ≡ collected_row adds x
+    flagged_row_kept met x =
+        (value_laws adds).row x (flagged_value env met x.value) (flagged_value_kept met x.value)
 
   row_names : (met : Met) (x : ReactiveInstruction) → names_of_parts.row (flagged_row env met x) ≡ names_of_parts.row x
-  row_names met x =
-      (value_laws names_of_values).row x (flagged_value env met x.value) (value_names_kept met x.value)
+  row_names = flagged_row_kept names_of_values (λ met id x. flag_names met x)
 
   module _ (P : Name → Type 0) where
     -- where each number before is such, each number after is
