@@ -9,3 +9,6 @@ mod RunsElsewhere
 mod BlockScopes
 mod EventsStay
 mod PassesLemmas
+mod OperandsStayRead
+mod ScopelessTrees
+mod ScopelessPasses

@@ -1,7 +1,9 @@
 //! The checks and passes over a spelled function, in their order.
 
-ghost use Rattle.std.specs.Prelude.{◌≡◌, ◌↔◌, ◌⊎◌, List as Items, IfErr, IfOk, OnOk};
-ghost use Rattle.rc_escape.specs.WholeRecord.{IsEscapeFault};
+ghost use Rattle.std.specs.Prelude.{◌≡◌, ◌↔◌, ◌⊎◌, List as Items, IfErr, IfOk, IsOk, OnOk};
+ghost use Rattle.rc_checks.specs.ScopeBlocks.{scopes_in};
+ghost use Rattle.rc_escape.specs.NotEscaping.{IsEscapeFault};
+ghost use Rattle.rc_flow.specs.Collected.{recorded_steps};
 ghost use Rattle.rc_hir.specs.Model.{HirFunction};
 ghost use Rattle.rc_hir.specs.Names.{NamesInTables};
 ghost use Rattle.rc_hir.specs.declared.fault.Fault.TheVariants as faults;
@@ -11,7 +13,7 @@ ghost use Rattle.rc_runs.specs.EarlyReturns.{NoEarlyReturnSet};
 ghost use Rattle.rc_runs.specs.Erase.{erased};
 ghost use Rattle.rc_runs.specs.Event.{Event, End};
 ghost use Rattle.rc_runs.specs.Spelled.{Spells};
-ghost use Rattle.rc_pipe.specs.Passes.{IsPassFault, state};
+ghost use Rattle.rc_pipe.specs.Passes.{AfterDependencies, AreInside, IsPassFault, state};
 ghost use Rattle.rc_pipe.specs.inside.PrunedParts.{HasScopesPruned, IsChecked, IsEscapePruned, IsPrunedWith};
 
 use rc_checks::{
@@ -55,13 +57,14 @@ pub(crate) fn prune(
 {
     check(alloc, func, env)?;
     let escaping = prune_escaping(alloc, func, env)?;
-    let used = prune_scopes(alloc, func, env)?;
+    let used = prune_left(alloc, func, env, &escaping)?;
     Ok(LeftScopes { escaping, used })
 }
 
 /// Checks break targets, prunes unused labels, and checks the operands of scopes.
 fn check(alloc: Global, func: &mut ReactiveFunction, env: &Environment) -> Result<(), Fault>
     ensures ok { OnOk result (IsChecked (state func.old env.now) (state func.new env.now)) }
+    ensures inside { OnOk result (AreInside env.now func.new.body) }
     ensures known { OnOk result (TreeInTables func.old env.now → TreeInTables func.new env.now) }
     ensures kept_runs { NoEarlyReturnSet env.now → OnOk result ((events : Items Event) (end : End) →
         IsBodyRun func.old env.now events end ↔ IsBodyRun func.new env.now events end) }
@@ -83,11 +86,55 @@ fn prune_escaping(
     ensures ok { IfOk result (IsEscapePruned (state func.old env.now) (state func.new env.now)) }
     ensures kept_erased { IfOk result (λ left. erased func.new ≡ erased func.old) }
     ensures known { IfOk result (λ left. TreeInTables func.old env.now → TreeInTables func.new env.now) }
+    ensures read { AreInside env.now func.old.body
+        → IfOk result (λ left. IsOk (recorded_steps env.now func.new.body)) }
     ensures refused { IfErr result (IsEscapeFault env.now func.old) }
 {
     prune_non_escaping_scopes(alloc, func, env)?;
     let left = scopes_in(alloc, &func.body)?;
     Ok(left)
+}
+
+/// Prunes the scopes that are left, those with a block, and answers which of them are used. Where there is none, only the
+/// pass on dependencies has something to do.
+fn prune_left(
+    alloc: Global,
+    func: &mut ReactiveFunction,
+    env: &mut Environment,
+    left: &List<ScopeId>,
+) -> Result<List<ScopeId>, Fault>
+    requires left { left.now ≡ scopes_in func.old.body }
+    requires read { IsOk (recorded_steps env.old func.old.body) }
+    ensures ok { IfOk result (HasScopesPruned (state func.old env.old) (state func.new env.new)) }
+    ensures kept_erased { IfOk result (λ used. erased func.new ≡ erased func.old) }
+    ensures known { IfOk result (λ used. TreeInTables func.old env.old → TreeInTables func.new env.new) }
+    ensures refused { TreeInTables func.old env.old → IfErr result (λ fault. fault ≡ faults.NoMemory) }
+    ensures known_names { (hir : HirFunction) → NamesInTables hir env.old → NamesInTables hir env.new }
+{
+    if left.is_empty() {
+        prune_dependencies(alloc, func, env)?;
+        return Ok(List::new(alloc));
+    }
+    prune_scopes(alloc, func, env)
+}
+
+/// Prunes dependencies that aren't reactive, where the table has a scope.
+fn prune_dependencies(
+    alloc: Global,
+    func: &mut ReactiveFunction,
+    env: &mut Environment,
+) -> Result<(), Fault>
+    requires read { IsOk (recorded_steps env.old func.old.body) }
+    ensures ok { OnOk result (AfterDependencies (state func.old env.old) (state func.new env.new)) }
+    ensures tree { func.new ≡ func.old }
+    ensures known { OnOk result (TreeInTables func.old env.old → TreeInTables func.new env.new) }
+    ensures refused { TreeInTables func.old env.old → IfErr result (λ fault. fault ≡ faults.NoMemory) }
+    ensures known_names { (hir : HirFunction) → NamesInTables hir env.old → NamesInTables hir env.new }
+{
+    if env.scopes.as_slice().is_empty() {
+        return Ok(());
+    }
+    prune_non_reactive_dependencies(alloc, func, env)
 }
 
 /// Prunes dependencies that aren't reactive, unused scopes, and scopes that always invalidate. Answers the scopes that

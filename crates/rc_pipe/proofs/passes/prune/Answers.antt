@@ -20,8 +20,8 @@ returns-clause-known c = λ known.
 
 pub returns-clause-kept_runs : goal.returns-clause-kept_runs
 returns-clause-kept_runs c = λ none.
-    runs_through c.args.env.now c.prune_scopes.new.env c.args.func.now c.check.new.func c.prune_escaping.new.func
-    c.prune_scopes.new.func c.in_ok-used.used (c.in_ok-check.ensures.kept_runs none)
+    runs_through c.args.env.now c.prune_left.new.env c.args.func.now c.check.new.func c.prune_escaping.new.func
+    c.prune_left.new.func c.in_ok-used.used (c.in_ok-check.ensures.kept_runs none)
     c.in_ok-escaping.ensures.kept_erased c.in_ok-used.ensures.kept_erased c.in_ok-used.ensures.ok
 
 -- a refusal of the checks is one of the passes

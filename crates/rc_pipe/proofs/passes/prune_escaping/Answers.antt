@@ -1,5 +1,7 @@
 -- The clauses of the escape pass, with the scopes that it leaves.
 use Rattle.std.proofs.Common.{refl}
+use Rattle.rc_checks.specs.ScopeBlocks.{scopes_in}
+use Rattle.rc_pipe.proofs.OperandsStayRead.{still_read}
 use Rattle.rc_pipe.proofs.passes.prune_escaping.Goals as goal
 
 pub returns-clause-ok : goal.returns-clause-ok
@@ -11,3 +13,10 @@ returns-clause-ok c =
       once = pass.scopes_once;
       needed = pass.needed;
     }
+
+-- operands inside their scopes can be read, and still can behind the pass
+pub returns-clause-read : goal.returns-clause-read
+returns-clause-read c = λ inside.
+    let scopes = c.in_ok-prune_non_escaping_scopes.ensures.ok in
+    still_read c.args.env.now (scopes_in c.args.func.now.body) scopes.set c.args.func.now.body
+    c.prune_non_escaping_scopes.new.func.body scopes.rebuilt inside
