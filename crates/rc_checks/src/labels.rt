@@ -8,11 +8,11 @@
 //!
 //! After oxc's prune_unused_labels.
 
-ghost use Rattle.std.specs.Prelude.{◌≡◌, ◌↔◌, ◌+◌, ◌-◌, ◌++◌, ◌∷◌, ◌<◌, [], drop, is_some, length, map, option_map};
-ghost use Rattle.std.specs.Prelude.{reverse, take, IfErr, IfOk, IsOk, IsTrue, OnOk, List as Events};
+ghost use Rattle.std.specs.Prelude.{◌≡◌, ◌↔◌, ◌++◌, ◌<◌, [], drop, is_some, length, map, option_map, reverse, take};
+ghost use Rattle.std.specs.Prelude.{IfErr, IfOk, IsTrue, OnOk, List as Events};
 ghost use Rattle.rc_checks.specs.Labels.{IsWithoutUnusedLabels, flattened, label_rules};
-ghost use Rattle.rc_checks.specs.inside.LabelPruning.{IsFrontPruned, IsLastPut, TreeStatements, added_if, done_before};
-ghost use Rattle.rc_checks.specs.inside.LabelPruning.{label_in, opened, put_behind, refilled};
+ghost use Rattle.rc_checks.specs.inside.LabelPruning.{IsFrontPruned, IsLastPut, done_before, label_in, opened, put_behind};
+ghost use Rattle.rc_checks.specs.inside.LabelPruning.{refilled};
 ghost use Rattle.rc_checks.specs.Labels.Steps.{IsAfterLabelWalk};
 ghost use Rattle.rc_checks.specs.ScopeBlocks.{scope_blocks, HasScopesOnce, scopes_in};
 ghost use Rattle.rc_checks.specs.Membership.Visits.{visits_of};
@@ -25,6 +25,7 @@ ghost use Rattle.rc_tree.specs.Rebuilt.{rebuilt_statement, rebuilt_terminal};
 ghost use Rattle.rc_tree.specs.declared.statement.ReactiveStatement.TheVariants as reactive;
 ghost use Rattle.rc_tree.specs.TreeNames.{TreeInTables, names_in};
 ghost use Rattle.rc_tree.specs.declared.terminal.ReactiveTerminal.{out-ReactiveTerminal};
+ghost use Rattle.rc_walk.specs.Statements.{added_if};
 
 mod targets;
 mod transform;
@@ -36,6 +37,7 @@ use rc_tree::{
     ReactiveBlock, ReactiveFunction, ReactiveStatement, ReactiveSwitchCase, ReactiveTerminal,
     ReactiveTerminalStatement,
 };
+use rc_walk::statements::{put_last, replace_at, take_off};
 use std::alloc::{AllocError, Global};
 pub use transform::UnusedLabels;
 
@@ -265,30 +267,6 @@ fn prune_block_if(
     }
 }
 
-/// Takes the last statement that is left; one that stays is put at the end of those that are done.
-#[inline(never)]
-fn put_last(
-    left: &mut List<ReactiveStatement>,
-    stays: bool,
-    done: &mut List<ReactiveStatement>,
-) -> Result<(), AllocError>
-    ensures { (rest : TreeStatements) (last : ReactiveStatement) → left.old ≡ rest ++ last ∷ []
-        → OnOk result ((left.new ≡ rest) × (done.new ≡ done.old ++ added_if stays last)) }
-{
-    match left.pop() {
-        Some(last) if stays => done.push(last),
-        Some(last) => let_go(last),
-        None => Ok(()),
-    }
-}
-
-/// Lets a statement go.
-fn let_go(_statement: ReactiveStatement) -> Result<(), AllocError>
-    ensures { IsOk result }
-{
-    Ok(())
-}
-
 /// Puts the statements that are done from the start on back into a `Label`.
 fn refill(
     terminal: &mut ReactiveTerminal,
@@ -315,52 +293,6 @@ fn take_back(
 {
     take_off(statements, done, start)?;
     statements.reverse();
-    Ok(())
-}
-
-/// Puts a replacement in the place of the statement at an index. The list of the replacement has the statements behind
-/// that one then, reversed.
-#[inline(never)]
-fn replace_at(
-    statements: &mut List<ReactiveStatement>,
-    place: usize,
-    replacement: &mut List<ReactiveStatement>,
-) -> Result<(), AllocError>
-    ensures front { OnOk result (statements.new ≡ take place statements.old ++ replacement.old) }
-    ensures behind { OnOk result (replacement.new ≡ reverse (drop (place + 1) statements.old)) }
-{
-    let mut put = replacement.take();
-    take_off(replacement, statements, place)?;
-    drop_last(replacement)?;
-    statements.take_from(&mut put)
-}
-
-/// Takes the last statement off, where there is one, and lets it go.
-#[tactic(auto, using(crate::proofs::LabelPruning::FrontPruned::before_last))]
-fn drop_last(statements: &mut List<ReactiveStatement>) -> Result<(), AllocError>
-    ensures { OnOk result (statements.new ≡ take (length statements.old - 1) statements.old) }
-{
-    match statements.pop() {
-        Some(statement) => let_go(statement),
-        None => Ok(()),
-    }
-}
-
-/// Moves the statements from the start on to the end of those that are taken, reversed.
-#[inline(never)]
-fn take_off(
-    taken: &mut List<ReactiveStatement>,
-    all: &mut List<ReactiveStatement>,
-    start: usize,
-) -> Result<(), AllocError>
-    ensures taken { OnOk result (taken.new ≡ taken.old ++ reverse (drop start all.old)) }
-    ensures left { OnOk result (all.new ≡ take start all.old) }
-{
-    while all.len() > start {
-        if let Some(last) = all.pop() {
-            taken.push(last)?;
-        }
-    }
     Ok(())
 }
 

@@ -6,6 +6,7 @@
 pub mod read;
 pub mod rewrite;
 mod statement_transform;
+pub mod statements;
 mod transform;
 mod visitor;
 

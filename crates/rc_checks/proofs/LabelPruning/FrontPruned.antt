@@ -1,11 +1,12 @@
 -- Statements that are pruned in their place up to the first one that gives way, over plain variables.
-use Rattle.std.proofs.Common.{◌≡◌, ◌∙◌, ◌+◌, ◌-◌, ℕ, add-one, Bool, true, false, List, [], ◌∷◌, ◌++◌, Some}
+use Rattle.std.proofs.Common.{◌≡◌, ◌∙◌, ◌+◌, ℕ, add-one, Bool, true, false, [], ◌∷◌, ◌++◌, Some}
 use Rattle.std.proofs.Common.{Ok, drop, length, reverse, slice_get, slice_set, take, refl, sym, ap, arith}
-use Rattle.std.proofs.lemmas.List.{append-nil, drop-drop, drop-set-lt, length-append, length-set, reverse-append}
-use Rattle.std.proofs.lemmas.List.{reverse-reverse, take-set, take_at, take_more_set}
+use Rattle.std.proofs.lemmas.List.{append-nil, drop-drop, drop-set-lt, length-set}
+use Rattle.std.proofs.lemmas.List.{reverse-reverse, take-set, take_more_set}
 use Rattle.std.proofs.lemmas.Option.{slice_get_within}
 use Rattle.rc_checks.proofs.LabelPruning.PruningLemmas.{all_of, behind_nothing, first_put}
-use Rattle.rc_checks.specs.inside.LabelPruning.{IsFrontPruned, TreeStatements, added_if, put_behind}
+use Rattle.rc_checks.specs.inside.LabelPruning.{IsFrontPruned, put_behind}
+use Rattle.rc_walk.specs.Statements.{TreeStatements, added_if}
 use Rattle.rc_checks.specs.Labels.{Targets, label_rules}
 use Rattle.rc_tree.proofs.PlaceLemmas.{at_place}
 use Rattle.rc_tree.specs.Rebuilt.{rebuilt_statement}
@@ -79,21 +80,3 @@ pub all_put : (all now done : TreeStatements) (t t1 : Targets) (staying : ℕ)
     ≡ put_behind [] (all_of all t)
 all_put all now done t t1 staying front =
     rw (reverse-reverse (drop (staying + 1) now), front.behind, behind_nothing (all_of all t)) front.put
-
--- a list without its last entry
-pub before_last : {X : Type 0} (old new : List X) (last : X) → old ≡ new ++ last ∷ [] → new ≡ take (length old - 1) old
-before_last old new last is =
-    let long : length (new ++ last ∷ []) ≡ length new + 1 = length-append new (last ∷ []) in
-    rw (is, long) (sym (take_at new (last ∷ []) (length new + 1 - 1) (omega arith)))
-
--- a reversed list without its last entry is the list without its first one, reversed
-pub reversed_rest : {X : Type 0} (xs : List X) → take (length (reverse xs) - 1) (reverse xs) ≡ reverse (drop 1 xs)
-reversed_rest [] = refl
-reversed_rest (x ∷ xs) =
-    sym (before_last (reverse (x ∷ xs)) (reverse xs) x (reverse-append (x ∷ []) xs))
-
--- the statements behind an index, reversed
-pub popped_behind : (all from now : TreeStatements) (i : ℕ) → from ≡ reverse (drop i all)
-    → now ≡ take (length from - 1) from → now ≡ reverse (drop (i + 1) all)
-popped_behind all from now i is popped =
-    popped ∙ ap (λ l. take (length l - 1) l) is ∙ reversed_rest (drop i all) ∙ ap reverse (drop-drop 1 i all)

@@ -5,7 +5,8 @@ use Rattle.std.proofs.Common.{option_map, reverse, slice_get, slice_set, take, r
 use Rattle.std.proofs.lemmas.List.{drop_all, drop_more, reverse-append, take-append-drop}
 use Rattle.std.proofs.lemmas.Option.{get_or_from_slice_get, slice_get_within}
 use Rattle.std.proofs.lemmas.Result.{on_ok_weaker}
-use Rattle.rc_checks.specs.inside.LabelPruning.{IsLastPut, added_if, put_behind}
+use Rattle.rc_checks.specs.inside.LabelPruning.{IsLastPut, put_behind}
+use Rattle.rc_walk.specs.Statements.{added_if}
 use Rattle.rc_checks.specs.Labels.{IsWithoutUnusedLabels, Targets, label_rules}
 use Rattle.rc_hir.specs.Model.{Fault}
 use Rattle.rc_tree.proofs.StepLemmas.{Ok-injective}

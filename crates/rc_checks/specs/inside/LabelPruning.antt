@@ -2,7 +2,7 @@
 --
 -- A part is pruned in its place, but for a `Label`: its statements are put where it stands, at the end of those done,
 -- before it is judged. One that stays takes them back.
-use Rattle.std.specs.Prelude.{◌≡◌, ◌+◌, ℕ, Bool, true, false, List, [], ◌∷◌, ◌++◌, Option, None, Some, Result, Ok}
+use Rattle.std.specs.Prelude.{◌≡◌, ◌+◌, ℕ, List, [], ◌∷◌, ◌++◌, Option, None, Some, Result, Ok}
 use Rattle.std.specs.Prelude.{drop, map, reverse, take}
 use Rattle.rc_checks.specs.Labels.{Targets, label_rules}
 use Rattle.rc_hir.specs.Model.{Fault}
@@ -14,19 +14,11 @@ use Rattle.rc_tree.specs.Model.{ReactiveBlock, ReactiveStatement}
 use Rattle.rc_tree.specs.declared.statement.ReactiveStatement.TheOpen as layer
 use Rattle.rc_tree.specs.declared.terminal.ReactiveTerminal.{ReactiveTerminal, out-ReactiveTerminal}
 use Rattle.rc_tree.specs.declared.terminal.ReactiveTerminal.TheVariants as tree
-
--- statements, one after the other
-abbrev pub TreeStatements : Type 0
-TreeStatements = List ReactiveStatement
+use Rattle.rc_walk.specs.Statements.{TreeStatements}
 
 -- the replacement of a part, put at the end of the statements that are done
 abbrev pub put_behind : {X : Type 0} → List X → Result (Targets × List X) Fault → Result (Targets × List X) Fault
 put_behind done part = bind part (λ a. Ok (a.0, done ++ a.1))
-
--- a statement that stays, and none otherwise
-abbrev pub added_if : Bool → ReactiveStatement → TreeStatements
-added_if true statement = statement ∷ []
-added_if false statement = []
 
 -- the replacement of the last statement that is left is put at the end of those that are done
 pub record IsLastPut (left : TreeStatements) (targets : Targets) (done left1 : TreeStatements) (targets1 : Targets)

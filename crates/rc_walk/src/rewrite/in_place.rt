@@ -1,10 +1,12 @@
 //! The replacement of a statement: it is asked of the `transform_` hook, and put in the statement's place.
 #![tactic(auto, using(rc_tree::proofs::FuelLemmas::rewriting, rc_tree::proofs::RewriteStatementLemmas::rewriting_statements))]
 
-ghost use Rattle.std.specs.Prelude.{◌≡◌, ◌++◌, ◌∷◌, [], IsOk, List as Entries, OnOk};
+ghost use Rattle.std.specs.Prelude.{◌≡◌, ◌++◌, false, true, IfOk, IsTrue};
 ghost use Rattle.rc_tree.specs.Step.{IsStep};
 ghost use Rattle.rc_tree.specs.Rewrite.{in_place};
 ghost use Rattle.rc_tree.specs.inside.RewriteInPlace.{answer_at, put_at};
+ghost use Rattle.rc_walk.specs.Statements.{added_if};
+ghost use Rattle.rc_walk.specs.inside.FrontWalk.{with_replacement, without_answer};
 
 use crate::transform::ReactiveFunctionTransform;
 use rc_hir::Fault;
@@ -12,41 +14,25 @@ use rc_names::List;
 use rc_tree::{ReactiveStatement, Transformed};
 use std::alloc::AllocError;
 
-/// Removes the last pending statement, and appends its replacement to `done`.
+/// Puts a statement's replacement, which is asked of the `transform_` hook, in its place if that is one statement, and
+/// else at the end of those that are done. Returns whether it is one.
 ///
-/// It isn't inlined, so that the statement takes no room in the stack frames of the walk.
+/// It isn't inlined, so that the answer takes no room in the stack frames of the walk.
 #[inline(never)]
-pub(super) fn put_last<T: ReactiveFunctionTransform>(
-    transform: &mut T,
-    left: &mut List<ReactiveStatement>,
-    done: &mut List<ReactiveStatement>,
-    state: &mut T::State,
-) -> Result<(), Fault>
-    ensures left { (rest : Entries ReactiveStatement) → (x : ReactiveStatement) → left.old ≡ rest ++ x ∷ []
-        → left.new ≡ rest }
-    ensures done { (rest : Entries ReactiveStatement) → (x : ReactiveStatement) → left.old ≡ rest ++ x ∷ []
-        → IsStep (put_at T.steps (transform.old, state.old) done.old x) result ((transform.new, state.new), done.new) }
-{
-    match left.pop() {
-        Some(statement) => put_asked(transform, statement, done, state),
-        None => Ok(()),
-    }
-}
-
-/// Asks the `transform_` hook how a statement is replaced, and appends the replacement to `done`.
 #[tactic(auto, using(rc_tree::proofs::FuelLemmas::visiting))]
-fn put_asked<T: ReactiveFunctionTransform>(
+pub(super) fn settle<T: ReactiveFunctionTransform>(
     transform: &mut T,
-    mut statement: ReactiveStatement,
+    statement: &mut ReactiveStatement,
     done: &mut List<ReactiveStatement>,
     state: &mut T::State,
-) -> Result<(), Fault>
-    ensures { IsStep (put_at T.steps (transform.old, state.old) done.old statement) result
-        ((transform.new, state.new), done.new) }
+) -> Result<bool, Fault>
+    ensures put { IsStep (put_at T.steps (transform.old, state.old) done.old statement.old) (without_answer result)
+        ((transform.new, state.new), with_replacement result done.new statement.new) }
+    ensures alone { IfOk result (λ stays. IsTrue stays → done.new ≡ done.old) }
 {
-    let answer = ask(transform, &mut statement, state)?;
-    put(done, statement, answer)?;
-    Ok(())
+    let answer = ask(transform, statement, state)?;
+    let stays = put(statement, answer, done)?;
+    Ok(stays)
 }
 
 /// Asks the `transform_` hook of a statement how it is replaced.
@@ -67,53 +53,49 @@ pub(super) fn ask<T: ReactiveFunctionTransform>(
     }
 }
 
-/// Appends the replacement of a statement. Each arm is one helper that takes both parts: a `match` that drops a large
-/// enum in some of its arms can't be checked.
+/// Puts the replacement of a statement, and returns whether it is one statement, in the place of the other. Each arm
+/// with a part is a helper that takes it: a `match` that drops a large enum in some of its arms can't be checked.
 fn put(
-    done: &mut List<ReactiveStatement>,
-    statement: ReactiveStatement,
+    statement: &mut ReactiveStatement,
     answer: Transformed<ReactiveStatement>,
-) -> Result<(), AllocError>
-    ensures { OnOk result (done.new ≡ done.old ++ in_place answer statement) }
+    done: &mut List<ReactiveStatement>,
+) -> Result<bool, AllocError>
+    ensures put { IfOk result (λ stays.
+        done.new ++ added_if stays statement.new ≡ done.old ++ in_place answer statement.old) }
+    ensures alone { IfOk result (λ stays. IsTrue stays → done.new ≡ done.old) }
 {
     match answer {
-        Transformed::Keep => done.push(statement),
-        Transformed::Remove => put_nothing(statement),
-        Transformed::Replace(other) => put_other(done, statement, other),
-        Transformed::ReplaceMany(others) => put_others(done, statement, others),
+        Transformed::Keep => Ok(true),
+        Transformed::Remove => Ok(false),
+        Transformed::Replace(other) => put_other(statement, other),
+        Transformed::ReplaceMany(others) => put_others(done, others),
     }
 }
 
-/// Drops a statement, which has no replacement.
-fn put_nothing(_statement: ReactiveStatement) -> Result<(), AllocError>
-    ensures { IsOk result }
-{
-    Ok(())
-}
-
-/// Appends another statement.
+/// Puts another statement in the place of one.
 fn put_other(
-    done: &mut List<ReactiveStatement>,
-    _statement: ReactiveStatement,
+    statement: &mut ReactiveStatement,
     other: ReactiveStatement,
-) -> Result<(), AllocError>
-    ensures { OnOk result (done.new ≡ done.old ++ other ∷ []) }
+) -> Result<bool, AllocError>
+    ensures put { statement.new ≡ other }
+    ensures stays { result ≡ Ok true }
 {
-    done.push(other)
+    *statement = other;
+    Ok(true)
 }
 
 /// Appends other statements. Into an empty list their own list is moved as a whole, so that statements which are
 /// replaced again and again aren't moved each time.
 fn put_others(
     done: &mut List<ReactiveStatement>,
-    _statement: ReactiveStatement,
     others: List<ReactiveStatement>,
-) -> Result<(), AllocError>
-    ensures { OnOk result (done.new ≡ done.old ++ others) }
+) -> Result<bool, AllocError>
+    ensures { IfOk result (λ stays. (stays ≡ false) × (done.new ≡ done.old ++ others)) }
 {
     if done.is_empty() {
         *done = others;
-        return Ok(());
+        return Ok(false);
     }
-    done.append(others)
+    done.append(others)?;
+    Ok(false)
 }

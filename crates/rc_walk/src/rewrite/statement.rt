@@ -1,7 +1,7 @@
 //! The rewriting walk of blocks, statements and scopes.
 #![tactic(auto, using(rc_tree::proofs::FuelLemmas::rewriting, rc_tree::proofs::RewriteStatementLemmas::rewriting_statements))]
 
-ghost use Rattle.std.specs.Prelude.{◌≡◌, ◌++◌, ◌∷◌, ℕ, [], List as Entries, OnOk};
+ghost use Rattle.std.specs.Prelude.{◌≡◌, ◌+◌, ◌++◌, ◌∷◌, ℕ, [], drop, IfErr, IfOk, IsTrue, List as Entries, OnOk};
 ghost use Rattle.rc_tree.specs.Step.{IsStep};
 ghost use Rattle.rc_tree.specs.Fuel.{IsFueled};
 ghost use Rattle.rc_tree.specs.Rewrite.{block_inside, block_to, inside_block, inside_pruned_scope, inside_scope};
@@ -9,10 +9,12 @@ ghost use Rattle.rc_tree.specs.Rewrite.{inside_terminal, into_at, pruned_scope_a
 ghost use Rattle.rc_tree.specs.Rewrite.{rewrite_statement, scope_at, scope_inside, statements_at};
 ghost use Rattle.rc_tree.specs.Rewrite.Terminals.{terminal_at, terminal_inside};
 ghost use Rattle.rc_tree.specs.inside.RewriteInPlace.{held_at};
+ghost use Rattle.rc_walk.specs.inside.FrontWalk.{GoesOnBehind, with_replacement, without_answer};
 
-use crate::rewrite::in_place::{ask, put_last};
+use crate::rewrite::in_place::{ask, settle};
 use crate::rewrite::terminal::walk_parts;
 use crate::rewrite::value::walk_instruction;
+use crate::statements::{put_last, replace_at};
 use crate::transform::ReactiveFunctionTransform;
 use rc_hir::Fault;
 use rc_names::List;
@@ -144,7 +146,8 @@ fn walk_statements<T: ReactiveFunctionTransform>(
     walk_list(alloc, transform, &mut block.statements, state)
 }
 
-/// Walks statements. Each is moved and none is copied, and replacements aren't walked.
+/// Walks statements. None is copied, and replacements aren't walked. Each is walked in its place, up to the first one
+/// whose replacement isn't one statement; those behind that one are moved.
 ///
 /// A statement stays in its list while it is walked, so that the stack frames of the walk hold only references.
 #[cycle(rewrite_tree)]
@@ -158,13 +161,65 @@ fn walk_list<T: ReactiveFunctionTransform>(
         → IsFueled (statements_at T.steps T.functions (block_to T.steps T.functions n) (transform.old, state.old)
         statements.old) result ((transform.new, state.new), statements.new) }
 {
-    let mut left = statements.take();
-    left.reverse();
+    let mut left = List::new(alloc);
+    let staying = walk_front(alloc, transform, statements, &mut left, state)?;
+    replace_at(statements, staying, &mut left)?;
     // The label names the loop's invariant in the proof.
     'statement: while !left.is_empty() {
         walk_last_into(alloc, transform, &mut left, statements, state)?;
     }
     Ok(())
+}
+
+/// Walks statements in their places, up to the first one whose replacement isn't one statement. Returns how many are in
+/// front of it. Its replacement is in `done`.
+#[cycle(rewrite_tree)]
+fn walk_front<T: ReactiveFunctionTransform>(
+    alloc: Global,
+    transform: &mut T,
+    statements: &mut List<ReactiveStatement>,
+    done: &mut List<ReactiveStatement>,
+    state: &mut T::State,
+) -> Result<usize, Fault>
+    requires { done.old ≡ [] }
+    ensures front { (n : ℕ) → IfOk result (λ staying.
+        GoesOnBehind T.steps T.functions (block_to T.steps T.functions n) (transform.old, state.old) statements.old
+        staying (transform.new, state.new) statements.new done.new) }
+    ensures behind { IfOk result (λ staying. drop (staying + 1) statements.new ≡ drop (staying + 1) statements.old) }
+    ensures fault { (n : ℕ) → IfErr result (λ fault.
+        IsFueled (statements_at T.steps T.functions (block_to T.steps T.functions n) (transform.old, state.old)
+        statements.old) (Err fault) ((transform.new, state.new), statements.new)) }
+{
+    for i in 0..statements.len() {
+        let Some(statement) = statements.get_mut(i) else {
+            return Ok(i);
+        };
+        let stays = walk_in_place(alloc, transform, statement, done, state)?;
+        if !stays {
+            return Ok(i);
+        }
+    }
+    Ok(statements.len())
+}
+
+/// Walks a statement, and puts its replacement in its place if that is one statement, and else at the end of those that
+/// are done. Returns whether it is one.
+#[cycle(rewrite_tree)]
+fn walk_in_place<T: ReactiveFunctionTransform>(
+    alloc: Global,
+    transform: &mut T,
+    statement: &mut ReactiveStatement,
+    done: &mut List<ReactiveStatement>,
+    state: &mut T::State,
+) -> Result<bool, Fault>
+    ensures put { (n : ℕ)
+        → IsFueled (into_at T.steps T.functions (block_to T.steps T.functions n) (transform.old, state.old) done.old
+        statement.old) (without_answer result)
+        ((transform.new, state.new), with_replacement result done.new statement.new) }
+    ensures alone { IfOk result (λ stays. IsTrue stays → done.new ≡ done.old) }
+{
+    walk_held(alloc, transform, statement, state)?;
+    settle(transform, statement, done, state)
 }
 
 /// Walks the last pending statement, and appends its replacement to `done`.
@@ -188,8 +243,9 @@ fn walk_last_into<T: ReactiveFunctionTransform>(
     let Some(statement) = left.get_mut(last) else {
         return Ok(());
     };
-    walk_held(alloc, transform, statement, state)?;
-    put_last(transform, left, done, state)
+    let stays = walk_in_place(alloc, transform, statement, done, state)?;
+    put_last(left, stays, done)?;
+    Ok(())
 }
 
 /// Walks the part of a statement; the clause holds for any fuel.

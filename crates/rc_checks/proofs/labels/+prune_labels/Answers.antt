@@ -2,7 +2,7 @@ use Rattle.std.proofs.Common.{◌≡◌, ◌≤◌, ◌∙◌, ◌+◌, suc, Ok,
 use denote.Param.Weighed.{most}
 use Rattle.std.proofs.lemmas.List.{reverse-reverse}
 use Rattle.std.proofs.lemmas.Result.{on_ok_weaker}
-use Rattle.rc_checks.proofs.LabelPruning.Depths.{most_drop, size_label}
+use Rattle.rc_checks.proofs.LabelPruning.Depths.{size_label}
 use Rattle.rc_checks.proofs.LabelPruning.FrontPruned.{all_put, front_begins, one_gives_way, one_stays}
 use Rattle.rc_checks.proofs.LabelPruning.Judged.{given_way, stayed, stayed_alone}
 use Rattle.rc_checks.proofs.LabelPruning.PruningLemmas.{all_cases, behind_nothing, block_pruned, next_case, next_put}
@@ -19,6 +19,7 @@ use Rattle.rc_tree.proofs.terminal.ReactiveSwitchCase.TheLaws as switch_case
 use Rattle.rc_tree.specs.declared.statement.ReactiveBlock.{size_is-ReactiveBlock}
 use Rattle.rc_tree.specs.declared.statement.ReactiveStatement.TheVariants as reactive
 use Rattle.rc_tree.specs.declared.terminal.ReactiveTerminal.TheVariants as tree
+use Rattle.rc_walk.proofs.FrontWalked.{most_drop}
 use Rattle.rc_checks.proofs.labels.+prune_labels.Goals as goal
 use Rattle.rc_checks.proofs.labels.+prune_labels.Goals.{prune_last-in-Some+in_ok-stays, prune_last-in_default}
 

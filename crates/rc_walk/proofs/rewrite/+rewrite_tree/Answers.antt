@@ -1,9 +1,8 @@
-use Rattle.std.proofs.Common.{◌≡◌, ◌≤◌, ◌+◌, ◌∙◌, ◌++◌, ◌∷◌, [], List, length, slice_set, inr, Ok, Err, refl, sym, ap}
-use Rattle.std.proofs.Common.{subst, arith, rules}
+use Rattle.std.proofs.Common.{◌≡◌, ◌≤◌, ◌+◌, ◌∙◌, ◌++◌, ◌∷◌, [], List, drop, length, slice_set, inr, Ok, Err, refl, sym}
+use Rattle.std.proofs.Common.{ap, subst, arith, rules}
 use denote.Param.Weighed.{most}
-use Rattle.std.proofs.lemmas.List.{length-set, reverse-reverse}
+use Rattle.std.proofs.lemmas.List.{drop-drop, drop-set-lt, length-set, reverse-reverse}
 use Rattle.std.proofs.lemmas.Result.{err_from_is_err_and}
-use Rattle.rc_tree.proofs.StepLemmas.{any_case}
 use Rattle.rc_tree.proofs.PlaceLemmas.{ends_full, last_set, last_is, last_there, taken_off, past_end}
 use Rattle.rc_tree.proofs.PlaceLemmas.{most_place}
 use Rattle.rc_tree.proofs.FuelLemmas.{meets_inside, meets_inside_fault, so_far_next_last, so_far_fault_last, so_far_end}
@@ -16,25 +15,38 @@ use Rattle.rc_tree.specs.Fuel.{IsFueled, perhaps_hook}
 use Rattle.rc_tree.specs.Rewrite.{block_inside, block_to, into_at, pruned_scope_inside, scope_inside, statements_at}
 use Rattle.rc_tree.specs.Rewrite.Terminals.{case_at, cases_at, parts_at, terminal_inside}
 use Rattle.rc_tree.specs.Rewrite.Values.{rewrite_value}
-use Rattle.rc_tree.specs.inside.RewriteInPlace.{held_at}
 use Rattle.rc_tree.specs.Model.{ReactiveStatement}
 use Rattle.rc_tree.specs.declared.terminal.ReactiveTerminal.TheVariants as tree
 use Rattle.rc_tree.proofs.statement.ReactiveStatement.TheLaws as statement
 use Rattle.rc_tree.proofs.terminal.ReactiveSwitchCase.TheLaws as switch_case
+use Rattle.rc_walk.specs.Statements.{added_if}
+use Rattle.rc_walk.specs.inside.FrontWalk.{with_replacement, without_answer}
+use Rattle.rc_walk.proofs.FrontWalked.{front_fails, front_goes_on, front_stops, most_drop}
 use Rattle.rc_walk.proofs.rewrite.+rewrite_tree.Goals as goal
 
--- at first all statements are left
+-- at first the statements behind the first one are left whose replacement isn't one statement
 pub statement::walk_list-statement-init : goal.statement::walk_list-statement-init
-statement::walk_list-statement-init g t c = record {
-  no_deeper = rw (c.reverse.ensures, c.take-left.ensures.list) (omega
-      (arith, most-reverse statement.the_size c.args.statements.now));
-  so_far = λ n.
-      let steps = g.T.ReactiveFunctionTransform.steps in
-      let functions = g.T.ReactiveFunctionTransform.functions in
-      rw (c.reverse.ensures, c.take-left.ensures.list, c.take-left.ensures.left, reverse-reverse c.args.statements.now)
-      (inr (statements_at-in_turn steps functions (block_to steps functions n)
-      (c.args.transform.now, c.args.state.now) c.args.statements.now));
-}
+statement::walk_list-statement-init g t c =
+    let place = c.in_ok-staying.staying in
+    let front = c.walk_front.new.statements in
+    record {
+      no_deeper = rw (
+        c.in_ok-replace_at.ensures.behind,
+        most-reverse statement.the_size (drop (place + 1) front),
+        c.in_ok-staying.ensures.behind,
+      ) (most_drop statement.the_size (place + 1) c.args.statements.now);
+      so_far = λ n. rw (
+        c.in_ok-replace_at.ensures.front,
+        c.in_ok-replace_at.ensures.behind,
+        reverse-reverse (drop (place + 1) front),
+      ) (c.in_ok-staying.ensures.front n);
+    }
+
+-- the walk of the statements in front fails, or memory runs out behind it
+pub statement::walk_list-returns-in_err-staying : goal.statement::walk_list-returns-in_err-staying
+statement::walk_list-returns-in_err-staying g t c = λ n.
+    let p = err_from_is_err_and c.from_residual.result c.from_residual.ensures.1 in
+    rw (p.1, p.2) (c.in_err-staying.ensures.fault n)
 
 -- one statement fewer is left
 pub statement::walk_list-statement-smaller : goal.statement::walk_list-statement-smaller
@@ -85,7 +97,8 @@ statement::walk_list-returns-in_err-walk_last_into g t c =
     λ n.
     let steps = g.T.ReactiveFunctionTransform.steps in
     let functions = g.T.ReactiveFunctionTransform.functions in
-    let p = err_from_is_err_and c.from_residual.result c.from_residual.ensures.1 in
+    let p = err_from_is_err_and c.from_residual-in_err-walk_last_into.result
+    c.from_residual-in_err-walk_last_into.ensures.1 in
     rw (p.1, p.2) (so_far_fault_last (into_at steps functions (block_to steps functions n))
     (statements_at steps functions (block_to steps functions n)
     (c.args.transform.now, c.args.state.now) c.args.statements.now)
@@ -119,47 +132,151 @@ statement::walk_last_into-returns-in_default-get_mut g t c =
       done = λ n rest x e. absurd (bad rest x e);
     }
 
--- the walk of the last statement's part fails
-pub statement::walk_last_into-returns-in_err-walk_held : goal.statement::walk_last_into-returns-in_err-walk_held
-statement::walk_last_into-returns-in_err-walk_held g t c =
+-- the walk of the last statement fails
+pub statement::walk_last_into-returns-in_err-stays : goal.statement::walk_last_into-returns-in_err-stays
+statement::walk_last_into-returns-in_err-stays g t c =
     let steps = g.T.ReactiveFunctionTransform.steps in
     let functions = g.T.ReactiveFunctionTransform.functions in
-    let fault = c.in_err-walk_held.field-0.0 in
     let p = err_from_is_err_and c.from_residual.result c.from_residual.ensures.1 in
     let at : c.in-Some.last + 1 ≡ length c.args.left.now = omega (arith, c.in-Some.ensures, c.len.ensures) in
     record {
       left = λ rest x e. rw p.1 tt;
-      done = λ n rest x e. rw (p.1, p.2) (meets_put_fault steps functions (block_to steps functions n)
-          (c.args.transform.now, c.args.state.now) c.args.done.now x fault
-          ((c.walk_held.new.transform, c.walk_held.new.state), c.walk_held.new.statement)
-          ((c.walk_held.new.transform, c.walk_held.new.state), c.args.done.now)
-          (subst (λ y. IsFueled (held_at steps functions (block_to steps functions n)
-          (c.args.transform.now, c.args.state.now) y) (Err fault)
-          ((c.walk_held.new.transform, c.walk_held.new.state), c.walk_held.new.statement))
+      done = λ n rest x e. rw (p.1, p.2) (subst (λ y. IsFueled (into_at steps functions (block_to steps functions n)
+          (c.args.transform.now, c.args.state.now) c.args.done.now y) (Err c.in_err-stays.field-0.0)
+          ((c.walk_in_place.new.transform, c.walk_in_place.new.state), c.walk_in_place.new.done))
           (sym (last_is c.args.left.now rest x c.in-Some-get_mut.statement.now c.in-Some.last e at
-          c.in-Some-get_mut.ensures.value)) (c.in_err-walk_held.ensures n)));
+          c.in-Some-get_mut.ensures.value)) (c.in_err-stays.ensures.put n));
     }
 
--- the walk of the last statement's part, and then its replacement
+-- the last statement is walked, and what stays of it is put behind those that are done
 pub statement::walk_last_into-returns : goal.statement::walk_last_into-returns
 statement::walk_last_into-returns g t c =
     let steps = g.T.ReactiveFunctionTransform.steps in
     let functions = g.T.ReactiveFunctionTransform.functions in
-    let x1 = c.walk_held.new.statement in
+    let y = c.walk_in_place.new.statement in
     let at : c.in-Some.last + 1 ≡ length c.args.left.now = omega (arith, c.in-Some.ensures, c.len.ensures) in
     record {
-      left = λ rest x e. any_case c.put_last.result (c.put_last.ensures.left rest x1
-          (last_set c.args.left.now rest x x1 c.in-Some.last e at));
-      done = λ n rest x e. meets_put steps functions (block_to steps functions n)
-          (c.args.transform.now, c.args.state.now) (c.walk_held.new.transform, c.walk_held.new.state)
-          c.args.done.now x x1 c.put_last.result ((c.put_last.new.transform, c.put_last.new.state), c.put_last.new.done)
-          (subst (λ y. IsFueled (held_at steps functions (block_to steps functions n)
-          (c.args.transform.now, c.args.state.now) y) (Ok tt)
-          ((c.walk_held.new.transform, c.walk_held.new.state), x1))
+      left = λ rest x e. (c.in_ok-put_last.ensures rest y (last_set c.args.left.now rest x y c.in-Some.last e at)).0;
+      done = λ n rest x e.
+          rw (c.in_ok-put_last.ensures rest y (last_set c.args.left.now rest x y c.in-Some.last e at)).1
+          (subst (λ z. IsFueled (into_at steps functions (block_to steps functions n)
+          (c.args.transform.now, c.args.state.now) c.args.done.now z) (Ok tt) (
+            (c.walk_in_place.new.transform, c.walk_in_place.new.state),
+            c.walk_in_place.new.done ++ added_if c.in_ok-stays.stays y,
+          ))
           (sym (last_is c.args.left.now rest x c.in-Some-get_mut.statement.now c.in-Some.last e at
-          c.in-Some-get_mut.ensures.value)) (c.in_ok-walk_held.ensures n))
-          (c.put_last.ensures.done rest x1 (last_set c.args.left.now rest x x1 c.in-Some.last e at));
+          c.in-Some-get_mut.ensures.value)) (c.in_ok-stays.ensures.put n));
     }
+
+-- a statement is walked in its place
+pub statement::walk_in_place-returns-in_err-walk_held : goal.statement::walk_in_place-returns-in_err-walk_held
+statement::walk_in_place-returns-in_err-walk_held g t c =
+    let steps = g.T.ReactiveFunctionTransform.steps in
+    let functions = g.T.ReactiveFunctionTransform.functions in
+    let p = err_from_is_err_and c.from_residual.result c.from_residual.ensures.1 in
+    record {
+      put = λ n. rw (p.1, p.2) (meets_put_fault steps functions (block_to steps functions n)
+          (c.args.transform.now, c.args.state.now) c.args.done.now c.args.statement.now c.in_err-walk_held.field-0.0
+          ((c.walk_held.new.transform, c.walk_held.new.state), c.walk_held.new.statement)
+          ((c.walk_held.new.transform, c.walk_held.new.state), c.args.done.now) (c.in_err-walk_held.ensures n));
+      alone = rw p.1 tt;
+    }
+
+pub statement::walk_in_place-returns : goal.statement::walk_in_place-returns
+statement::walk_in_place-returns g t c =
+    let steps = g.T.ReactiveFunctionTransform.steps in
+    let functions = g.T.ReactiveFunctionTransform.functions in
+    record {
+      put = λ n. meets_put steps functions (block_to steps functions n) (c.args.transform.now, c.args.state.now)
+          (c.walk_held.new.transform, c.walk_held.new.state) c.args.done.now c.args.statement.now
+          c.walk_held.new.statement (without_answer c.settle.result) (
+            (c.settle.new.transform, c.settle.new.state),
+            with_replacement c.settle.result c.settle.new.done c.settle.new.statement,
+          )
+          (c.in_ok-walk_held.ensures n) c.settle.ensures.put;
+      alone = c.settle.ensures.alone;
+    }
+
+-- at first no statement was walked in its place
+pub statement::walk_front-loop-i-init : goal.statement::walk_front-loop-i-init
+statement::walk_front-loop-i-init g t c = record {
+  as_long = refl;
+  behind = refl;
+  none_done = c.requires;
+  so_far = λ n.
+      let steps = g.T.ReactiveFunctionTransform.steps in
+      let functions = g.T.ReactiveFunctionTransform.functions in
+      inr (statements_at-in_turn steps functions (block_to steps functions n)
+      (c.args.transform.now, c.args.state.now) c.args.statements.now);
+}
+
+-- a statement that wasn't walked is no deeper than all
+pub statement::walk_front-walk_in_place-requires : goal.statement::walk_front-walk_in_place-requires
+statement::walk_front-walk_in_place-requires g t c =
+    let left : most statement.the_size (drop c.loop-i.i c.loop-i.statements)
+    ≤ most statement.the_size c.args.statements.now =
+    rw c.loop-i.invariant.behind (most_drop statement.the_size c.loop-i.i c.args.statements.now) in
+    let h : statement.the_size c.in-Some.statement.now ≤ most statement.the_size c.args.statements.now =
+    omega (
+      arith,
+      left,
+      (most_place statement.the_size c.loop-i.statements c.loop-i.i c.in-Some.statement.now c.in-Some.statement.now
+          (sym c.in-Some.ensures.value)).0,
+    ) in
+    search (rules, h)
+
+pub statement::walk_front-loop-i-preserved : goal.statement::walk_front-loop-i-preserved
+statement::walk_front-loop-i-preserved g t c =
+    let so_far = c.loop-i.invariant in
+    let now = c.loop-i.statements in
+    let all = c.args.statements.now in
+    let i = c.loop-i.i in
+    let y = c.walk_in_place.new.statement in
+    record {
+      as_long = length-set now i y ∙ so_far.as_long;
+      behind = drop-set-lt (i + 1) now i y (omega arith)
+          ∙ sym (drop-drop 1 i now) ∙ ap (drop 1) so_far.behind ∙ drop-drop 1 i all;
+      none_done = c.in_ok-stays.ensures.alone c.if-not-stays.false ∙ so_far.none_done;
+      so_far = λ n.
+          let steps = g.T.ReactiveFunctionTransform.steps in
+          let functions = g.T.ReactiveFunctionTransform.functions in
+          front_goes_on steps functions (block_to steps functions n)
+          (statements_at steps functions (block_to steps functions n) (c.args.transform.now, c.args.state.now) all)
+          (c.loop-i.transform, c.loop-i.state) now i (so_far.so_far n) c.in-Some.statement.now
+          (sym c.in-Some.ensures.value) c.loop-i.done c.walk_in_place.new.done so_far.none_done
+          (c.walk_in_place.new.transform, c.walk_in_place.new.state) c.in_ok-stays.stays y c.if-not-stays.false
+          (c.in_ok-stays.ensures.alone c.if-not-stays.false) (c.in_ok-stays.ensures.put n);
+    }
+
+-- the replacement of a statement isn't one statement
+pub statement::walk_front-returns-then-not-stays-clause-front : goal.statement::walk_front-returns-then-not-stays-clause-front
+statement::walk_front-returns-then-not-stays-clause-front g t c = λ n.
+    let steps = g.T.ReactiveFunctionTransform.steps in
+    let functions = g.T.ReactiveFunctionTransform.functions in
+    front_stops steps functions (block_to steps functions n)
+    (statements_at steps functions (block_to steps functions n) (c.args.transform.now, c.args.state.now)
+    c.args.statements.now)
+    (c.loop-i.transform, c.loop-i.state) c.loop-i.statements c.loop-i.i (c.loop-i.invariant.so_far n)
+    c.in-Some.statement.now (sym c.in-Some.ensures.value) c.loop-i.done c.walk_in_place.new.done
+    c.loop-i.invariant.none_done (c.walk_in_place.new.transform, c.walk_in_place.new.state) c.in_ok-stays.stays
+    c.walk_in_place.new.statement c.if-not-stays.true (c.in_ok-stays.ensures.put n)
+
+-- the walk of a statement in its place fails
+pub statement::walk_front-returns-in_err-stays-clause-fault : goal.statement::walk_front-returns-in_err-stays-clause-fault
+statement::walk_front-returns-in_err-stays-clause-fault g t c = λ n.
+    let steps = g.T.ReactiveFunctionTransform.steps in
+    let functions = g.T.ReactiveFunctionTransform.functions in
+    let p = err_from_is_err_and c.from_residual.result c.from_residual.ensures.1 in
+    rw (p.1, p.2) (front_fails steps functions (block_to steps functions n)
+    (statements_at steps functions (block_to steps functions n) (c.args.transform.now, c.args.state.now)
+    c.args.statements.now)
+    (c.loop-i.transform, c.loop-i.state) c.loop-i.statements c.loop-i.i (c.loop-i.invariant.so_far n)
+    c.in-Some.statement.now (sym c.in-Some.ensures.value) c.loop-i.done c.walk_in_place.new.done
+    c.loop-i.invariant.none_done (c.walk_in_place.new.transform, c.walk_in_place.new.state) c.in_err-stays.field-0.0 (
+      (c.walk_in_place.new.transform, c.walk_in_place.new.state),
+      slice_set c.loop-i.statements c.loop-i.i c.walk_in_place.new.statement,
+    )
+    (c.in_err-stays.ensures.put n))
 
 -- at first all cases are left
 pub terminal::walk_cases-loop-i-init : goal.terminal::walk_cases-loop-i-init

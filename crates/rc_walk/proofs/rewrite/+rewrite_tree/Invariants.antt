@@ -1,5 +1,5 @@
 -- The statements that are left are no deeper than all, and their walk from here is the walk of all.
-use Rattle.std.proofs.Common.{◌≡◌, ◌≤◌, ℕ, reverse, length, take, drop}
+use Rattle.std.proofs.Common.{◌≡◌, ◌≤◌, ℕ, [], reverse, length, take, drop}
 use denote.Param.Weighed.{most}
 use Rattle.rc_tree.proofs.FuelLemmas.{SoFar}
 use Rattle.rc_tree.specs.Fuel.{in_turn, kept_into}
@@ -16,14 +16,28 @@ invariant-statement::walk_list-statement g l =
     record {
       no_deeper : most statement.the_size l.left ≤ most statement.the_size l.fn.statements;
       so_far : (n : ℕ) → SoFar (into_at steps functions (block_to steps functions n))
-          (statements_at steps functions (block_to steps functions n) (l.initial.transform, l.initial.state)
-          l.fn.statements)
+          (statements_at steps functions (block_to steps functions n) (l.fn.transform, l.fn.state) l.fn.statements)
           (in_turn (into_at steps functions (block_to steps functions n)) (l.transform, l.state) l.statements
           (reverse l.left));
     }
 
 abbrev pub decreases-statement::walk_list-statement : goal.decreases-statement::walk_list-statement
 decreases-statement::walk_list-statement g l = length l.left
+
+abbrev pub invariant-statement::walk_front-loop-i : goal.invariant-statement::walk_front-loop-i
+invariant-statement::walk_front-loop-i g l =
+    let steps = g.T.ReactiveFunctionTransform.steps in
+    let functions = g.T.ReactiveFunctionTransform.functions in
+    record {
+      as_long : length l.statements ≡ length l.fn.statements;
+      behind : drop l.i l.statements ≡ drop l.i l.fn.statements;
+      none_done : l.done ≡ [];
+      so_far : (n : ℕ) → SoFar (into_at steps functions (block_to steps functions n))
+          (statements_at steps functions (block_to steps functions n) (l.initial.transform, l.initial.state)
+          l.fn.statements)
+          (in_turn (into_at steps functions (block_to steps functions n)) (l.transform, l.state)
+          (take l.i l.statements) (drop l.i l.statements));
+    }
 
 abbrev pub invariant-terminal::walk_cases-loop-i : goal.invariant-terminal::walk_cases-loop-i
 invariant-terminal::walk_cases-loop-i g l =

@@ -1,6 +1,6 @@
-use Rattle.rc_checks.proofs.LabelPruning.FrontPruned.{popped_behind}
+use Rattle.rc_walk.proofs.LastStatements.{popped_behind}
 use Rattle.rc_tree.proofs.StepLemmas.{any_case}
-use Rattle.rc_checks.proofs.labels.replace_at.Goals as goal
+use Rattle.rc_walk.proofs.statements.replace_at.Goals as goal
 
 pub returns-clause-behind : goal.returns-clause-behind
 returns-clause-behind c = any_case c.take_from.result

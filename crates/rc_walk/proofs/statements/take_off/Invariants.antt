@@ -1,5 +1,5 @@
 use Rattle.std.proofs.Common.{◌≡◌, ◌++◌, drop, length, reverse, take}
-use Rattle.rc_checks.proofs.labels.take_off.Given as goal
+use Rattle.rc_walk.proofs.statements.take_off.Given as goal
 
 -- the statements that are left to take off are those from the start on
 abbrev pub invariant-loop-all : goal.invariant-loop-all

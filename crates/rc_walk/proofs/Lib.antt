@@ -1,0 +1,2 @@
+pub mod LastStatements
+pub mod FrontWalked
