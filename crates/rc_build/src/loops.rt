@@ -308,7 +308,6 @@ fn loop_tree(
 {
     let LoopTerminal { kind, id, span, .. } = terminal;
     let BuiltTurns { before, test, body } = turns;
-    let test = test.into_inner();
     let loop_block = ReactiveBlock { statements: body };
     match kind {
         LoopKind::While => ReactiveTerminal::While {
@@ -322,14 +321,14 @@ fn loop_tree(
             id,
         },
         LoopKind::For { .. } => ReactiveTerminal::For {
-            init: init.unwrap().into_inner(),
+            init: init.unwrap(),
             test,
-            update: before.map(|value| value.into_inner()),
+            update: before,
             loop_block,
             id,
         },
         LoopKind::ForOf { .. } => ReactiveTerminal::ForOf {
-            init: before.unwrap().into_inner(),
+            init: before.unwrap(),
             test,
             loop_block,
             span,

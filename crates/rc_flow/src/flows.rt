@@ -9,7 +9,7 @@ ghost use Rattle.std.specs.Prelude.{◌≡◌, ◌++◌, map, IfOk, OnOk};
 ghost use Rattle.rc_flow.specs.Flows.{all_steps, flows_if, flows_in, flows_of_case, flows_of_statement};
 ghost use Rattle.rc_flow.specs.Flows.{flows_of_terminal};
 
-use crate::flows::values::{add_row, add_value, add_value_if};
+use crate::flows::values::{add_loop_value, add_row, add_value_if};
 use crate::step::Step;
 use rc_hir::Environment;
 use rc_names::List;
@@ -103,14 +103,14 @@ fn add_terminal(
             ..
         } => {
             add_block(alloc, env, steps, loop_block)?;
-            add_value(alloc, env, steps, test)
+            add_loop_value(alloc, env, steps, test)
         }
         ReactiveTerminal::While {
             test,
             loop_block,
             ..
         } => {
-            add_value(alloc, env, steps, test)?;
+            add_loop_value(alloc, env, steps, test)?;
             add_block(alloc, env, steps, loop_block)
         }
         ReactiveTerminal::For {
@@ -120,8 +120,8 @@ fn add_terminal(
             loop_block,
             ..
         } => {
-            add_value(alloc, env, steps, init)?;
-            add_value(alloc, env, steps, test)?;
+            add_loop_value(alloc, env, steps, init)?;
+            add_loop_value(alloc, env, steps, test)?;
             add_value_if(alloc, env, steps, update)?;
             add_block(alloc, env, steps, loop_block)
         }
@@ -131,8 +131,8 @@ fn add_terminal(
             loop_block,
             ..
         } => {
-            add_value(alloc, env, steps, init)?;
-            add_value(alloc, env, steps, test)?;
+            add_loop_value(alloc, env, steps, init)?;
+            add_loop_value(alloc, env, steps, test)?;
             add_block(alloc, env, steps, loop_block)
         }
         ReactiveTerminal::ForIn {
@@ -140,7 +140,7 @@ fn add_terminal(
             loop_block,
             ..
         } => {
-            add_value(alloc, env, steps, init)?;
+            add_loop_value(alloc, env, steps, init)?;
             add_block(alloc, env, steps, loop_block)
         }
         ReactiveTerminal::If {

@@ -16,7 +16,7 @@ ghost use Rattle.rc_tree.specs.Collected.{collected_statement, collected_termina
 use crate::event::MemoEvent;
 use crate::rows::RowReader;
 use rc_hir::Place;
-use rc_names::{IdentifierId, List, ScopeId};
+use rc_names::{Boxed, IdentifierId, List, ScopeId};
 use rc_tree::{
     ReactiveBlock, ReactiveScopeBlock, ReactiveStatement, ReactiveSwitchCase, ReactiveTerminal,
     ReactiveValue,
@@ -104,7 +104,7 @@ fn add_reassigned(
 fn add_value_if(
     reader: &RowReader<'_>,
     events: &mut List<MemoEvent>,
-    value: &Option<ReactiveValue>,
+    value: &Option<Boxed<ReactiveValue>>,
 ) -> Result<(), AllocError>
     ensures { OnOk result (events.new ≡ events.old ++ walked_events reader.now.env.now value.now) }
 {
@@ -118,11 +118,11 @@ fn add_value_if(
 fn add_value(
     reader: &RowReader<'_>,
     events: &mut List<MemoEvent>,
-    value: &ReactiveValue,
+    value: &Boxed<ReactiveValue>,
 ) -> Result<(), AllocError>
     ensures { OnOk result (events.new ≡ events.old ++ walked_events reader.now.env.now (Some value.now)) }
 {
-    reader.add_walked(events, value)?;
+    reader.add_walked(events, value.get())?;
     Ok(())
 }
 

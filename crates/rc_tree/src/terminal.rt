@@ -4,7 +4,7 @@ use crate::kind::ReactiveTerminalTargetKind;
 use crate::statement::ReactiveBlock;
 use crate::value::ReactiveValue;
 use rc_hir::Place;
-use rc_names::{BlockId, EvaluationOrder, List, Span};
+use rc_names::{BlockId, Boxed, EvaluationOrder, List, Span};
 
 /// The block that the jumps to a statement name.
 #[derive(Clone, Copy, Debug, PartialEq, Eq)]
@@ -30,7 +30,8 @@ pub struct ReactiveSwitchCase {
     pub block: Option<ReactiveBlock>,
 }
 
-/// A statement that was a terminal of the graph.
+/// A statement that was a terminal of the graph. The values of loops are boxed, since each terminal takes the room of the
+/// largest.
 #[cycle(tree)]
 #[derive(Drop)]
 pub enum ReactiveTerminal {
@@ -59,30 +60,30 @@ pub enum ReactiveTerminal {
     },
     DoWhile {
         loop_block: ReactiveBlock,
-        test: ReactiveValue,
+        test: Boxed<ReactiveValue>,
         id: EvaluationOrder,
     },
     While {
-        test: ReactiveValue,
+        test: Boxed<ReactiveValue>,
         loop_block: ReactiveBlock,
         id: EvaluationOrder,
     },
     For {
-        init: ReactiveValue,
-        test: ReactiveValue,
-        update: Option<ReactiveValue>,
+        init: Boxed<ReactiveValue>,
+        test: Boxed<ReactiveValue>,
+        update: Option<Boxed<ReactiveValue>>,
         loop_block: ReactiveBlock,
         id: EvaluationOrder,
     },
     ForOf {
-        init: ReactiveValue,
-        test: ReactiveValue,
+        init: Boxed<ReactiveValue>,
+        test: Boxed<ReactiveValue>,
         loop_block: ReactiveBlock,
         span: Option<Span>,
         id: EvaluationOrder,
     },
     ForIn {
-        init: ReactiveValue,
+        init: Boxed<ReactiveValue>,
         loop_block: ReactiveBlock,
         span: Option<Span>,
         id: EvaluationOrder,

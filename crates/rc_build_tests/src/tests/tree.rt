@@ -227,22 +227,23 @@ fn flat(
     row: ReactiveInstruction,
     id: EvaluationOrder,
     span: Option<Span>,
-) -> Result<ReactiveValue, AllocError> {
+) -> Result<Boxed<ReactiveValue>, AllocError> {
     let mut instructions = List::new(alloc);
     instructions.push(row)?;
     let undefined = InstructionValue::Primitive {
         value: PrimitiveValue::Undefined,
         span,
     };
-    Ok(ReactiveValue::SequenceExpression {
+    let value = ReactiveValue::SequenceExpression {
         instructions,
         id,
         value: Boxed::new(alloc, ReactiveValue::Instruction(undefined))?,
-    })
+    };
+    Boxed::new(alloc, value)
 }
 
 /// The init of the loop: its row is the one that flattening adds.
-fn init(alloc: Global, change: Change) -> Result<ReactiveValue, AllocError> {
+fn init(alloc: Global, change: Change) -> Result<Boxed<ReactiveValue>, AllocError> {
     let id = change.id(Change::FlatRowId, 7, 13);
     let span = change.span(Change::FlatRowSpan, LOOP_SPAN);
     let behind = change.span(Change::UndefinedSpan, LOOP_SPAN);
@@ -251,7 +252,7 @@ fn init(alloc: Global, change: Change) -> Result<ReactiveValue, AllocError> {
 }
 
 /// The test of the loop.
-fn test(alloc: Global, change: Change) -> Result<ReactiveValue, AllocError> {
+fn test(alloc: Global, change: Change) -> Result<Boxed<ReactiveValue>, AllocError> {
     let added = row(
         EvaluationOrder::new(9),
         Some(place(5)),

@@ -146,7 +146,7 @@ pub fn while_around(
     statements: List<ReactiveStatement>,
 ) -> Result<ReactiveStatement, AllocError> {
     let terminal = ReactiveTerminal::While {
-        test: loaded(0),
+        test: Boxed::new(alloc, loaded(0))?,
         loop_block: block(statements),
         id: EvaluationOrder::new(id),
     };

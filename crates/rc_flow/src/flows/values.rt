@@ -9,14 +9,14 @@ ghost use Rattle.rc_flow.specs.declared.step.Step.TheVariants.{Carries};
 
 use crate::step::Step;
 use crate::types::is_stable;
-use rc_hir::{Environment, InstructionValue as Kind, Pattern, Place, Places, each_pattern_operand};
-use rc_names::{IdentifierId, List};
+use rc_hir::{Environment, InstructionValue as Kind, Pattern, Place, each_pattern_operand};
+use rc_names::{Boxed, IdentifierId, List};
 use rc_tree::{ReactiveInstruction, ReactiveValue};
 use std::alloc::{AllocError, Global};
 
 /// Adds the steps of the rows in a value.
 #[cycle(value_flows)]
-pub fn add_value(
+fn add_value(
     alloc: Global,
     env: &Environment,
     steps: &mut List<Step>,
@@ -86,17 +86,29 @@ pub fn add_row(
     add_own(alloc, env, steps, &row.lvalue, &row.value)
 }
 
-/// Adds the steps of a value that may be left out.
+/// Adds the steps of a value of a loop.
+pub fn add_loop_value(
+    alloc: Global,
+    env: &Environment,
+    steps: &mut List<Step>,
+    value: &Boxed<ReactiveValue>,
+) -> Result<(), AllocError>
+    ensures { OnOk result (steps.new ≡ steps.old ++ spec.steps_of_value env.now value.now) }
+{
+    add_value(alloc, env, steps, value.get())
+}
+
+/// Adds the steps of a value of a loop that may be left out.
 pub fn add_value_if(
     alloc: Global,
     env: &Environment,
     steps: &mut List<Step>,
-    value: &Option<ReactiveValue>,
+    value: &Option<Boxed<ReactiveValue>>,
 ) -> Result<(), AllocError>
     ensures { OnOk result (steps.new ≡ steps.old ++ spec.steps_of_value_if env.now value.now) }
 {
     match value {
-        Some(value) => add_value(alloc, env, steps, value),
+        Some(value) => add_loop_value(alloc, env, steps, value),
         None => Ok(()),
     }
 }

@@ -147,12 +147,12 @@ fn sequence(alloc: Global, entries: &[Row]) -> Result<ReactiveValue, AllocError>
 
 /// A `for` without rows but those of its update and of its body, in which the block of scope 0 stands.
 fn for_loop(alloc: Global, update: &[Row], body: &[Row]) -> Result<ReactiveStatement, AllocError> {
-    let update = sequence(alloc, update)?;
+    let update = Boxed::new(alloc, sequence(alloc, update)?)?;
     let mut statements = statements(alloc, body)?;
     statements.push(scope_around(0, List::new(alloc)))?;
     let terminal = ReactiveTerminal::For {
-        init: undefined(),
-        test: undefined(),
+        init: Boxed::new(alloc, undefined())?,
+        test: Boxed::new(alloc, undefined())?,
         update: Some(update),
         loop_block: ReactiveBlock { statements },
         id: EvaluationOrder::new(1),

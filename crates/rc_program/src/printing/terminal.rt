@@ -10,7 +10,7 @@ use crate::printing::place::write_place;
 use crate::printing::text::{write_id, write_span};
 use crate::printing::value::write_value;
 use rc_hir::Place;
-use rc_names::{BlockId, EvaluationOrder, ScopeId};
+use rc_names::{BlockId, Boxed, EvaluationOrder, ScopeId};
 use rc_tree::{ReactiveLabel, ReactiveTerminal, ReactiveTerminalTargetKind, ReactiveValue};
 use std::alloc::AllocError;
 
@@ -143,14 +143,14 @@ pub fn write_values(
 pub fn write_value_line(
     page: &mut Page,
     name: &str,
-    value: &ReactiveValue,
+    value: &Boxed<ReactiveValue>,
     indent: usize,
 ) -> Result<(), AllocError>
     ensures { OnOk result (page.new ≡ page.old ++ value_line name.now value.now indent) }
 {
     page.indent(indent)?;
     page.push(name)?;
-    write_value(page, value)?;
+    write_value(page, value.get())?;
     page.push("\n")
 }
 
@@ -158,7 +158,7 @@ pub fn write_value_line(
 fn write_optional_value_line(
     page: &mut Page,
     name: &str,
-    value: &Option<ReactiveValue>,
+    value: &Option<Boxed<ReactiveValue>>,
     indent: usize,
 ) -> Result<(), AllocError>
     ensures { OnOk result (page.new ≡ page.old ++ optional_value_line name.now value.now indent) }

@@ -5,6 +5,7 @@
 
 ghost use Rattle.std.specs.Prelude.{◌≡◌, IfOk};
 
+use crate::copies::value::boxed_copy;
 use crate::function::ReactiveFunction;
 use crate::scope::{PrunedReactiveScopeBlock, ReactiveScopeBlock};
 use crate::statement::{ReactiveBlock, ReactiveStatement};
@@ -248,12 +249,12 @@ fn try_copy(
 fn do_while_copy(
     alloc: Global,
     loop_block: ReactiveBlock,
-    test: &ReactiveValue,
+    test: &Boxed<ReactiveValue>,
     id: EvaluationOrder,
 ) -> Result<ReactiveTerminal, AllocError>
     ensures { IfOk result (λ copy. copy ≡ ReactiveTerminal.DoWhile loop_block test.now id) }
 {
-    let test = test.clone_in(alloc)?;
+    let test = boxed_copy(alloc, test.get())?;
     Ok(ReactiveTerminal::DoWhile {
         loop_block,
         test,
@@ -264,13 +265,13 @@ fn do_while_copy(
 /// A `While` that has the copy of its block.
 fn while_copy(
     alloc: Global,
-    test: &ReactiveValue,
+    test: &Boxed<ReactiveValue>,
     loop_block: ReactiveBlock,
     id: EvaluationOrder,
 ) -> Result<ReactiveTerminal, AllocError>
     ensures { IfOk result (λ copy. copy ≡ ReactiveTerminal.While test.now loop_block id) }
 {
-    let test = test.clone_in(alloc)?;
+    let test = boxed_copy(alloc, test.get())?;
     Ok(ReactiveTerminal::While {
         test,
         loop_block,
@@ -281,15 +282,15 @@ fn while_copy(
 /// A `For` that has the copy of its block.
 fn for_copy(
     alloc: Global,
-    init: &ReactiveValue,
-    test: &ReactiveValue,
-    update: &Option<ReactiveValue>,
+    init: &Boxed<ReactiveValue>,
+    test: &Boxed<ReactiveValue>,
+    update: &Option<Boxed<ReactiveValue>>,
     loop_block: ReactiveBlock,
     id: EvaluationOrder,
 ) -> Result<ReactiveTerminal, AllocError>
     ensures { IfOk result (λ copy. copy ≡ ReactiveTerminal.For init.now test.now update.now loop_block id) }
 {
-    let update = update.clone_in(alloc)?;
+    let update = copied_value(alloc, update)?;
     let (init, test) = copied_pair(alloc, init, test)?;
     Ok(ReactiveTerminal::For {
         init,
@@ -303,8 +304,8 @@ fn for_copy(
 /// A `ForOf` that has the copy of its block.
 fn for_of_copy(
     alloc: Global,
-    init: &ReactiveValue,
-    test: &ReactiveValue,
+    init: &Boxed<ReactiveValue>,
+    test: &Boxed<ReactiveValue>,
     loop_block: ReactiveBlock,
     span: Option<Span>,
     id: EvaluationOrder,
@@ -324,14 +325,14 @@ fn for_of_copy(
 /// A `ForIn` that has the copy of its block.
 fn for_in_copy(
     alloc: Global,
-    init: &ReactiveValue,
+    init: &Boxed<ReactiveValue>,
     loop_block: ReactiveBlock,
     span: Option<Span>,
     id: EvaluationOrder,
 ) -> Result<ReactiveTerminal, AllocError>
     ensures { IfOk result (λ copy. copy ≡ ReactiveTerminal.ForIn init.now loop_block span id) }
 {
-    let init = init.clone_in(alloc)?;
+    let init = boxed_copy(alloc, init.get())?;
     Ok(ReactiveTerminal::ForIn {
         init,
         loop_block,
@@ -340,16 +341,29 @@ fn for_in_copy(
     })
 }
 
+/// A copy of an optional value.
+fn copied_value(
+    alloc: Global,
+    value: &Option<Boxed<ReactiveValue>>,
+) -> Result<Option<Boxed<ReactiveValue>>, AllocError>
+    ensures { IfOk result (λ copy. copy ≡ value.now) }
+{
+    match value {
+        Some(value) => Ok(Some(boxed_copy(alloc, value.get())?)),
+        None => Ok(None),
+    }
+}
+
 /// Copies of two values.
 fn copied_pair(
     alloc: Global,
-    first: &ReactiveValue,
-    second: &ReactiveValue,
-) -> Result<(ReactiveValue, ReactiveValue), AllocError>
+    first: &Boxed<ReactiveValue>,
+    second: &Boxed<ReactiveValue>,
+) -> Result<(Boxed<ReactiveValue>, Boxed<ReactiveValue>), AllocError>
     ensures { IfOk result (λ copies. copies ≡ (first.now, second.now)) }
 {
-    let first = first.clone_in(alloc)?;
-    let second = second.clone_in(alloc)?;
+    let first = boxed_copy(alloc, first.get())?;
+    let second = boxed_copy(alloc, second.get())?;
     Ok((first, second))
 }
 

@@ -64,7 +64,10 @@ impl CloneIn for ReactiveValue {
 
 /// A copy of a value, in its own box.
 #[cycle(copy_value)]
-fn boxed_copy(alloc: Global, value: &ReactiveValue) -> Result<Boxed<ReactiveValue>, AllocError>
+pub(super) fn boxed_copy(
+    alloc: Global,
+    value: &ReactiveValue,
+) -> Result<Boxed<ReactiveValue>, AllocError>
     ensures { IfOk result (λ copy. copy ≡ value.now) }
 {
     Ok(Boxed::new(alloc, value.clone_in(alloc)?)?)

@@ -1,7 +1,7 @@
 //! Deep trees of each kind of statement with a block, which are dropped. A drop that passed over a kind would let its
 //! levels go by nested calls, for which no stack is large enough.
 
-use crate::tests::trees::{empty, load, place, statement};
+use crate::tests::trees::{boxed_load, empty, place, statement};
 use rc_names::{EvaluationOrder, List, ScopeId};
 use rc_tree::{
     PrunedReactiveScopeBlock, ReactiveBlock, ReactiveScopeBlock, ReactiveStatement,
@@ -68,39 +68,43 @@ fn attempt(block: ReactiveBlock, handler: ReactiveBlock) -> ReactiveTerminal {
 }
 
 /// A loop of this kind with the block as its body; any other kind is a label.
-fn body_of(kind: Around, block: ReactiveBlock) -> ReactiveTerminal {
+fn body_of(
+    alloc: Global,
+    kind: Around,
+    block: ReactiveBlock,
+) -> Result<ReactiveTerminal, AllocError> {
     match kind {
-        Around::DoWhile => ReactiveTerminal::DoWhile {
-            loop_block: block,
-            test: load(0),
-            id: id(),
-        },
-        Around::While => ReactiveTerminal::While {
-            test: load(0),
+        Around::DoWhile => Ok(ReactiveTerminal::DoWhile {
+            test: boxed_load(alloc, 0)?,
             loop_block: block,
             id: id(),
-        },
-        Around::For => ReactiveTerminal::For {
-            init: load(0),
-            test: load(0),
+        }),
+        Around::While => Ok(ReactiveTerminal::While {
+            test: boxed_load(alloc, 0)?,
+            loop_block: block,
+            id: id(),
+        }),
+        Around::For => Ok(ReactiveTerminal::For {
+            init: boxed_load(alloc, 0)?,
+            test: boxed_load(alloc, 0)?,
             update: None,
             loop_block: block,
             id: id(),
-        },
-        Around::ForOf => ReactiveTerminal::ForOf {
-            init: load(0),
-            test: load(0),
+        }),
+        Around::ForOf => Ok(ReactiveTerminal::ForOf {
+            init: boxed_load(alloc, 0)?,
+            test: boxed_load(alloc, 0)?,
             loop_block: block,
             span: None,
             id: id(),
-        },
-        Around::ForIn => ReactiveTerminal::ForIn {
-            init: load(0),
+        }),
+        Around::ForIn => Ok(ReactiveTerminal::ForIn {
+            init: boxed_load(alloc, 0)?,
             loop_block: block,
             span: None,
             id: id(),
-        },
-        _ => ReactiveTerminal::Label { block, id: id() },
+        }),
+        _ => Ok(ReactiveTerminal::Label { block, id: id() }),
     }
 }
 
@@ -124,7 +128,7 @@ fn statement_around(
             scope: ScopeId::new(0),
             instructions: block,
         })),
-        _ => statement(alloc, body_of(kind, block)),
+        _ => statement(alloc, body_of(alloc, kind, block)?),
     }
 }
 

@@ -4,7 +4,7 @@ pub mod rows;
 
 use crate::tests::recorder::{Part, Visit};
 use crate::tests::trees::{
-    SPAN, empty, load, load_visits, note, place, returning, returning_visits, row, statement,
+    SPAN, boxed_load, empty, load_visits, note, place, returning, returning_visits, row, statement,
 };
 use rc_names::{BlockId, EvaluationOrder, List, ScopeId};
 use rc_tree::{
@@ -153,7 +153,7 @@ pub fn put_switch(alloc: Global, written: &mut Written) -> Result<(), AllocError
 pub fn put_do_while(alloc: Global, written: &mut Written) -> Result<(), AllocError> {
     let terminal = ReactiveTerminal::DoWhile {
         loop_block: returning(alloc, 21, 2)?,
-        test: load(1),
+        test: boxed_load(alloc, 1)?,
         id: EvaluationOrder::new(20),
     };
     written.put(
@@ -170,7 +170,7 @@ pub fn put_do_while(alloc: Global, written: &mut Written) -> Result<(), AllocErr
 /// A while: the test, then the block.
 pub fn put_while(alloc: Global, written: &mut Written) -> Result<(), AllocError> {
     let terminal = ReactiveTerminal::While {
-        test: load(1),
+        test: boxed_load(alloc, 1)?,
         loop_block: returning(alloc, 23, 2)?,
         id: EvaluationOrder::new(22),
     };
@@ -188,9 +188,9 @@ pub fn put_while(alloc: Global, written: &mut Written) -> Result<(), AllocError>
 /// A for of id 5 that loads 0, 1 and 2, with a block that returns 3 at id 9.
 pub fn for_loop(alloc: Global) -> Result<ReactiveTerminal, AllocError> {
     Ok(ReactiveTerminal::For {
-        init: load(0),
-        test: load(1),
-        update: Some(load(2)),
+        init: boxed_load(alloc, 0)?,
+        test: boxed_load(alloc, 1)?,
+        update: Some(boxed_load(alloc, 2)?),
         loop_block: returning(alloc, 9, 3)?,
         id: EvaluationOrder::new(5),
     })
@@ -218,8 +218,8 @@ pub fn put_for(alloc: Global, written: &mut Written, order: ForOrder) -> Result<
 /// A for-of: the init, the test, then the block.
 pub fn put_for_of(alloc: Global, written: &mut Written) -> Result<(), AllocError> {
     let terminal = ReactiveTerminal::ForOf {
-        init: load(1),
-        test: load(2),
+        init: boxed_load(alloc, 1)?,
+        test: boxed_load(alloc, 2)?,
         loop_block: returning(alloc, 25, 3)?,
         span: SPAN,
         id: EvaluationOrder::new(24),
@@ -239,7 +239,7 @@ pub fn put_for_of(alloc: Global, written: &mut Written) -> Result<(), AllocError
 /// A for-in: the init, then the block.
 pub fn put_for_in(alloc: Global, written: &mut Written) -> Result<(), AllocError> {
     let terminal = ReactiveTerminal::ForIn {
-        init: load(1),
+        init: boxed_load(alloc, 1)?,
         loop_block: returning(alloc, 27, 2)?,
         span: SPAN,
         id: EvaluationOrder::new(26),

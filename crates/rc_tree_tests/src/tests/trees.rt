@@ -30,6 +30,11 @@ pub fn load(number: u32) -> ReactiveValue {
     })
 }
 
+/// The value of a loop that loads a place.
+pub fn boxed_load(alloc: Global, number: u32) -> Result<Boxed<ReactiveValue>, AllocError> {
+    Boxed::new(alloc, load(number))
+}
+
 /// The visits of a value that loads a place.
 pub fn load_visits(id: u32, number: u32) -> [Visit; 3] {
     [

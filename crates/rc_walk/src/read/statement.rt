@@ -10,7 +10,7 @@ ghost use Rattle.rc_tree.specs.Read.Values.{read_value};
 use crate::read::value::{walk_instruction, walk_value};
 use crate::visitor::ReactiveFunctionVisitor;
 use rc_hir::{Fault, Place};
-use rc_names::{EvaluationOrder, List};
+use rc_names::{Boxed, EvaluationOrder, List};
 use rc_tree::{
     Enter, PrunedReactiveScopeBlock, ReactiveBlock, ReactiveScopeBlock, ReactiveStatement,
     ReactiveSwitchCase, ReactiveTerminal, ReactiveTerminalStatement, ReactiveValue,
@@ -205,7 +205,7 @@ fn walk_parts<V: ReactiveFunctionVisitor>(
         } => {
             visitor.visit_id(*id, state)?;
             walk_block(alloc, visitor, loop_block, state)?;
-            walk_value(alloc, visitor, *id, test, state)
+            walk_loop_value(alloc, visitor, *id, test, state)
         }
         ReactiveTerminal::While {
             test,
@@ -213,7 +213,7 @@ fn walk_parts<V: ReactiveFunctionVisitor>(
             id,
         } => {
             visitor.visit_id(*id, state)?;
-            walk_value(alloc, visitor, *id, test, state)?;
+            walk_loop_value(alloc, visitor, *id, test, state)?;
             walk_block(alloc, visitor, loop_block, state)
         }
         ReactiveTerminal::For {
@@ -224,8 +224,8 @@ fn walk_parts<V: ReactiveFunctionVisitor>(
             id,
         } => {
             visitor.visit_id(*id, state)?;
-            walk_value(alloc, visitor, *id, init, state)?;
-            walk_value(alloc, visitor, *id, test, state)?;
+            walk_loop_value(alloc, visitor, *id, init, state)?;
+            walk_loop_value(alloc, visitor, *id, test, state)?;
             walk_block(alloc, visitor, loop_block, state)?;
             walk_value_if(alloc, visitor, *id, update, state)
         }
@@ -237,8 +237,8 @@ fn walk_parts<V: ReactiveFunctionVisitor>(
             id,
         } => {
             visitor.visit_id(*id, state)?;
-            walk_value(alloc, visitor, *id, init, state)?;
-            walk_value(alloc, visitor, *id, test, state)?;
+            walk_loop_value(alloc, visitor, *id, init, state)?;
+            walk_loop_value(alloc, visitor, *id, test, state)?;
             walk_block(alloc, visitor, loop_block, state)
         }
         ReactiveTerminal::ForIn {
@@ -248,7 +248,7 @@ fn walk_parts<V: ReactiveFunctionVisitor>(
             id,
         } => {
             visitor.visit_id(*id, state)?;
-            walk_value(alloc, visitor, *id, init, state)?;
+            walk_loop_value(alloc, visitor, *id, init, state)?;
             walk_block(alloc, visitor, loop_block, state)
         }
         ReactiveTerminal::If {
@@ -330,12 +330,26 @@ fn walk_block_if<V: ReactiveFunctionVisitor>(
     }
 }
 
-/// Walks an optional value.
+/// Walks a value of a loop.
+fn walk_loop_value<V: ReactiveFunctionVisitor>(
+    alloc: Global,
+    visitor: &V,
+    id: EvaluationOrder,
+    value: &Boxed<ReactiveValue>,
+    state: &mut V::State,
+) -> Result<(), Fault>
+    ensures { IsStep (read_value (V.steps visitor.now) (V.functions visitor.now) value.now id state.old) result
+        state.new }
+{
+    walk_value(alloc, visitor, id, value.get(), state)
+}
+
+/// Walks an optional value of a loop.
 fn walk_value_if<V: ReactiveFunctionVisitor>(
     alloc: Global,
     visitor: &V,
     id: EvaluationOrder,
-    value: &Option<ReactiveValue>,
+    value: &Option<Boxed<ReactiveValue>>,
     state: &mut V::State,
 ) -> Result<(), Fault>
     ensures { IsStep (perhaps (λ x. read_value (V.steps visitor.now)
@@ -343,7 +357,7 @@ fn walk_value_if<V: ReactiveFunctionVisitor>(
         result state.new }
 {
     match value {
-        Some(value) => walk_value(alloc, visitor, id, value, state),
+        Some(value) => walk_loop_value(alloc, visitor, id, value, state),
         None => Ok(()),
     }
 }

@@ -13,7 +13,7 @@ use crate::rewrite::value::walk_value;
 use crate::rewrite::visits::visit_place_if;
 use crate::transform::ReactiveFunctionTransform;
 use rc_hir::Fault;
-use rc_names::{EvaluationOrder, List};
+use rc_names::{Boxed, EvaluationOrder, List};
 use rc_tree::{ReactiveBlock, ReactiveSwitchCase, ReactiveTerminal, ReactiveValue};
 use std::alloc::Global;
 
@@ -53,7 +53,7 @@ pub(super) fn walk_parts<T: ReactiveFunctionTransform>(
         } => {
             transform.visit_id(*id, state)?;
             walk_block_to(alloc, transform, loop_block, state)?;
-            walk_value(alloc, transform, *id, test, state)
+            walk_loop_value(alloc, transform, *id, test, state)
         }
         ReactiveTerminal::While {
             test,
@@ -61,7 +61,7 @@ pub(super) fn walk_parts<T: ReactiveFunctionTransform>(
             id,
         } => {
             transform.visit_id(*id, state)?;
-            walk_value(alloc, transform, *id, test, state)?;
+            walk_loop_value(alloc, transform, *id, test, state)?;
             walk_block_to(alloc, transform, loop_block, state)
         }
         ReactiveTerminal::For {
@@ -72,8 +72,8 @@ pub(super) fn walk_parts<T: ReactiveFunctionTransform>(
             id,
         } => {
             transform.visit_id(*id, state)?;
-            walk_value(alloc, transform, *id, init, state)?;
-            walk_value(alloc, transform, *id, test, state)?;
+            walk_loop_value(alloc, transform, *id, init, state)?;
+            walk_loop_value(alloc, transform, *id, test, state)?;
             walk_value_if(alloc, transform, *id, update, state)?;
             walk_block_to(alloc, transform, body, state)
         }
@@ -85,8 +85,8 @@ pub(super) fn walk_parts<T: ReactiveFunctionTransform>(
             id,
         } => {
             transform.visit_id(*id, state)?;
-            walk_value(alloc, transform, *id, init, state)?;
-            walk_value(alloc, transform, *id, test, state)?;
+            walk_loop_value(alloc, transform, *id, init, state)?;
+            walk_loop_value(alloc, transform, *id, test, state)?;
             walk_block_to(alloc, transform, loop_block, state)
         }
         ReactiveTerminal::ForIn {
@@ -96,7 +96,7 @@ pub(super) fn walk_parts<T: ReactiveFunctionTransform>(
             id,
         } => {
             transform.visit_id(*id, state)?;
-            walk_value(alloc, transform, *id, init, state)?;
+            walk_loop_value(alloc, transform, *id, init, state)?;
             walk_block_to(alloc, transform, loop_block, state)
         }
         ReactiveTerminal::If {
@@ -186,19 +186,33 @@ fn walk_block_if<T: ReactiveFunctionTransform>(
     }
 }
 
-/// Walks an optional value.
+/// Walks a value of a loop.
+fn walk_loop_value<T: ReactiveFunctionTransform>(
+    alloc: Global,
+    transform: &mut T,
+    id: EvaluationOrder,
+    value: &mut Boxed<ReactiveValue>,
+    state: &mut T::State,
+) -> Result<(), Fault>
+    ensures { IsStep (rewrite_value T.steps T.functions id (transform.old, state.old) value.old) result
+        ((transform.new, state.new), value.new) }
+{
+    walk_value(alloc, transform, id, value.get_mut(), state)
+}
+
+/// Walks an optional value of a loop.
 fn walk_value_if<T: ReactiveFunctionTransform>(
     alloc: Global,
     transform: &mut T,
     id: EvaluationOrder,
-    value: &mut Option<ReactiveValue>,
+    value: &mut Option<Boxed<ReactiveValue>>,
     state: &mut T::State,
 ) -> Result<(), Fault>
     ensures { IsStep (perhaps_hook (rewrite_value T.steps T.functions id) (transform.old, state.old) value.old) result
         ((transform.new, state.new), value.new) }
 {
     match value {
-        Some(value) => walk_value(alloc, transform, id, value, state),
+        Some(value) => walk_loop_value(alloc, transform, id, value, state),
         None => Ok(()),
     }
 }

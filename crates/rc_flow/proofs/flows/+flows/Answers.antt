@@ -27,21 +27,21 @@ pub add_terminal-returns-in_ok-add_block-in-DoWhile : goal.add_terminal-returns-
 add_terminal-returns-in_ok-add_block-in-DoWhile t c =
     let arm = c.in-DoWhile in
     let env = c.args.env.now in
-    on_ok_weaker c.add_value.result
-    (added c.args.steps.now c.add_block.new.steps c.add_value.new.steps (flows_in env arm.loop_block)
+    on_ok_weaker c.add_loop_value.result
+    (added c.args.steps.now c.add_block.new.steps c.add_loop_value.new.steps (flows_in env arm.loop_block)
     (steps_of_value env arm.test) (flows_of_terminal env c.args.terminal.now)
     c.in_ok-add_block-in-DoWhile.ensures
     (ap (flows_of_terminal env) arm.is ∙ flows-DoWhile env arm.loop_block arm.test arm.id))
-    c.add_value.ensures
+    c.add_loop_value.ensures
 
-pub add_terminal-returns-in_ok-add_value-in-While : goal.add_terminal-returns-in_ok-add_value-in-While
-add_terminal-returns-in_ok-add_value-in-While t c =
+pub add_terminal-returns-in_ok-add_loop_value-in-While : goal.add_terminal-returns-in_ok-add_loop_value-in-While
+add_terminal-returns-in_ok-add_loop_value-in-While t c =
     let arm = c.in-While in
     let env = c.args.env.now in
     on_ok_weaker c.add_block-in-While.result
-    (added c.args.steps.now c.add_value-in-While.new.steps c.add_block-in-While.new.steps
+    (added c.args.steps.now c.add_loop_value-in-While.new.steps c.add_block-in-While.new.steps
     (steps_of_value env arm.test) (flows_in env arm.loop_block) (flows_of_terminal env c.args.terminal.now)
-    c.in_ok-add_value-in-While.ensures
+    c.in_ok-add_loop_value-in-While.ensures
     (ap (flows_of_terminal env) arm.is ∙ flows-While env arm.test arm.loop_block arm.id))
     c.add_block-in-While.ensures
 
@@ -50,33 +50,33 @@ add_terminal-returns-in_ok-add_value_if-in-For t c =
     let arm = c.in-For in
     let env = c.args.env.now in
     on_ok_weaker c.add_block-in-For.result
-    (added_four c.args.steps.now c.add_value-in-For.new.steps c.add_value-in-For-2.new.steps c.add_value_if.new.steps
+    (added_four c.args.steps.now c.add_loop_value-in-For.new.steps c.add_loop_value-in-For-2.new.steps c.add_value_if.new.steps
     c.add_block-in-For.new.steps (steps_of_value env arm.init) (steps_of_value env arm.test)
     (steps_of_value_if env arm.update) (flows_in env arm.loop_block) (flows_of_terminal env c.args.terminal.now)
-    c.in_ok-add_value-in-For.ensures c.in_ok-add_value-in-For-2.ensures c.in_ok-add_value_if-in-For.ensures
+    c.in_ok-add_loop_value-in-For.ensures c.in_ok-add_loop_value-in-For-2.ensures c.in_ok-add_value_if-in-For.ensures
     (ap (flows_of_terminal env) arm.is ∙ flows-For env arm.init arm.test arm.update arm.loop_block arm.id))
     c.add_block-in-For.ensures
 
-pub add_terminal-returns-in_ok-add_value-in-ForOf-2 : goal.add_terminal-returns-in_ok-add_value-in-ForOf-2
-add_terminal-returns-in_ok-add_value-in-ForOf-2 t c =
+pub add_terminal-returns-in_ok-add_loop_value-in-ForOf-2 : goal.add_terminal-returns-in_ok-add_loop_value-in-ForOf-2
+add_terminal-returns-in_ok-add_loop_value-in-ForOf-2 t c =
     let arm = c.in-ForOf in
     let env = c.args.env.now in
     on_ok_weaker c.add_block-in-ForOf.result
-    (added_three c.args.steps.now c.add_value-in-ForOf.new.steps c.add_value-in-ForOf-2.new.steps
+    (added_three c.args.steps.now c.add_loop_value-in-ForOf.new.steps c.add_loop_value-in-ForOf-2.new.steps
     c.add_block-in-ForOf.new.steps (steps_of_value env arm.init) (steps_of_value env arm.test)
     (flows_in env arm.loop_block) (flows_of_terminal env c.args.terminal.now)
-    c.in_ok-add_value-in-ForOf.ensures c.in_ok-add_value-in-ForOf-2.ensures
+    c.in_ok-add_loop_value-in-ForOf.ensures c.in_ok-add_loop_value-in-ForOf-2.ensures
     (ap (flows_of_terminal env) arm.is ∙ flows-ForOf env arm.init arm.test arm.loop_block arm.span arm.id))
     c.add_block-in-ForOf.ensures
 
-pub add_terminal-returns-in_ok-add_value-in-ForIn : goal.add_terminal-returns-in_ok-add_value-in-ForIn
-add_terminal-returns-in_ok-add_value-in-ForIn t c =
+pub add_terminal-returns-in_ok-add_loop_value-in-ForIn : goal.add_terminal-returns-in_ok-add_loop_value-in-ForIn
+add_terminal-returns-in_ok-add_loop_value-in-ForIn t c =
     let arm = c.in-ForIn in
     let env = c.args.env.now in
     on_ok_weaker c.add_block-in-ForIn.result
-    (added c.args.steps.now c.add_value-in-ForIn.new.steps c.add_block-in-ForIn.new.steps
+    (added c.args.steps.now c.add_loop_value-in-ForIn.new.steps c.add_block-in-ForIn.new.steps
     (steps_of_value env arm.init) (flows_in env arm.loop_block) (flows_of_terminal env c.args.terminal.now)
-    c.in_ok-add_value-in-ForIn.ensures
+    c.in_ok-add_loop_value-in-ForIn.ensures
     (ap (flows_of_terminal env) arm.is ∙ flows-ForIn env arm.init arm.loop_block arm.span arm.id))
     c.add_block-in-ForIn.ensures
 

@@ -82,8 +82,8 @@ pub fn put_switch(alloc: Global, block: &mut ReactiveBlock) -> Result<(), AllocE
 /// A `for` loop without a label and an update.
 pub fn put_for(alloc: Global, block: &mut ReactiveBlock) -> Result<(), AllocError> {
     let terminal = ReactiveTerminal::For {
-        init: load(60),
-        test: load(61),
+        init: Boxed::new(alloc, load(60))?,
+        test: Boxed::new(alloc, load(61))?,
         update: None,
         loop_block: empty(alloc),
         id: EvaluationOrder::new(59),
@@ -94,8 +94,8 @@ pub fn put_for(alloc: Global, block: &mut ReactiveBlock) -> Result<(), AllocErro
 /// A loop over the values of a collection, without a label, of which no part is a sequence.
 pub fn put_for_of(alloc: Global, block: &mut ReactiveBlock) -> Result<(), AllocError> {
     let terminal = ReactiveTerminal::ForOf {
-        init: load(72),
-        test: load(73),
+        init: Boxed::new(alloc, load(72))?,
+        test: Boxed::new(alloc, load(73))?,
         loop_block: empty(alloc),
         span: None,
         id: EvaluationOrder::new(71),
@@ -106,7 +106,7 @@ pub fn put_for_of(alloc: Global, block: &mut ReactiveBlock) -> Result<(), AllocE
 /// A loop over the property names of an object, without a label, of which no part is a sequence.
 pub fn put_for_in(alloc: Global, block: &mut ReactiveBlock) -> Result<(), AllocError> {
     let terminal = ReactiveTerminal::ForIn {
-        init: load(80),
+        init: Boxed::new(alloc, load(80))?,
         loop_block: empty(alloc),
         span: None,
         id: EvaluationOrder::new(79),

@@ -469,27 +469,27 @@ terminal::walk_parts-returns-in_ok-walk_value_if-in-For g t c = λ n.
     let functions = g.T.ReactiveFunctionTransform.functions in
     let w : g.row.T.Denot × g.row.T-State.Denot = (c.args.transform.now, c.args.state.now) in
     let w1 : g.row.T.Denot × g.row.T-State.Denot = (c.visit_id-in-For.new.self, c.visit_id-in-For.new.state) in
-    let w2 : g.row.T.Denot × g.row.T-State.Denot = (c.walk_value-in-For.new.transform, c.walk_value-in-For.new.state) in
+    let w2 : g.row.T.Denot × g.row.T-State.Denot = (c.walk_loop_value-in-For.new.transform, c.walk_loop_value-in-For.new.state) in
     let w3 : g.row.T.Denot
-    × g.row.T-State.Denot = (c.walk_value-in-For-2.new.transform, c.walk_value-in-For-2.new.state) in
+    × g.row.T-State.Denot = (c.walk_loop_value-in-For-2.new.transform, c.walk_loop_value-in-For-2.new.state) in
     let w4 : g.row.T.Denot × g.row.T-State.Denot = (c.walk_value_if.new.transform, c.walk_value_if.new.state) in
     let w5 : g.row.T.Denot
     × g.row.T-State.Denot = (c.walk_block_to-in-For.new.transform, c.walk_block_to-in-For.new.state) in
     subst (λ id. IsFueled (parts_at steps functions (block_to steps functions n) w c.args.terminal.now)
     c.walk_block_to-in-For.result (
       w5,
-      tree.For c.walk_value-in-For.new.value c.walk_value-in-For-2.new.value c.walk_value_if.new.value
+      tree.For c.walk_loop_value-in-For.new.value c.walk_loop_value-in-For-2.new.value c.walk_value_if.new.value
           c.walk_block_to-in-For.new.block id,
     )) (sym c.in-For.id-is)
     (rw c.in-For.is (meets_For steps functions (block_to steps functions n) w w1 w2 w3 w4 w5 c.in-For.init
-    c.walk_value-in-For.new.value c.in-For.test c.walk_value-in-For-2.new.value
+    c.walk_loop_value-in-For.new.value c.in-For.test c.walk_loop_value-in-For-2.new.value
     c.in-For.update c.walk_value_if.new.value c.in-For.body c.walk_block_to-in-For.new.block c.in-For.id
     c.walk_block_to-in-For.result
     (subst (λ id. steps.visit_id id w ≡ Ok (tt, w1)) c.in-For.id-is c.in_ok-visit_id-in-For.ensures.step)
-    (both_same (λ id x. rewrite_value steps functions id w1 x ≡ Ok (tt, (w2, c.walk_value-in-For.new.value)))
-    c.in-For.id-is c.in-For.init-is c.in_ok-walk_value-in-For.ensures)
-    (both_same (λ id x. rewrite_value steps functions id w2 x ≡ Ok (tt, (w3, c.walk_value-in-For-2.new.value)))
-    c.in-For.id-is c.in-For.test-is c.in_ok-walk_value-in-For-2.ensures)
+    (both_same (λ id x. rewrite_value steps functions id w1 x ≡ Ok (tt, (w2, c.walk_loop_value-in-For.new.value)))
+    c.in-For.id-is c.in-For.init-is c.in_ok-walk_loop_value-in-For.ensures)
+    (both_same (λ id x. rewrite_value steps functions id w2 x ≡ Ok (tt, (w3, c.walk_loop_value-in-For-2.new.value)))
+    c.in-For.id-is c.in-For.test-is c.in_ok-walk_loop_value-in-For-2.ensures)
     (both_same (λ id x. perhaps_hook (rewrite_value steps functions id) w3 x ≡ Ok (tt, (w4, c.walk_value_if.new.value)))
     c.in-For.id-is c.in-For.update-is c.in_ok-walk_value_if-in-For.ensures)
     (subst (λ x. IsFueled (block_to steps functions n w4 x) c.walk_block_to-in-For.result
