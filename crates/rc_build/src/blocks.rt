@@ -29,6 +29,8 @@ impl<'g> Builder<'g> {
     ///   own (`KeyDiffers`), is used already or a jump target (`Twice`), has an unset id (`UnsetId`), leads to a
     ///   block that ends in `Unreachable` (`Dead`), or opens a scope that is used already (`ScopeTwice`).
     /// - `BadName`: one of its rows isn't there.
+    // Not inlined, so that a row takes no room in the frames of nested calls.
+    #[inline(never)]
     pub fn take_block(&mut self, site: Site) -> Result<&'g Terminal, Fault>
         requires { CanBuildList self.old.hir.now self.old.marks site.handler self.old.frames site.block }
         ensures { Builds self.old self.new site (λ terminal. TakesBlock self.old self.new site terminal.now)

@@ -1,6 +1,6 @@
 //! Statements that choose between arms: `If`, and `Branch` in a list.
 
-ghost use Rattle.std.specs.Prelude.{◌≡◌, ◌&&◌, Option, IfOk, is_some, not};
+ghost use Rattle.std.specs.Prelude.{◌≡◌, ◌&&◌, ◌++◌, ◌∷◌, [], Option, OnOk, is_some, not};
 ghost use Rattle.rc_names.specs.Numbers.{BlockId, same_id};
 ghost use Rattle.rc_names.specs.declared.span.Span.{Span};
 ghost use Rattle.rc_hir.specs.declared.terminal.Terminal.TheVariants as terminals;
@@ -14,7 +14,7 @@ ghost use Rattle.rc_build.specs.inside.Task.{FromTerminal, SpellsAlternate, Spel
 ghost use Rattle.rc_build.specs.inside.Built.{Builds, BuildsTask, BuiltAlternate, BuiltConsequent, Refused};
 ghost use Rattle.rc_build.specs.inside.Setting as settings;
 
-use crate::builder::{Builder, Site, falls_to, label_at, malformed, terminal_statement};
+use crate::builder::{Builder, Site, falls_to, label_at, malformed, put_terminal};
 use rc_hir::{Fault, Place, Rule};
 use rc_names::{BlockId, EvaluationOrder, List};
 use rc_runs::Frame;
@@ -47,8 +47,8 @@ impl<'g> Builder<'g> {
         let frame = Frame::Statement { block: fallthrough };
         let part = self.build_part(site, consequent, frame, opened)?;
         let other = self.build_alternate(site, alternate, fallthrough, opened)?;
-        let statement = if_statement(self.alloc, test, part, other, id, label_at(opened))?;
-        self.out.push(statement)?;
+        let label = label_at(opened);
+        put_if(self.alloc, &mut self.out, test, part, other, id, label)?;
         Ok(opened)
     }
 
@@ -56,6 +56,8 @@ impl<'g> Builder<'g> {
     ///
     /// - `Malformed` with `BreakTarget`: a jump can name the alternate.
     /// - `Malformed`, as for a break: a jump can name the consequent.
+    // Not inlined, so that the frames of other statements have no room for its parts.
+    #[inline(never)]
     #[cycle(builder)]
     pub fn build_branch(
         &mut self,
@@ -76,8 +78,7 @@ impl<'g> Builder<'g> {
         let part = self.build_consequent(site, consequent, id)?;
         let statements = self.build_apart(site.at(alternate))?;
         let other = Some(ReactiveBlock { statements });
-        let statement = if_statement(self.alloc, test, part, other, id, None)?;
-        self.out.push(statement)?;
+        put_if(self.alloc, &mut self.out, test, part, other, id, None)?;
         Ok(None)
     }
 
@@ -143,17 +144,19 @@ fn falls_elsewhere(
     alternate == fallthrough && !falls_to(opened, fallthrough, next)
 }
 
-/// The statement of an if. The only error is out of memory.
-fn if_statement(
+/// Puts the statement of an if behind others. The only error is out of memory.
+#[inline(never)]
+fn put_if(
     alloc: Global,
+    out: &mut List<ReactiveStatement>,
     test: Place,
     consequent: List<ReactiveStatement>,
     alternate: Option<ReactiveBlock>,
     id: EvaluationOrder,
     label: Option<ReactiveLabel>,
-) -> Result<ReactiveStatement, AllocError>
-    ensures { IfOk result (λ statement. statement ≡
-        settings.terminal_statement (tree.If test (record { statements = consequent }) alternate id) label) }
+) -> Result<(), AllocError>
+    ensures { OnOk result (out.new ≡ out.old
+        ++ settings.terminal_statement (tree.If test (record { statements = consequent }) alternate id) label ∷ []) }
 {
     let terminal = ReactiveTerminal::If {
         test,
@@ -163,5 +166,5 @@ fn if_statement(
         alternate,
         id,
     };
-    terminal_statement(alloc, terminal, label)
+    put_terminal(alloc, out, terminal, label)
 }

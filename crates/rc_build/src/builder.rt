@@ -1,6 +1,6 @@
 //! What the builder reads and keeps, and what the functions that build statements share.
 
-ghost use Rattle.std.specs.Prelude.{◌≡◌, [], IfOk, is_some};
+ghost use Rattle.std.specs.Prelude.{◌≡◌, ◌++◌, ◌∷◌, [], OnOk, is_some};
 ghost use Rattle.rc_hir.specs.declared.fault.Fault.TheVariants as faults;
 ghost use Rattle.rc_runs.specs.Fallthrough as spec;
 ghost use Rattle.rc_build.specs.inside.Setting as settings;
@@ -162,16 +162,18 @@ pub fn label_at(opened: Option<BlockId>) -> Option<ReactiveLabel>
     }
 }
 
-/// The statement of a terminal with a label. The only error is out of memory.
-pub fn terminal_statement(
+/// Puts the statement of a terminal with a label behind others. The only error is out of memory.
+// It isn't inlined, nor are the functions that put one kind of statement: a statement takes no room in the frames of
+// nested calls.
+#[inline(never)]
+pub fn put_terminal(
     alloc: Global,
+    out: &mut List<ReactiveStatement>,
     terminal: ReactiveTerminal,
     label: Option<ReactiveLabel>,
-) -> Result<ReactiveStatement, AllocError>
-    ensures { IfOk result (λ statement. statement ≡ settings.terminal_statement terminal label) }
+) -> Result<(), AllocError>
+    ensures { OnOk result (out.new ≡ out.old ++ settings.terminal_statement terminal label ∷ []) }
 {
-    Ok(ReactiveStatement::Terminal(Boxed::new(
-        alloc,
-        ReactiveTerminalStatement { terminal, label },
-    )?))
+    let stmt = Boxed::new(alloc, ReactiveTerminalStatement { terminal, label })?;
+    out.push(ReactiveStatement::Terminal(stmt))
 }

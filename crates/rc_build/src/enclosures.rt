@@ -1,6 +1,6 @@
 //! Statements with one part: labels, and the blocks of scopes, kept or pruned.
 
-ghost use Rattle.std.specs.Prelude.{◌≡◌, Option, IfOk};
+ghost use Rattle.std.specs.Prelude.{◌≡◌, ◌++◌, ◌∷◌, [], Option, OnOk};
 ghost use Rattle.rc_names.specs.declared.span.Span.{Span};
 ghost use Rattle.rc_build.specs.inside.CanBuild.{CanBuildTerminal};
 ghost use Rattle.rc_build.specs.inside.Setting.{open_block};
@@ -8,7 +8,7 @@ ghost use Rattle.rc_build.specs.inside.Task.{FromTerminal, left};
 ghost use Rattle.rc_build.specs.inside.Built.{BuildsTask};
 ghost use Rattle.rc_build.specs.inside.Enclosures as spec;
 
-use crate::builder::{Builder, Site, label_at, terminal_statement};
+use crate::builder::{Builder, Site, label_at, put_terminal};
 use rc_hir::Fault;
 use rc_names::{BlockId, EvaluationOrder, List, ScopeId};
 use rc_runs::Frame;
@@ -40,26 +40,31 @@ impl Enclosure {
         }
     }
 
-    /// The statement around a part; scopes have no label. The only error is out of memory.
-    fn statement(
+    /// Puts the statement around a part behind others; scopes have no label. The only error is out of memory.
+    #[inline(never)]
+    fn put(
         self,
         alloc: Global,
+        out: &mut List<ReactiveStatement>,
         part: List<ReactiveStatement>,
         id: EvaluationOrder,
         label: Option<ReactiveLabel>,
-    ) -> Result<ReactiveStatement, AllocError>
-        ensures { IfOk result (λ statement. statement ≡ spec.statement_around self part id label) }
+    ) -> Result<(), AllocError>
+        ensures { OnOk result (out.new ≡ out.old ++ spec.statement_around self part id label ∷ []) }
     {
         let block = ReactiveBlock { statements: part };
         match self {
-            Enclosure::Label => {
-                terminal_statement(alloc, ReactiveTerminal::Label { block, id }, label)
-            }
-            Enclosure::Scope { scope } => Ok(ReactiveStatement::Scope(ReactiveScopeBlock {
+            Enclosure::Label => put_terminal(
+                alloc,
+                out,
+                ReactiveTerminal::Label { block, id },
+                label,
+            ),
+            Enclosure::Scope { scope } => out.push(ReactiveStatement::Scope(ReactiveScopeBlock {
                 scope,
                 instructions: block,
             })),
-            Enclosure::PrunedScope { scope } => Ok(ReactiveStatement::PrunedScope(
+            Enclosure::PrunedScope { scope } => out.push(ReactiveStatement::PrunedScope(
                 PrunedReactiveScopeBlock {
                     scope,
                     instructions: block,
@@ -87,8 +92,7 @@ impl<'g> Builder<'g> {
     {
         let opened = self.open_around(enclosure, fallthrough);
         let body = self.build_part(site, part, enclosure.frame(fallthrough), opened)?;
-        let statement = enclosure.statement(self.alloc, body, id, label_at(opened))?;
-        self.out.push(statement)?;
+        enclosure.put(self.alloc, &mut self.out, body, id, label_at(opened))?;
         Ok(opened)
     }
 

@@ -14,7 +14,7 @@ ghost use Rattle.rc_build.specs.inside.CanBuild.{CanBreak, CanBuildTerminal};
 ghost use Rattle.rc_build.specs.inside.Task.{FromTerminal, left};
 ghost use Rattle.rc_build.specs.inside.Built.{Builds, BuildsTask, PutsBreak};
 
-use crate::builder::{Builder, Site, is_next, malformed, terminal_statement};
+use crate::builder::{Builder, Site, is_next, malformed, put_terminal};
 use rc_hir::{Fault, GotoVariant, Place, Rule};
 use rc_names::{BlockId, EvaluationOrder};
 use rc_runs::{BreakResult, ContinueResult};
@@ -34,8 +34,7 @@ impl<'g> Builder<'g> {
             (FromTerminal (terminals.Return value id span)) left result }
     {
         let terminal = ReactiveTerminal::Return { value, id };
-        let statement = terminal_statement(self.alloc, terminal, None)?;
-        self.out.push(statement)?;
+        put_terminal(self.alloc, &mut self.out, terminal, None)?;
         Ok(None)
     }
 
@@ -55,8 +54,7 @@ impl<'g> Builder<'g> {
             return Err(malformed(site.block, Rule::ThrowInTry));
         }
         let terminal = ReactiveTerminal::Throw { value, id };
-        let statement = terminal_statement(self.alloc, terminal, None)?;
-        self.out.push(statement)?;
+        put_terminal(self.alloc, &mut self.out, terminal, None)?;
         Ok(None)
     }
 
@@ -125,8 +123,7 @@ impl<'g> Builder<'g> {
                     target_kind,
                     id,
                 };
-                let statement = terminal_statement(self.alloc, terminal, None)?;
-                self.out.push(statement)?;
+                put_terminal(self.alloc, &mut self.out, terminal, None)?;
                 Ok(())
             }
         }
@@ -153,8 +150,7 @@ impl<'g> Builder<'g> {
                     target_kind: kind,
                     id,
                 };
-                let statement = terminal_statement(self.alloc, terminal, None)?;
-                self.out.push(statement)?;
+                put_terminal(self.alloc, &mut self.out, terminal, None)?;
                 Ok(None)
             }
         }

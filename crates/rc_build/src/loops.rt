@@ -15,7 +15,7 @@ ghost use Rattle.rc_build.specs.inside.Task.{FromTerminal, left, progress_of};
 ghost use Rattle.rc_build.specs.inside.CanBuild.{CanBuildTerminal};
 ghost use Rattle.rc_build.specs.inside.Built.{Builds, BuildsTask, Refused};
 
-use crate::builder::{Builder, Site, label_at, malformed, terminal_statement};
+use crate::builder::{Builder, Site, label_at, malformed, put_terminal};
 use crate::unreachable::ends_unreachable;
 use crate::values::Showing;
 use rc_hir::{Fault, Rule, Terminal};
@@ -151,6 +151,8 @@ impl<'g> Builder<'g> {
     /// - `Malformed` with `LoopLive`: a jump can name its fallthrough already, or the block with which its turns begin,
     ///   or it is a while whose fallthrough ends in `Unreachable`.
     /// - `Malformed`, `Todo`, `BadName`: as for its values and its body.
+    // Not inlined, so that the frames of other statements have no room for its parts.
+    #[inline(never)]
     #[cycle(builder)]
     pub fn build_loop(
         &mut self,
@@ -168,8 +170,7 @@ impl<'g> Builder<'g> {
         let turns = self.build_turns(site, terminal)?;
         let tree = loop_tree(terminal, init, turns);
         let label = label_at(Some(terminal.fallthrough));
-        let statement = terminal_statement(self.alloc, tree, label)?;
-        self.out.push(statement)?;
+        put_terminal(self.alloc, &mut self.out, tree, label)?;
         Ok(Some(terminal.fallthrough))
     }
 

@@ -1,6 +1,6 @@
 //! Switches: their cases are built from the last to the first, each inside the frames of those after it.
 
-ghost use Rattle.std.specs.Prelude.{◌≡◌, ◌&&◌, ◌||◌, Option, IfOk, is_some, not};
+ghost use Rattle.std.specs.Prelude.{◌≡◌, ◌&&◌, ◌||◌, ◌++◌, ◌∷◌, [], Option, IfOk, OnOk, is_some, not};
 ghost use Rattle.std.specs.List.{list_any};
 ghost use Rattle.rc_names.specs.declared.span.Span.{Span};
 ghost use Rattle.rc_hir.specs.Successors as successors;
@@ -18,7 +18,7 @@ ghost use Rattle.rc_build.specs.inside.Switches as switches;
 ghost use Rattle.rc_build.specs.inside.Task.{FromTerminal, left};
 ghost use Rattle.rc_build.specs.inside.Built.{BuildsTask};
 
-use crate::builder::{Builder, Site, falls_to, label_at, malformed, terminal_statement};
+use crate::builder::{Builder, Site, falls_to, label_at, malformed, put_terminal};
 use rc_hir::{Case, Fault, Place, Rule};
 use rc_names::{BlockId, EvaluationOrder, List};
 use rc_runs::Frame;
@@ -34,6 +34,8 @@ impl<'g> Builder<'g> {
     /// - `Malformed` with `SwitchCase`: two cases are defaults, or a case with a test leads straight to the
     ///   fallthrough.
     /// - `Malformed` with `FallsElsewhere`: no default is left, and leaving the switch leads elsewhere.
+    // Not inlined, so that the frames of other statements have no room for its parts.
+    #[inline(never)]
     #[cycle(builder)]
     pub fn build_switch(
         &mut self,
@@ -59,8 +61,7 @@ impl<'g> Builder<'g> {
         }
         let frame = Frame::Switch { block: fallthrough };
         let parts = self.build_cases_inside(site, kept, frame, opened)?;
-        let statement = switch_statement(self.alloc, test, parts, id, label_at(opened))?;
-        self.out.push(statement)?;
+        put_switch(self.alloc, &mut self.out, test, parts, id, label_at(opened))?;
         Ok(opened)
     }
 
@@ -219,16 +220,22 @@ fn switch_case(case: Case, statements: List<ReactiveStatement>) -> ReactiveSwitc
     }
 }
 
-/// The statement of a switch. The only error is out of memory.
-fn switch_statement(
+/// Puts the statement of a switch behind others. The only error is out of memory.
+#[inline(never)]
+fn put_switch(
     alloc: Global,
+    out: &mut List<ReactiveStatement>,
     test: Place,
     cases: List<ReactiveSwitchCase>,
     id: EvaluationOrder,
     label: Option<ReactiveLabel>,
-) -> Result<ReactiveStatement, AllocError>
-    ensures { IfOk result (λ statement. statement ≡ settings.terminal_statement (tree.Switch test cases id) label) }
+) -> Result<(), AllocError>
+    ensures { OnOk result (out.new ≡ out.old ++ settings.terminal_statement (tree.Switch test cases id) label ∷ []) }
 {
-    let terminal = ReactiveTerminal::Switch { test, cases, id };
-    terminal_statement(alloc, terminal, label)
+    put_terminal(
+        alloc,
+        out,
+        ReactiveTerminal::Switch { test, cases, id },
+        label,
+    )
 }

@@ -1,6 +1,6 @@
 //! Tries, whose block the handler protects, and blocks in a list that may throw.
 
-ghost use Rattle.std.specs.Prelude.{◌≡◌, Option, IfOk};
+ghost use Rattle.std.specs.Prelude.{◌≡◌, ◌++◌, ◌∷◌, [], Option, OnOk};
 ghost use Rattle.rc_names.specs.Numbers.{EvaluationOrder};
 ghost use Rattle.rc_names.specs.declared.span.Span.{Span};
 ghost use Rattle.rc_hir.specs.declared.terminal.Terminal.TheVariants as terminals;
@@ -10,7 +10,7 @@ ghost use Rattle.rc_build.specs.inside.Setting as settings;
 ghost use Rattle.rc_build.specs.inside.Task.{FromTerminal, left};
 ghost use Rattle.rc_build.specs.inside.Built.{BuildsTask};
 
-use crate::builder::{Builder, Site, is_next, label_at, malformed, terminal_statement};
+use crate::builder::{Builder, Site, is_next, label_at, malformed, put_terminal};
 use crate::handlers::is_current;
 use rc_hir::{Fault, Place, Rule};
 use rc_names::{BlockId, EvaluationOrder, List};
@@ -20,6 +20,8 @@ use std::alloc::{AllocError, Global};
 
 impl<'g> Builder<'g> {
     /// Builds a try, whose handler protects its block and not itself; returns where the list goes on.
+    // Not inlined, so that the frames of other statements have no room for its parts.
+    #[inline(never)]
     #[cycle(builder)]
     pub fn build_try(
         &mut self,
@@ -39,8 +41,8 @@ impl<'g> Builder<'g> {
         let frame = Frame::Statement { block: fallthrough };
         let block = self.build_part(site.protected_by(handler), part, frame, opened)?;
         let other = self.build_part(site, handler, frame, opened)?;
-        let statement = try_statement(self.alloc, block, binding, other, id, label_at(opened))?;
-        self.out.push(statement)?;
+        let label = label_at(opened);
+        put_try(self.alloc, &mut self.out, block, binding, other, id, label)?;
         Ok(opened)
     }
 
@@ -68,17 +70,19 @@ impl<'g> Builder<'g> {
     }
 }
 
-/// The statement of a try. The only error is out of memory.
-fn try_statement(
+/// Puts the statement of a try behind others. The only error is out of memory.
+#[inline(never)]
+fn put_try(
     alloc: Global,
+    out: &mut List<ReactiveStatement>,
     block: List<ReactiveStatement>,
     handler_binding: Option<Place>,
     handler: List<ReactiveStatement>,
     id: EvaluationOrder,
     label: Option<ReactiveLabel>,
-) -> Result<ReactiveStatement, AllocError>
-    ensures { IfOk result (λ statement. statement ≡ settings.terminal_statement
-        (tree.Try (record { statements = block }) handler_binding (record { statements = handler }) id) label) }
+) -> Result<(), AllocError>
+    ensures { OnOk result (out.new ≡ out.old ++ settings.terminal_statement
+        (tree.Try (record { statements = block }) handler_binding (record { statements = handler }) id) label ∷ []) }
 {
     let terminal = ReactiveTerminal::Try {
         block: ReactiveBlock { statements: block },
@@ -88,5 +92,5 @@ fn try_statement(
         },
         id,
     };
-    terminal_statement(alloc, terminal, label)
+    put_terminal(alloc, out, terminal, label)
 }

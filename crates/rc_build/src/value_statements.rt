@@ -18,6 +18,8 @@ impl<'g> Builder<'g> {
     ///
     /// - `Malformed` with `FallsElsewhere`: leaving the row leads elsewhere.
     /// - `Malformed`, `Todo`, `BadName`: as for its value and its short arm.
+    // Not inlined, so that a value takes no room in the frames of nested lists.
+    #[inline(never)]
     pub fn build_value_statement(
         &mut self,
         site: Site,

@@ -133,6 +133,8 @@ impl<'g> Builder<'g> {
     ///
     /// - `Malformed` with `ValueEnd`: it chooses between other blocks.
     /// - `Malformed`, `Todo`, `BadName`: as for a condition.
+    // Not inlined, so that the frames of nested loops have no room for the value.
+    #[inline(never)]
     pub fn build_test(
         &mut self,
         site: Site,

@@ -236,8 +236,8 @@ build_enclosure-returns t c = λ span.
     (enclosure_built c.args.enclosure c.args.part c.args.fallthrough c.args.id span c.open_around-opened.ensures
     (subst (λ z. BuiltList (part_setting c.open_around-opened.result z (setting_of old c.args.site)) c.args.part
     c.in_ok-body.body (progress_of old) (progress_of c.build_part.new.self)) c.frame.ensures body.ok)
-    (c.in_ok-statement.ensures ∙ ap (statement_around c.args.enclosure c.in_ok-body.body c.args.id) c.label_at.ensures)
-    c.in_ok-push.ensures.ok) body.frames
+    (ap (statement_around c.args.enclosure c.in_ok-body.body c.args.id) c.label_at.ensures) c.in_ok-put.ensures)
+    body.frames
 
 -- the answers of a loop's functions
 

@@ -1,6 +1,4 @@
-use Rattle.std.proofs.Common.{[], ◌∷◌, ◌++◌, ap, ◌∙◌}
 use Rattle.rc_hir.specs.declared.terminal.Terminal.TheVariants as terminals
-use Rattle.rc_tree.specs.Model.{ReactiveStatement}
 use Rattle.rc_runs.specs.PlainTree.{Return}
 use Rattle.rc_runs.specs.SimpleStatements.{unlabeled}
 use Rattle.rc_runs.specs.Grammar as grammar
@@ -9,6 +7,6 @@ use Rattle.rc_build.proofs.builder.Builder.build_return.Goals as goal
 
 pub returns : goal.returns
 returns c = λ span. builds_end (terminals.Return c.args.value c.args.id span)
-    (unlabeled (Return c.args.value c.args.id)) c.requires.1.marked
-    (c.in_ok-push.ensures.ok ∙ ap (λ (z : ReactiveStatement). c.args.self.now.out ++ z ∷ []) c.in_ok-statement.ensures)
+    (grammar.unlabeled (Return c.args.value c.args.id)) c.requires.1.marked
+    c.in_ok-put_terminal.ensures
     grammar.returns

@@ -1,7 +1,6 @@
-use Rattle.std.proofs.Common.{[], ◌∷◌, ◌++◌, sym, ap, ◌∙◌}
+use Rattle.std.proofs.Common.{sym, ◌∙◌}
 use Rattle.rc_hir.specs.declared.fault.Rule.TheVariants as rules
 use Rattle.rc_hir.specs.declared.terminal.Terminal.TheVariants as terminals
-use Rattle.rc_tree.specs.Model.{ReactiveStatement}
 use Rattle.rc_runs.specs.PlainTree.{Throw}
 use Rattle.rc_runs.specs.SimpleStatements.{unlabeled}
 use Rattle.rc_runs.specs.Grammar as grammar
@@ -20,6 +19,6 @@ returns-then-is_some c = λ span.
 
 pub returns : goal.returns
 returns c = λ span. builds_end (terminals.Throw c.args.value c.args.id span)
-    (unlabeled (Throw c.args.value c.args.id)) c.requires.1.marked
-    (c.in_ok-push.ensures.ok ∙ ap (λ (z : ReactiveStatement). c.args.self.now.out ++ z ∷ []) c.in_ok-statement.ensures)
+    (grammar.unlabeled (Throw c.args.value c.args.id)) c.requires.1.marked
+    c.in_ok-put_terminal.ensures
     (grammar.throws (no_handler c.args.site.handler (sym c.is_some.ensures ∙ c.if-is_some.false)))

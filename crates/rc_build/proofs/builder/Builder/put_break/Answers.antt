@@ -1,7 +1,6 @@
-use Rattle.std.proofs.Common.{[], ◌∷◌, ◌++◌, true, false, refl, sym, ap, ◌∙◌}
+use Rattle.std.proofs.Common.{true, false, refl, sym, ap}
 use Rattle.std.proofs.lemmas.List.{append-nil}
 use Rattle.rc_hir.specs.declared.fault.Rule.TheVariants as rules
-use Rattle.rc_tree.specs.Model.{ReactiveStatement}
 use Rattle.rc_runs.specs.PlainTree.{Nil, Break}
 use Rattle.rc_runs.specs.SimpleStatements.{break_statements, unlabeled}
 use Rattle.rc_build.specs.inside.CanBuild.{IsUsedApart}
@@ -41,11 +40,10 @@ returns-in-FallsOff c = is_built tt (record {
   kept = refl;
 }) refl
 
-pub returns-in_ok-push-in-Breaks : goal.returns-in_ok-push-in-Breaks
-returns-in_ok-push-in-Breaks c = is_built tt (record {
+pub returns-in_ok-put_terminal-in-Breaks : goal.returns-in_ok-put_terminal-in-Breaks
+returns-in_ok-put_terminal-in-Breaks c = is_built tt (record {
   statements = unlabeled (Break c.args.target c.in-Breaks.target_kind c.args.id);
   asked = ap (λ z. break_statements z c.args.target c.args.id) (sym c.in-Breaks.ensures);
-  put = c.in_ok-push-in-Breaks.ensures.ok ∙ ap (λ (z : ReactiveStatement). c.args.self.now.out ++ z ∷ [])
-      c.in_ok-statement-in-Breaks.ensures;
+  put = c.in_ok-put_terminal-in-Breaks.ensures;
   kept = refl;
 }) refl

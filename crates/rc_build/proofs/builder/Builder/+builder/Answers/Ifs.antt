@@ -66,7 +66,7 @@ build_branch-returns t c = λ span.
     let other = list_at {site = c.args.site} c.args.alternate c.at.ensures c.in_ok-statements.ensures in
     is_built None
     (branch_built part.ok (built_in (λ z. Spells z (FromBlock c.args.alternate)) part.frames other.ok)
-    c.in_ok-statement.ensures c.in_ok-push.ensures.ok) (other.frames ∙ part.frames)
+    refl c.in_ok-put_if.ensures) (other.frames ∙ part.frames)
 
 -- its consequent
 
@@ -167,8 +167,8 @@ build_if-returns t c = λ span.
     (if_built c.open_reachable-opened.ensures (sym c.falls_elsewhere.ensures ∙ c.if-falls_elsewhere.false) part.ok
     (built_in (λ z. SpellsAlternate (part_setting c.open_reachable-opened.result
     (frame_kinds.Statement c.args.fallthrough) z) c.args.alternate c.args.fallthrough) part.frames other.ok)
-    (c.in_ok-statement.ensures ∙ ap (terminal_statement (tree.If c.args.test (record { statements = c.in_ok-part.part })
-    c.in_ok-other.other c.args.id)) c.label_at.ensures) c.in_ok-push.ensures.ok)
+    (ap (terminal_statement (tree.If c.args.test (record { statements = c.in_ok-part.part }) c.in_ok-other.other
+    c.args.id)) c.label_at-label.ensures) c.in_ok-put_if.ensures)
     (other.frames ∙ part.frames)
 
 -- an alternate

@@ -81,8 +81,7 @@ build_loop-returns t c =
     (loop_built s c.args.terminal init.ok (subst (λ (z : Setting). TurnsBuilt z c.args.terminal c.in_ok-turns.turns
     (progress_of c.build_before.new.self) (progress_of c.build_turns.new.self)) init.frames turns.ok) free.2
     c.loop_tree-tree.ensures
-    (c.in_ok-statement.ensures ∙ ap (terminal_statement c.loop_tree-tree.result) c.label_at-label.ensures)
-    c.in_ok-push.ensures.ok) (turns.frames ∙ init.frames)
+    (ap (terminal_statement c.loop_tree-tree.result) c.label_at-label.ensures) c.in_ok-put_terminal.ensures) (turns.frames ∙ init.frames)
 
 -- its turns
 

@@ -69,8 +69,8 @@ build_switch-returns t c = λ span.
     (switch_built {s = setting_of old c.args.site} c.open_reachable-opened.ensures
     (kept_chosen c.args.cases.now c.args.fallthrough c.in_ok-kept.ensures c.is_target_inside-is_target.ensures) odd.0
     odd.1 falls parts.ok
-    (c.in_ok-statement.ensures ∙ ap (terminal_statement (tree.Switch c.args.test c.in_ok-parts.parts c.args.id))
-    c.label_at.ensures) c.in_ok-push.ensures.ok) parts.frames
+    (ap (terminal_statement (tree.Switch c.args.test c.in_ok-parts.parts c.args.id)) c.label_at.ensures)
+    c.in_ok-put_switch.ensures) parts.frames
 
 -- its cases inside its frame
 

@@ -75,6 +75,5 @@ build_try-returns t c = λ span.
     (try_built {s = setting_of old c.args.site} c.open_reachable-opened.ensures block.ok
     (built_in (λ z. Spells (part_setting c.open_reachable-opened.result (frame_kinds.Statement c.args.fallthrough) z)
     (FromBlock c.args.handler)) same other.ok)
-    (c.in_ok-statement.ensures ∙ ap (terminal_statement (tree.Try (record { statements = c.in_ok-block.block })
-    c.args.binding (record { statements = c.in_ok-other.other }) c.args.id)) c.label_at.ensures)
-    c.in_ok-push.ensures.ok) (other.frames ∙ same)
+    (ap (terminal_statement (tree.Try (record { statements = c.in_ok-block.block }) c.args.binding
+    (record { statements = c.in_ok-other.other }) c.args.id)) c.label_at-label.ensures) c.in_ok-put_try.ensures) (other.frames ∙ same)
