@@ -1,4 +1,4 @@
--- The places of keys in a list that grows at its end.
+-- The positions of keys in a list that grows at its end.
 use Rattle.std.proofs.Common.{◌≡◌, ◌∙◌, ◌<◌, ◌+◌, ℕ, Bool, true, false, ◌||◌, cond, if◌then◌else◌, List, [], ◌∷◌, ◌++◌}
 use Rattle.std.proofs.Common.{Option, Some, None, refl, sym, ap, subst, length, take, get_or, position, arith, eqb-true}
 use Rattle.std.proofs.Common.{is_some, true≢false}
@@ -12,8 +12,8 @@ use Rattle.std.proofs.lemmas.List.{take_more}
 use Rattle.indexmap.proofs.MapLemmas.{distinct-take}
 use Rattle.indexmap.proofs.SetLemmas.{set_all_distinct}
 use Rattle.indexmap.specs.IndexSet.{insert_key}
-use Rattle.rc_names.specs.declared.places.Places.{Places}
-use Rattle.rc_names.specs.inside.Places.{place_of, ArePlaces, PutsPlace}
+use Rattle.rc_names.specs.declared.positions.Positions.{Positions}
+use Rattle.rc_names.specs.inside.Positions.{position_of, ArePositions, PutsPosition}
 
 module _ {K : Type 0} (test : K → Bool) where
   some_from : (keys : List K) (first : ℕ) → is_some (position_from test first keys) ≡ list_any test keys
@@ -78,14 +78,14 @@ or_none (Some x) = refl
 module _ {K : Type 0} {number : K → ℕ} {eq : K → K → Bool} (equivalence : IsEquivalence eq)
     (same : (m n : K) → number m ≡ number n → m ≡ n) (eq_same : (m n : K) → eq m n ≡ true → m ≡ n) where
   -- a new key that is put at the end
-  pub places_behind : (keys : List K) (key : K) (old new : Places) → ArePlaces number eq keys old
-      → list_any (eq key) keys ≡ false → PutsPlace old new (number key) (length keys)
-      → ArePlaces number eq (keys ++ key ∷ []) new
-  places_behind keys key old new are fresh puts other =
+  pub positions_behind : (keys : List K) (key : K) (old new : Positions) → ArePositions number eq keys old
+      → list_any (eq key) keys ≡ false → PutsPosition old new (number key) (length keys)
+      → ArePositions number eq (keys ++ key ∷ []) new
+  positions_behind keys key old new are fresh puts other =
       puts (number other) ∙ by (nat_eq (number key) (number other)) refl ∙ sym (position_behind (eq other) key keys)
     where
       by : (b : Bool) → nat_eq (number key) (number other) ≡ b
-          → (if b then Some (length keys) else place_of old (number other))
+          → (if b then Some (length keys) else position_of old (number other))
           ≡ option_or (position (eq other) keys) (cond (eq other key) (Some (length keys)) None)
       by true is =
           let alike : key ≡ other = same key other (eqb-true (number key) (number other) is) in

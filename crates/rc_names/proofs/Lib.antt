@@ -1,5 +1,5 @@
 pub mod NumbersLemmas
 pub mod KeyedLemmas
-mod PlacesLemmas
+mod PositionsLemmas
 mod KeysLemmas
 mod PairsLemmas

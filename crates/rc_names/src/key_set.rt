@@ -4,23 +4,23 @@ ghost use Rattle.std.specs.Prelude.{◌≡◌, [], length, not, position, slice_
 ghost use Rattle.std.specs.List.{list_any, IsDistinct};
 ghost use Rattle.indexmap.specs.IndexSet.{insert_key};
 
-use crate::places::Places;
+use crate::positions::Positions;
 use crate::{CloneIn, List, Name};
 use std::alloc::{AllocError, Global};
 use std::marker::Model;
 
-/// Keys and their places, which contracts see as the list of the keys. They are distinct.
+/// Keys and their positions, which contracts see as the list of the keys. They are distinct.
 #[derive(Drop)]
 pub struct KeySet<K: Name> {
     keys: List<K>,
-    places: Places,
+    positions: Positions,
 }
 
 impl<K: Name> Model for KeySet<K> {
     ghost use Rattle.std.specs.Prelude.{List as Keys};
     ghost use Rattle.std.specs.List.{IsDistinct};
     ghost use Rattle.std.specs.Coded.{coded_list};
-    ghost use Rattle.rc_names.specs.inside.Places.{ArePlaces};
+    ghost use Rattle.rc_names.specs.inside.Positions.{ArePositions};
 
     ghost Value = { Keys K };
 
@@ -28,7 +28,7 @@ impl<K: Name> Model for KeySet<K> {
 
     ghost view = { λ it. it.keys };
 
-    ghost invariant = { λ it. IsDistinct K.eq it.keys × ArePlaces K.number K.eq it.keys it.places };
+    ghost invariant = { λ it. IsDistinct K.eq it.keys × ArePositions K.number K.eq it.keys it.positions };
 }
 
 impl<K: Name> KeySet<K> {
@@ -38,7 +38,7 @@ impl<K: Name> KeySet<K> {
     {
         KeySet {
             keys: List::new(alloc),
-            places: Places::new(alloc),
+            positions: Positions::new(alloc),
         }
     }
 
@@ -61,7 +61,7 @@ impl<K: Name> KeySet<K> {
     pub fn position(&self, key: K) -> Option<usize>
         ensures { result ≡ position (K.eq key) self.now }
     {
-        self.places.find(key.index())
+        self.positions.find(key.index())
     }
 
     /// Returns the key at an index, and `None` past the end.
@@ -88,9 +88,9 @@ impl<K: Name> KeySet<K> {
         if self.contains(key) {
             return Ok(false);
         }
-        let place = self.keys.len();
+        let position = self.keys.len();
         self.keys.push(key)?;
-        match self.places.put(key.index(), place) {
+        match self.positions.put(key.index(), position) {
             Ok(()) => Ok(true),
             Err(error) => {
                 self.keys.pop();

@@ -11,7 +11,7 @@ mod keyed;
 mod list;
 mod name;
 mod numbers;
-mod places;
+mod positions;
 mod span;
 mod table;
 mod text;

@@ -22,8 +22,9 @@ use Rattle.rc_checks.specs.Membership.Visits.{visits_of_values}
 use Rattle.rc_escape.proofs.NotEscaping.KeptParts.{flagged_row_kept}
 use Rattle.rc_escape.proofs.RebuiltRelated.{RelatesRules, rebuilt_related, stands}
 use Rattle.rc_escape.specs.Met.{nothing_met}
-use Rattle.rc_escape.specs.NotEscaping.{IsRebuiltFor, flagged, flagged_row, in_place_of, is_dissolved}
-use Rattle.rc_escape.specs.NotEscaping.{not_escaping_rules}
+use Rattle.rc_escape.specs.Flags.{flagged, flagged_row}
+use Rattle.rc_escape.specs.NotEscaping.{IsRebuiltFor, in_place_of, not_escaping_rules}
+use Rattle.rc_escape.specs.Outputs.{is_dissolved}
 use Rattle.rc_escape.specs.declared.not_escaping.met.Met.{Met}
 use Rattle.rc_flow.proofs.UnreadOperands.{all_recorded, unread_of, unread_parts, unread_values}
 use Rattle.rc_flow.specs.Collected.{recorded_steps}

@@ -2,7 +2,7 @@
 
 ghost use Rattle.std.specs.Prelude.{◌≡◌, ◌↔◌, ◌⊎◌, List as Items, IfErr, IfOk, IsOk, OnOk};
 ghost use Rattle.rc_checks.specs.ScopeBlocks.{scopes_in};
-ghost use Rattle.rc_escape.specs.NotEscaping.{IsEscapeFault};
+ghost use Rattle.rc_escape.specs.WholeRecord.{IsEscapeFault};
 ghost use Rattle.rc_flow.specs.Collected.{recorded_steps};
 ghost use Rattle.rc_hir.specs.Model.{HirFunction};
 ghost use Rattle.rc_hir.specs.Names.{NamesInTables};

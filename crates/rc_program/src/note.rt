@@ -2,8 +2,8 @@
 //! finds no memory is left out.
 
 use crate::printing::fault_sentence;
-use rc_misread::misread_words;
 use rc_hir::Fault;
+use rc_misread::misread_words;
 use rc_names::Text;
 use serde_json::Value;
 use std::alloc::{AllocError, Global};

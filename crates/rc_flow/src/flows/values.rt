@@ -9,7 +9,7 @@ ghost use Rattle.rc_flow.specs.declared.step.Step.TheVariants.{Carries};
 
 use crate::step::Step;
 use crate::types::is_stable;
-use rc_hir::{Environment, InstructionValue as Kind, Pattern, Place, each_pattern_operand};
+use rc_hir::{Environment, InstructionValue as Kind, Pattern, Place, Places, each_pattern_operand};
 use rc_names::{Boxed, IdentifierId, List};
 use rc_tree::{ReactiveInstruction, ReactiveValue};
 use std::alloc::{AllocError, Global};

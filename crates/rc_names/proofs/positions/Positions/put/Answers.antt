@@ -4,9 +4,9 @@ use Rattle.std.specs.BTreeMap.{get}
 use Rattle.std.specs.Ordering.{nat_cmp}
 use Rattle.std.specs.Prelude.{◌-◌}
 use Rattle.std.specs.Vec.{vec_len}
-use Rattle.rc_names.proofs.PlacesLemmas.{get_or-zeros, puts_in_row}
-use Rattle.rc_names.proofs.places.Places.put.Goals as goal
-use Rattle.rc_names.proofs.places.Places.put.Goals.{then-len-number+in_ok-resize, else-len-number}
+use Rattle.rc_names.proofs.PositionsLemmas.{get_or-zeros, puts_in_row}
+use Rattle.rc_names.proofs.positions.Positions.put.Goals as goal
+use Rattle.rc_names.proofs.positions.Positions.put.Goals.{then-len-number+in_ok-resize, else-len-number}
 
 pub returns-clause-ok : goal.returns-clause-ok
 returns-clause-ok g c =
@@ -22,12 +22,12 @@ returns-clause-ok g c =
           ∙ ap (λ items. get_or items other 0) (take_all (g.args.number + 1) old.row.items short) in
           let within : g.args.number < length new.row.items =
           omega (arith, ap (λ s. length s.row.items) w.self-is, w.in_ok-resize.ensures.len) in
-          puts_in_row old.row.items (λ n. get nat_cmp old.others n) g.args.number g.args.place new.row.items
+          puts_in_row old.row.items (λ n. get nat_cmp old.others n) g.args.number g.args.position new.row.items
           (λ n. get nat_cmp new.others n) entries (λ n. ap (λ s. get nat_cmp s.others n) w.self-is) within c
       | else-len-number w ↦
           let within : g.args.number < length new.row.items =
           omega (arith, ap (λ s. length s.row.items) w.self-is, w.if-len-number.false, g.len.ensures) in
-          puts_in_row old.row.items (λ n. get nat_cmp old.others n) g.args.number g.args.place new.row.items
+          puts_in_row old.row.items (λ n. get nat_cmp old.others n) g.args.number g.args.position new.row.items
           (λ n. get nat_cmp new.others n) (λ n. ap (λ s. get_or s.row.items n 0) w.self-is)
           (λ n. ap (λ s. get nat_cmp s.others n) w.self-is) within c
     ]
