@@ -21,6 +21,30 @@ fn are(places: &List<Place>, numbers: &[u32]) -> bool {
             .all(|(place, number)| place.identifier.0 == *number)
 }
 
+/// The operands of a value, in a list of their own.
+fn operands(
+    alloc: Global,
+    value: &InstructionValue,
+    env: &Environment,
+) -> Result<List<Place>, Fault> {
+    Ok(each_instruction_value_operand(alloc, value, env)?.into_list(alloc)?)
+}
+
+/// The targets of a value.
+fn targets(alloc: Global, value: &InstructionValue) -> Result<List<Place>, Fault> {
+    Ok(each_instruction_value_lvalue(alloc, value)?.into_list(alloc)?)
+}
+
+/// The places of a pattern.
+fn places(alloc: Global, pattern: &Pattern) -> Result<List<Place>, Fault> {
+    Ok(each_pattern_operand(alloc, pattern)?.into_list(alloc)?)
+}
+
+/// The operands of a terminal.
+fn reads(alloc: Global, terminal: &Terminal) -> Result<List<Place>, Fault> {
+    Ok(each_terminal_operand(alloc, terminal)?.into_list(alloc)?)
+}
+
 /// The operands of a call of place 1 with place 2 and, spread out, place 3.
 fn call_operands(alloc: Global) -> Result<List<Place>, Fault> {
     let args = [
@@ -32,8 +56,7 @@ fn call_operands(alloc: Global) -> Result<List<Place>, Fault> {
         args: List::from_slice(alloc, &args)?,
         span: None,
     };
-    let env = Environment::empty(alloc);
-    Ok(each_instruction_value_operand(alloc, &call, &env)?.into_list(alloc)?)
+    operands(alloc, &call, &Environment::empty(alloc))
 }
 
 #[test]
@@ -52,7 +75,7 @@ fn store_targets(alloc: Global) -> Result<List<Place>, Fault> {
         value: read(2),
         span: None,
     };
-    Ok(each_instruction_value_lvalue(alloc, &store)?.into_list(alloc)?)
+    targets(alloc, &store)
 }
 
 #[test]
@@ -71,7 +94,7 @@ fn pattern_places(alloc: Global) -> Result<List<Place>, Fault> {
     let pattern = Pattern::Array {
         items: List::from_slice(alloc, &items)?,
     };
-    Ok(each_pattern_operand(alloc, &pattern)?.into_list(alloc)?)
+    places(alloc, &pattern)
 }
 
 #[test]
@@ -103,8 +126,7 @@ fn switch(alloc: Global) -> Result<Terminal, AllocError> {
 
 /// The operands of that switch.
 fn switch_operands(alloc: Global) -> Result<List<Place>, Fault> {
-    let switch = switch(alloc)?;
-    Ok(each_terminal_operand(alloc, &switch)?.into_list(alloc)?)
+    reads(alloc, &switch(alloc)?)
 }
 
 /// Its place in the order of evaluation.
@@ -139,8 +161,7 @@ fn a_switch_with_a_default_leads_to_its_cases_alone(rt: HostRuntime) -> Result<(
 fn function_operands(alloc: Global, context: &[Place], number: u32) -> Result<List<Place>, Fault> {
     let function = with_row(one_block(alloc, context)?, debugger())?;
     let env = one_function(alloc, function)?;
-    let value = nested(number);
-    Ok(each_instruction_value_operand(alloc, &value, &env)?.into_list(alloc)?)
+    operands(alloc, &nested(number), &env)
 }
 
 #[test]
@@ -168,17 +189,30 @@ fn computed_store() -> InstructionValue {
     }
 }
 
-/// Whether the operands of that store are these, borrowed and in a list of their own.
-fn store_reads(alloc: Global, numbers: &[u32]) -> Result<bool, Fault> {
-    let (store, env) = (computed_store(), Environment::empty(alloc));
-    let places = each_instruction_value_operand(alloc, &store, &env)?;
-    let count = places.as_slice().len();
-    Ok(count == numbers.len() && are(&places.into_list(alloc)?, numbers))
+/// The operands of that store.
+fn store_operands(alloc: Global) -> Result<List<Place>, Fault> {
+    operands(alloc, &computed_store(), &Environment::empty(alloc))
+}
+
+/// How many operands a value has, where they stand.
+fn count(alloc: Global, value: &InstructionValue, env: &Environment) -> Result<usize, Fault> {
+    Ok(
+        each_instruction_value_operand(alloc, value, env)?
+            .as_slice()
+            .len(),
+    )
+}
+
+/// How many operands that store has.
+fn store_count(alloc: Global) -> Result<usize, Fault> {
+    count(alloc, &computed_store(), &Environment::empty(alloc))
 }
 
 #[test]
 fn three_operands_come_in_order(rt: HostRuntime) -> Result<(), Fail> {
-    assert!(rt; store_reads(rt.alloc(), &[1, 2, 3])?);
+    let alloc = rt.alloc();
+    assert!(rt; are(&store_operands(alloc)?, &[1, 2, 3]));
+    assert_eq!(rt; store_count(alloc)?, 3);
     Ok(())
 }
 
