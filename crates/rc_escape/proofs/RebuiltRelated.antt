@@ -110,7 +110,8 @@ module _ {S A B : Type 0} (rules : Rules S) (IsRelated : A → B → Type 0) (a 
   mutual
     list_related : (p : Statements) → ListRelated p
     list_related Nil s r e =
-        subst (λ c. IsRelated a.joining.nothing (collected_list b c.1)) (Ok-injective (s, []) r e) related.joined.nothing
+        subst (λ c. IsRelated a.joining.nothing (collected_list b c.1)) (Ok-injective (s, []) r e)
+        related.joined.nothing
     list_related (Cons x rest) s r e =
         let first = answer_of (rebuilt_statement rules (statement_of x) s)
         (λ c. bind (joined (map (rebuilt_statement rules) (statements_of rest)) c.0)
@@ -163,7 +164,8 @@ module _ {S A B : Type 0} (rules : Rules S) (IsRelated : A → B → Type 0) (a 
         → if_some (rebuilt_block rules) (alternate_of x) s ≡ Ok r
         → IsRelated (collected_if a (alternate_of x)) (collected_if b r.1)
     alternate_related Absent s r e =
-        subst (λ c. IsRelated a.joining.nothing (collected_if b c.1)) (Ok-injective (s, None) r e) related.joined.nothing
+        subst (λ c. IsRelated a.joining.nothing (collected_if b c.1)) (Ok-injective (s, None) r e)
+        related.joined.nothing
     alternate_related (Present body) s r e =
         let made = made_answer (rebuilt_block rules (block_of body) s) (λ c. (c.0, Some c.1)) r e in
         moved refl (ap (λ c. collected_if b c.1) made.2) (within body (list_related body) s made.0 made.1)

@@ -110,7 +110,8 @@ staying_among (x ∷ xs) answers scope there =
       | inr rest ↦ later rest
     ]
 
-not_made : (name : IdentifierId) (in_scope : Bool) (scope : ScopeId) → Some (Makes name in_scope) ≡ Some (Ends scope) → ⊥
+not_made : (name : IdentifierId) (in_scope : Bool) (scope : ScopeId) → Some (Makes name in_scope) ≡ Some (Ends scope)
+    → ⊥
 not_made name in_scope scope e = let bad : ⊥ = cc in bad
 
 not_copied : (from to : IdentifierId) (scope : ScopeId) → Some (Copies from to) ≡ Some (Ends scope) → ⊥

@@ -183,7 +183,9 @@ module _ (env : Environment) where
         let whole : after.names ≡ s.names ++ grown.0 = names ∙ grown.1 in
         let ends : after.ends ≡ t.ends = ended_ends (slice_get env.scopes scope.0) t in
         record {
-          agrees = subst (Agrees env steps (k + 1)) (sym names) (agrees_next env steps k (Ends scope) s.names at good.agrees);
+          agrees =
+              subst (Agrees env steps (k + 1)) (sym names)
+              (agrees_next env steps k (Ends scope) s.names at good.agrees);
           sizes = λ other size found.
               let below : size ≤ length s.names =
               well.sizes other size (sym (ap (lookup (same_id other)) ends) ∙ found) in

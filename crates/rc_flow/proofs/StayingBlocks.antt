@@ -44,7 +44,8 @@ module _ (test : Option Place) (x : Option ReactiveBlock) where
   abbrev case_of : ReactiveSwitchCase
   case_of = roll-ReactiveSwitchCase (record { test = test; block = x })
 
-  case_stays : ((answers : Answers) → Stays ended_if (ended_if x) answers (if_some (rebuilt_block dropping_rules) x answers))
+  case_stays : ((answers : Answers)
+      → Stays ended_if (ended_if x) answers (if_some (rebuilt_block dropping_rules) x answers))
       → (id : EvaluationOrder) (answers : Answers)
       → Stays (ended_case id) (ended_case id case_of) answers (rebuilt_case dropping_rules case_of answers)
   case_stays known id answers =
@@ -66,7 +67,8 @@ mutual
       (collected_list-append ended_parts lists_monoid)
       (ended_statement (statement_of x)) (ended_list (statements_of rest)) answers
       (rebuilt_statement dropping_rules (statement_of x) answers)
-      (joined (map (rebuilt_statement dropping_rules) (statements_of rest))) (statement_stays x answers) (list_stays rest)
+      (joined (map (rebuilt_statement dropping_rules) (statements_of rest))) (statement_stays x answers)
+      (list_stays rest)
 
   statement_stays : (x : Statement) → StatementStays (statement_of x)
   statement_stays (RowStatement id target value span) answers =
@@ -82,7 +84,8 @@ mutual
       (sym (collected-Terminal ended_parts x))
       (subst (λ e. Stays ended_list (ended_terminal x.terminal) answers e)
       (sym (rebuilt-Terminal dropping_rules x answers ∙ ap (λ e. bind e (λ a. dropping_rules.terminal a.1 a.0))
-      (rebuilt-labeled dropping_rules x answers) ∙ after_terminal x (rebuilt_terminal dropping_rules x.terminal answers)))
+      (rebuilt-labeled dropping_rules x answers)
+      ∙ after_terminal x (rebuilt_terminal dropping_rules x.terminal answers)))
       (made ended_terminal ended_list (λ terminal. reactive.Terminal (labeled x terminal) ∷ [])
       (λ terminal. lists_monoid.behind (ended_statement (reactive.Terminal (labeled x terminal)))
       ∙ collected-Terminal ended_parts (labeled x terminal))
@@ -182,7 +185,8 @@ mutual
   alternate_stays Absent answers = as_it_is ended_if [] answers None refl refl
   alternate_stays (Present body) answers =
       made ended_in ended_if (λ y. Some y) (λ y. refl) (ended_in (block_of body)) answers
-      (rebuilt_block dropping_rules (block_of body) answers) (block_stays (statements_of body) (list_stays body) answers)
+      (rebuilt_block dropping_rules (block_of body) answers)
+      (block_stays (statements_of body) (list_stays body) answers)
 
   cases_stay : (id : EvaluationOrder) (xs : Cases) (answers : Answers)
       → Stays (ended_cases id) (ended_cases id (cases_of xs)) answers

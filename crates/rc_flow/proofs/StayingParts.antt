@@ -179,7 +179,8 @@ module _ (id : ScopeId) where
   abbrev judged : Answers × ReactiveBlock → Answers × List ReactiveStatement
   judged a = (drop 1 a.0, pruned_if (first_answer a.0) (block_with a.1) ∷ [])
 
-  pub scope_stays : (before : Scopes) (answers : Answers) (e : Result (Answers × ReactiveBlock) Fault) → Stays ended_in before answers e
+  pub scope_stays : (before : Scopes) (answers : Answers) (e : Result (Answers × ReactiveBlock) Fault)
+      → Stays ended_in before answers e
       → Stays ended_list (before ++ id ∷ []) answers (bind e (λ a. Ok (judged a)))
   unfolding Stays
   scope_stays before answers (Err fault) h = tt

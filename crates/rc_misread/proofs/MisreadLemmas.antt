@@ -26,7 +26,10 @@ member_at : (o : Ordering) (d e : Data) (ms : Members) (later : Option Data)
     → (later ≡ Some e → depth e ≤ members_depth ms)
     → match_ordering o later (Some d) later ≡ Some e → depth e ≤ max (depth d) (members_depth ms)
 member_at Less d e ms later below found = omega (arith, below found)
-member_at Equal d e ms later below found = let it : d ≡ e = cc in let same : depth d ≡ depth e = ap depth it in omega (arith, same)
+member_at Equal d e ms later below found =
+    let it : d ≡ e = cc in
+    let same : depth d ≡ depth e = ap depth it in
+    omega (arith, same)
 member_at Greater d e ms later below found = omega (arith, below found)
 
 member_depth : (key : List ℕ) (ms : Members) (e : Data) → get_member key ms ≡ Some e → depth e ≤ members_depth ms
@@ -57,7 +60,8 @@ record IsFound (part : Option Data) (next : Found) : Type 0 where
   there : part ≡ Some next.value
   misread : is_read next.asked next.value ≡ false
 
-if_misread_is : (move : Move) (asked : Asked) (part : Option Data) (next : Found) → if_misread move asked part ≡ Some next
+if_misread_is : (move : Move) (asked : Asked) (part : Option Data) (next : Found) → if_misread move asked part
+    ≡ Some next
     → IsFound part next
 if_misread_is move asked None next e = cc
 if_misread_is move asked (Some d) next e = at (is_read asked d) refl e

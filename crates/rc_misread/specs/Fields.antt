@@ -31,7 +31,7 @@ property_key_fields = named (
     ∷ (codes "Computed", (codes "v", needs.Required, forms.Place) ∷ [])
     ∷ [])
 
--- of a entry of an object with this variant
+-- of an entry of an object with this variant
 abbrev pub property_fields : List ℕ → Option (List Row)
 property_fields = named (
     (codes "Property", (codes "v", needs.Required, forms.ObjectProperty) ∷ [])
@@ -67,7 +67,7 @@ jsx_tag_fields = named (
     ∷ (codes "Builtin", (codes "v", needs.Required, forms.Text) ∷ [])
     ∷ [])
 
--- of a attribute of a JSX element with this variant
+-- of an attribute of a JSX element with this variant
 abbrev pub jsx_attribute_fields : List ℕ → Option (List Row)
 jsx_attribute_fields = named (
     (codes "Attribute", (codes "name", needs.Required, forms.Text) ∷ (codes "place", needs.Required, forms.Place) ∷ [])
@@ -106,15 +106,18 @@ fields_of forms.Spread tag = Some ((codes "place", needs.Required, forms.Place) 
 fields_of forms.Param tag = place_or_spread_fields tag
 fields_of forms.Argument tag = place_or_spread_fields tag
 fields_of forms.InstructionKind tag = Some []
-fields_of forms.LValue tag = Some ((codes "kind", needs.Required, forms.InstructionKind) ∷ (codes "place", needs.Required, forms.Place) ∷ [])
+fields_of forms.LValue tag =
+    Some ((codes "kind", needs.Required, forms.InstructionKind) ∷ (codes "place", needs.Required, forms.Place) ∷ [])
 fields_of forms.PropertyLiteral tag = property_literal_fields tag
 fields_of forms.PropertyKey tag = property_key_fields tag
-fields_of forms.ObjectProperty tag = Some ((codes "key", needs.Required, forms.PropertyKey) ∷ (codes "place", needs.Required, forms.Place) ∷ [])
+fields_of forms.ObjectProperty tag =
+    Some ((codes "key", needs.Required, forms.PropertyKey) ∷ (codes "place", needs.Required, forms.Place) ∷ [])
 fields_of forms.Property tag = property_fields tag
 fields_of forms.PatternElement tag = place_or_spread_fields tag
 fields_of forms.Element tag = place_or_spread_fields tag
 fields_of forms.Pattern tag = pattern_fields tag
-fields_of forms.LValuePattern tag = Some ((codes "kind", needs.Required, forms.InstructionKind) ∷ (codes "pattern", needs.Required, forms.Pattern) ∷ [])
+fields_of forms.LValuePattern tag =
+    Some ((codes "kind", needs.Required, forms.InstructionKind) ∷ (codes "pattern", needs.Required, forms.Pattern) ∷ [])
 fields_of forms.PrimitiveValue tag = primitive_fields tag
 fields_of forms.Binding tag = binding_fields tag
 fields_of forms.JsxTag tag = jsx_tag_fields tag
@@ -123,25 +126,58 @@ fields_of forms.LoweredFunction tag = Some ((codes "func", needs.Required, forms
 fields_of forms.InstructionValue tag = value_fields tag
 fields_of forms.LogicalOperator tag = Some []
 fields_of forms.GotoVariant tag = Some []
-fields_of forms.Case tag = Some ((codes "test", needs.Optional, forms.Place) ∷ (codes "block", needs.Required, forms.Number) ∷ [])
+fields_of forms.Case tag =
+    Some ((codes "test", needs.Optional, forms.Place) ∷ (codes "block", needs.Required, forms.Number) ∷ [])
 fields_of forms.Terminal tag = terminal_fields tag
-fields_of forms.Instruction tag = Some ((codes "id", needs.Required, forms.Number) ∷ (codes "lvalue", needs.Required, forms.Place) ∷ (codes "value", needs.Required, forms.InstructionValue) ∷ (codes "span", needs.Optional, forms.Span) ∷ [])
-fields_of forms.Block tag = Some ((codes "id", needs.Required, forms.Number) ∷ (codes "instructions", needs.List, forms.Number) ∷ (codes "terminal", needs.Required, forms.Terminal) ∷ (codes "key", needs.Optional, forms.Number) ∷ [])
+fields_of forms.Instruction tag =
+    Some ((codes "id", needs.Required, forms.Number) ∷ (codes "lvalue", needs.Required, forms.Place)
+    ∷ (codes "value", needs.Required, forms.InstructionValue) ∷ (codes "span", needs.Optional, forms.Span) ∷ [])
+fields_of forms.Block tag =
+    Some ((codes "id", needs.Required, forms.Number) ∷ (codes "instructions", needs.List, forms.Number)
+    ∷ (codes "terminal", needs.Required, forms.Terminal) ∷ (codes "key", needs.Optional, forms.Number) ∷ [])
 fields_of forms.Blocks tag = Some []
-fields_of forms.Graph tag = Some ((codes "entry", needs.Required, forms.Number) ∷ (codes "blocks", needs.Required, forms.Blocks) ∷ [])
-fields_of forms.Function tag = Some ((codes "span", needs.Optional, forms.Span) ∷ (codes "id", needs.Optional, forms.Text) ∷ (codes "name_hint", needs.Optional, forms.Text) ∷ (codes "params", needs.List, forms.Param) ∷ (codes "generator", needs.Flag, forms.Flag) ∷ (codes "is_async", needs.Flag, forms.Flag) ∷ (codes "context", needs.List, forms.Place) ∷ (codes "body", needs.Required, forms.Graph) ∷ (codes "instructions", needs.List, forms.Instruction) ∷ (codes "directives", needs.List, forms.Text) ∷ [])
+fields_of forms.Graph tag =
+    Some ((codes "entry", needs.Required, forms.Number) ∷ (codes "blocks", needs.Required, forms.Blocks) ∷ [])
+fields_of forms.Function tag =
+    Some ((codes "span", needs.Optional, forms.Span) ∷ (codes "id", needs.Optional, forms.Text)
+    ∷ (codes "name_hint", needs.Optional, forms.Text) ∷ (codes "params", needs.List, forms.Param)
+    ∷ (codes "generator", needs.Flag, forms.Flag) ∷ (codes "is_async", needs.Flag, forms.Flag)
+    ∷ (codes "context", needs.List, forms.Place) ∷ (codes "body", needs.Required, forms.Graph)
+    ∷ (codes "instructions", needs.List, forms.Instruction) ∷ (codes "directives", needs.List, forms.Text) ∷ [])
 fields_of forms.IdentifierName tag = identifier_name_fields tag
-fields_of forms.Identifier tag = Some ((codes "declaration_id", needs.Required, forms.Number) ∷ (codes "name", needs.Optional, forms.IdentifierName) ∷ (codes "scope", needs.Optional, forms.Number) ∷ (codes "type_", needs.Required, forms.Number) ∷ (codes "span", needs.Optional, forms.Span) ∷ [])
+fields_of forms.Identifier tag =
+    Some ((codes "declaration_id", needs.Required, forms.Number) ∷ (codes "name", needs.Optional, forms.IdentifierName)
+    ∷ (codes "scope", needs.Optional, forms.Number) ∷ (codes "type_", needs.Required, forms.Number)
+    ∷ (codes "span", needs.Optional, forms.Span) ∷ [])
 fields_of forms.Shape tag = shape_fields tag
 fields_of forms.Type tag = type_fields tag
-fields_of forms.ShapeRow tag = Some ((codes "hook", needs.Flag, forms.Flag) ∷ (codes "no_alias", needs.Flag, forms.Flag) ∷ [])
-fields_of forms.Range tag = Some ((codes "start", needs.Required, forms.Number) ∷ (codes "end", needs.Required, forms.Number) ∷ [])
-fields_of forms.PathEntry tag = Some ((codes "property", needs.Required, forms.PropertyLiteral) ∷ (codes "optional", needs.Flag, forms.Flag) ∷ [])
-fields_of forms.Dependency tag = Some ((codes "identifier", needs.Required, forms.Number) ∷ (codes "reactive", needs.Flag, forms.Flag) ∷ (codes "path", needs.List, forms.PathEntry) ∷ (codes "span", needs.Optional, forms.Span) ∷ [])
-fields_of forms.Declaration tag = Some ((codes "identifier", needs.Required, forms.Number) ∷ (codes "scope", needs.Required, forms.Number) ∷ [])
-fields_of forms.DeclarationEntry tag = Some ((codes "key", needs.Required, forms.Number) ∷ (codes "value", needs.Required, forms.Declaration) ∷ [])
-fields_of forms.EarlyReturn tag = Some ((codes "value", needs.Required, forms.Number) ∷ (codes "span", needs.Optional, forms.Span) ∷ (codes "label", needs.Required, forms.Number) ∷ [])
-fields_of forms.Scope tag = Some ((codes "range", needs.Required, forms.Range) ∷ (codes "dependencies", needs.List, forms.Dependency) ∷ (codes "declarations", needs.List, forms.DeclarationEntry) ∷ (codes "reassignments", needs.List, forms.Number) ∷ (codes "early_return_value", needs.Optional, forms.EarlyReturn) ∷ (codes "merged", needs.List, forms.Number) ∷ [])
-fields_of forms.Config tag = Some ((codes "enable_forest", needs.Flag, forms.Flag) ∷ (codes "enable_preserve_existing_memoization_guarantees", needs.Flag, forms.Flag) ∷ [])
-fields_of forms.Environment tag = Some ((codes "identifiers", needs.List, forms.Identifier) ∷ (codes "types", needs.List, forms.Type) ∷ (codes "scopes", needs.List, forms.Scope) ∷ (codes "functions", needs.List, forms.Function) ∷ (codes "shapes", needs.List, forms.ShapeRow) ∷ (codes "config", needs.Required, forms.Config) ∷ (codes "next_block", needs.Required, forms.Number) ∷ [])
-fields_of forms.Document tag = Some ((codes "hir", needs.Required, forms.Function) ∷ (codes "env", needs.Required, forms.Environment) ∷ [])
+fields_of forms.ShapeRow tag =
+    Some ((codes "hook", needs.Flag, forms.Flag) ∷ (codes "no_alias", needs.Flag, forms.Flag) ∷ [])
+fields_of forms.Range tag =
+    Some ((codes "start", needs.Required, forms.Number) ∷ (codes "end", needs.Required, forms.Number) ∷ [])
+fields_of forms.PathEntry tag =
+    Some ((codes "property", needs.Required, forms.PropertyLiteral) ∷ (codes "optional", needs.Flag, forms.Flag) ∷ [])
+fields_of forms.Dependency tag =
+    Some ((codes "identifier", needs.Required, forms.Number) ∷ (codes "reactive", needs.Flag, forms.Flag)
+    ∷ (codes "path", needs.List, forms.PathEntry) ∷ (codes "span", needs.Optional, forms.Span) ∷ [])
+fields_of forms.Declaration tag =
+    Some ((codes "identifier", needs.Required, forms.Number) ∷ (codes "scope", needs.Required, forms.Number) ∷ [])
+fields_of forms.DeclarationEntry tag =
+    Some ((codes "key", needs.Required, forms.Number) ∷ (codes "value", needs.Required, forms.Declaration) ∷ [])
+fields_of forms.EarlyReturn tag =
+    Some ((codes "value", needs.Required, forms.Number) ∷ (codes "span", needs.Optional, forms.Span)
+    ∷ (codes "label", needs.Required, forms.Number) ∷ [])
+fields_of forms.Scope tag =
+    Some ((codes "range", needs.Required, forms.Range) ∷ (codes "dependencies", needs.List, forms.Dependency)
+    ∷ (codes "declarations", needs.List, forms.DeclarationEntry) ∷ (codes "reassignments", needs.List, forms.Number)
+    ∷ (codes "early_return_value", needs.Optional, forms.EarlyReturn) ∷ (codes "merged", needs.List, forms.Number) ∷ [])
+fields_of forms.Config tag =
+    Some ((codes "enable_forest", needs.Flag, forms.Flag)
+    ∷ (codes "enable_preserve_existing_memoization_guarantees", needs.Flag, forms.Flag) ∷ [])
+fields_of forms.Environment tag =
+    Some ((codes "identifiers", needs.List, forms.Identifier) ∷ (codes "types", needs.List, forms.Type)
+    ∷ (codes "scopes", needs.List, forms.Scope) ∷ (codes "functions", needs.List, forms.Function)
+    ∷ (codes "shapes", needs.List, forms.ShapeRow) ∷ (codes "config", needs.Required, forms.Config)
+    ∷ (codes "next_block", needs.Required, forms.Number) ∷ [])
+fields_of forms.Document tag =
+    Some ((codes "hir", needs.Required, forms.Function) ∷ (codes "env", needs.Required, forms.Environment) ∷ [])

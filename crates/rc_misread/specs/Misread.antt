@@ -40,7 +40,8 @@ found_of part = record { move = move_of part.step; asked = part.asked; value = v
 -- the part behind this step, if it is there and isn't read as it is asked
 abbrev pub if_misread : Move → Asked → Option Data → Option Found
 if_misread move asked None = None
-if_misread move asked (Some d) = if is_read asked d then None else Some (record { move = move; asked = asked; value = d })
+if_misread move asked (Some d) =
+    if is_read asked d then None else Some (record { move = move; asked = asked; value = d })
 
 -- the first of two, or else the second
 abbrev pub or_later : Option Found → Option Found → Option Found

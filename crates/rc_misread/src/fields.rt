@@ -194,7 +194,7 @@ fn property_key_fields(tag: &str) -> Option<&'static [Field]>
     }
 }
 
-/// The fields of a entry of an object with this variant.
+/// The fields of an entry of an object with this variant.
 fn property_fields(tag: &str) -> Option<&'static [Field]>
     ensures { option_map (λ fields. map row_of fields.now) result ≡ property_fields tag.now }
 {
@@ -253,7 +253,7 @@ fn jsx_tag_fields(tag: &str) -> Option<&'static [Field]>
     }
 }
 
-/// The fields of a attribute of a JSX element with this variant.
+/// The fields of an attribute of a JSX element with this variant.
 fn jsx_attribute_fields(tag: &str) -> Option<&'static [Field]>
     ensures { option_map (λ fields. map row_of fields.now) result ≡ jsx_attribute_fields tag.now }
 {

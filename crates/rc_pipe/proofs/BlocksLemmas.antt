@@ -20,7 +20,8 @@ module _ {K V : Type 0} where
   pub all_keys : (P : K → Type 0) (entries : List (K × V)) → All (λ entry. P entry.0) entries → All P (keys_of entries)
   all_keys P entries all = All-map P (λ entry. entry.0) entries all
 
-  pub of_all_keys : (P : K → Type 0) (entries : List (K × V)) → All P (keys_of entries) → All (λ entry. P entry.0) entries
+  pub of_all_keys : (P : K → Type 0) (entries : List (K × V)) → All P (keys_of entries)
+      → All (λ entry. P entry.0) entries
   of_all_keys P entries all k entry within =
       subst P (get_or-map (λ e. e.0) entries k entry entry.0 within)
       (all k entry.0 (omega (arith, within, length-keys_of entries)))

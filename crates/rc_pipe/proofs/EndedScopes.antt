@@ -66,5 +66,6 @@ same_parts = record {
   pruned_scope = λ scope x y h. h;
 }
 
-pub ended_scopes : (body : ReactiveBlock) (scope : ScopeId) → Contains (scopes_in body) scope ↔ Contains (ended_in body) scope
+pub ended_scopes : (body : ReactiveBlock) (scope : ScopeId)
+    → Contains (scopes_in body) scope ↔ Contains (ended_in body) scope
 ended_scopes body = collected_related SameScopes contents_of_parts ended_parts same_parts body

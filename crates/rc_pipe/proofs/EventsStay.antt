@@ -97,7 +97,8 @@ module _ (env : Environment) where
   pub events_stay : (before after : ReactiveBlock) → IsWithoutUnusedLabels before after
       → events_in env before ≡ events_in env after
   events_stay before after is = ap (λ all. all [])
-      (rebuilt_related label_rules (λ before after. before ≡ after) parts parts monoid related before after [] is.targets
+      (rebuilt_related label_rules (λ before after. before ≡ after) parts parts monoid related before after []
+      is.targets
       is.rebuilt)
 
   -- functions with the same parameters and events have the same record

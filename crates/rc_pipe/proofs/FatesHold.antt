@@ -69,7 +69,8 @@ module _ {spelled pruned : PassState} {left : LeftScopes} (parts : IsPrunedWith 
   pub whole_record : HasWholeRecord spelled.env spelled.func
   whole_record =
       let memoized = passes.escapes.scopes.memoized in
-      let same = subst (λ env. IsRecordOf labeled.func env memoized.rec) passes.labels.kept_environment memoized.recorded in
+      let same =
+      subst (λ env. IsRecordOf labeled.func env memoized.rec) passes.labels.kept_environment memoized.recorded in
       record {
         rec = memoized.rec;
         recorded = same_record spelled.env labeled.func spelled.func (ap (λ f. f.params) passes.labels.header)

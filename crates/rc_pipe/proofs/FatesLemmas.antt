@@ -30,7 +30,8 @@ numbers_again [] = refl
 numbers_again (number ∷ numbers) = ap (λ l. number ∷ l) (numbers_again numbers)
 
 -- the numbers of a set's scopes rise
-pub set_rises : (scopes : List ScopeId) (set : BTreeSet ℕ) → IsFromIterResult nat_cmp (map (λ scope. scope.0) scopes) set
+pub set_rises : (scopes : List ScopeId) (set : BTreeSet ℕ)
+    → IsFromIterResult nat_cmp (map (λ scope. scope.0) scopes) set
     → IsStrictlyIncreasing (map (λ scope. scope.0) (scopes_of set.keys))
 set_rises scopes set made =
     subst IsStrictlyIncreasing (sym (numbers_again set.keys)) (IsStrictlyIncreasing-from_sorted _ made.1)

@@ -79,7 +79,8 @@ module _ (env : Environment) (blocks : List ScopeId) (set : List DeclarationId) 
       ∙ flagged_row_kept env set (unread_values env.functions) flag_read met x)
       ∙ rows_related Read (visits_of_values env.functions) (unread_values env.functions) values_read x around all
 
-  scope_read : (dissolved : Bool) (of : ScopeId) (x : Visits) (inside : ReactiveBlock) → Read x (collected unread inside)
+  scope_read : (dissolved : Bool) (of : ScopeId) (x : Visits) (inside : ReactiveBlock)
+      → Read x (collected unread inside)
       → Read (placed.scope of x)
       (collected_list unread (in_place_of dissolved (record { scope = of; instructions = inside })))
   scope_read true of x inside h around all = sym (collected-block unread inside) ∙ h (of ∷ around) all

@@ -71,7 +71,8 @@ module _ (old new : Environment) (same : RunsAlike old new) where
     rows_elsewhere {is_test} {value = value} (past_row {target = target} {own = own} {rest = rest} {row = p} r past more
         e) =
         past_row (row_elsewhere r) (past_alike is_test target own rest value p past) (rows_elsewhere more) e
-    rows_elsewhere {is_test} {value = value} (in_row {target = target} {own = own} {rest = rest} {progress = p} r past) =
+    rows_elsewhere {is_test} {value = value}
+        (in_row {target = target} {own = own} {rest = rest} {progress = p} r past) =
         in_row (row_elsewhere r) (past_alike is_test target own rest value p past)
 
     row_elsewhere : {is_test : Bool} {id : EvaluationOrder} {value : Value} {events : List Event} {progress : Progress}
@@ -131,7 +132,8 @@ module _ (old new : Environment) (same : RunsAlike old new) where
     cases_elsewhere (leaves_case run e) = leaves_case (alternate_elsewhere run) e
 
     loop_elsewhere : {label : Option ReactiveLabel} {loop : LoopParts} {spot : Spot} {events : List Event}
-        {outcome : Completion} → RunsLoop old label loop spot events outcome → RunsLoop new label loop spot events outcome
+        {outcome : Completion} → RunsLoop old label loop spot events outcome
+        → RunsLoop new label loop spot events outcome
     loop_elsewhere (nothing_before none run) = nothing_before none (loop_elsewhere run)
     loop_elsewhere (in_before some run) = in_before some (value_elsewhere run)
     loop_elsewhere (past_before some run past later e) =

@@ -89,7 +89,8 @@ module _ {S : Type 0} (rules : Rules S)
         → Stays (rebuilt_block rules (block_of p)) (block_of p)
     within p claim none s =
         equal (rebuilt_block rules (block_of p)) _ (block_of p) (rebuilt-block rules (block_of p))
-        (made {Y = ReactiveBlock} (joined (map (rebuilt_statement rules) (statements_of p))) (λ xs. record { statements = xs })
+        (made {Y = ReactiveBlock} (joined (map (rebuilt_statement rules) (statements_of p)))
+        (λ xs. record { statements = xs })
         (statements_of p) (claim (moved _ _ (collected-block parts (block_of p)) none))) s
 
     mutual
@@ -113,7 +114,8 @@ module _ {S : Type 0} (rules : Rules S)
           equal (rebuilt_statement rules (reactive.Terminal x)) _ _ (rebuilt-Terminal rules x)
           (by_rule (rebuilt_labeled rules x) rules.terminal x (reactive.Terminal x ∷ [])
           (equal (rebuilt_labeled rules x) _ x (rebuilt-labeled rules x)
-          (made {Y = ReactiveTerminalStatement} (rebuilt_terminal rules (terminal_of t)) (λ y. record { terminal = y; label = own }) (terminal_of t)
+          (made {Y = ReactiveTerminalStatement} (rebuilt_terminal rules (terminal_of t))
+          (λ y. record { terminal = y; label = own }) (terminal_of t)
           (terminal_stays t (moved _ _ (collected-Terminal parts x) none)))) (terminal x)) s
       statement_stays (ScopeStatement of body) none s =
           let x : ReactiveScopeBlock = record { scope = of; instructions = block_of body } in
@@ -123,7 +125,8 @@ module _ {S : Type 0} (rules : Rules S)
           equal (rebuilt_statement rules (reactive.PrunedScope x)) _ _ (rebuilt-PrunedScope rules x)
           (by_rule (rebuilt_pruned_scope rules x) rules.pruned_scope x (reactive.PrunedScope x ∷ [])
           (equal (rebuilt_pruned_scope rules x) _ x (rebuilt-pruned_scope rules x)
-          (made {Y = PrunedReactiveScopeBlock} (rebuilt_block rules (block_of body)) (λ y. record { scope = of; instructions = y }) (block_of body)
+          (made {Y = PrunedReactiveScopeBlock} (rebuilt_block rules (block_of body))
+          (λ y. record { scope = of; instructions = y }) (block_of body)
           (within body (list_stays body) (moved _ _ (collected-PrunedScope parts x) none)))) (pruned_scope x)) s
 
       alternate_stays : (x : Alternate) → Scopeless (collected_if parts (alternate_of x))
@@ -174,7 +177,8 @@ module _ {S : Type 0} (rules : Rules S)
       terminal_stays (For init test update body id) none s =
           let x = terminal_of (For init test update body id) in
           let last = option_map value_of update in
-          equal (rebuilt_terminal rules x) _ x (rebuilt-For rules (value_of init) (value_of test) last (block_of body) id)
+          equal (rebuilt_terminal rules x) _ x
+          (rebuilt-For rules (value_of init) (value_of test) last (block_of body) id)
           (made (rebuilt_block rules (block_of body)) (λ y. tree.For (value_of init) (value_of test) last y id)
           (block_of body)
           (within body (list_stays body) (first (collected parts (block_of body)) parts.joining.nothing

@@ -146,7 +146,8 @@ module _ (hir : HirFunction) (env : Environment) where
     statement_to_graph (body.took_arm x q) no_throw fits set (grammar.if_only i l same falls d) moves alive =
         labeled_part _ _ fits l q graph.then_arm d moves alive (list_to_graph x no_throw)
     statement_to_graph (body.took_other body.absent q) no_throw fits set
-        (grammar.if_only {alternate = alternate} {fallthrough = f} {context = context} {opened = opened} {label = label} i
+        (grammar.if_only {alternate = alternate} {fallthrough = f} {context = context} {opened = opened} {label = label}
+        i
         l same falls d) moves alive =
         behind_label None (past_part opened f context graph.else_arm (same_id-eq alternate f same) falls moves)
         (λ key aim. aim) (q ∙ caught-normal label)

@@ -54,7 +54,8 @@ test_and_rest-plain value = refl
 
 -- the run goes on behind a row without flags where it goes on behind the row
 past_there : (env : Environment) (is_test : Bool) (target : Option Place) (own : Value) (rest : Rows) (value : Value)
-    (progress : Progress) {past : Bool} → goes_past_row (is_row_of_test env is_test target own rest value) progress ≡ past
+    (progress : Progress) {past : Bool} → goes_past_row (is_row_of_test env is_test target own rest value) progress
+    ≡ past
     → goes_past_row (is_row_of_test env is_test target (plain_value own) (plain_rows rest) (plain_value value)) progress
     ≡ past
 past_there env is_test target own rest value progress e =
@@ -98,7 +99,8 @@ module _ {env : Environment} where
         RunsRows env is_test rows value events progress →
         RunsRows env is_test (plain_rows rows) (plain_value value) events progress
     rows_there (past_rows r) = past_rows (value_there r)
-    rows_there {is_test} {value = value} (past_row {target = target} {own = own} {rest = rest} {row = p} r past more e) =
+    rows_there {is_test} {value = value}
+        (past_row {target = target} {own = own} {rest = rest} {row = p} r past more e) =
         past_row (row_there r) (past_there env is_test target own rest value p past) (rows_there more) e
     rows_there {is_test} {value = value} (in_row {target = target} {own = own} {rest = rest} {progress = p} r past) =
         in_row (row_there r) (past_there env is_test target own rest value p past)
@@ -124,7 +126,8 @@ module _ (env : Environment) where
   -- an optional with its two parts, and one of another form
   test_back : {is_test optional : Bool} {id last : EvaluationOrder} {target : Option Place} {span : Option Span}
       (test rest : Value) {events : List Event} {progress : Progress} → ValueBack test → ValueBack rest
-      → RunsValue env is_test (Optional (Sequence (Row id target (plain_value test) span NoRows) last (plain_value rest))
+      → RunsValue env is_test
+      (Optional (Sequence (Row id target (plain_value test) span NoRows) last (plain_value rest))
       optional) events progress
       → RunsValue env is_test (Optional (Sequence (Row id target test span NoRows) last rest) optional) events progress
   test_back test rest back behind value_stopped = value_stopped

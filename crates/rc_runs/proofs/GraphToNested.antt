@@ -120,7 +120,8 @@ module _ {hir : HirFunction} {env : Environment} {handler : Option BlockId} {bou
       (rest back end run (omega arith))))
   optional_chooses {front = front} set here (moved {events = back} branch_false run q) small rest =
       shortens {front = front ++ Arm false ∷ []} (took_short_end (set_row set here) refl refl) refl
-      (record { run = run; small = omega arith }) (ap (λ v. front ++ v) q ∙ sym (append_assoc front (Arm false ∷ []) back))
+      (record { run = run; small = omega arith }) (ap (λ v. front ++ v) q
+      ∙ sym (append_assoc front (Arm false ∷ []) back))
 
   pub optional_passes : {id last : EvaluationOrder} {place answer : Place} {test value : Value} {span : Option Span}
       {optional : Bool} {left_open : Option BlockId} {consequent alternate : BlockId} {branch : EvaluationOrder}
@@ -189,7 +190,8 @@ module _ {hir : HirFunction} {env : Environment} {handler : Option BlockId} {bou
               → is_row_of_test env is_test (Some nested.answer) nested.value NoRows value ≡ answers
           ends_test a = row_of_test is_test value d short ∙ a
 
-          through : goes_past_row (is_row_of_test env is_test (Some nested.answer) nested.value NoRows value) Short ≡ true
+          through : goes_past_row (is_row_of_test env is_test (Some nested.answer) nested.value NoRows value) Short
+              ≡ true
               → PassesArm hir env handler nested.fallthrough bound back end
               → Passes hir env handler (RunsNestedRow env is_test nested span value) left_open Behind bound events end
           through past (comes_behind at) = on past here at.run at.small e

@@ -170,10 +170,13 @@ module _ {hir : HirFunction} {env : Environment} where
       absurd (no_jump d (one_end hir _ found' refl found jump))
   runs_quietly (silent_chain found silent may current rest) (last_block rows row found' ends whole) =
       absurd (let same = ap ends_value (one_end hir _ found may found' refl) in let bad : ⊥ = cc in bad)
-  runs_quietly (silent_chain found silent may current rest) (last_throw rows row found' may' current' whole behind goes) =
+  runs_quietly (silent_chain found silent may current rest)
+      (last_throw rows row found' may' current' whole behind goes) =
       last_quietly hir _ rows row found silent found' whole
-  runs_quietly {is_test} {context = context} (silent_chain {continuation = next} {block = block} found silent may current
-      rest) (may_throw {continuation = other_next} {block = other} {value = value} {end = value_end} {used = used} found'
+  runs_quietly {is_test} {context = context}
+      (silent_chain {continuation = next} {block = block} found silent may current
+      rest) (may_throw {continuation = other_next} {block = other} {value = value} {end = value_end} {used = used}
+      found'
       may' current' follows d w) =
       let same : block ≡ other = one_held found' found in
       let ends = one_end hir _ found may found' may' in

@@ -154,7 +154,8 @@ module _ {hir : HirFunction} {env : Environment} {bound : ℕ} (below : Below hi
       go (inr own) = through (past_arm own.1 at.run at.small)
 
   -- the handler of a try, after the protected block has thrown
-  handler_leads : (opened : Bool) (fallthrough : BlockId) {handler : BlockId} {binding : Option Place} {id : EvaluationOrder}
+  handler_leads : (opened : Bool) (fallthrough : BlockId) {handler : BlockId} {binding : Option Place}
+      {id : EvaluationOrder}
       {part other : Statements} {label : Option ReactiveLabel} {used : List BlockId} {events : List Event} {end : End}
       → label ≡ label_of opened fallthrough
       → SpellsList hir env handler (inside opened (frame_kinds.Statement fallthrough) context) other used
@@ -170,7 +171,8 @@ module _ {hir : HirFunction} {env : Environment} {bound : ℕ} (below : Below hi
       from.1)
 
   -- the protected block of a try: a throw in it leads to the handler
-  try_leads : (opened : Bool) (fallthrough : BlockId) {handler : BlockId} {binding : Option Place} {id : EvaluationOrder}
+  try_leads : (opened : Bool) (fallthrough : BlockId) {handler : BlockId} {binding : Option Place}
+      {id : EvaluationOrder}
       {part other : Statements} {label : Option ReactiveLabel} {used : List BlockId} {events : List Event} {end : End}
       → label ≡ label_of opened fallthrough
       → SpellsList hir env handler (inside opened (frame_kinds.Statement fallthrough) context) other used

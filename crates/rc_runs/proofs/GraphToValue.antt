@@ -129,7 +129,8 @@ module _ {hir : HirFunction} {env : Environment} where
         at_throw current (λ events run small. at_terminal found_behind goes run small)
         (ends_in may (pass_behind [] (λ events progress behind. after_rows-run rows row.id behind)
         (last_rows_pass rows row (subst AreSet whole (usable_block-set hir key block found).rows) these.0 these.1)))
-    value_passes {key} {context} {value_end = value_end} bound {events} {end} (may_throw {block = block} found may current
+    value_passes {key} {context} {value_end = value_end} bound {events} {end}
+        (may_throw {block = block} found may current
         follows behind w) (enters at run) small =
         let here = run_of (one_held (usable_block-at hir key block found) at) run small in
         let same : block.rows ≡ block.rows ++ [] = sym (append-nil block.rows) in

@@ -42,7 +42,8 @@ jump_run (continues_unlabeled n) (body.and_then body.continue_unlabeled (body.le
 pub jump_to_graph : {hir : HirFunction} {env : Environment} {terminal : Terminal} {step : List Event} {key : BlockId}
     {context : ListContext} {statements : Statements} {events : List Event} {outcome : Completion}
     → Edge terminal step key → HasNoUnreachableSuccessor hir terminal → Jumps context key statements
-    → RunsList env statements events outcome → After hir env context (GraphRun hir env [] terminal) (step ++ events) outcome
+    → RunsList env statements events outcome
+    → After hir env context (GraphRun hir env [] terminal) (step ++ events) outcome
 jump_to_graph {hir} {env} {terminal} {step} {key} {context} {events = events} {outcome} move moves j run =
     let led = jump_run j run in
     let all : step ≡ step ++ events = sym (append-nil step) ∙ ap (λ l. step ++ l) (sym led.0) in

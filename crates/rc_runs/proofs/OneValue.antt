@@ -46,7 +46,8 @@ one_choice {a = a} {b} {c} {d} same one other =
     (cc, cc, cc)
 
 -- a value ends at a block that may throw, or it goes on there
-ends_or_goes_on : (hir : HirFunction) (key : BlockId) {block other behind : Block} {c d : BlockId} {n m : Option BlockId}
+ends_or_goes_on : (hir : HirFunction) (key : BlockId) {block other behind : Block} {c d : BlockId}
+    {n m : Option BlockId}
     {id number : EvaluationOrder} {s t : Option Span} → usable_block hir key ≡ Some block
     → block.terminal ≡ terminals.MaybeThrow c n id s → usable_block hir c ≡ Some behind
     → only_goes behind.rows behind.terminal ≡ true → usable_block hir key ≡ Some other
@@ -96,8 +97,10 @@ module _ {hir : HirFunction} {env : Environment} where
   mutual
     pub one_value : {key : BlockId} {context : ValueContext} {v w : Value} {e f : ValueEnd} {a b : List BlockId}
         → SpellsValue hir env key context v e a → SpellsValue hir env key context w f b → SameValue v e a w f b
-    one_value (named_test {block = block} {test = test} {consequent = c} {alternate = a} {id = id} {span = s} found empty
-        ends) (named_test {block = other} {test = test'} {consequent = c'} {alternate = a'} {id = id'} {span = s'} found'
+    one_value (named_test {block = block} {test = test} {consequent = c} {alternate = a} {id = id} {span = s} found
+        empty
+        ends) (named_test {block = other} {test = test'} {consequent = c'} {alternate = a'} {id = id'} {span = s'}
+        found'
         empty' ends') =
         let same : block ≡ other = one_held found' found in
         let alike : terminals.Branch test c a id s ≡ terminals.Branch test' c' a' id' s' =
@@ -117,7 +120,8 @@ module _ {hir : HirFunction} {env : Environment} where
         let alike = same_from_push rows rows' row row' (sym whole ∙ ap (λ (b : Block). b.rows) same ∙ whole') in
         (cc, cc, refl)
     one_value (last_throw {continuation = c} {block = block} {behind = behind} rows row found ends h whole goes only)
-        (last_throw {continuation = d} {block = other} {behind = behind'} rows' row' found' ends' h' whole' goes' only') =
+        (last_throw {continuation = d} {block = other} {behind = behind'} rows' row' found' ends' h' whole' goes'
+        only') =
         let same : block ≡ other = one_held found' found in
         let next : d ≡ c = one_continuation hir _ found ends found' ends' in
         let last : behind ≡ behind' = one_held goes' (ap (λ key. usable_block hir key) next ∙ goes) in
@@ -164,8 +168,10 @@ module _ {hir : HirFunction} {env : Environment} where
         absurd (one_kind hir is_may_throw _ found' (nested_never_throws d) found (ap is_may_throw ends))
     one_value (value_row found' d e s w' g u) (may_throw found ends h more later w) =
         absurd (one_kind hir is_may_throw _ found' (nested_never_throws d) found (ap is_may_throw ends))
-    one_value {context = context} (value_row {block = block} {nested = n} {value = v} {behind = b} {left = l} found d e s w
-        g u) (value_row {block = other} {nested = m} {value = v'} {behind = b'} {left = l'} {nested_used = x} found' d' e'
+    one_value {context = context}
+        (value_row {block = block} {nested = n} {value = v} {behind = b} {left = l} found d e s w
+        g u) (value_row {block = other} {nested = m} {value = v'} {behind = b'} {left = l'} {nested_used = x} found' d'
+        e'
         s' w' g' u') =
         let same : other ≡ block = one_held found found' in
         let row = one_nested d

@@ -57,7 +57,8 @@ module _ {S : Type 0} (v : ReadSteps S) (functions : List HirFunction) where
       (read_value v functions alternate id)) s
   unfolding read_value
   inside-ConditionalExpression test consequent alternate id s =
-      ap (λ y. inside_value v functions y id s) (sym (reactive_values.rolls-ConditionalExpression test consequent alternate))
+      ap (λ y. inside_value v functions y id s)
+      (sym (reactive_values.rolls-ConditionalExpression test consequent alternate))
       ∙ opened (value.ConditionalExpression test consequent alternate) id s
 
   pub inside-SequenceExpression : (rows : List ReactiveInstruction) (own : EvaluationOrder) (last : ReactiveValue)

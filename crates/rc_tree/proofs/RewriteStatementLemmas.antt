@@ -76,7 +76,8 @@ module _ {T S : Type 0} (v : RewriteSteps (T × S)) (functions : T → List HirF
   unfolding pruned_scope_at
   meets_pruned_scope_at inner w x r t h = h
 
-  pub meets_case_at : (inner : FueledWalk (T × S) ReactiveBlock) (id : EvaluationOrder) (w : T × S) (x : ReactiveSwitchCase)
+  pub meets_case_at : (inner : FueledWalk (T × S) ReactiveBlock) (id : EvaluationOrder) (w : T × S)
+      (x : ReactiveSwitchCase)
       (r : Result (Unit {0}) Fault) (t : (T × S) × ReactiveSwitchCase)
       → IsFueled (after (perhaps (v.visit_place id) (out-ReactiveSwitchCase x).test w)
       (λ a. bind (perhaps_part inner a.1 (out-ReactiveSwitchCase x).block) (λ b.

@@ -2,7 +2,7 @@
 //!
 //! An implementation states its hooks as one record of steps, which take the transform, the state and the part to the
 //! new ones. Each hook's contract is its step. The walks in `rewrite` are proved once for all steps: the result of a
-//! walk is that of `specs/Rewrite.antt` with the transform's steps.
+//! walk is that of `rc_tree/specs/Rewrite.antt` with the transform's steps.
 //!
 //! After oxc's visitors.rs.
 

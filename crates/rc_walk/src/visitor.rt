@@ -1,7 +1,8 @@
 //! The hooks of a read walk.
 //!
 //! An implementation states its hooks as one record of steps, and each hook's contract is its step. The walks in
-//! `read` are proved once for all steps: the result of a walk is that of `specs/Read.antt` with the visitor's steps.
+//! `read` are proved once for all steps: the result of a walk is that of `rc_tree/specs/Read.antt` with the visitor's
+//! steps.
 //!
 //! After oxc's visitors.rs.
 

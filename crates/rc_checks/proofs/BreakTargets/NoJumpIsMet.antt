@@ -99,7 +99,8 @@ cons_quiet statement rest first later =
 row_quiet : (id : EvaluationOrder) (place : Option Place) (value : Value) (span : Option Span)
     → NoJumps (met_at (statement_of (RowStatement id place value span)))
 row_quiet id place value span =
-    subst NoJumps (sym (met_at-Instruction (record { id = id; lvalue = place; value = value_of value; span = span }))) tt
+    subst NoJumps (sym (met_at-Instruction (record { id = id; lvalue = place; value = value_of value; span = span })))
+    tt
 
 rows_quiet : (rows : List Instruction) (rest : Statements) → Quiet rest → Quiet (rows_before rows rest)
 rows_quiet [] rest later = later

@@ -25,7 +25,8 @@ use Rattle.rc_escape.specs.declared.not_escaping.met.Met.{Met}
 
 -- the replacement of a scope block is the one of its answer
 replaced : (dissolved : Bool) (block : ReactiveScopeBlock)
-    → in_place (answer_if dissolved block).0 (reactive.Scope (answer_if dissolved block).1) ≡ in_place_of dissolved block
+    → in_place (answer_if dissolved block).0 (reactive.Scope (answer_if dissolved block).1)
+    ≡ in_place_of dissolved block
 replaced true block = refl
 replaced false block = refl
 

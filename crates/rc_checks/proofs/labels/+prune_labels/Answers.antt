@@ -268,7 +268,8 @@ prune_terminal-prune_reversed-requires t c =
 pub prune_terminal-returns-in-Label : goal.prune_terminal-returns-in-Label
 prune_terminal-returns-in-Label t c =
     rw (c.in-Label.is, tree.outs-Label c.in-Label.block c.in-Label.id)
-    (opened-Label c.args.done.now c.args.targets.now c.prune_reversed.result c.prune_reversed.new.targets c.in-Label.block
+    (opened-Label c.args.done.now c.args.targets.now c.prune_reversed.result c.prune_reversed.new.targets
+    c.in-Label.block
     c.in-Label.id c.prune_reversed.new.left c.prune_reversed.new.done
     (rw (c.reverse.ensures, c.in-Label.block-is) at c.prune_reversed.ensures.put)
     c.prune_reversed.ensures.none_left)

@@ -50,7 +50,8 @@ add_terminal-returns-in_ok-add_value_if-in-For t c =
     let arm = c.in-For in
     let env = c.args.env.now in
     on_ok_weaker c.add_block-in-For.result
-    (added_four c.args.steps.now c.add_loop_value-in-For.new.steps c.add_loop_value-in-For-2.new.steps c.add_value_if.new.steps
+    (added_four c.args.steps.now c.add_loop_value-in-For.new.steps c.add_loop_value-in-For-2.new.steps
+    c.add_value_if.new.steps
     c.add_block-in-For.new.steps (steps_of_value env arm.init) (steps_of_value env arm.test)
     (steps_of_value_if env arm.update) (flows_in env arm.loop_block) (flows_of_terminal env c.args.terminal.now)
     c.in_ok-add_loop_value-in-For.ensures c.in_ok-add_loop_value-in-For-2.ensures c.in_ok-add_value_if-in-For.ensures

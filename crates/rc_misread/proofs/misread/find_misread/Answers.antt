@@ -6,7 +6,8 @@ pub loop-path-init : goal.loop-path-init
 loop-path-init c = record { way = way_start _ _ c.new-path.ensures; misread = search rules }
 
 pub loop-path-smaller : goal.loop-path-smaller
-loop-path-smaller c = (part_below _ _ _ (found_on _ _ c.in_ok-next.field-0 c.in-Some.next c.in_ok-next.ensures c.in-Some.is)).depth
+loop-path-smaller c =
+    (part_below _ _ _ (found_on _ _ c.in_ok-next.field-0 c.in-Some.next c.in_ok-next.ensures c.in-Some.is)).depth
 
 pub loop-path-preserved : goal.loop-path-preserved
 loop-path-preserved c =

@@ -249,7 +249,8 @@ statement::walk_front-loop-i-preserved g t c =
     }
 
 -- the replacement of a statement isn't one statement
-pub statement::walk_front-returns-then-not-stays-clause-front : goal.statement::walk_front-returns-then-not-stays-clause-front
+pub statement::walk_front-returns-then-not-stays-clause-front :
+    goal.statement::walk_front-returns-then-not-stays-clause-front
 statement::walk_front-returns-then-not-stays-clause-front g t c = λ n.
     let steps = g.T.ReactiveFunctionTransform.steps in
     let functions = g.T.ReactiveFunctionTransform.functions in
@@ -262,7 +263,8 @@ statement::walk_front-returns-then-not-stays-clause-front g t c = λ n.
     c.walk_in_place.new.statement c.if-not-stays.true (c.in_ok-stays.ensures.put n)
 
 -- the walk of a statement in its place fails
-pub statement::walk_front-returns-in_err-stays-clause-fault : goal.statement::walk_front-returns-in_err-stays-clause-fault
+pub statement::walk_front-returns-in_err-stays-clause-fault :
+    goal.statement::walk_front-returns-in_err-stays-clause-fault
 statement::walk_front-returns-in_err-stays-clause-fault g t c = λ n.
     let steps = g.T.ReactiveFunctionTransform.steps in
     let functions = g.T.ReactiveFunctionTransform.functions in
@@ -358,7 +360,8 @@ terminal::walk_cases-returns-in_err-walk_case g t c = λ n.
     (c.loop-i.invariant.so_far n) (sym c.in-Some.ensures.value) (c.in_err-walk_case.ensures n))
 
 -- the inside fails
-pub statement::walk_block_to-returns-in_err-walk_statements-in-Inside : goal.statement::walk_block_to-returns-in_err-walk_statements-in-Inside
+pub statement::walk_block_to-returns-in_err-walk_statements-in-Inside :
+    goal.statement::walk_block_to-returns-in_err-walk_statements-in-Inside
 statement::walk_block_to-returns-in_err-walk_statements-in-Inside g t c = λ n.
     let steps = g.T.ReactiveFunctionTransform.steps in
     let functions = g.T.ReactiveFunctionTransform.functions in
@@ -377,7 +380,8 @@ statement::walk_block_to-returns-in_err-walk_statements-in-Inside g t c = λ n.
     (c.in_err-walk_statements-in-Inside.ensures m)) n)
 
 -- the inside fails
-pub statement::walk_scope-returns-in_err-walk_inside_scope-in-Inside : goal.statement::walk_scope-returns-in_err-walk_inside_scope-in-Inside
+pub statement::walk_scope-returns-in_err-walk_inside_scope-in-Inside :
+    goal.statement::walk_scope-returns-in_err-walk_inside_scope-in-Inside
 statement::walk_scope-returns-in_err-walk_inside_scope-in-Inside g t c = λ n.
     let steps = g.T.ReactiveFunctionTransform.steps in
     let functions = g.T.ReactiveFunctionTransform.functions in
@@ -463,13 +467,15 @@ statement::walk_terminal-returns-in_ok-walk_inside_terminal-in-Inside g t c = λ
     c.in-Inside.is) (c.in_ok-walk_inside_terminal-in-Inside.ensures n) c.leave_terminal.ensures.step)
 
 -- the body of a `For`, after four steps
-pub terminal::walk_parts-returns-in_ok-walk_value_if-in-For : goal.terminal::walk_parts-returns-in_ok-walk_value_if-in-For
+pub terminal::walk_parts-returns-in_ok-walk_value_if-in-For :
+    goal.terminal::walk_parts-returns-in_ok-walk_value_if-in-For
 terminal::walk_parts-returns-in_ok-walk_value_if-in-For g t c = λ n.
     let steps = g.T.ReactiveFunctionTransform.steps in
     let functions = g.T.ReactiveFunctionTransform.functions in
     let w : g.row.T.Denot × g.row.T-State.Denot = (c.args.transform.now, c.args.state.now) in
     let w1 : g.row.T.Denot × g.row.T-State.Denot = (c.visit_id-in-For.new.self, c.visit_id-in-For.new.state) in
-    let w2 : g.row.T.Denot × g.row.T-State.Denot = (c.walk_loop_value-in-For.new.transform, c.walk_loop_value-in-For.new.state) in
+    let w2 : g.row.T.Denot × g.row.T-State.Denot =
+    (c.walk_loop_value-in-For.new.transform, c.walk_loop_value-in-For.new.state) in
     let w3 : g.row.T.Denot
     × g.row.T-State.Denot = (c.walk_loop_value-in-For-2.new.transform, c.walk_loop_value-in-For-2.new.state) in
     let w4 : g.row.T.Denot × g.row.T-State.Denot = (c.walk_value_if.new.transform, c.walk_value_if.new.state) in

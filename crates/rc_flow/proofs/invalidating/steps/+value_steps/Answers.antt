@@ -78,7 +78,8 @@ pub add_terminal-returns-in-While : goal.add_terminal-returns-in-While
 add_terminal-returns-in-While t c =
     let arm = c.in-While in
     on_ok_weaker c.add_block-in-While.result (added_form c.args.in_scope c.args.steps.now arm.is
-    (ap (λ steps. steps c.args.in_scope) (collected-While parts arm.test arm.loop_block arm.id))) c.add_block-in-While.ensures
+    (ap (λ steps. steps c.args.in_scope) (collected-While parts arm.test arm.loop_block arm.id)))
+    c.add_block-in-While.ensures
 
 pub add_terminal-returns-in-ForOf : goal.add_terminal-returns-in-ForOf
 add_terminal-returns-in-ForOf t c =
