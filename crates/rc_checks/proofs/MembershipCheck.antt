@@ -4,3 +4,4 @@ pub mod WalkLemmas
 pub mod CheckLemmas
 pub mod UnknownOperands
 pub mod UnknownVisits
+pub mod WithoutBlocks

@@ -9,6 +9,8 @@ mod unused_scopes;
 
 pub use break_targets::assert_well_formed_break_targets;
 pub use labels::{UnusedLabels, prune_unused_labels};
-pub use membership::assert_scope_instructions_within_scopes;
+pub use membership::{
+    assert_known_instructions_within_scopes, assert_scope_instructions_within_scopes,
+};
 pub use scope_blocks::scopes_in;
 pub use unused_scopes::prune_unused_scopes;

@@ -68,6 +68,27 @@ pub fn assert_scope_instructions_within_scopes(
     }
 }
 
+/// The same of a function whose numbers are in their tables, as they are in each that the builder makes. Where its tree
+/// has no scope block, no operand is outside of one, and none is visited.
+pub fn assert_known_instructions_within_scopes(
+    alloc: Global,
+    func: &ReactiveFunction,
+    env: &Environment,
+) -> Result<(), Fault>
+    requires known { TreeInTables func.now env.now }
+    ensures ok { OnOk result
+        (All (IsInside env.now (spec.scopes_in func.now.body)) (visits_of env.now.functions func.now.body)) }
+    ensures scope_completed { (id : Order) (scope : Scope) → result ≡ Err (Fault.ScopeCompleted id scope) →
+        IsLastOutside env.now (spec.scopes_in func.now.body) (visits_of env.now.functions func.now.body) id scope }
+    ensures only { IfErr result (λ fault. (fault ≡ Fault.NoMemory)
+        ⊎ ((id : Order) × (scope : Scope) × (fault ≡ Fault.ScopeCompleted id scope))) }
+{
+    if scopes_in(alloc, &func.body)?.is_empty() {
+        return Ok(());
+    }
+    assert_scope_instructions_within_scopes(alloc, func, env)
+}
+
 /// The scopes that have a scope block in the tree. The only error is out of memory.
 fn scope_blocks(alloc: Global, body: &ReactiveBlock) -> Result<KeySet<ScopeId>, AllocError>
     ensures { IfOk result (λ blocks. (scope : Scope)

@@ -1,6 +1,6 @@
 -- The clauses of the checks and passes, put together into those of the whole sequence.
-use Rattle.std.proofs.Common.{◌≡◌, ◌∙◌, ◌⊎◌, inl, inr, ℕ, List, ◌↔◌, All, refl, sym, ap, subst}
-use Rattle.rc_hir.specs.Model.{Environment, Fault, TableName, HirFunction}
+use Rattle.std.proofs.Common.{◌≡◌, ◌∙◌, ◌⊎◌, inl, inr, List, ◌↔◌, All, refl, sym, ap, subst}
+use Rattle.rc_hir.specs.Model.{Environment, Fault, HirFunction}
 use Rattle.rc_hir.specs.declared.fault.Fault.TheVariants as faults
 use Rattle.rc_names.specs.Numbers.{EvaluationOrder, ScopeId}
 use Rattle.rc_tree.specs.Model.{ReactiveFunction}
@@ -104,16 +104,13 @@ module _ (env : Environment) (spelled labeled : ReactiveFunction)
   pub outside_fault : (fault : Fault)
       → ((id : EvaluationOrder) (scope : ScopeId) → fault ≡ faults.ScopeCompleted id scope
       → EndsOutside env labeled.body id scope)
-      → ((table : TableName) (index : ℕ) → fault ≡ faults.BadName table index → ⊥)
       → (fault ≡ faults.NoMemory)
-      ⊎ (((id : EvaluationOrder) × (scope : ScopeId) × (fault ≡ faults.ScopeCompleted id scope))
-      ⊎ ((table : TableName) × (index : ℕ) × (fault ≡ faults.BadName table index)))
+      ⊎ ((id : EvaluationOrder) × (scope : ScopeId) × (fault ≡ faults.ScopeCompleted id scope))
       → IsPassFault (state spelled env) fault
-  outside_fault fault completed sound (inl memory) = subst (IsPassFault (state spelled env)) (sym memory) tt
-  outside_fault fault completed sound (inr (inl it)) =
+  outside_fault fault completed (inl memory) = subst (IsPassFault (state spelled env)) (sym memory) tt
+  outside_fault fault completed (inr it) =
       subst (IsPassFault (state spelled env)) (sym it.2)
       (outside_spelled it.0 it.1 (completed it.0 it.1 it.2))
-  outside_fault fault completed sound (inr (inr it)) = absurd (sound it.0 it.1 it.2)
 
 -- a refusal of a spelled function by the passes has a cause
 pub pass_cause : (hir : HirFunction) (env : Environment) → IsAccepted hir env

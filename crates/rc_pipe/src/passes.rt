@@ -17,7 +17,7 @@ ghost use Rattle.rc_pipe.specs.Passes.{AfterDependencies, AreInside, IsPassFault
 ghost use Rattle.rc_pipe.specs.inside.PrunedParts.{HasScopesPruned, IsChecked, IsEscapePruned, IsPrunedWith};
 
 use rc_checks::{
-    assert_scope_instructions_within_scopes, assert_well_formed_break_targets, prune_unused_labels,
+    assert_known_instructions_within_scopes, assert_well_formed_break_targets, prune_unused_labels,
     prune_unused_scopes, scopes_in,
 };
 use rc_escape::prune_non_escaping_scopes;
@@ -37,7 +37,7 @@ pub(crate) struct LeftScopes {
 /// Checks a function and prunes it: break targets, unused labels, the operands of scopes, scopes that don't escape,
 /// dependencies that aren't reactive, unused scopes, scopes that always invalidate. Answers the scopes that were left.
 ///
-/// If a graph spells the function and its numbers are in their tables, the only faults are `ScopeCompleted`,
+/// The function's numbers are in their tables. If a graph spells it, the only faults are `ScopeCompleted`,
 /// `Uninitialised`, `NoScopeNode` and `NoMemory`. The environment is written behind all that may give one of the first
 /// three.
 pub(crate) fn prune(
@@ -45,14 +45,14 @@ pub(crate) fn prune(
     func: &mut ReactiveFunction,
     env: &mut Environment,
 ) -> Result<LeftScopes, Fault>
+    requires known { TreeInTables func.old env.old }
     ensures ok { IfOk result (IsPrunedWith (state func.old env.old) (state func.new env.new)) }
-    ensures known { IfOk result (λ left. TreeInTables func.old env.old → TreeInTables func.new env.new) }
+    ensures still_known { IfOk result (λ left. TreeInTables func.new env.new) }
     ensures kept_runs { NoEarlyReturnSet env.old → IfOk result (λ left. (events : Items Event) (end : End) →
         IsBodyRun func.old env.old events end ↔ IsBodyRun func.new env.new events end) }
-    ensures refused { (hir : HirFunction) → Spells hir env.old func.old → TreeInTables func.old env.old
+    ensures refused { (hir : HirFunction) → Spells hir env.old func.old
         → IfErr result (IsPassFault (state func.old env.old)) }
-    ensures kept_environment { TreeInTables func.old env.old
-        → IfErr result (λ fault. (fault ≡ faults.NoMemory) ⊎ (env.new ≡ env.old)) }
+    ensures kept_environment { IfErr result (λ fault. (fault ≡ faults.NoMemory) ⊎ (env.new ≡ env.old)) }
     ensures known_names { (hir : HirFunction) → NamesInTables hir env.old → NamesInTables hir env.new }
 {
     check(alloc, func, env)?;
@@ -63,17 +63,18 @@ pub(crate) fn prune(
 
 /// Checks break targets, prunes unused labels, and checks the operands of scopes.
 fn check(alloc: Global, func: &mut ReactiveFunction, env: &Environment) -> Result<(), Fault>
+    requires known { TreeInTables func.old env.now }
     ensures ok { OnOk result (IsChecked (state func.old env.now) (state func.new env.now)) }
     ensures inside { OnOk result (AreInside env.now func.new.body) }
-    ensures known { OnOk result (TreeInTables func.old env.now → TreeInTables func.new env.now) }
+    ensures still_known { OnOk result (TreeInTables func.new env.now) }
     ensures kept_runs { NoEarlyReturnSet env.now → OnOk result ((events : Items Event) (end : End) →
         IsBodyRun func.old env.now events end ↔ IsBodyRun func.new env.now events end) }
-    ensures refused { (hir : HirFunction) → Spells hir env.now func.old → TreeInTables func.old env.now
+    ensures refused { (hir : HirFunction) → Spells hir env.now func.old
         → IfErr result (IsPassFault (state func.old env.now)) }
 {
     assert_well_formed_break_targets(alloc, func, env)?;
     prune_unused_labels(alloc, func, env)?;
-    assert_scope_instructions_within_scopes(alloc, func, env)?;
+    assert_known_instructions_within_scopes(alloc, func, env)?;
     Ok(())
 }
 

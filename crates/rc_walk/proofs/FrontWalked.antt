@@ -5,8 +5,8 @@ use denote.Param.Weighed.{most}
 use Rattle.std.proofs.lemmas.List.{append-nil, drop-set-lt, reverse-append, reverse-reverse, take-set, take_more_set}
 use Rattle.std.proofs.lemmas.Option.{slice_get_within}
 use Rattle.rc_hir.specs.Model.{Fault, HirFunction}
-use Rattle.rc_tree.proofs.FuelLemmas.{SoFar, so_far_fault, so_far_next}
-use Rattle.rc_tree.proofs.PlaceLemmas.{at_place}
+use Rattle.rc_tree.proofs.FuelLemmas.{SoFar, most-reverse, so_far_fault, so_far_next}
+use Rattle.rc_tree.proofs.PlaceLemmas.{at_place, most_place}
 use Rattle.rc_tree.specs.Fuel.{Fueled, OutOfFuel, Failed, Done, IsFueled, FueledWalk, bind, in_turn}
 use Rattle.rc_tree.specs.Model.{ReactiveBlock, ReactiveStatement, Transformed}
 use Rattle.rc_tree.specs.Rewrite.{in_place, into_at, statement_at}
@@ -14,10 +14,23 @@ use Rattle.rc_tree.specs.RewriteSteps.{RewriteSteps}
 use Rattle.rc_walk.specs.Statements.{TreeStatements, added_if}
 
 -- the entries from an index on are no deeper than all
-pub most_drop : {X : Type 0} (μ : X → ℕ) (n : ℕ) (xs : List X) → most μ (drop n xs) ≤ most μ xs
+most_drop : {X : Type 0} (μ : X → ℕ) (n : ℕ) (xs : List X) → most μ (drop n xs) ≤ most μ xs
 most_drop μ zero xs = omega arith
 most_drop μ (suc n) [] = omega arith
 most_drop μ (suc n) (x ∷ xs) = let h = most_drop μ n xs in omega (arith, h)
+
+-- entries that stand as before from an index on, taken out and turned round, are no deeper than all
+pub most_behind : {X : Type 0} (μ : X → ℕ) (n : ℕ) (before after left : List X) → left ≡ reverse (drop n after)
+    → drop n after ≡ drop n before → most μ left ≤ most μ before
+most_behind μ n before after left turned same =
+    rw (turned, most-reverse μ (drop n after), same) (most_drop μ n before)
+
+-- an entry that stands where the entries are as before is no deeper than all of those
+pub most_entry : {X : Type 0} (μ : X → ℕ) (n : ℕ) (before after : List X) (x : X) → drop n after ≡ drop n before
+    → slice_get after n ≡ Some x → μ x ≤ most μ before
+most_entry μ n before after x same there =
+    let left : most μ (drop n after) ≤ most μ before = rw same (most_drop μ n before) in
+    omega (arith, left, (most_place μ after n x x there).0)
 
 module _ {T S : Type 0} (v : RewriteSteps (T × S)) (functions : T → List HirFunction)
     (inner : FueledWalk (T × S) ReactiveBlock) where

@@ -73,7 +73,7 @@ module _ (env : Environment) (blocks : List ScopeId) where
       inside = l.inside;
     }
 
-    unknown_behind : {fault : Fault} → IsFirstUnknown env blocks visits fault
+    pub unknown_behind : {fault : Fault} → IsFirstUnknown env blocks visits fault
         → IsFirstUnknown env blocks (visit ∷ visits) fault
     unknown_behind f = record {
       earlier = visit ∷ f.earlier;
@@ -84,7 +84,7 @@ module _ (env : Environment) (blocks : List ScopeId) where
       unknown = f.unknown;
     }
 
-  unknown_here : (visit : Visit) (visits : List Visit) (fault : Fault) → outside env blocks visit ≡ Err fault
+  pub unknown_here : (visit : Visit) (visits : List Visit) (fault : Fault) → outside env blocks visit ≡ Err fault
       → IsFirstUnknown env blocks (visit ∷ visits) fault
   unknown_here visit visits fault is =
       record {

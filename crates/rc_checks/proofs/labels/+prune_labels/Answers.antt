@@ -1,4 +1,4 @@
-use Rattle.std.proofs.Common.{◌≡◌, ◌≤◌, ◌∙◌, ◌+◌, suc, Ok, ap, drop, refl, sym, arith, rules}
+use Rattle.std.proofs.Common.{◌≡◌, ◌≤◌, ◌∙◌, ◌+◌, suc, Ok, ap, refl, sym, arith, rules}
 use denote.Param.Weighed.{most}
 use Rattle.std.proofs.lemmas.List.{reverse-reverse}
 use Rattle.std.proofs.lemmas.Result.{on_ok_weaker}
@@ -10,7 +10,7 @@ use Rattle.rc_checks.proofs.LabelPruning.PruningLemmas.{no_last, pruned_scope_st
 use Rattle.rc_checks.proofs.LabelPruning.Opened.{opened-Break, opened-Continue, opened-Return, opened-Throw}
 use Rattle.rc_checks.proofs.LabelPruning.Opened.{opened-Switch, opened-DoWhile, opened-While, opened-For, opened-ForOf}
 use Rattle.rc_checks.proofs.LabelPruning.Opened.{opened-ForIn, opened-If, opened-Label, opened-Try}
-use Rattle.rc_tree.proofs.PlaceLemmas.{most_place, most_pop}
+use Rattle.rc_tree.proofs.PlaceLemmas.{most_pop}
 use Rattle.rc_tree.proofs.FuelLemmas.{most-reverse}
 use Rattle.rc_tree.proofs.statement.ReactiveBlock.TheLaws as block
 use Rattle.rc_tree.proofs.statement.ReactiveStatement.TheLaws as statement
@@ -19,21 +19,16 @@ use Rattle.rc_tree.proofs.terminal.ReactiveSwitchCase.TheLaws as switch_case
 use Rattle.rc_tree.specs.declared.statement.ReactiveBlock.{size_is-ReactiveBlock}
 use Rattle.rc_tree.specs.declared.statement.ReactiveStatement.TheVariants as reactive
 use Rattle.rc_tree.specs.declared.terminal.ReactiveTerminal.TheVariants as tree
-use Rattle.rc_walk.proofs.FrontWalked.{most_drop}
+use Rattle.rc_walk.proofs.FrontWalked.{most_behind, most_entry}
 use Rattle.rc_checks.proofs.labels.+prune_labels.Goals as goal
 use Rattle.rc_checks.proofs.labels.+prune_labels.Goals.{prune_last-in-Some+in_ok-stays, prune_last-in_default}
 
 -- the statements behind the first one that gives way are no deeper than all
 pub prune_block-prune_reversed-requires : goal.prune_block-prune_reversed-requires
 prune_block-prune_reversed-requires t c =
-    let h : most statement.the_size c.replace_at.new.replacement
-    ≤ most statement.the_size c.args.block.now.statements =
-    rw (
-      c.in_ok-replace_at.ensures.behind,
-      most-reverse statement.the_size (drop (c.in_ok-staying.staying + 1) c.prune_front.new.statements),
-      c.in_ok-staying.ensures.behind,
-      c.take-statements.ensures.list,
-    ) (most_drop statement.the_size (c.in_ok-staying.staying + 1) c.args.block.now.statements) in
+    let h = most_behind statement.the_size (c.in_ok-staying.staying + 1) c.args.block.now.statements
+    c.prune_front.new.statements c.replace_at.new.replacement c.in_ok-replace_at.ensures.behind
+    (rw c.take-statements.ensures.list at c.in_ok-staying.ensures.behind) in
     (omega (arith, h, size_is-ReactiveBlock c.args.block.now, c.decreases), tt)
 
 pub prune_block-returns : goal.prune_block-returns
@@ -82,16 +77,8 @@ prune_cases-loop-case-preserved t c =
 -- a statement that wasn't looked at is no deeper than all
 pub prune_front-prune_statement-requires : goal.prune_front-prune_statement-requires
 prune_front-prune_statement-requires t c =
-    let left : most statement.the_size (drop c.loop-i.i c.loop-i.statements)
-    ≤ most statement.the_size c.args.statements.now =
-    rw c.loop-i.invariant.behind (most_drop statement.the_size c.loop-i.i c.args.statements.now) in
-    let h : statement.the_size c.in-Some.statement.now ≤ most statement.the_size c.args.statements.now =
-    omega (
-      arith,
-      left,
-      (most_place statement.the_size c.loop-i.statements c.loop-i.i c.in-Some.statement.now c.in-Some.statement.now
-          (sym c.in-Some.ensures.value)).0,
-    ) in
+    let h = most_entry statement.the_size c.loop-i.i c.args.statements.now c.loop-i.statements
+    c.in-Some.statement.now c.loop-i.invariant.behind (sym c.in-Some.ensures.value) in
     search (rules, h)
 
 pub prune_front-loop-i-preserved : goal.prune_front-loop-i-preserved

@@ -9,12 +9,12 @@ pub returns-clause-ok : goal.returns-clause-ok
 returns-clause-ok c =
     let labels = c.in_ok-prune_unused_labels.ensures in
     checked c.args.env.now c.args.func.now c.prune_unused_labels.new.func labels.kept_visits labels.kept_scope_blocks
-    labels.kept_scopes labels.ok labels.header c.in_ok-assert_scope_instructions_within_scopes.ensures.ok
+    labels.kept_scopes labels.ok labels.header c.in_ok-assert_known_instructions_within_scopes.ensures.ok
 
 -- a spelled tree passes the check of break targets
 pub returns-in_err-assert_well_formed_break_targets-clause-refused :
     goal.returns-in_err-assert_well_formed_break_targets-clause-refused
-returns-in_err-assert_well_formed_break_targets-clause-refused c = λ hir spelled known.
+returns-in_err-assert_well_formed_break_targets-clause-refused c = λ hir spelled.
     let exit = c.from_residual in
     let p = err_from_is_err_and exit.result exit.ensures.1 in
     rw (p.1, p.2) (memory_fault (state c.args.func.now c.args.env.now)
@@ -22,14 +22,13 @@ returns-in_err-assert_well_formed_break_targets-clause-refused c = λ hir spelle
     (c.in_err-assert_well_formed_break_targets.ensures.spelled hir spelled))
 
 -- the check of operands comes after unused labels are pruned
-pub returns-in_err-assert_scope_instructions_within_scopes-clause-refused :
-    goal.returns-in_err-assert_scope_instructions_within_scopes-clause-refused
-returns-in_err-assert_scope_instructions_within_scopes-clause-refused c = λ hir spelled known.
-    let exit = c.from_residual-in_err-assert_scope_instructions_within_scopes in
-    let refused = c.in_err-assert_scope_instructions_within_scopes in
+pub returns-in_err-assert_known_instructions_within_scopes-clause-refused :
+    goal.returns-in_err-assert_known_instructions_within_scopes-clause-refused
+returns-in_err-assert_known_instructions_within_scopes-clause-refused c = λ hir spelled.
+    let exit = c.from_residual-in_err-assert_known_instructions_within_scopes in
+    let refused = c.in_err-assert_known_instructions_within_scopes in
     let labels = c.in_ok-prune_unused_labels.ensures in
     let p = err_from_is_err_and exit.result exit.ensures.1 in
     rw (p.1, p.2) (outside_fault c.args.env.now c.args.func.now c.prune_unused_labels.new.func labels.kept_visits
     labels.kept_scope_blocks labels.kept_scopes refused.field-0.0
-    (λ id scope is. refused.ensures.scope_completed id scope (ap Err is))
-    (λ table index is. refused.ensures.sound (labels.known known) table index (ap Err is)) refused.ensures.only)
+    (λ id scope is. refused.ensures.scope_completed id scope (ap Err is)) refused.ensures.only)

@@ -14,9 +14,9 @@ returns-clause-ok c = record {
   scopes = c.in_ok-used.ensures.ok;
 }
 
-pub returns-clause-known : goal.returns-clause-known
-returns-clause-known c = λ known.
-    c.in_ok-used.ensures.known (c.in_ok-escaping.ensures.known (c.in_ok-check.ensures.known known))
+pub returns-clause-still_known : goal.returns-clause-still_known
+returns-clause-still_known c =
+    c.in_ok-used.ensures.known (c.in_ok-escaping.ensures.known c.in_ok-check.ensures.still_known)
 
 pub returns-clause-kept_runs : goal.returns-clause-kept_runs
 returns-clause-kept_runs c = λ none.
@@ -26,13 +26,13 @@ returns-clause-kept_runs c = λ none.
 
 -- a refusal of the checks is one of the passes
 pub returns-in_err-check-clause-refused : goal.returns-in_err-check-clause-refused
-returns-in_err-check-clause-refused c = λ hir spelled known.
+returns-in_err-check-clause-refused c = λ hir spelled.
     let p = err_from_is_err_and c.from_residual.result c.from_residual.ensures.1 in
-    rw (p.1, p.2) (c.in_err-check.ensures.refused hir spelled known)
+    rw (p.1, p.2) (c.in_err-check.ensures.refused hir spelled)
 
 -- and so is one of the escape pass
 pub returns-in_err-escaping-clause-refused : goal.returns-in_err-escaping-clause-refused
-returns-in_err-escaping-clause-refused c = λ hir spelled known.
+returns-in_err-escaping-clause-refused c = λ hir spelled.
     let exit = c.from_residual-in_err-escaping in
     let p = err_from_is_err_and exit.result exit.ensures.1 in
     rw (p.1, p.2) (escape_fault c.args.env.now c.args.func.now c.check.new.func c.in_ok-check.ensures.ok
@@ -40,15 +40,15 @@ returns-in_err-escaping-clause-refused c = λ hir spelled known.
 
 -- pruning of other scopes refuses nothing that a graph spells, unless memory runs out
 pub returns-in_err-used-clause-refused : goal.returns-in_err-used-clause-refused
-returns-in_err-used-clause-refused c = λ hir spelled known.
+returns-in_err-used-clause-refused c = λ hir spelled.
     let exit = c.from_residual-in_err-used in
     let p = err_from_is_err_and exit.result exit.ensures.1 in
     rw (p.1, p.2) (memory_fault (state c.args.func.now c.args.env.now) c.in_err-used.field-0.0
-    (c.in_err-used.ensures.refused (c.in_ok-escaping.ensures.known (c.in_ok-check.ensures.known known))))
+    (c.in_err-used.ensures.refused (c.in_ok-escaping.ensures.known c.in_ok-check.ensures.still_known)))
 
 pub returns-in_err-used-clause-kept_environment : goal.returns-in_err-used-clause-kept_environment
-returns-in_err-used-clause-kept_environment c = λ known.
+returns-in_err-used-clause-kept_environment c =
     let exit = c.from_residual-in_err-used in
     let p = err_from_is_err_and exit.result exit.ensures.1 in
     rw (p.1, p.2) (inl (c.in_err-used.ensures.refused
-    (c.in_ok-escaping.ensures.known (c.in_ok-check.ensures.known known))))
+    (c.in_ok-escaping.ensures.known c.in_ok-check.ensures.still_known)))

@@ -36,7 +36,7 @@ returns-clause-ok c =
       needed = none_needed parts once c.in_ok-fates.fates listed;
       escaping = escaping_staying parts once;
       used = used_staying parts once;
-      known = c.in_ok-left.ensures.known built.known;
+      known = c.in_ok-left.ensures.still_known;
     }
 
 pub returns-in_err-accept-clause-complete : goal.returns-in_err-accept-clause-complete
@@ -69,7 +69,7 @@ returns-in_err-left-clause-refused c =
     let built = c.in_ok-func.ensures in
     rw (p.1, p.2) (pass_cause c.args.hir.now c.args.env.now c.in_ok-accept.ensures.ok
     c.in_ok-func.func built.ok c.in_err-left.field-0.0
-    (c.in_err-left.ensures.refused c.args.hir.now built.ok built.known))
+    (c.in_err-left.ensures.refused c.args.hir.now built.ok))
 
 pub returns-in_err-left-clause-complete : goal.returns-in_err-left-clause-complete
 returns-in_err-left-clause-complete c =
@@ -77,7 +77,7 @@ returns-in_err-left-clause-complete c =
     let built = c.in_ok-func.ensures in
     let cause = pass_cause c.args.hir.now c.args.env.now c.in_ok-accept.ensures.ok
     c.in_ok-func.func built.ok c.in_err-left.field-0.0
-    (c.in_err-left.ensures.refused c.args.hir.now built.ok built.known)
+    (c.in_err-left.ensures.refused c.args.hir.now built.ok)
     in
     rw (p.1, p.2) (λ func accepted answer. inr (ap Err (only_memory c.args.hir.now c.args.env.now accepted func answer
     c.in_err-left.field-0.0 cause)))

@@ -6,7 +6,7 @@ use Rattle.std.proofs.lemmas.Result.{err_from_is_err_and}
 use Rattle.rc_tree.proofs.PlaceLemmas.{ends_full, last_set, last_is, last_there, taken_off, past_end}
 use Rattle.rc_tree.proofs.PlaceLemmas.{most_place}
 use Rattle.rc_tree.proofs.FuelLemmas.{meets_inside, meets_inside_fault, so_far_next_last, so_far_fault_last, so_far_end}
-use Rattle.rc_tree.proofs.FuelLemmas.{place_next, place_fault, place_end, most-reverse}
+use Rattle.rc_tree.proofs.FuelLemmas.{place_next, place_fault, place_end}
 use Rattle.rc_tree.proofs.RewriteInPlaceLemmas.{meets_put, meets_put_fault}
 use Rattle.rc_tree.proofs.RewriteStatementLemmas.{meets_block_to, meets_terminal_at, meets_scope_at}
 use Rattle.rc_tree.proofs.RewriteStatementLemmas.{meets_pruned_scope_at, meets_For, both_same, cases_at-in_turn}
@@ -21,7 +21,7 @@ use Rattle.rc_tree.proofs.statement.ReactiveStatement.TheLaws as statement
 use Rattle.rc_tree.proofs.terminal.ReactiveSwitchCase.TheLaws as switch_case
 use Rattle.rc_walk.specs.Statements.{added_if}
 use Rattle.rc_walk.specs.inside.FrontWalk.{with_replacement, without_answer}
-use Rattle.rc_walk.proofs.FrontWalked.{front_fails, front_goes_on, front_stops, most_drop}
+use Rattle.rc_walk.proofs.FrontWalked.{front_fails, front_goes_on, front_stops, most_behind, most_entry}
 use Rattle.rc_walk.proofs.rewrite.+rewrite_tree.Goals as goal
 
 -- at first the statements behind the first one are left whose replacement isn't one statement
@@ -30,11 +30,8 @@ statement::walk_list-statement-init g t c =
     let place = c.in_ok-staying.staying in
     let front = c.walk_front.new.statements in
     record {
-      no_deeper = rw (
-        c.in_ok-replace_at.ensures.behind,
-        most-reverse statement.the_size (drop (place + 1) front),
-        c.in_ok-staying.ensures.behind,
-      ) (most_drop statement.the_size (place + 1) c.args.statements.now);
+      no_deeper = most_behind statement.the_size (place + 1) c.args.statements.now front _
+          c.in_ok-replace_at.ensures.behind c.in_ok-staying.ensures.behind;
       so_far = λ n. rw (
         c.in_ok-replace_at.ensures.front,
         c.in_ok-replace_at.ensures.behind,
@@ -213,16 +210,8 @@ statement::walk_front-loop-i-init g t c = record {
 -- a statement that wasn't walked is no deeper than all
 pub statement::walk_front-walk_in_place-requires : goal.statement::walk_front-walk_in_place-requires
 statement::walk_front-walk_in_place-requires g t c =
-    let left : most statement.the_size (drop c.loop-i.i c.loop-i.statements)
-    ≤ most statement.the_size c.args.statements.now =
-    rw c.loop-i.invariant.behind (most_drop statement.the_size c.loop-i.i c.args.statements.now) in
-    let h : statement.the_size c.in-Some.statement.now ≤ most statement.the_size c.args.statements.now =
-    omega (
-      arith,
-      left,
-      (most_place statement.the_size c.loop-i.statements c.loop-i.i c.in-Some.statement.now c.in-Some.statement.now
-          (sym c.in-Some.ensures.value)).0,
-    ) in
+    let h = most_entry statement.the_size c.loop-i.i c.args.statements.now c.loop-i.statements
+    c.in-Some.statement.now c.loop-i.invariant.behind (sym c.in-Some.ensures.value) in
     search (rules, h)
 
 pub statement::walk_front-loop-i-preserved : goal.statement::walk_front-loop-i-preserved
