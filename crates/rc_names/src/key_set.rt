@@ -9,7 +9,8 @@ use crate::{CloneIn, List, Name};
 use std::alloc::{AllocError, Global};
 use std::marker::Model;
 
-/// Keys and their positions, which contracts see as the list of the keys. They are distinct.
+/// Keys and, if they are more than eight, their positions, which contracts see as the list of the keys. They are
+/// distinct.
 #[derive(Drop)]
 pub struct KeySet<K: Name> {
     keys: List<K>,
@@ -20,7 +21,7 @@ impl<K: Name> Model for KeySet<K> {
     ghost use Rattle.std.specs.Prelude.{List as Keys};
     ghost use Rattle.std.specs.List.{IsDistinct};
     ghost use Rattle.std.specs.Coded.{coded_list};
-    ghost use Rattle.rc_names.specs.inside.Positions.{ArePositions};
+    ghost use Rattle.rc_names.specs.inside.Positions.{FindKeys};
 
     ghost Value = { Keys K };
 
@@ -28,7 +29,7 @@ impl<K: Name> Model for KeySet<K> {
 
     ghost view = { λ it. it.keys };
 
-    ghost invariant = { λ it. IsDistinct K.eq it.keys × ArePositions K.number K.eq it.keys it.positions };
+    ghost invariant = { λ it. IsDistinct K.eq it.keys × FindKeys K.number K.eq it.keys it.positions };
 }
 
 impl<K: Name> KeySet<K> {
@@ -61,7 +62,7 @@ impl<K: Name> KeySet<K> {
     pub fn position(&self, key: K) -> Option<usize>
         ensures { result ≡ position (K.eq key) self.now }
     {
-        self.positions.find(key.index())
+        self.positions.find_key(self.keys.as_slice(), key)
     }
 
     /// Returns the key at an index, and `None` past the end.
@@ -88,9 +89,9 @@ impl<K: Name> KeySet<K> {
         if self.contains(key) {
             return Ok(false);
         }
-        let position = self.keys.len();
+        let last = self.keys.len();
         self.keys.push(key)?;
-        match self.positions.put(key.index(), position) {
+        match self.positions.put_last(self.keys.as_slice(), last) {
             Ok(()) => Ok(true),
             Err(error) => {
                 self.keys.pop();

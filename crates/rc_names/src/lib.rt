@@ -6,6 +6,7 @@
 
 mod boxed;
 mod clone_in;
+mod key_positions;
 mod key_set;
 mod keyed;
 mod list;

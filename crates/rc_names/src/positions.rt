@@ -31,6 +31,13 @@ impl Positions {
         }
     }
 
+    /// Returns the positions of no numbers, with memory from where these have it. This takes no memory.
+    pub fn none(&self) -> Positions
+        ensures { (number : ℕ) → spec.position_of result number ≡ None }
+    {
+        Positions::new(*self.row.allocator())
+    }
+
     /// Returns the position of a number, and `None` if it has none.
     pub fn find(&self, number: usize) -> Option<usize>
         ensures { result ≡ spec.position_of self.now number }

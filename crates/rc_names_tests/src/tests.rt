@@ -268,6 +268,54 @@ fn numbers_that_lie_apart_keep_their_places(rt: HostRuntime) -> Result<(), Fail>
     Ok(())
 }
 
+/// The key of that index, where keys lie a thousand apart.
+fn apart(index: u32) -> BlockId {
+    BlockId::new(index.saturating_mul(1000))
+}
+
+/// Whether a set has the first keys of those apart, each at its index, and not the next one.
+fn has_first(keys: &KeySet<BlockId>, count: u32) -> bool {
+    for index in 0..count {
+        if keys.position(apart(index)) != Some(index as usize) {
+            return false;
+        }
+    }
+    keys.len() == count as usize && !keys.contains(apart(count))
+}
+
+/// Inserts the next key of those apart. Where that finds no memory it has to leave the set as it was, and is tried once
+/// more.
+fn insert_next(keys: &mut KeySet<BlockId>, count: u32) -> Result<bool, AllocError> {
+    match keys.insert(apart(count)) {
+        Ok(is_new) => Ok(is_new),
+        Err(error) => {
+            if has_first(keys, count) {
+                keys.insert(apart(count))
+            } else {
+                Err(error)
+            }
+        }
+    }
+}
+
+/// Whether a set that takes twenty keys one by one has each at its index all the while.
+fn has_each_in_turn(alloc: Global) -> Result<bool, AllocError> {
+    let mut keys = KeySet::new(alloc);
+    for count in 0..20 {
+        if !has_first(&keys, count) || !insert_next(&mut keys, count)? {
+            return Ok(false);
+        }
+    }
+    Ok(has_first(&keys, 20))
+}
+
+// This holds for each call for memory that fails: `rt try --test --fail-alloc 1..`.
+#[test]
+fn a_ninth_key_is_found_as_the_others_are(rt: HostRuntime) -> Result<(), Fail> {
+    assert!(rt; has_each_in_turn(rt.alloc())?);
+    Ok(())
+}
+
 /// A text of its own.
 fn text(alloc: Global, text: &str) -> Result<Text, AllocError> {
     Text::from_str(alloc, text)

@@ -1,5 +1,5 @@
 -- The positions of numbers, and of the keys of a list.
-use Rattle.std.specs.Prelude.{◌≡◌, ℕ, ◌-◌, Bool, List, Option, Some, nat_eq, nat_lt, position, slice_index_or}
+use Rattle.std.specs.Prelude.{◌≡◌, ℕ, ◌-◌, ◌<◌, Bool, List, length, Option, Some, nat_eq, nat_lt, position, slice_index_or}
 use Rattle.std.specs.Prelude.{if◌then◌else◌}
 use Rattle.std.specs.BTreeMap.{get}
 use Rattle.std.specs.Ordering.{nat_cmp}
@@ -25,3 +25,7 @@ PutsPosition old new number place = (other : ℕ) →
 -- each key has its position in the list, and what isn't in the list has none
 abbrev pub ArePositions : {K : Type 0} → (K → ℕ) → (K → K → Bool) → List K → Positions → Type 0
 ArePositions {K} number eq keys positions = (key : K) → position_of positions (number key) ≡ position (eq key) keys
+
+-- the keys of a list can be found: a few by going over them, and more by their positions
+abbrev pub FindKeys : {K : Type 0} → (K → ℕ) → (K → K → Bool) → List K → Positions → Type 0
+FindKeys number eq keys positions = 8 < length keys → ArePositions number eq keys positions
