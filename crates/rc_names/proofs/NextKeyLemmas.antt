@@ -1,7 +1,7 @@
 -- The next key of a list of distinct keys is new behind those before it, and takes the next position.
-use Rattle.std.proofs.Common.{◌≡◌, ◌≤◌, ◌∙◌, ◌<◌, ◌+◌, ℕ, zero, suc, Bool, true, false, ◌||◌, List, [], ◌∷◌, ◌++◌, None}
+use Rattle.std.proofs.Common.{◌≡◌, ◌∙◌, ◌<◌, ◌+◌, ℕ, zero, suc, Bool, true, false, ◌||◌, List, [], ◌∷◌, ◌++◌, None}
 use Rattle.std.proofs.Common.{refl, sym, ap, subst, length, take, get_or, arith}
-use Rattle.std.proofs.lemmas.List.{length-take-le, take_more}
+use Rattle.std.proofs.lemmas.List.{length-take-le, take_all, take_more}
 use Rattle.std.proofs.lemmas.Map.Keys.{apart_from_distinct}
 use Rattle.std.specs.Cmp.{IsEquivalence}
 use Rattle.std.specs.List.{IsDistinct, list_any}
@@ -21,13 +21,6 @@ next_is_new {K} {eq} equivalence (first ∷ keys) (suc i) key distinct within re
     ap (λ b. b || list_any (eq key) (take i keys)) apart
     ∙ next_is_new equivalence keys i key distinct.1 (omega (arith, within)) read
 
--- more than eight keys before the last one have their positions
-pub found_by_positions : {K : Type 0} (number : K → ℕ) (eq : K → K → Bool) (keys : List K) (last : ℕ)
-    (positions : Positions) → last ≤ length keys → 8 < last → FindKeys number eq (take last keys) positions
-    → ArePositions number eq (take last keys) positions
-found_by_positions number eq keys last positions within many found =
-    found (subst (λ n. 8 < n) (sym (length-take-le last keys within)) many)
-
 module _ {K : Type 0} {number : K → ℕ} {eq : K → K → Bool} (equivalence : IsEquivalence eq)
     (same : (m n : K) → number m ≡ number n → m ≡ n) (eq_same : (m n : K) → eq m n ≡ true → m ≡ n)
     (keys : List K) (i : ℕ) (key : K) (old : Positions) (distinct : IsDistinct eq keys) (within : i < length keys)
@@ -46,3 +39,23 @@ module _ {K : Type 0} {number : K → ℕ} {eq : K → K → Bool} (equivalence 
       (positions_behind equivalence same eq_same (take i keys) key old new are
       (next_is_new equivalence keys i key distinct within read)
       (subst (PutsPosition old new (number key)) (sym count) puts))
+
+module _ {K : Type 0} {number : K → ℕ} {eq : K → K → Bool} (equivalence : IsEquivalence eq)
+    (same : (m n : K) → number m ≡ number n → m ≡ n) (eq_same : (m n : K) → eq m n ≡ true → m ≡ n)
+    (keys : List K) (last : ℕ) (key : K) (old : Positions) (all : last + 1 ≡ length keys) (many : 8 < last)
+    (distinct : IsDistinct eq keys) (read : get_or keys last key ≡ key)
+    (found : FindKeys number eq (take last keys) old) where
+  within : last < length keys
+  within = omega (arith, all)
+
+  are : ArePositions number eq (take last keys) old
+  are = found (subst (λ n. 8 < n) (sym (length-take-le last keys (omega (arith, all)))) many)
+
+  pub last_has_none : position_of old (number key) ≡ None
+  last_has_none = next_has_none equivalence same eq_same keys last key old distinct within read are
+
+  pub last_position : (new : Positions) → PutsPosition old new (number key) last → ArePositions number eq keys new
+  last_position new puts =
+      let whole : take (last + 1) keys ≡ keys = take_all (last + 1) keys (omega (arith, all)) in
+      subst (λ (front : List K). ArePositions number eq front new) whole
+      (next_position equivalence same eq_same keys last key old distinct within read are new puts)
