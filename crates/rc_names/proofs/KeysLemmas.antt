@@ -101,7 +101,8 @@ module _ {K : Type 0} {number : K → ℕ} {eq : K → K → Bool} (equivalence 
         where
           by_answer : (b : Bool) → eq other key ≡ b → b ≡ false
           by_answer true answer =
-              absurd (true≢false (sym (eq-eqb (number key) (number other) (sym (ap number (eq_same other key answer)))) ∙ is))
+              absurd (true≢false (sym (eq-eqb (number key) (number other) (sym (ap number (eq_same other key answer))))
+              ∙ is))
           by_answer false answer = refl
 
 -- the front part of distinct keys with the next one put in

@@ -47,7 +47,8 @@ module _ (row : List ℕ) (old : ℕ → Option ℕ) (number place : ℕ) where
       by true is =
           let same : number ≡ other = eqb-true number other is in
           let empty : nat_lt 0 (get_or row other 0) ≡ false =
-          no_entry (get_or row other 0) (old other) (subst (λ n. position_or (get_or row n 0) (old n) ≡ None) same none) in
+          no_entry (get_or row other 0) (old other)
+          (subst (λ n. position_or (get_or row n 0) (old n) ≡ None) same none) in
           ap (λ b. if b then Some (get_or row other 0 - 1) else new other) empty ∙ answer true is
       by false is = ap (position_or (get_or row other 0)) (answer false is)
 

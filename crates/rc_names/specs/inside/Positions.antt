@@ -11,7 +11,8 @@ position_or entry other = if nat_lt 0 entry then Some (entry - 1) else other
 
 -- the position of a number
 abbrev pub position_of : Positions → ℕ → Option ℕ
-position_of positions number = position_or (slice_index_or positions.row.items number 0) (get nat_cmp positions.others number)
+position_of positions number =
+    position_or (slice_index_or positions.row.items number 0) (get nat_cmp positions.others number)
 
 -- each number has the position that it had
 abbrev pub HaveSamePositions : Positions → Positions → Type 0

@@ -8,7 +8,8 @@ returns-in-Some g c =
     let at = sym c.position.ensures ∙ c.in-Some.is in (
       (
         refl,
-        (λ w. set_at g.K.PartialEq.eq c.self.inside.keys c.self.inside.values c.self.invariant c.args.key w c.in-Some.place at
+        (λ w. set_at g.K.PartialEq.eq c.self.inside.keys c.self.inside.values c.self.invariant c.args.key w
+            c.in-Some.place at
             ∙ ap (λ pairs. set_value (g.K.PartialEq.eq c.args.key) pairs w) c.self.view_is),
         c.self.view_is,
       ),
@@ -32,7 +33,9 @@ returns-in-None g c =
       ),
       record {
         writes_back = tt;
-        value = sym (lookup_absent (g.K.PartialEq.eq c.args.key) c.self.inside.keys c.self.inside.values c.self.invariant at)
+        value =
+            sym (lookup_absent (g.K.PartialEq.eq c.args.key) c.self.inside.keys c.self.inside.values c.self.invariant
+            at)
             ∙ ap (lookup (g.K.PartialEq.eq c.args.key)) c.self.view_is;
       },
     )

@@ -11,7 +11,8 @@ use Rattle.rc_names.specs.inside.Pairs.{pairs_of}
 
 pub returns-in-Some-clause-entries : goal.returns-in-Some-clause-entries
 returns-in-Some-clause-entries g c =
-    ap (λ value. pairs_of c.self.inside.keys (slice_set c.self.inside.values c.in-Some.place value)) c.replace.ensures.after
+    ap (λ value. pairs_of c.self.inside.keys (slice_set c.self.inside.values c.in-Some.place value))
+    c.replace.ensures.after
     ∙ sym (insert_at g.K.PartialEq.eq c.self.inside.keys c.self.inside.values c.self.invariant c.args.key c.args.value
     c.in-Some.place (sym c.position.ensures ∙ c.in-Some.is))
     ∙ ap (λ pairs. insert_entry g.K.PartialEq.eq pairs c.args.key c.args.value) c.self.view_is
@@ -38,7 +39,8 @@ returns-in-Ok-clause-entries g c =
     ap (λ keys. pairs_of keys c.push.new.self)
     (c.in-Ok.ensures.keys ∙ insert_new g.K.PartialEq.eq c.self.inside.keys c.args.key none)
     ∙ ap (pairs_of (c.self.inside.keys ++ c.args.key ∷ [])) c.in_ok-push.ensures.ok
-    ∙ sym (insert_absent g.K.PartialEq.eq c.self.inside.keys c.self.inside.values c.self.invariant c.args.key c.args.value
+    ∙ sym (insert_absent g.K.PartialEq.eq c.self.inside.keys c.self.inside.values c.self.invariant c.args.key
+    c.args.value
     none)
     ∙ ap (λ pairs. insert_entry g.K.PartialEq.eq pairs c.args.key c.args.value) c.self.view_is
 
