@@ -309,7 +309,7 @@ fn has_each_in_turn(alloc: Global) -> Result<bool, AllocError> {
     Ok(has_first(&keys, 20))
 }
 
-// This holds for each call for memory that fails: `rt try --test --fail-alloc 1..`.
+// This holds for each call for memory that fails: `rt try --test --fail-alloc N`.
 #[test]
 fn a_ninth_key_is_found_as_the_others_are(rt: HostRuntime) -> Result<(), Fail> {
     assert!(rt; has_each_in_turn(rt.alloc())?);
