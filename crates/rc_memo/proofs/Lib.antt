@@ -5,6 +5,8 @@ pub mod EntryLemmas
 pub mod AddingLemmas
 pub mod LoadsLemmas
 pub mod EventsLemmas
+pub mod HeldEventsLemmas
+pub mod RowPartsLemmas
 pub mod RowEventsLemmas
 pub mod TreeEventsLemmas
 pub mod GrowingLemmas

@@ -1,7 +1,7 @@
 -- What each form of value brings, and the steps in which its parts are added.
 use Rattle.std.proofs.Common.{◌≡◌, ◌∙◌, Bool, List, [], ◌∷◌, ◌++◌, ap, append-nil, append_assoc, map, refl, subst, sym}
 use Rattle.std.specs.List.{flat_map}
-use Rattle.rc_hir.specs.Model.{Environment, InstructionValue, LogicalOperator, Place}
+use Rattle.rc_hir.specs.Model.{Environment, InstructionValue, LogicalOperator}
 use Rattle.rc_names.specs.Numbers.{EvaluationOrder}
 use Rattle.rc_tree.specs.Model.{ReactiveInstruction}
 use Rattle.rc_tree.specs.declared.value.ReactiveValue.{ReactiveValue, map-ReactiveValue, roll-ReactiveValue}
@@ -11,7 +11,8 @@ use Rattle.rc_tree.specs.declared.value.ReactiveValue.TheVariants as reactive_va
 use Rattle.rc_memo.specs.RowEvents.{ValueParts, both_parts, instruction_of, own_events, parts_of, recorded_operands}
 use Rattle.rc_memo.specs.RowEvents.{row_events, row_step, value_step}
 use Rattle.rc_memo.specs.declared.event.MemoEvent.{MemoEvent}
-use Rattle.rc_memo.specs.inside.RowsAdded.{AddsParts, AddsWalked}
+use Rattle.rc_memo.specs.inside.RowsAdded.{AddsOperands, AddsRows, AddsWalked, with_mentions}
+use Rattle.rc_memo.proofs.RowPartsLemmas.{mentions_joined}
 
 module _ (env : Environment) where
   -- a value brings the step of its form
@@ -22,7 +23,7 @@ module _ (env : Environment) where
   unfolding parts_of row_events
   opened x = para-roll-ReactiveValue ValueParts (List MemoEvent) (value_step env) (row_step env) x
 
-  parts-Instruction : (x : InstructionValue) → parts_of env (reactive_values.Instruction x)
+  pub parts-Instruction : (x : InstructionValue) → parts_of env (reactive_values.Instruction x)
       ≡ record { places = recorded_operands env x; rows = []; walked = [] }
   parts-Instruction x = ap (parts_of env) (sym (reactive_values.rolls-Instruction x)) ∙ opened (value.Instruction x)
 
@@ -76,76 +77,107 @@ module _ (env : Environment) where
   joined old mid new a b whole first second is =
       second ∙ ap (λ w. w ++ b) first ∙ append_assoc old a b ∙ ap (λ w. old ++ w) (sym is)
 
-  pub as_part : {x y : ReactiveValue} {old new : List MemoEvent} {places more : List Place} → x ≡ y
-      → AddsParts env x old new places more → AddsParts env y old new places more
-  as_part {old = old} {new = new} {places = places} {more = more} is added =
-      subst (λ w. AddsParts env w old new places more) is added
+  pub as_inside : {x y : ReactiveValue} {old new : List MemoEvent} → x ≡ y → AddsRows env x old new
+      → AddsRows env y old new
+  as_inside {old = old} {new = new} is added = subst (λ w. AddsRows env w old new) is added
+
+  pub as_operands : {x y : ReactiveValue} {id : EvaluationOrder} {old new : List MemoEvent} → x ≡ y
+      → AddsOperands env x id old new → AddsOperands env y id old new
+  as_operands {id = id} {old = old} {new = new} is added = subst (λ w. AddsOperands env w id old new) is added
 
   pub as_walked : {x y : ReactiveValue} {old new : List MemoEvent} → x ≡ y → AddsWalked env x old new
       → AddsWalked env y old new
   as_walked {old = old} {new = new} is added = subst (λ w. AddsWalked env w old new) is added
 
-  -- each form is added by its parts
+  -- the rows inside each form
 
-  pub adds-Instruction : (value' : ReactiveValue) (x : InstructionValue) (events : List MemoEvent)
-      (places more : List Place) → value' ≡ reactive_values.Instruction x
-      → more ≡ places ++ recorded_operands env x → AddsParts env value' events events places more
-  adds-Instruction value' x events places more is added = record {
+  pub inside-Instruction : (value' : ReactiveValue) (x : InstructionValue) (events : List MemoEvent)
+      → value' ≡ reactive_values.Instruction x → AddsRows env value' events events
+  inside-Instruction value' x events is = record {
     events = sym (append-nil events) ∙ ap (λ w. events ++ w.rows) (sym (ap (parts_of env) is ∙ parts-Instruction x));
-    operands = added ∙ ap (λ w. places ++ w.places) (sym (ap (parts_of env) is ∙ parts-Instruction x));
   }
 
-  pub adds-Logical : (value' : ReactiveValue) (operator : LogicalOperator) (x y : ReactiveValue)
-      (old mid new : List MemoEvent) (places some more : List Place)
-      → value' ≡ reactive_values.LogicalExpression operator x y → AddsParts env x old mid places some
-      → AddsParts env y mid new some more → AddsParts env value' old new places more
-  adds-Logical value' operator x y old mid new places some more is first second =
-      let e = ap (parts_of env) is ∙ parts-Logical operator x y in
-      record {
-        events = joined old mid new _ _ _ first.events second.events (ap (λ w. w.rows) e);
-        operands = joined places some more _ _ _ first.operands second.operands (ap (λ w. w.places) e);
-      }
+  pub inside-Logical : (value' : ReactiveValue) (operator : LogicalOperator) (x y : ReactiveValue)
+      (old mid new : List MemoEvent) → value' ≡ reactive_values.LogicalExpression operator x y
+      → AddsRows env x old mid → AddsRows env y mid new → AddsRows env value' old new
+  inside-Logical value' operator x y old mid new is first second = record {
+    events = joined old mid new _ _ _ first.events second.events
+        (ap (λ w. w.rows) (ap (parts_of env) is ∙ parts-Logical operator x y));
+  }
 
-  pub adds-Conditional : (value' test x y : ReactiveValue) (old mid new : List MemoEvent)
-      (places some more : List Place)
-      → value' ≡ reactive_values.ConditionalExpression test x y → AddsParts env x old mid places some
-      → AddsParts env y mid new some more → AddsParts env value' old new places more
-  adds-Conditional value' test x y old mid new places some more is first second =
-      let e = ap (parts_of env) is ∙ parts-Conditional test x y in
-      record {
-        events = joined old mid new _ _ _ first.events second.events (ap (λ w. w.rows) e);
-        operands = joined places some more _ _ _ first.operands second.operands (ap (λ w. w.places) e);
-      }
+  pub inside-Conditional : (value' test x y : ReactiveValue) (old mid new : List MemoEvent)
+      → value' ≡ reactive_values.ConditionalExpression test x y → AddsRows env x old mid → AddsRows env y mid new
+      → AddsRows env value' old new
+  inside-Conditional value' test x y old mid new is first second = record {
+    events = joined old mid new _ _ _ first.events second.events
+        (ap (λ w. w.rows) (ap (parts_of env) is ∙ parts-Conditional test x y));
+  }
 
-  pub adds-Sequence : (value' : ReactiveValue) (rows : List ReactiveInstruction) (id : EvaluationOrder)
-      (x : ReactiveValue) (old mid new : List MemoEvent) (places more : List Place)
+  pub inside-Sequence : (value' : ReactiveValue) (rows : List ReactiveInstruction) (id : EvaluationOrder)
+      (x : ReactiveValue) (old mid new : List MemoEvent)
       → value' ≡ reactive_values.SequenceExpression rows id x → mid ≡ old ++ flat_map (row_events env) rows
-      → AddsParts env x mid new places more → AddsParts env value' old new places more
-  adds-Sequence value' rows id x old mid new places more is first second =
-      let e = ap (parts_of env) is ∙ parts-Sequence rows id x in
-      record {
-        events = joined old mid new _ _ _ first second.events (ap (λ w. w.rows) e);
-        operands = second.operands ∙ ap (λ w. places ++ w.places) (sym e);
-      }
+      → AddsRows env x mid new → AddsRows env value' old new
+  inside-Sequence value' rows id x old mid new is first second = record {
+    events = joined old mid new _ _ _ first second.events
+        (ap (λ w. w.rows) (ap (parts_of env) is ∙ parts-Sequence rows id x));
+  }
 
-  pub adds-Optional : (value' x : ReactiveValue) (optional : Bool) (old new : List MemoEvent)
-      (places more : List Place) → value' ≡ reactive_values.OptionalExpression x optional
-      → AddsParts env x old new places more → AddsParts env value' old new places more
-  adds-Optional value' x optional old new places more is added =
-      let e = ap (parts_of env) is ∙ parts-Optional x optional in
-      record {
-        events = added.events ∙ ap (λ w. old ++ w.rows) (sym e);
-        operands = added.operands ∙ ap (λ w. places ++ w.places) (sym e);
-      }
+  pub inside-Optional : (value' x : ReactiveValue) (optional : Bool) (old new : List MemoEvent)
+      → value' ≡ reactive_values.OptionalExpression x optional → AddsRows env x old new
+      → AddsRows env value' old new
+  inside-Optional value' x optional old new is added = record {
+    events = added.events ∙ ap (λ w. old ++ w.rows) (sym (ap (parts_of env) is ∙ parts-Optional x optional));
+  }
 
-  pub adds_row : (x : ReactiveInstruction) (old mid new : List MemoEvent) (none places : List Place) → none ≡ []
-      → AddsParts env x.value old mid none places
-      → new ≡ mid ++ own_events env x.id x.lvalue (instruction_of x.value) places → new ≡ old ++ row_events env x
-  adds_row x old mid new none places empty first second =
-      let all : places ≡ (parts_of env x.value).places =
-      first.operands ∙ ap (λ w. w ++ (parts_of env x.value).places) empty in
-      joined old mid new (parts_of env x.value).rows _ (row_events env x) first.events
-      (second ∙ ap (λ w. mid ++ own_events env x.id x.lvalue (instruction_of x.value) w) all) (row_events-parts x)
+  -- the operands of each form
+
+  pub operands-Instruction : (value' : ReactiveValue) (x : InstructionValue) (id : EvaluationOrder)
+      (old new : List MemoEvent) → value' ≡ reactive_values.Instruction x
+      → new ≡ with_mentions env id (recorded_operands env x) old → AddsOperands env value' id old new
+  operands-Instruction value' x id old new is added = record {
+    events = added ∙ ap (λ w. with_mentions env id w.places old)
+        (sym (ap (parts_of env) is ∙ parts-Instruction x));
+  }
+
+  pub operands-Logical : (value' : ReactiveValue) (operator : LogicalOperator) (x y : ReactiveValue)
+      (id : EvaluationOrder) (old mid new : List MemoEvent)
+      → value' ≡ reactive_values.LogicalExpression operator x y → AddsOperands env x id old mid
+      → AddsOperands env y id mid new → AddsOperands env value' id old new
+  operands-Logical value' operator x y id old mid new is first second = record {
+    events = mentions_joined env id _ _ old mid new first.events second.events
+        ∙ ap (λ w. with_mentions env id w.places old) (sym (ap (parts_of env) is ∙ parts-Logical operator x y));
+  }
+
+  pub operands-Conditional : (value' test x y : ReactiveValue) (id : EvaluationOrder) (old mid new : List MemoEvent)
+      → value' ≡ reactive_values.ConditionalExpression test x y → AddsOperands env x id old mid
+      → AddsOperands env y id mid new → AddsOperands env value' id old new
+  operands-Conditional value' test x y id old mid new is first second = record {
+    events = mentions_joined env id _ _ old mid new first.events second.events
+        ∙ ap (λ w. with_mentions env id w.places old) (sym (ap (parts_of env) is ∙ parts-Conditional test x y));
+  }
+
+  pub operands-Sequence : (value' : ReactiveValue) (rows : List ReactiveInstruction) (order : EvaluationOrder)
+      (x : ReactiveValue) (id : EvaluationOrder) (old new : List MemoEvent)
+      → value' ≡ reactive_values.SequenceExpression rows order x → AddsOperands env x id old new
+      → AddsOperands env value' id old new
+  operands-Sequence value' rows order x id old new is added = record {
+    events = added.events
+        ∙ ap (λ w. with_mentions env id w.places old) (sym (ap (parts_of env) is ∙ parts-Sequence rows order x));
+  }
+
+  pub operands-Optional : (value' x : ReactiveValue) (optional : Bool) (id : EvaluationOrder)
+      (old new : List MemoEvent) → value' ≡ reactive_values.OptionalExpression x optional
+      → AddsOperands env x id old new → AddsOperands env value' id old new
+  operands-Optional value' x optional id old new is added = record {
+    events = added.events
+        ∙ ap (λ w. with_mentions env id w.places old) (sym (ap (parts_of env) is ∙ parts-Optional x optional));
+  }
+
+  pub adds_row : (x : ReactiveInstruction) (old mid new : List MemoEvent) → AddsRows env x.value old mid
+      → new ≡ mid ++ own_events env x.id x.lvalue (instruction_of x.value) (parts_of env x.value).places
+      → new ≡ old ++ row_events env x
+  adds_row x old mid new first second =
+      joined old mid new (parts_of env x.value).rows _ (row_events env x) first.events second (row_events-parts x)
 
   -- the same in a terminal
 

@@ -1,4 +1,5 @@
 -- Definitions that only contracts of private functions cite.
+pub mod HeldEvents
 pub mod Gathering
 pub mod RowsAdded
 pub mod Growing

@@ -8,10 +8,12 @@ ghost use Rattle.rc_memo.specs.Facts.{distinct};
 ghost use Rattle.rc_memo.specs.Record.{dependency_name, dependency_names, IsRecordOf, IsUninitialised, param_name, recorded_scopes};
 ghost use Rattle.rc_memo.specs.TreeEvents.{events_in};
 ghost use Rattle.rc_memo.specs.inside.Growing.{AddsScopes, insert_all};
+ghost use Rattle.rc_memo.specs.inside.HeldEvents.{as_event};
 
-use crate::event::{MemoEvent, Mention, Target};
+use crate::event::{Mention, Target};
+use crate::events::{EventParts, Events};
 use crate::nodes::gather;
-use crate::rows::RowReader;
+use crate::reader::RowReader;
 use crate::tree::events_of;
 use crate::{DeclSet, MemoRecord};
 use rc_hir::{Environment, Fault, ParamPattern, ReactiveScopeDependency};
@@ -75,25 +77,25 @@ fn params_of(
 }
 
 /// Puts the name that escapes by an event into the set. Fails only when out of memory.
-fn put_escaping(set: &mut DeclSet, event: &MemoEvent) -> Result<(), AllocError>
-    ensures { OnOk result (set.new ≡ insert_all set.old (escaping_in event.now)) }
+fn put_escaping(set: &mut DeclSet, event: EventParts<'_>) -> Result<(), AllocError>
+    ensures { OnOk result (set.new ≡ insert_all set.old (escaping_in (as_event event.entry))) }
 {
     match event {
-        MemoEvent::Escape { name } => {
-            set.insert(*name)?;
+        EventParts::Escape { name } => {
+            set.insert(name)?;
         }
-        MemoEvent::Row { .. } | MemoEvent::Load { .. } | MemoEvent::Within { .. } => {}
+        EventParts::Row { .. } | EventParts::Load { .. } | EventParts::Within { .. } => {}
     }
     Ok(())
 }
 
 /// Returns the names that escape, in the order of first coming. Fails only when out of memory.
-fn escaping_of(alloc: Global, events: &List<MemoEvent>) -> Result<DeclSet, AllocError>
+fn escaping_of(alloc: Global, events: &Events) -> Result<DeclSet, AllocError>
     ensures { IfOk result (λ set. set ≡ distinct same_id (flat_map escaping_in events.now)) }
 {
     let mut set = KeySet::new(alloc);
-    for event in events.as_slice() {
-        put_escaping(&mut set, event)?;
+    for i in 0..events.len() {
+        put_escaping(&mut set, events.at(i))?;
     }
     Ok(set)
 }
@@ -163,11 +165,11 @@ fn add_active(
 fn add_operands(
     reader: &RowReader<'_>,
     scopes: &mut Scopes,
-    operands: &List<Mention>,
+    operands: &[Mention],
 ) -> Result<(), AllocError>
     ensures { OnOk result (AddsScopes reader.now.env.now (mention_scopes operands.now) scopes.old scopes.new) }
 {
-    for operand in operands.as_slice() {
+    for operand in operands {
         add_active(reader, scopes, operand.scope)?;
     }
     Ok(())
@@ -178,11 +180,11 @@ fn add_operands(
 fn add_targets(
     reader: &RowReader<'_>,
     scopes: &mut Scopes,
-    targets: &List<Target>,
+    targets: &[Target],
 ) -> Result<(), AllocError>
     ensures { OnOk result (AddsScopes reader.now.env.now (target_scopes targets.now) scopes.old scopes.new) }
 {
-    for target in targets.as_slice() {
+    for target in targets {
         add_active(reader, scopes, target.mention.scope)?;
     }
     Ok(())
@@ -193,16 +195,16 @@ fn add_targets(
 fn add_event(
     reader: &RowReader<'_>,
     scopes: &mut Scopes,
-    event: &MemoEvent,
+    event: EventParts<'_>,
 ) -> Result<(), AllocError>
-    ensures { OnOk result (AddsScopes reader.now.env.now (scopes_in event.now) scopes.old scopes.new) }
+    ensures { OnOk result (AddsScopes reader.now.env.now (scopes_in (as_event event.entry)) scopes.old scopes.new) }
 {
     match event {
-        MemoEvent::Row { operands, targets } => {
+        EventParts::Row { operands, targets } => {
             add_operands(reader, scopes, operands)?;
             add_targets(reader, scopes, targets)?;
         }
-        MemoEvent::Load { .. } | MemoEvent::Within { .. } | MemoEvent::Escape { .. } => {}
+        EventParts::Load { .. } | EventParts::Within { .. } | EventParts::Escape { .. } => {}
     }
     Ok(())
 }
@@ -212,12 +214,12 @@ fn add_event(
 fn add_events(
     reader: &RowReader<'_>,
     scopes: &mut Scopes,
-    events: &List<MemoEvent>,
+    events: &Events,
 ) -> Result<(), AllocError>
     ensures { OnOk result (AddsScopes reader.now.env.now (flat_map scopes_in events.now) scopes.old scopes.new) }
 {
-    for event in events.as_slice() {
-        add_event(reader, scopes, event)?;
+    for i in 0..events.len() {
+        add_event(reader, scopes, events.at(i))?;
     }
     Ok(())
 }
@@ -225,7 +227,7 @@ fn add_events(
 /// Returns the record of each scope that is active for a mention, in the order of first coming. Fails only when out of
 /// memory.
 #[tactic(auto, using(crate::proofs::GrowingLemmas::scopes_are))]
-fn scopes_of(reader: &RowReader<'_>, events: &List<MemoEvent>) -> Result<Scopes, AllocError>
+fn scopes_of(reader: &RowReader<'_>, events: &Events) -> Result<Scopes, AllocError>
     ensures { IfOk result (λ scopes. scopes
         ≡ recorded_scopes reader.now.env.now (distinct same_id (flat_map scopes_in events.now))) }
 {

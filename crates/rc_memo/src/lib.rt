@@ -9,8 +9,10 @@
 
 mod collecting;
 mod event;
+mod events;
 mod level;
 mod nodes;
+mod reader;
 mod record;
 mod rows;
 mod table;

@@ -13,10 +13,12 @@ ghost use Rattle.rc_memo.specs.Facts.{NeedsNode};
 ghost use Rattle.rc_memo.specs.Record.{IsUninitialised};
 ghost use Rattle.rc_memo.specs.inside.Gathering.{Adds, AddsEvents, HasGathered, resolved as spec_resolved};
 ghost use Rattle.rc_memo.specs.inside.Gathering.{with_loads};
+ghost use Rattle.rc_memo.specs.inside.HeldEvents.{as_event};
 
 mod facts;
 
-use crate::event::{MemoEvent, Mention, Target};
+use crate::event::{Mention, Target};
+use crate::events::{EventParts, Events};
 use crate::nodes::facts::{add_dependency, add_level, add_need, add_scope};
 use crate::{MemoNode, MemoizationLevel};
 use rc_hir::Fault;
@@ -60,11 +62,11 @@ fn add_scope_if(
 fn add_scopes(
     nodes: &mut Keyed<DeclarationId, MemoNode>,
     name: DeclarationId,
-    scopes: &List<ScopeId>,
+    scopes: &[ScopeId],
 ) -> Result<(), Fault>
     ensures { Adds (scopes_facts name scopes.now) nodes.old result nodes.new }
 {
-    for scope in scopes.as_slice() {
+    for scope in scopes {
         match add_scope(nodes, name, *scope) {
             Ok(()) => {}
             Err(fault) => return Err(fault),
@@ -90,11 +92,11 @@ fn add_mention(
 fn add_mentions(
     definitions: &Keyed<DeclarationId, DeclarationId>,
     nodes: &mut Keyed<DeclarationId, MemoNode>,
-    mentions: &List<Mention>,
+    mentions: &[Mention],
 ) -> Result<(), Fault>
     ensures { Adds (flat_map (mention_facts (spec_resolved definitions.now)) mentions.now) nodes.old result nodes.new }
 {
-    for mention in mentions.as_slice() {
+    for mention in mentions {
         match add_mention(definitions, nodes, *mention) {
             Ok(()) => {}
             Err(fault) => return Err(fault),
@@ -127,12 +129,12 @@ fn add_operands(
     definitions: &Keyed<DeclarationId, DeclarationId>,
     nodes: &mut Keyed<DeclarationId, MemoNode>,
     name: DeclarationId,
-    operands: &List<Mention>,
+    operands: &[Mention],
 ) -> Result<(), Fault>
     ensures { Adds (flat_map (operand_facts (spec_resolved definitions.now) name) operands.now) nodes.old result
         nodes.new }
 {
-    for operand in operands.as_slice() {
+    for operand in operands {
         match add_operand(definitions, nodes, name, *operand) {
             Ok(()) => {}
             Err(fault) => return Err(fault),
@@ -147,7 +149,7 @@ fn add_parts(
     definitions: &Keyed<DeclarationId, DeclarationId>,
     nodes: &mut Keyed<DeclarationId, MemoNode>,
     name: DeclarationId,
-    operands: &List<Mention>,
+    operands: &[Mention],
     mention: Mention,
 ) -> Result<(), Fault>
     ensures { Adds (flat_map (operand_facts (spec_resolved definitions.now) name) operands.now
@@ -165,7 +167,7 @@ fn add_target(
     alloc: Global,
     definitions: &Keyed<DeclarationId, DeclarationId>,
     nodes: &mut Keyed<DeclarationId, MemoNode>,
-    operands: &List<Mention>,
+    operands: &[Mention],
     target: Target,
 ) -> Result<(), Fault>
     ensures { Adds (target_facts (spec_resolved definitions.now) operands.now target) nodes.old result nodes.new }
@@ -183,13 +185,13 @@ fn add_targets(
     alloc: Global,
     definitions: &Keyed<DeclarationId, DeclarationId>,
     nodes: &mut Keyed<DeclarationId, MemoNode>,
-    operands: &List<Mention>,
-    targets: &List<Target>,
+    operands: &[Mention],
+    targets: &[Target],
 ) -> Result<(), Fault>
     ensures { Adds (flat_map (target_facts (spec_resolved definitions.now) operands.now) targets.now) nodes.old result
         nodes.new }
 {
-    for target in targets.as_slice() {
+    for target in targets {
         match add_target(alloc, definitions, nodes, operands, *target) {
             Ok(()) => {}
             Err(fault) => return Err(fault),
@@ -204,8 +206,8 @@ fn add_row(
     alloc: Global,
     definitions: &Keyed<DeclarationId, DeclarationId>,
     nodes: &mut Keyed<DeclarationId, MemoNode>,
-    operands: &List<Mention>,
-    targets: &List<Target>,
+    operands: &[Mention],
+    targets: &[Target],
 ) -> Result<(), Fault>
     ensures { Adds (row_facts (spec_resolved definitions.now) operands.now targets.now) nodes.old result nodes.new }
 {
@@ -220,7 +222,7 @@ fn add_row(
 fn add_within(
     nodes: &mut Keyed<DeclarationId, MemoNode>,
     name: DeclarationId,
-    scopes: &List<ScopeId>,
+    scopes: &[ScopeId],
 ) -> Result<(), Fault>
     ensures { Adds (NeedsNode name ∷ scopes_facts name scopes.now) nodes.old result nodes.new }
 {
@@ -245,34 +247,34 @@ fn define(
 impl Nodes {
     /// Adds an event.
     #[tactic(auto, using(crate::proofs::AddingLemmas::adds_nothing, crate::proofs::AddingLemmas::adds_memory))]
-    fn add_event(&mut self, alloc: Global, event: &MemoEvent) -> Result<(), Fault>
-        ensures facts { Adds (event_facts (spec_resolved self.old.definitions) event.now) self.old.nodes result
-            self.new.nodes }
+    fn add_event(&mut self, alloc: Global, event: EventParts<'_>) -> Result<(), Fault>
+        ensures facts { Adds (event_facts (spec_resolved self.old.definitions) (as_event event.entry)) self.old.nodes
+            result self.new.nodes }
         ensures definitions { OnOk result
-            (self.new.definitions ≡ with_loads self.old.definitions (loads_in event.now)) }
+            (self.new.definitions ≡ with_loads self.old.definitions (loads_in (as_event event.entry))) }
     {
         match event {
-            MemoEvent::Row { operands, targets } => {
+            EventParts::Row { operands, targets } => {
                 add_row(alloc, &self.definitions, &mut self.nodes, operands, targets)
             }
-            MemoEvent::Load { target, loaded } => {
-                match define(&mut self.definitions, *target, *loaded) {
+            EventParts::Load { target, loaded } => {
+                match define(&mut self.definitions, target, loaded) {
                     Ok(()) => Ok(()),
                     Err(_) => Err(Fault::NoMemory),
                 }
             }
-            MemoEvent::Within { name, scopes } => add_within(&mut self.nodes, *name, scopes),
-            MemoEvent::Escape { .. } => Ok(()),
+            EventParts::Within { name, scopes } => add_within(&mut self.nodes, name, scopes),
+            EventParts::Escape { .. } => Ok(()),
         }
     }
 
     /// Adds events, one after the other.
     #[tactic(auto, using(crate::proofs::EventsLemmas::adds_no_events, crate::proofs::EventsLemmas::adds_all_events))]
-    fn add_events(&mut self, alloc: Global, events: &List<MemoEvent>) -> Result<(), Fault>
+    fn add_events(&mut self, alloc: Global, events: &Events) -> Result<(), Fault>
         ensures { AddsEvents events.now self.old result self.new }
     {
-        for event in events.as_slice() {
-            match self.add_one(alloc, event) {
+        for i in 0..events.len() {
+            match self.add_one(alloc, events.at(i)) {
                 Ok(()) => {}
                 Err(fault) => return Err(fault),
             }
@@ -282,8 +284,8 @@ impl Nodes {
 
     /// Adds an event, whatever the events before are.
     #[tactic(auto, using(crate::proofs::EventsLemmas::adds_event))]
-    fn add_one(&mut self, alloc: Global, event: &MemoEvent) -> Result<(), Fault>
-        ensures { AddsEvents (event.now ∷ []) self.old result self.new }
+    fn add_one(&mut self, alloc: Global, event: EventParts<'_>) -> Result<(), Fault>
+        ensures { AddsEvents (as_event event.entry ∷ []) self.old result self.new }
     {
         self.add_event(alloc, event)
     }
@@ -312,11 +314,7 @@ fn add_params(
 /// Fails with `Uninitialised` exactly if a name of which a node is needed has none yet, and names the first such name.
 /// Fails with `NoMemory` when out of memory, and with no other fault.
 #[tactic(auto, using(crate::proofs::EventsLemmas::gathers_ok, crate::proofs::EventsLemmas::gathers_no_params, crate::proofs::EventsLemmas::gathers_no_events))]
-pub fn gather(
-    alloc: Global,
-    params: &List<DeclarationId>,
-    events: &List<MemoEvent>,
-) -> Result<Nodes, Fault>
+pub fn gather(alloc: Global, params: &List<DeclarationId>, events: &Events) -> Result<Nodes, Fault>
     ensures ok { IfOk result (λ found. HasGathered params.now events.now found) }
     ensures uninitialised { IfErr result (λ fault. (fault ≡ Fault.NoMemory)
         ⊎ IsUninitialised params.now events.now fault) }

@@ -2,18 +2,21 @@
 //!
 //! The kinds belong to twelve lines, and the rest is said of the lines.
 
-ghost use Rattle.std.specs.Prelude.{◌≡◌, ◌++◌, ◌∷◌, [], IfOk, OnOk, if◌then◌else◌};
+ghost use Rattle.std.specs.Prelude.{◌≡◌, ◌∷◌, [], OnOk, if◌then◌else◌};
 ghost use Rattle.std.specs.List.{flat_map};
 ghost use Rattle.rc_memo.specs.Table as spec;
+ghost use Rattle.rc_memo.specs.inside.RowsAdded.{with_levels};
 ghost use Rattle.rc_memo.specs.declared.level.MemoizationLevel.TheVariants as levels;
 
 use crate::MemoizationLevel;
+use crate::events::Events;
+use crate::reader::RowReader;
 use rc_hir::{
     ArrayPatternElement, Environment, InstructionValue, InstructionValue as Kind,
     ObjectPropertyOrSpread, Pattern, Place, Places,
 };
-use rc_names::List;
-use std::alloc::{AllocError, Global};
+use rc_names::{EvaluationOrder, List};
+use std::alloc::AllocError;
 
 /// A line of the memo table, with the places that it names.
 #[derive(Clone, Copy)]
@@ -121,61 +124,100 @@ pub struct LevelGiven {
     pub level: MemoizationLevel,
 }
 
-/// The levels that a row gives, as they are listed. Its methods fail only when out of memory.
-#[derive(Drop)]
-struct Levels {
-    given: List<LevelGiven>,
+/// Gives places of a row their levels. Its methods add targets to the row that was added last, and fail only when out
+/// of memory.
+#[derive(Clone, Copy)]
+pub struct Levels<'a> {
+    pub reader: RowReader<'a>,
+    pub id: EvaluationOrder,
 }
 
-impl Levels {
-    fn put(&mut self, place: Place, level: MemoizationLevel) -> Result<(), AllocError>
-        ensures { OnOk result (self.new.given ≡ self.old.given ++ spec.gives place level ∷ []) }
+impl<'a> Levels<'a> {
+    #[tactic(auto, using(crate::proofs::RowPartsLemmas::level_put))]
+    fn put(
+        &self,
+        events: &mut Events,
+        place: Place,
+        level: MemoizationLevel,
+    ) -> Result<(), AllocError>
+        ensures { OnOk result (events.new ≡ with_levels self.now.reader.env.now self.now.id
+            (spec.gives place level ∷ []) events.old) }
     {
-        self.given.push(LevelGiven { place, level })
+        events.push_target(self.reader.target(self.id, LevelGiven { place, level }))
     }
 
-    /// Lists the row's own target, where there is one.
-    fn put_own(&mut self, target: Option<Place>, level: MemoizationLevel) -> Result<(), AllocError>
-        ensures { OnOk result (self.new.given ≡ self.old.given ++ spec.own target level) }
+    /// Gives the row's own target its level, where there is one.
+    #[tactic(auto, using(crate::proofs::RowPartsLemmas::row_steps))]
+    pub fn put_own(
+        &self,
+        events: &mut Events,
+        target: Option<Place>,
+        level: MemoizationLevel,
+    ) -> Result<(), AllocError>
+        ensures { OnOk result (events.new ≡ with_levels self.now.reader.env.now self.now.id
+            (spec.own target level) events.old) }
     {
         match target {
-            Some(place) => self.put(place, level),
+            Some(place) => self.put(events, place, level),
             None => Ok(()),
         }
     }
 
-    /// Lists a place, and then the row's own target.
+    /// Gives a place its level, and then the row's own target.
+    #[tactic(auto, using(crate::proofs::RowPartsLemmas::levels_next))]
     fn put_both(
-        &mut self,
+        &self,
+        events: &mut Events,
         place: Place,
         level: MemoizationLevel,
         target: Option<Place>,
         own: MemoizationLevel,
     ) -> Result<(), AllocError>
-        ensures { OnOk result (self.new.given ≡ self.old.given ++ (spec.gives place level ∷ spec.own target own)) }
+        ensures { OnOk result (events.new ≡ with_levels self.now.reader.env.now self.now.id
+            (spec.gives place level ∷ spec.own target own) events.old) }
     {
-        self.put(place, level)?;
-        self.put_own(target, own)
+        self.put(events, place, level)?;
+        self.put_own(events, target, own)
     }
 
-    /// Lists each operand that the row may change.
-    fn put_mutable(&mut self, operands: &Places<'_>) -> Result<(), AllocError>
-        ensures { OnOk result (self.new.given ≡ self.old.given ++ flat_map spec.if_mutable operands.now) }
+    /// Gives an operand its level, if the row may change it.
+    #[tactic(auto, using(crate::proofs::RowPartsLemmas::row_steps))]
+    fn put_if_mutable(&self, events: &mut Events, operand: Place) -> Result<(), AllocError>
+        ensures { OnOk result (events.new ≡ with_levels self.now.reader.env.now self.now.id
+            (spec.if_mutable operand) events.old) }
+    {
+        if operand.effect.is_mutable() {
+            self.put(events, operand, MemoizationLevel::Memoized)
+        } else {
+            Ok(())
+        }
+    }
+
+    /// Gives each operand that the row may change its level.
+    #[tactic(auto, using(crate::proofs::RowPartsLemmas::row_steps))]
+    fn put_mutable(&self, events: &mut Events, operands: &Places<'_>) -> Result<(), AllocError>
+        ensures { OnOk result (events.new ≡ with_levels self.now.reader.env.now self.now.id
+            (flat_map spec.if_mutable operands.now) events.old) }
     {
         for operand in operands.as_slice() {
-            if operand.effect.is_mutable() {
-                self.put(*operand, MemoizationLevel::Memoized)?;
-            }
+            self.put_if_mutable(events, *operand)?;
         }
         Ok(())
     }
 
-    fn put_item(&mut self, item: &ArrayPatternElement) -> Result<(), AllocError>
-        ensures { OnOk result (self.new.given ≡ self.old.given ++ spec.item_levels item.now) }
+    #[tactic(auto, using(crate::proofs::RowPartsLemmas::row_steps))]
+    fn put_item(&self, events: &mut Events, item: &ArrayPatternElement) -> Result<(), AllocError>
+        ensures { OnOk result (events.new ≡ with_levels self.now.reader.env.now self.now.id
+            (spec.item_levels item.now) events.old) }
     {
         match item {
-            ArrayPatternElement::Place(place) => self.put(*place, MemoizationLevel::Conditional),
+            ArrayPatternElement::Place(place) => self.put(
+                events,
+                *place,
+                MemoizationLevel::Conditional,
+            ),
             ArrayPatternElement::Spread(spread) => self.put(
+                events,
                 spread.place,
                 MemoizationLevel::Memoized,
             ),
@@ -183,114 +225,145 @@ impl Levels {
         }
     }
 
-    fn put_entry(&mut self, entry: &ObjectPropertyOrSpread) -> Result<(), AllocError>
-        ensures { OnOk result (self.new.given ≡ self.old.given ++ spec.entry_levels entry.now) }
+    #[tactic(auto, using(crate::proofs::RowPartsLemmas::row_steps))]
+    fn put_entry(
+        &self,
+        events: &mut Events,
+        entry: &ObjectPropertyOrSpread,
+    ) -> Result<(), AllocError>
+        ensures { OnOk result (events.new ≡ with_levels self.now.reader.env.now self.now.id
+            (spec.entry_levels entry.now) events.old) }
     {
         match entry {
             ObjectPropertyOrSpread::Property(property) => {
-                self.put(property.place, MemoizationLevel::Conditional)
+                self.put(events, property.place, MemoizationLevel::Conditional)
             }
             ObjectPropertyOrSpread::Spread(spread) => self.put(
+                events,
                 spread.place,
                 MemoizationLevel::Memoized,
             ),
         }
     }
 
-    fn put_items(&mut self, items: &List<ArrayPatternElement>) -> Result<(), AllocError>
-        ensures { OnOk result (self.new.given ≡ self.old.given ++ flat_map spec.item_levels items.now) }
+    #[tactic(auto, using(crate::proofs::RowPartsLemmas::row_steps))]
+    fn put_items(
+        &self,
+        events: &mut Events,
+        items: &List<ArrayPatternElement>,
+    ) -> Result<(), AllocError>
+        ensures { OnOk result (events.new ≡ with_levels self.now.reader.env.now self.now.id
+            (flat_map spec.item_levels items.now) events.old) }
     {
         for item in items.as_slice() {
-            self.put_item(item)?;
+            self.put_item(events, item)?;
         }
         Ok(())
     }
 
-    fn put_entries(&mut self, entries: &List<ObjectPropertyOrSpread>) -> Result<(), AllocError>
-        ensures { OnOk result (self.new.given ≡ self.old.given ++ flat_map spec.entry_levels entries.now) }
+    #[tactic(auto, using(crate::proofs::RowPartsLemmas::row_steps))]
+    fn put_entries(
+        &self,
+        events: &mut Events,
+        entries: &List<ObjectPropertyOrSpread>,
+    ) -> Result<(), AllocError>
+        ensures { OnOk result (events.new ≡ with_levels self.now.reader.env.now self.now.id
+            (flat_map spec.entry_levels entries.now) events.old) }
     {
         for entry in entries.as_slice() {
-            self.put_entry(entry)?;
+            self.put_entry(events, entry)?;
         }
         Ok(())
     }
 
-    fn put_pattern(&mut self, pattern: &Pattern) -> Result<(), AllocError>
-        ensures { OnOk result (self.new.given ≡ self.old.given ++ spec.pattern_levels pattern.now) }
+    fn put_pattern(&self, events: &mut Events, pattern: &Pattern) -> Result<(), AllocError>
+        ensures { OnOk result (events.new ≡ with_levels self.now.reader.env.now self.now.id
+            (spec.pattern_levels pattern.now) events.old) }
     {
         match pattern {
-            Pattern::Array { items } => self.put_items(items),
-            Pattern::Object { properties } => self.put_entries(properties),
+            Pattern::Array { items } => self.put_items(events, items),
+            Pattern::Object { properties } => self.put_entries(events, properties),
         }
     }
 
-    /// Lists the places of the instruction's pattern, if it has one.
-    fn put_written(&mut self, value: &InstructionValue) -> Result<(), AllocError>
-        ensures { OnOk result (self.new.given ≡ self.old.given ++ spec.written_levels value.now) }
+    /// Gives the places of the instruction's pattern their levels, if it has one.
+    #[tactic(auto, using(crate::proofs::RowPartsLemmas::row_steps))]
+    fn put_written(&self, events: &mut Events, value: &InstructionValue) -> Result<(), AllocError>
+        ensures { OnOk result (events.new ≡ with_levels self.now.reader.env.now self.now.id
+            (spec.written_levels value.now) events.old) }
     {
         match value {
-            Kind::Destructure { lvalue, .. } => self.put_pattern(&lvalue.pattern),
+            Kind::Destructure { lvalue, .. } => self.put_pattern(events, &lvalue.pattern),
             _ => Ok(()),
         }
     }
 
-    /// Lists the levels of a line.
-    #[tactic(auto, unfolding(crate::specs::Table::levels_of))]
-    fn put_line(
-        &mut self,
-        env: &Environment,
+    /// Gives the levels of a line.
+    #[tactic(auto, using(crate::proofs::RowPartsLemmas::levels_joined), unfolding(crate::specs::Table::levels_of))]
+    pub fn put_line(
+        &self,
+        events: &mut Events,
         value: &InstructionValue,
         line: MemoRule,
         target: Option<Place>,
         operands: &Places<'_>,
     ) -> Result<(), AllocError>
-        ensures { OnOk result (self.new.given ≡ self.old.given
-            ++ spec.levels_of env.now line target operands.now (spec.written_levels value.now)) }
+        ensures { OnOk result (events.new ≡ with_levels self.now.reader.env.now self.now.id
+            (spec.levels_of self.now.reader.env.now line target operands.now (spec.written_levels value.now))
+            events.old) }
     {
         match line {
-            MemoRule::Element => self.put_own(target, element_level(env)),
-            MemoRule::Cheap => self.put_own(target, cheap_level(env)),
-            MemoRule::Follows => self.put_own(target, MemoizationLevel::Conditional),
+            MemoRule::Element => self.put_own(events, target, element_level(self.reader.env)),
+            MemoRule::Cheap => self.put_own(events, target, cheap_level(self.reader.env)),
+            MemoRule::Follows => self.put_own(events, target, MemoizationLevel::Conditional),
             MemoRule::DeclaresContext { lvalue } => self.put_both(
+                events,
                 lvalue,
                 MemoizationLevel::Memoized,
                 target,
                 MemoizationLevel::Unmemoized,
             ),
             MemoRule::Declares { lvalue } => self.put_both(
+                events,
                 lvalue,
                 MemoizationLevel::Unmemoized,
                 target,
                 MemoizationLevel::Unmemoized,
             ),
             MemoRule::Stores { lvalue, .. } => self.put_both(
+                events,
                 lvalue,
                 MemoizationLevel::Conditional,
                 target,
                 MemoizationLevel::Conditional,
             ),
             MemoRule::StoresContext { lvalue, .. } => self.put_both(
+                events,
                 lvalue,
                 MemoizationLevel::Memoized,
                 target,
                 MemoizationLevel::Conditional,
             ),
-            MemoRule::StoresGlobal { .. } => self.put_own(target, MemoizationLevel::Unmemoized),
+            MemoRule::StoresGlobal { .. } => self.put_own(
+                events,
+                target,
+                MemoizationLevel::Unmemoized,
+            ),
             MemoRule::Destructures { .. } => {
-                self.put_own(target, MemoizationLevel::Conditional)?;
-                self.put_written(value)
+                self.put_own(events, target, MemoizationLevel::Conditional)?;
+                self.put_written(events, value)
             }
-            MemoRule::Reads { .. } => self.put_own(target, MemoizationLevel::Conditional),
+            MemoRule::Reads { .. } => self.put_own(events, target, MemoizationLevel::Conditional),
             MemoRule::Calls { callee } => {
-                self.put_own(target, MemoizationLevel::Memoized)?;
-                if env.has_no_alias_signature(callee.identifier) {
+                self.put_own(events, target, MemoizationLevel::Memoized)?;
+                if self.reader.env.has_no_alias_signature(callee.identifier) {
                     return Ok(());
                 }
-                self.put_mutable(operands)
+                self.put_mutable(events, operands)
             }
             MemoRule::Creates => {
-                self.put_mutable(operands)?;
-                self.put_own(target, MemoizationLevel::Memoized)
+                self.put_mutable(events, operands)?;
+                self.put_own(events, target, MemoizationLevel::Memoized)
             }
         }
     }
@@ -323,41 +396,6 @@ fn memoizes_cheap(env: &Environment) -> bool
     ensures { result ≡ spec.memoizes_cheap env.now.config }
 {
     env.config.enable_forest || env.config.enable_preserve_existing_memoization_guarantees
-}
-
-/// Returns the levels that a row of one instruction gives, from its target and the instruction's operands. Fails only
-/// when out of memory.
-pub fn levels_given(
-    alloc: Global,
-    env: &Environment,
-    value: &InstructionValue,
-    target: Option<Place>,
-    operands: &Places<'_>,
-) -> Result<List<LevelGiven>, AllocError>
-    ensures { IfOk result (λ given. given ≡ spec.levels_of env.now (spec.memo_rule value.now) target operands.now
-        (spec.written_levels value.now)) }
-{
-    let mut levels = Levels {
-        given: List::new(alloc),
-    };
-    let line = memo_rule(value);
-    levels.put_line(env, value, line, target, operands)?;
-    Ok(levels.given)
-}
-
-/// Returns the level of a row's own target, where there is one. Fails only when out of memory.
-pub fn own_level(
-    alloc: Global,
-    target: Option<Place>,
-    level: MemoizationLevel,
-) -> Result<List<LevelGiven>, AllocError>
-    ensures { IfOk result (λ given. given ≡ spec.own target level) }
-{
-    let mut levels = Levels {
-        given: List::new(alloc),
-    };
-    levels.put_own(target, level)?;
-    Ok(levels.given)
 }
 
 /// Returns the operands of an instruction that are recorded, from all of them.

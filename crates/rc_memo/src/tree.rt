@@ -13,8 +13,8 @@ ghost use Rattle.rc_names.specs.Numbers.{EvaluationOrder as Order};
 ghost use Rattle.rc_tree.specs.Collected.{collected, collected_cases, collected_if, collected_list};
 ghost use Rattle.rc_tree.specs.Collected.{collected_statement, collected_terminal};
 
-use crate::event::MemoEvent;
-use crate::rows::RowReader;
+use crate::events::Events;
+use crate::reader::RowReader;
 use rc_hir::Place;
 use rc_names::{Boxed, IdentifierId, List, ScopeId};
 use rc_tree::{
@@ -39,22 +39,20 @@ fn inside_of(
 /// Adds that a name has these scopes. Fails only when out of memory.
 fn add_within(
     reader: &RowReader<'_>,
-    events: &mut List<MemoEvent>,
+    events: &mut Events,
     number: IdentifierId,
     scopes: &List<ScopeId>,
 ) -> Result<(), AllocError>
     ensures { OnOk result (events.new ≡ events.old
         ++ kinds.Within (declaration_of reader.now.env.now number) scopes.now ∷ []) }
 {
-    let name = reader.declaration(number);
-    let scopes = scopes.copy_in(reader.alloc)?;
-    events.push(MemoEvent::Within { name, scopes })
+    events.push_within(reader.declaration(number), scopes.as_slice())
 }
 
 /// Adds that each of these names has these scopes. Fails only when out of memory.
 fn add_each_within(
     reader: &RowReader<'_>,
-    events: &mut List<MemoEvent>,
+    events: &mut Events,
     numbers: &List<IdentifierId>,
     scopes: &List<ScopeId>,
 ) -> Result<(), AllocError>
@@ -70,15 +68,14 @@ fn add_each_within(
 /// Adds that a returned name escapes, and that it has the scope blocks around. Fails only when out of memory.
 fn add_returned(
     reader: &RowReader<'_>,
-    events: &mut List<MemoEvent>,
+    events: &mut Events,
     around: &List<ScopeId>,
     place: Place,
 ) -> Result<(), AllocError>
     ensures { OnOk result (events.new ≡ events.old ++ kinds.Escape (declaration_of reader.now.env.now place.identifier)
         ∷ kinds.Within (declaration_of reader.now.env.now place.identifier) around.now ∷ []) }
 {
-    let name = reader.declaration(place.identifier);
-    events.push(MemoEvent::Escape { name })?;
+    events.push_escape(reader.declaration(place.identifier))?;
     add_within(reader, events, place.identifier, around)?;
     Ok(())
 }
@@ -86,7 +83,7 @@ fn add_returned(
 /// Adds what a scope reassigns. Fails only when out of memory.
 fn add_reassigned(
     reader: &RowReader<'_>,
-    events: &mut List<MemoEvent>,
+    events: &mut Events,
     scope: ScopeId,
     inside: &List<ScopeId>,
 ) -> Result<(), AllocError>
@@ -103,7 +100,7 @@ fn add_reassigned(
 /// Adds the events of the rows inside a value of a terminal, if there is one.
 fn add_value_if(
     reader: &RowReader<'_>,
-    events: &mut List<MemoEvent>,
+    events: &mut Events,
     value: &Option<Boxed<ReactiveValue>>,
 ) -> Result<(), AllocError>
     ensures { OnOk result (events.new ≡ events.old ++ walked_events reader.now.env.now value.now) }
@@ -117,7 +114,7 @@ fn add_value_if(
 /// Adds the events of the rows inside a value of a terminal.
 fn add_value(
     reader: &RowReader<'_>,
-    events: &mut List<MemoEvent>,
+    events: &mut Events,
     value: &Boxed<ReactiveValue>,
 ) -> Result<(), AllocError>
     ensures { OnOk result (events.new ≡ events.old ++ walked_events reader.now.env.now (Some value.now)) }
@@ -130,7 +127,7 @@ fn add_value(
 #[cycle(events)]
 fn add_block(
     reader: &RowReader<'_>,
-    events: &mut List<MemoEvent>,
+    events: &mut Events,
     around: &List<ScopeId>,
     block: &ReactiveBlock,
 ) -> Result<(), AllocError>
@@ -144,7 +141,7 @@ fn add_block(
 #[cycle(events)]
 fn add_statements(
     reader: &RowReader<'_>,
-    events: &mut List<MemoEvent>,
+    events: &mut Events,
     around: &List<ScopeId>,
     all: &[ReactiveStatement],
 ) -> Result<(), AllocError>
@@ -161,7 +158,7 @@ fn add_statements(
 #[cycle(events)]
 fn add_statement(
     reader: &RowReader<'_>,
-    events: &mut List<MemoEvent>,
+    events: &mut Events,
     around: &List<ScopeId>,
     statement: &ReactiveStatement,
 ) -> Result<(), AllocError>
@@ -192,7 +189,7 @@ fn add_statement(
 #[cycle(events)]
 fn add_terminal(
     reader: &RowReader<'_>,
-    events: &mut List<MemoEvent>,
+    events: &mut Events,
     around: &List<ScopeId>,
     terminal: &ReactiveTerminal,
 ) -> Result<(), AllocError>
@@ -277,7 +274,7 @@ fn add_terminal(
 #[cycle(events)]
 fn add_cases(
     reader: &RowReader<'_>,
-    events: &mut List<MemoEvent>,
+    events: &mut Events,
     around: &List<ScopeId>,
     cases: &[ReactiveSwitchCase],
 ) -> Result<(), AllocError>
@@ -294,7 +291,7 @@ fn add_cases(
 #[cycle(events)]
 fn add_if_there(
     reader: &RowReader<'_>,
-    events: &mut List<MemoEvent>,
+    events: &mut Events,
     around: &List<ScopeId>,
     block: &Option<ReactiveBlock>,
 ) -> Result<(), AllocError>
@@ -308,13 +305,10 @@ fn add_if_there(
 }
 
 /// Returns the events of a whole body, in the order of the text. Fails only when out of memory.
-pub fn events_of(
-    reader: &RowReader<'_>,
-    body: &ReactiveBlock,
-) -> Result<List<MemoEvent>, AllocError>
+pub fn events_of(reader: &RowReader<'_>, body: &ReactiveBlock) -> Result<Events, AllocError>
     ensures { IfOk result (λ events. events ≡ events_in reader.now.env.now body.now) }
 {
-    let mut events = List::new(reader.alloc);
+    let mut events = Events::new(reader.alloc);
     let around = List::new(reader.alloc);
     add_block(reader, &mut events, &around, body)?;
     Ok(events)

@@ -6,4 +6,5 @@ use Rattle.rc_memo.proofs.collecting.add_operands.Given as goal
 
 abbrev pub invariant-loop-operand : goal.invariant-loop-operand
 invariant-loop-operand l =
-    AddsScopes l.reader.env.now (flat_map (λ operand. listed operand.scope) (take l.operand-index l.operand-items)) l.fn.scopes l.scopes
+    AddsScopes l.reader.env.now (flat_map (λ operand. listed operand.scope) (take l.operand-index l.operands))
+    l.fn.scopes l.scopes

@@ -1,8 +1,12 @@
 use Rattle.rc_memo.proofs.GrowingLemmas.{grown}
+use Rattle.rc_memo.proofs.HeldEventsLemmas.{below_length, event_at}
 use Rattle.rc_memo.specs.Events.{escaping_in}
+use Rattle.rc_memo.specs.inside.HeldEvents.{as_event}
 use Rattle.rc_memo.proofs.collecting.escaping_of.Goals as goal
 
-pub loop-event-preserved : goal.loop-event-preserved
-loop-event-preserved c =
-    grown escaping_in c.as_slice-event-items.result.now c.loop-event.event-index c.event-item.result c.loop-event.set
-    c.put_escaping.new.set c.loop-event-test.true c.event-item.is c.loop-event.invariant c.in_ok-put_escaping.ensures
+pub loop-i-preserved : goal.loop-i-preserved
+loop-i-preserved c =
+    grown escaping_in c.args.events.now c.loop-i.i (as_event c.at.result) c.loop-i.set c.put_escaping.new.set
+    (below_length c.args.events.now c.loop-i.i c.len-i-end.result c.len-i-end.ensures c.loop-i-test.true) (event_at
+    c.args.events.now c.loop-i.i _ c.at.ensures) c.loop-i.invariant
+    c.in_ok-put_escaping.ensures

@@ -1,3 +1,4 @@
+use Rattle.std.proofs.Common.{refl}
 use Rattle.rc_memo.proofs.AddingLemmas.{adds_more, adds_stopped}
 use Rattle.rc_memo.specs.Events.{mention_facts}
 use Rattle.rc_memo.specs.inside.Gathering.{resolved}
@@ -5,12 +6,13 @@ use Rattle.rc_memo.proofs.nodes.add_mentions.Goals as goal
 
 pub loop-mention-preserved : goal.loop-mention-preserved
 loop-mention-preserved c =
-    adds_more (mention_facts (resolved c.args.definitions.now)) c.as_slice-mention-items.result.now c.loop-mention.mention-index _
-    c.in-Ok.field-0 c.args.nodes.now c.loop-mention.nodes c.add_mention.new.nodes c.loop-mention-test.true c.loop-mention.invariant
+    adds_more (mention_facts (resolved c.args.definitions.now)) c.args.mentions.now c.loop-mention.mention-index _
+    c.in-Ok.field-0 c.args.nodes.now c.loop-mention.nodes c.add_mention.new.nodes c.loop-mention-test.true
+    c.loop-mention.invariant
     c.in-Ok.ensures
 
 pub returns-in-Err : goal.returns-in-Err
 returns-in-Err c =
-    adds_stopped (mention_facts (resolved c.args.definitions.now)) _ c.as_slice-mention-items.result.now c.loop-mention.mention-index _
-    c.in-Err.fault c.args.nodes.now c.loop-mention.nodes c.add_mention.new.nodes c.as_slice-mention-items.ensures
+    adds_stopped (mention_facts (resolved c.args.definitions.now)) _ c.args.mentions.now c.loop-mention.mention-index _
+    c.in-Err.fault c.args.nodes.now c.loop-mention.nodes c.add_mention.new.nodes refl
     c.loop-mention-test.true c.loop-mention.invariant c.in-Err.ensures

@@ -6,4 +6,5 @@ use Rattle.rc_memo.proofs.nodes.add_mentions.Given as goal
 
 abbrev pub invariant-loop-mention : goal.invariant-loop-mention
 invariant-loop-mention l =
-    Adds (flat_map (mention_facts (resolved l.definitions)) (take l.mention-index l.mention-items)) l.fn.nodes (Ok tt) l.nodes
+    Adds (flat_map (mention_facts (resolved l.definitions)) (take l.mention-index l.mentions)) l.fn.nodes (Ok tt)
+    l.nodes

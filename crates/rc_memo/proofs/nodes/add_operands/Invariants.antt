@@ -6,4 +6,5 @@ use Rattle.rc_memo.proofs.nodes.add_operands.Given as goal
 
 abbrev pub invariant-loop-operand : goal.invariant-loop-operand
 invariant-loop-operand l =
-    Adds (flat_map (operand_facts (resolved l.definitions) l.name) (take l.operand-index l.operand-items)) l.fn.nodes (Ok tt) l.nodes
+    Adds (flat_map (operand_facts (resolved l.definitions) l.name) (take l.operand-index l.operands)) l.fn.nodes (Ok
+    tt) l.nodes

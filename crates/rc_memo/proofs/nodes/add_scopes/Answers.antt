@@ -1,4 +1,4 @@
-use Rattle.std.proofs.Common.{[], ◌∷◌}
+use Rattle.std.proofs.Common.{[], ◌∷◌, refl}
 use Rattle.rc_names.specs.Numbers.{ScopeId}
 use Rattle.rc_memo.proofs.AddingLemmas.{adds_more, adds_stopped}
 use Rattle.rc_memo.specs.Facts.{HasScope}
@@ -6,12 +6,12 @@ use Rattle.rc_memo.proofs.nodes.add_scopes.Goals as goal
 
 pub loop-scope-preserved : goal.loop-scope-preserved
 loop-scope-preserved c =
-    adds_more (λ (scope : ScopeId). HasScope c.args.name scope ∷ []) c.as_slice-scope-items.result.now
+    adds_more (λ (scope : ScopeId). HasScope c.args.name scope ∷ []) c.args.scopes.now
     c.loop-scope.scope-index _ c.in-Ok.field-0 c.args.nodes.now c.loop-scope.nodes c.add_scope.new.nodes
     c.loop-scope-test.true c.loop-scope.invariant c.in-Ok.ensures
 
 pub returns-in-Err : goal.returns-in-Err
 returns-in-Err c =
-    adds_stopped (λ (scope : ScopeId). HasScope c.args.name scope ∷ []) _ c.as_slice-scope-items.result.now
+    adds_stopped (λ (scope : ScopeId). HasScope c.args.name scope ∷ []) _ c.args.scopes.now
     c.loop-scope.scope-index _ c.in-Err.fault c.args.nodes.now c.loop-scope.nodes c.add_scope.new.nodes
-    c.as_slice-scope-items.ensures c.loop-scope-test.true c.loop-scope.invariant c.in-Err.ensures
+    refl c.loop-scope-test.true c.loop-scope.invariant c.in-Err.ensures

@@ -6,4 +6,4 @@ use Rattle.rc_memo.proofs.nodes.add_scopes.Given as goal
 
 abbrev pub invariant-loop-scope : goal.invariant-loop-scope
 invariant-loop-scope l =
-    Adds (flat_map (λ scope. HasScope l.name scope ∷ []) (take l.scope-index l.scope-items)) l.fn.nodes (Ok tt) l.nodes
+    Adds (flat_map (λ scope. HasScope l.name scope ∷ []) (take l.scope-index l.scopes)) l.fn.nodes (Ok tt) l.nodes

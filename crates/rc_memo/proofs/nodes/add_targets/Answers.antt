@@ -1,3 +1,4 @@
+use Rattle.std.proofs.Common.{refl}
 use Rattle.rc_memo.proofs.AddingLemmas.{adds_more, adds_stopped}
 use Rattle.rc_memo.specs.Events.{target_facts}
 use Rattle.rc_memo.specs.inside.Gathering.{resolved}
@@ -5,12 +6,15 @@ use Rattle.rc_memo.proofs.nodes.add_targets.Goals as goal
 
 pub loop-target-preserved : goal.loop-target-preserved
 loop-target-preserved c =
-    adds_more (target_facts (resolved c.args.definitions.now) c.args.operands.now) c.as_slice-target-items.result.now c.loop-target.target-index _
-    c.in-Ok.field-0 c.args.nodes.now c.loop-target.nodes c.add_target.new.nodes c.loop-target-test.true c.loop-target.invariant
+    adds_more (target_facts (resolved c.args.definitions.now) c.args.operands.now) c.args.targets.now
+    c.loop-target.target-index _
+    c.in-Ok.field-0 c.args.nodes.now c.loop-target.nodes c.add_target.new.nodes c.loop-target-test.true
+    c.loop-target.invariant
     c.in-Ok.ensures
 
 pub returns-in-Err : goal.returns-in-Err
 returns-in-Err c =
-    adds_stopped (target_facts (resolved c.args.definitions.now) c.args.operands.now) _ c.as_slice-target-items.result.now c.loop-target.target-index _
-    c.in-Err.fault c.args.nodes.now c.loop-target.nodes c.add_target.new.nodes c.as_slice-target-items.ensures
+    adds_stopped (target_facts (resolved c.args.definitions.now) c.args.operands.now) _ c.args.targets.now
+    c.loop-target.target-index _
+    c.in-Err.fault c.args.nodes.now c.loop-target.nodes c.add_target.new.nodes refl
     c.loop-target-test.true c.loop-target.invariant c.in-Err.ensures

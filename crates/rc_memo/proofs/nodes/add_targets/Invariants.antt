@@ -6,4 +6,5 @@ use Rattle.rc_memo.proofs.nodes.add_targets.Given as goal
 
 abbrev pub invariant-loop-target : goal.invariant-loop-target
 invariant-loop-target l =
-    Adds (flat_map (target_facts (resolved l.definitions) l.operands) (take l.target-index l.target-items)) l.fn.nodes (Ok tt) l.nodes
+    Adds (flat_map (target_facts (resolved l.definitions) l.operands) (take l.target-index l.targets)) l.fn.nodes (Ok
+    tt) l.nodes

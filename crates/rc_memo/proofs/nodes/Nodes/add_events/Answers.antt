@@ -1,14 +1,19 @@
+use Rattle.std.proofs.Common.{refl}
+use Rattle.rc_memo.specs.inside.HeldEvents.{as_event}
 use Rattle.rc_memo.proofs.EventsLemmas.{adds_events_stopped, adds_more_events}
+use Rattle.rc_memo.proofs.HeldEventsLemmas.{below_length, event_at}
 use Rattle.rc_memo.proofs.nodes.Nodes.add_events.Goals as goal
 
-pub loop-event-preserved : goal.loop-event-preserved
-loop-event-preserved c =
-    adds_more_events c.as_slice-event-items.result.now c.loop-event.event-index c.event-item.result tt c.in-Ok.field-0
-    c.args.self.now c.loop-event.self c.add_one.new.self c.loop-event-test.true c.event-item.is c.loop-event.invariant
-    c.in-Ok.ensures
+pub loop-i-preserved : goal.loop-i-preserved
+loop-i-preserved c =
+    adds_more_events c.args.events.now c.loop-i.i (as_event c.at.result) tt c.in-Ok.field-0
+    c.args.self.now c.loop-i.self c.add_one.new.self (below_length c.args.events.now c.loop-i.i c.len-i-end.result
+    c.len-i-end.ensures c.loop-i-test.true)
+    (event_at c.args.events.now c.loop-i.i _ c.at.ensures) c.loop-i.invariant c.in-Ok.ensures
 
 pub returns-in-Err : goal.returns-in-Err
 returns-in-Err c =
-    adds_events_stopped c.args.events.now c.as_slice-event-items.result.now c.loop-event.event-index c.event-item.result
-    tt c.in-Err.fault c.args.self.now c.loop-event.self c.add_one.new.self c.as_slice-event-items.ensures
-    c.loop-event-test.true c.event-item.is c.loop-event.invariant c.in-Err.ensures
+    adds_events_stopped c.args.events.now c.args.events.now c.loop-i.i (as_event c.at.result)
+    tt c.in-Err.fault c.args.self.now c.loop-i.self c.add_one.new.self refl
+    (below_length c.args.events.now c.loop-i.i c.len-i-end.result c.len-i-end.ensures c.loop-i-test.true) (event_at
+    c.args.events.now c.loop-i.i _ c.at.ensures) c.loop-i.invariant c.in-Err.ensures

@@ -1,7 +1,7 @@
 use Rattle.std.proofs.Common.{◌≡◌, ◌++◌, take}
 use Rattle.std.specs.List.{flat_map}
 use Rattle.rc_memo.specs.RowEvents.{argument_events}
-use Rattle.rc_memo.proofs.rows.RowReader.add_each_argument.Given as goal
+use Rattle.rc_memo.proofs.reader.RowReader.add_each_argument.Given as goal
 
 abbrev pub invariant-loop-argument : goal.invariant-loop-argument
 invariant-loop-argument l =

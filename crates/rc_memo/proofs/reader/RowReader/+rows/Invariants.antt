@@ -1,7 +1,7 @@
 use Rattle.std.proofs.Common.{◌≡◌, ◌++◌, take}
 use Rattle.std.specs.List.{flat_map}
 use Rattle.rc_memo.specs.RowEvents.{row_events}
-use Rattle.rc_memo.proofs.rows.RowReader.+rows.Given as goal
+use Rattle.rc_memo.proofs.reader.RowReader.+rows.Given as goal
 
 abbrev pub invariant-add_rows-loop-row : goal.invariant-add_rows-loop-row
 invariant-add_rows-loop-row l =

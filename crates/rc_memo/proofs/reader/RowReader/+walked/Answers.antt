@@ -1,5 +1,5 @@
 use Rattle.rc_memo.proofs.RowEventsLemmas.{as_walked, walks-Conditional, walks-Logical, walks-Optional, walks-Sequence}
-use Rattle.rc_memo.proofs.rows.RowReader.+walked.Goals as goal
+use Rattle.rc_memo.proofs.reader.RowReader.+walked.Goals as goal
 
 pub returns-in_ok-add_walked-in-LogicalExpression-2 : goal.returns-in_ok-add_walked-in-LogicalExpression-2
 returns-in_ok-add_walked-in-LogicalExpression-2 t c =

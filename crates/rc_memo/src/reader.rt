@@ -1,0 +1,99 @@
+//! Reading what the places of a row name: their declarations, and the scopes that are active for them.
+
+ghost use Rattle.std.specs.Prelude.{◌≡◌, OnOk};
+ghost use Rattle.rc_memo.specs.Mentions as spec;
+ghost use Rattle.rc_memo.specs.inside.RowsAdded.{with_mentions};
+
+use crate::event::{Mention, Target};
+use crate::events::Events;
+use crate::table::LevelGiven;
+use rc_hir::{Environment, MutableRange, Place};
+use rc_names::{DeclarationId, EvaluationOrder, IdentifierId, ScopeId};
+use std::alloc::{AllocError, Global};
+
+/// Reads the rows of a tree. Its methods fail only when out of memory.
+#[derive(Clone, Copy)]
+pub struct RowReader<'a> {
+    pub alloc: Global,
+    pub env: &'a Environment,
+}
+
+/// Returns whether the id is in the range, whose end is outside.
+fn is_in_range(id: EvaluationOrder, range: MutableRange) -> bool
+    ensures { result ≡ spec.is_in_range id range }
+{
+    range.start.0 <= id.0 && id.0 < range.end.0
+}
+
+impl<'a> RowReader<'a> {
+    /// Returns the declaration of an identifier.
+    pub fn declaration(&self, number: IdentifierId) -> DeclarationId
+        ensures { result ≡ spec.declaration_of self.now.env.now number }
+    {
+        match self.env.identifiers.get(number) {
+            Some(identifier) => identifier.declaration_id,
+            None => DeclarationId::new(number.0),
+        }
+    }
+
+    /// Returns the scope, where its range has the id.
+    fn if_active(&self, id: EvaluationOrder, scope: ScopeId) -> Option<ScopeId>
+        ensures { result ≡ spec.if_active self.now.env.now id scope }
+    {
+        match self.env.scopes.get(scope) {
+            Some(known) => if is_in_range(id, known.range) {
+                Some(scope)
+            } else {
+                None
+            },
+            None => None,
+        }
+    }
+
+    /// Returns the scope of an identifier, where it is active at the id.
+    fn active_scope(&self, id: EvaluationOrder, number: IdentifierId) -> Option<ScopeId>
+        ensures { result ≡ spec.active_scope self.now.env.now id number }
+    {
+        let identifier = self.env.identifiers.get(number)?;
+        let scope = identifier.scope?;
+        self.if_active(id, scope)
+    }
+
+    /// Returns what a place in a row of that id names.
+    #[tactic(auto, unfolding(crate::specs::Mentions::mention_of))]
+    fn mention(&self, id: EvaluationOrder, place: Place) -> Mention
+        ensures { result ≡ spec.mention_of self.now.env.now id place }
+    {
+        Mention {
+            name: self.declaration(place.identifier),
+            scope: self.active_scope(id, place.identifier),
+        }
+    }
+
+    /// Returns what a place with its level names.
+    #[tactic(auto, unfolding(crate::specs::Mentions::target_of))]
+    pub fn target(&self, id: EvaluationOrder, given: LevelGiven) -> Target
+        ensures { result ≡ spec.target_of self.now.env.now id given }
+    {
+        Target {
+            mention: self.mention(id, given.place),
+            level: given.level,
+        }
+    }
+
+    /// Adds operands to the row that was added last.
+    #[tactic(auto, using(crate::proofs::RowPartsLemmas::row_steps))]
+    pub fn add_mentions(
+        &self,
+        events: &mut Events,
+        id: EvaluationOrder,
+        places: &[Place],
+    ) -> Result<(), AllocError>
+        ensures { OnOk result (events.new ≡ with_mentions self.now.env.now id places.now events.old) }
+    {
+        for place in places {
+            events.push_operand(self.mention(id, *place))?;
+        }
+        Ok(())
+    }
+}
