@@ -25,7 +25,8 @@ facts_behind-append loads (x ∷ xs) ys =
     ap (λ w. event_facts (resolved_after loads) x ++ w) (facts_behind-append (loads ++ loads_in x) xs ys)
     ∙ sym (append_assoc (event_facts (resolved_after loads) x) (facts_behind (loads ++ loads_in x) xs)
     (facts_behind ((loads ++ loads_in x) ++ flat_map loads_in xs) ys))
-    ∙ ap (λ w. facts_behind loads (x ∷ xs) ++ facts_behind w ys) (append_assoc loads (loads_in x) (flat_map loads_in xs))
+    ∙ ap (λ w. facts_behind loads (x ∷ xs) ++ facts_behind w ys)
+    (append_assoc loads (loads_in x) (flat_map loads_in xs))
 
 loads_in-append : (xs ys : List MemoEvent) → flat_map loads_in (xs ++ ys) ≡ flat_map loads_in xs ++ flat_map loads_in ys
 loads_in-append [] ys = refl
@@ -36,7 +37,8 @@ loads_in-append (x ∷ xs) ys = ap (λ w. loads_in x ++ w) (loads_in-append xs y
 resolved_told : (loads : List Loaded) → resolved (definitions_told loads) ≡ resolved_after loads
 resolved_told loads = λ i name. resolve_is loads name i
 
-with_loads_told : (loads more : List Loaded) → with_loads (definitions_told loads) more ≡ definitions_told (loads ++ more)
+with_loads_told : (loads more : List Loaded) → with_loads (definitions_told loads) more
+    ≡ definitions_told (loads ++ more)
 with_loads_told loads [] = ap definitions_told (sym (append-nil loads))
 with_loads_told loads (load ∷ more) =
     ap (λ w. with_loads w more) (sym (definitions_push loads load.0 load.1))
@@ -70,7 +72,8 @@ adds_events_next xs ys r u old mid new first next before loads holds defs =
     let b = next (before ++ facts_behind loads xs) (loads ++ flat_map loads_in xs) a.facts.1 a.definitions in
     record {
       facts = subst (λ w. Gathers before w r new.nodes) (sym (facts_behind-append loads xs ys))
-          (next_by before (facts_behind loads xs) (facts_behind (loads ++ flat_map loads_in xs) ys) r new.nodes a.facts.0
+          (next_by before (facts_behind loads xs) (facts_behind (loads ++ flat_map loads_in xs) ys) r new.nodes
+          a.facts.0
           b.facts);
       definitions = onward r (λ e. e ∙ ap definitions_told (append_assoc loads (flat_map loads_in xs)
           (flat_map loads_in ys) ∙ ap (λ w. loads ++ w) (sym (loads_in-append xs ys)))) b.definitions;

@@ -64,7 +64,8 @@ module _ (env : Environment) where
   absent_put scope names (e ∷ es) none = go (same_id scope e.0) none (λ g. absent_put scope names es g)
     where
       go : (b : Bool) → (b || list_any (same_id scope) (keys_of es)) ≡ false
-          → (list_any (same_id scope) (keys_of es) ≡ false → insert_entry same_id es scope names ≡ es ++ (scope, names) ∷ [])
+          → (list_any (same_id scope) (keys_of es) ≡ false → insert_entry same_id es scope names ≡ es ++ (scope, names)
+          ∷ [])
           → cond b ((e.0, names) ∷ es) (e ∷ insert_entry same_id es scope names) ≡ e ∷ (es ++ (scope, names) ∷ [])
       go true g r = cc
       go false g r = ap (λ w. e ∷ w) (r g)
@@ -82,7 +83,8 @@ module _ (env : Environment) where
           → (found ≡ lookup (same_id scope) es → list_any (same_id scope) (keys_of es) ≡ b
           → cond b ((names : List DeclarationId) × (found ≡ Some names)) (found ≡ None))
           → cond b ((names : List DeclarationId) × (found ≡ Some names)) (found ≡ None)
-      go true h g r = subst (λ w. cond w ((names : List DeclarationId) × (found ≡ Some names)) (found ≡ None)) g (e.1, h)
+      go true h g r =
+          subst (λ w. cond w ((names : List DeclarationId) × (found ≡ Some names)) (found ≡ None)) g (e.1, h)
       go false h g r = r h g
 
   -- a scope that has a record stays as it is

@@ -42,7 +42,8 @@ pub ruleset parts = (collected_forms, append-nil)
 module _ (env : Environment) where
   -- a terminal and a statement have the events of their form
   pub terminal_is : (around : List ScopeId) {x y : ReactiveTerminal} {held : Events} → x ≡ y
-      → collected_terminal (events_of_parts env) y ≡ held → collected_terminal (events_of_parts env) x around ≡ held around
+      → collected_terminal (events_of_parts env) y ≡ held → collected_terminal (events_of_parts env) x around
+      ≡ held around
   terminal_is around is form = ap (λ w. collected_terminal (events_of_parts env) w around) is
       ∙ ap (λ (f : Events). f around) form
 

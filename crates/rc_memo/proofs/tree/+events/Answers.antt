@@ -77,17 +77,21 @@ add_terminal-returns-in_ok-add_block-in-While t c =
 pub add_terminal-returns-in_ok-add_value_if-in-For : goal.add_terminal-returns-in_ok-add_value_if-in-For
 add_terminal-returns-in_ok-add_value_if-in-For t c =
     let env = c.args.reader.now.env.now in
-    in_four c.args.events.now c.add_value-in-For.new.events c.add_value-in-For-2.new.events c.add_block-in-For.new.events c.add_value_if.new.events _ _ _ _ _
+    in_four c.args.events.now c.add_value-in-For.new.events c.add_value-in-For-2.new.events
+    c.add_block-in-For.new.events c.add_value_if.new.events _ _ _ _ _
     (terminal_is env c.args.around.now c.in-For.is
     (collected-For (events_of_parts env) c.in-For.init c.in-For.test c.in-For.update c.in-For.loop_block c.in-For.id))
-    c.in_ok-add_value-in-For.ensures c.in_ok-add_value-in-For-2.ensures c.in_ok-add_block-in-For.ensures c.in_ok-add_value_if-in-For.ensures
+    c.in_ok-add_value-in-For.ensures c.in_ok-add_value-in-For-2.ensures c.in_ok-add_block-in-For.ensures
+    c.in_ok-add_value_if-in-For.ensures
 
 pub add_terminal-returns-in_ok-add_block-in-ForOf : goal.add_terminal-returns-in_ok-add_block-in-ForOf
 add_terminal-returns-in_ok-add_block-in-ForOf t c =
     let env = c.args.reader.now.env.now in
-    in_three c.args.events.now c.add_value-in-ForOf.new.events c.add_value-in-ForOf-2.new.events c.add_block-in-ForOf.new.events _ _ _ _
+    in_three c.args.events.now c.add_value-in-ForOf.new.events c.add_value-in-ForOf-2.new.events
+    c.add_block-in-ForOf.new.events _ _ _ _
     (terminal_is env c.args.around.now c.in-ForOf.is
-    (collected-ForOf (events_of_parts env) c.in-ForOf.init c.in-ForOf.test c.in-ForOf.loop_block c.in-ForOf.span c.in-ForOf.id))
+    (collected-ForOf (events_of_parts env) c.in-ForOf.init c.in-ForOf.test c.in-ForOf.loop_block c.in-ForOf.span
+    c.in-ForOf.id))
     c.in_ok-add_value-in-ForOf.ensures c.in_ok-add_value-in-ForOf-2.ensures c.in_ok-add_block-in-ForOf.ensures
 
 pub add_terminal-returns-in_ok-add_block-in-ForIn : goal.add_terminal-returns-in_ok-add_block-in-ForIn

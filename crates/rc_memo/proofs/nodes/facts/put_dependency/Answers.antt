@@ -6,7 +6,8 @@ use Rattle.rc_memo.proofs.nodes.facts.put_dependency.Goals as goal
 pub returns-in_ok-insert-in-Some-clause-nodes : goal.returns-in_ok-insert-in-Some-clause-nodes
 returns-in_ok-insert-in-Some-clause-nodes c =
     c.get_mut.follows.holds _ ∙ at_some c.args.name (with_dependency c.args.other) c.args.nodes.now c.in-Some.node.now _
-    c.in-Some.ensures.value (ap (λ keys. record c.in-Some.node.now { dependencies = keys }) c.in_ok-insert-in-Some.ensures.keys)
+    c.in-Some.ensures.value (ap (λ keys. record c.in-Some.node.now { dependencies = keys })
+    c.in_ok-insert-in-Some.ensures.keys)
 
 pub returns-in_ok-insert-in-Some-clause-found : goal.returns-in_ok-insert-in-Some-clause-found
 returns-in_ok-insert-in-Some-clause-found c =
@@ -14,7 +15,8 @@ returns-in_ok-insert-in-Some-clause-found c =
 
 pub returns-in-None-clause-nodes : goal.returns-in-None-clause-nodes
 returns-in-None-clause-nodes c =
-    c.get_mut.follows.holds-at-none ∙ at_none c.args.name (with_dependency c.args.other) c.args.nodes.now c.in-None.ensures.value
+    c.get_mut.follows.holds-at-none
+    ∙ at_none c.args.name (with_dependency c.args.other) c.args.nodes.now c.in-None.ensures.value
 
 pub returns-in-None-clause-found : goal.returns-in-None-clause-found
 returns-in-None-clause-found c = sym (found_none c.args.name c.args.nodes.now c.in-None.ensures.value)
