@@ -1,3 +1,3 @@
 mod Blocks
-mod KnownNames
+mod FoundLemmas
 mod Lengths

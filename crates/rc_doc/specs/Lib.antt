@@ -8,3 +8,4 @@ pub mod Terminals
 pub mod Graph
 pub mod Environment
 pub mod Document
+pub mod inside

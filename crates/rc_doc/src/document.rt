@@ -6,7 +6,7 @@ ghost use Rattle.rc_doc.specs.Document.{doc_of};
 ghost use Rattle.rc_doc.specs.Kinds.{instruction_value_of};
 
 use crate::fields::{Read, required};
-use crate::known::known_names;
+use crate::members::two_fields;
 use crate::refusal::Refusal;
 use rc_hir::{Environment, HirFunction, InstructionValue};
 use serde_json::Value;
@@ -24,9 +24,9 @@ impl Read for Doc {
 
     #[tactic(auto, unfolding(crate::specs::Document::doc_of))]
     fn read(alloc: Global, value: &Value) -> Result<Doc, Refusal> {
-        known_names(value, &["env", "hir"])?;
-        let hir = required(alloc, value, "hir")?;
-        let env = required(alloc, value, "env")?;
+        let (env, hir) = two_fields(value, "env", "hir")?;
+        let hir = required(alloc, hir)?;
+        let env = required(alloc, env)?;
         Ok(Doc { hir, env })
     }
 }

@@ -1,11 +1,13 @@
 //! Reading a value part by part: `Read` for types, and a function for each form of a field in an object.
 //! `specs/Reading.antt` has the same words.
 
-ghost use Rattle.std.specs.Prelude.{◌≡◌, Option, option_map};
+ghost use Rattle.std.specs.Prelude.{◌≡◌, [], false, Option, None, option_and_then, option_map};
 ghost use Rattle.serde_json.specs.Data.{Data};
+ghost use Rattle.serde_json.specs.Find.{as_str};
 ghost use Rattle.serde_json.specs.View.{view, items_view};
-ghost use Rattle.rc_doc.specs.Reading.{IsRead, all_items, array_len, field, flag_field, flag_of, item_at, list_field};
-ghost use Rattle.rc_doc.specs.Reading.{list_of, number_of, option_field, table_field, table_of, tag_of, text_of};
+ghost use Rattle.rc_doc.specs.Reading.{IsRead, all_items, array_len, flag_of, item_at, list_of, number_of, or_absent};
+ghost use Rattle.rc_doc.specs.Reading.{or_null, table_of, tag_of, text_of};
+ghost use Rattle.rc_doc.specs.inside.Found.{found_data};
 
 use crate::refusal::Refusal;
 use rc_names::{List, Name, Table, Text};
@@ -118,27 +120,30 @@ pub fn tag(value: &Value) -> Option<&str>
     value.get("k").and_then(Value::as_str)
 }
 
-/// A field that must be there.
-pub(crate) fn required<T: Read>(alloc: Global, value: &Value, name: &str) -> Result<T, Refusal>
-    ensures { IsRead result (field T.reads name.now (view value.now)) }
+/// The name of an enum's variant, as the member `k` has it.
+pub(crate) fn variant_name(k: Option<&Value>) -> Option<&str>
+    ensures { option_map (λ name. name.now) result ≡ option_and_then as_str (found_data k.entry) }
 {
-    match value.get(name) {
-        Some(found) => T::read(alloc, found),
+    k.and_then(Value::as_str)
+}
+
+/// A field that must be there.
+pub(crate) fn required<T: Read>(alloc: Global, found: Option<&Value>) -> Result<T, Refusal>
+    ensures { IsRead result (option_and_then T.reads (found_data found.entry)) }
+{
+    match found {
+        Some(value) => T::read(alloc, value),
         None => Err(Refusal::NotDoc),
     }
 }
 
 /// A field that is `None` if it is left out or null.
-pub(crate) fn optional<T: Read>(
-    alloc: Global,
-    value: &Value,
-    name: &str,
-) -> Result<Option<T>, Refusal>
-    ensures { IsRead result (option_field T.reads name.now (view value.now)) }
+pub(crate) fn optional<T: Read>(alloc: Global, found: Option<&Value>) -> Result<Option<T>, Refusal>
+    ensures { IsRead result (or_absent (or_null T.reads) None (found_data found.entry)) }
 {
-    match value.get(name) {
-        Some(found) if found.is_null() => Ok(None),
-        Some(found) => Ok(Some(T::read(alloc, found)?)),
+    match found {
+        Some(value) if value.is_null() => Ok(None),
+        Some(value) => Ok(Some(T::read(alloc, value)?)),
         None => Ok(None),
     }
 }
@@ -146,13 +151,12 @@ pub(crate) fn optional<T: Read>(
 /// A list that is empty if it is left out.
 pub(crate) fn list_or_empty<T: Read + Drop>(
     alloc: Global,
-    value: &Value,
-    name: &str,
+    found: Option<&Value>,
 ) -> Result<List<T>, Refusal>
-    ensures { IsRead result (list_field T.reads name.now (view value.now)) }
+    ensures { IsRead result (or_absent (list_of T.reads) [] (found_data found.entry)) }
 {
-    match value.get(name) {
-        Some(found) => List::read(alloc, found),
+    match found {
+        Some(value) => List::read(alloc, value),
         None => Ok(List::new(alloc)),
     }
 }
@@ -160,23 +164,22 @@ pub(crate) fn list_or_empty<T: Read + Drop>(
 /// A table that is empty if it is left out.
 pub(crate) fn table_or_empty<I: Name, T: Read + Drop>(
     alloc: Global,
-    value: &Value,
-    name: &str,
+    found: Option<&Value>,
 ) -> Result<Table<I, T>, Refusal>
-    ensures { IsRead result (table_field T.reads name.now (view value.now)) }
+    ensures { IsRead result (or_absent (table_of T.reads) [] (found_data found.entry)) }
 {
-    match value.get(name) {
-        Some(found) => Table::read(alloc, found),
+    match found {
+        Some(value) => Table::read(alloc, value),
         None => Ok(Table::new(alloc)),
     }
 }
 
 /// A flag that is false if it is left out.
-pub(crate) fn flag(value: &Value, name: &str) -> Result<bool, Refusal>
-    ensures { IsRead result (flag_field name.now (view value.now)) }
+pub(crate) fn flag(found: Option<&Value>) -> Result<bool, Refusal>
+    ensures { IsRead result (or_absent flag_of false (found_data found.entry)) }
 {
-    match value.get(name) {
-        Some(found) => or_refuse(found.as_bool()),
+    match found {
+        Some(value) => or_refuse(value.as_bool()),
         None => Ok(false),
     }
 }

@@ -3,7 +3,7 @@
 
 mod document;
 mod fields;
-mod known;
+mod members;
 mod read;
 mod refusal;
 

@@ -2,8 +2,8 @@
 
 ghost use Rattle.rc_doc.specs.Environment.{config_of, environment_of, identifier_name_of, identifier_of};
 
-use crate::fields::{Read, flag, list_or_empty, optional, required, table_or_empty, tag};
-use crate::known::known_names;
+use crate::fields::{Read, flag, list_or_empty, optional, required, table_or_empty, variant_name};
+use crate::members::{five_fields, seven_fields, two_fields};
 use crate::refusal::Refusal;
 use rc_hir::{Config, Environment, Identifier, IdentifierName};
 use serde_json::Value;
@@ -14,10 +14,10 @@ impl Read for IdentifierName {
 
     #[tactic(auto, unfolding(crate::specs::Environment::identifier_name_of))]
     fn read(alloc: Global, value: &Value) -> Result<IdentifierName, Refusal> {
-        known_names(value, &["k", "v"])?;
-        match tag(value) {
-            Some("Named") => Ok(IdentifierName::Named(required(alloc, value, "v")?)),
-            Some("Promoted") => Ok(IdentifierName::Promoted(required(alloc, value, "v")?)),
+        let (k, v) = two_fields(value, "k", "v")?;
+        match variant_name(k) {
+            Some("Named") => Ok(IdentifierName::Named(required(alloc, v)?)),
+            Some("Promoted") => Ok(IdentifierName::Promoted(required(alloc, v)?)),
             _ => Err(Refusal::NotDoc),
         }
     }
@@ -28,12 +28,19 @@ impl Read for Identifier {
 
     #[tactic(auto, unfolding(crate::specs::Environment::identifier_of))]
     fn read(alloc: Global, value: &Value) -> Result<Identifier, Refusal> {
-        known_names(value, &["declaration_id", "name", "scope", "span", "type_"])?;
-        let declaration_id = required(alloc, value, "declaration_id")?;
-        let name = optional(alloc, value, "name")?;
-        let scope = optional(alloc, value, "scope")?;
-        let type_ = required(alloc, value, "type_")?;
-        let span = optional(alloc, value, "span")?;
+        let (declaration_id, name, scope, span, type_) = five_fields(
+            value,
+            "declaration_id",
+            "name",
+            "scope",
+            "span",
+            "type_",
+        )?;
+        let declaration_id = required(alloc, declaration_id)?;
+        let name = optional(alloc, name)?;
+        let scope = optional(alloc, scope)?;
+        let type_ = required(alloc, type_)?;
+        let span = optional(alloc, span)?;
         Ok(Identifier {
             declaration_id,
             name,
@@ -49,15 +56,13 @@ impl Read for Config {
 
     #[tactic(auto, unfolding(crate::specs::Environment::config_of))]
     fn read(_alloc: Global, value: &Value) -> Result<Config, Refusal> {
-        known_names(
+        let (enable_forest, enable_preserve_existing_memoization_guarantees) = two_fields(
             value,
-            &[
-                "enable_forest",
-                "enable_preserve_existing_memoization_guarantees",
-            ],
+            "enable_forest",
+            "enable_preserve_existing_memoization_guarantees",
         )?;
-        let forest = flag(value, "enable_forest")?;
-        let preserve = flag(value, "enable_preserve_existing_memoization_guarantees")?;
+        let forest = flag(enable_forest)?;
+        let preserve = flag(enable_preserve_existing_memoization_guarantees)?;
         Ok(Config {
             enable_forest: forest,
             enable_preserve_existing_memoization_guarantees: preserve,
@@ -70,25 +75,23 @@ impl Read for Environment {
 
     #[tactic(auto, unfolding(crate::specs::Environment::environment_of))]
     fn read(alloc: Global, value: &Value) -> Result<Environment, Refusal> {
-        known_names(
+        let (config, functions, identifiers, next_block, scopes, shapes, types) = seven_fields(
             value,
-            &[
-                "config",
-                "functions",
-                "identifiers",
-                "next_block",
-                "scopes",
-                "shapes",
-                "types",
-            ],
+            "config",
+            "functions",
+            "identifiers",
+            "next_block",
+            "scopes",
+            "shapes",
+            "types",
         )?;
-        let identifiers = table_or_empty(alloc, value, "identifiers")?;
-        let types = table_or_empty(alloc, value, "types")?;
-        let scopes = table_or_empty(alloc, value, "scopes")?;
-        let functions = table_or_empty(alloc, value, "functions")?;
-        let shapes = list_or_empty(alloc, value, "shapes")?;
-        let config = required(alloc, value, "config")?;
-        let next_block = required(alloc, value, "next_block")?;
+        let identifiers = table_or_empty(alloc, identifiers)?;
+        let types = table_or_empty(alloc, types)?;
+        let scopes = table_or_empty(alloc, scopes)?;
+        let functions = table_or_empty(alloc, functions)?;
+        let shapes = list_or_empty(alloc, shapes)?;
+        let config = required(alloc, config)?;
+        let next_block = required(alloc, next_block)?;
         Ok(Environment {
             identifiers,
             types,

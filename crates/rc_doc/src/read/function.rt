@@ -7,7 +7,7 @@ ghost use Rattle.rc_doc.specs.Graph.{keyed_block_of};
 ghost use Rattle.rc_doc.specs.Reading.{IsRead, all_items};
 
 use crate::fields::{Read, flag, list_or_empty, optional, or_refuse, required};
-use crate::known::known_names;
+use crate::members::{four_fields, ten_fields, two_fields};
 use crate::refusal::Refusal;
 use rc_hir::{BasicBlock, Hir, HirFunction, Instruction};
 use rc_names::{BlockId, Keyed};
@@ -19,11 +19,11 @@ impl Read for Instruction {
 
     #[tactic(auto, unfolding(crate::specs::Graph::instruction_of))]
     fn read(alloc: Global, from: &Value) -> Result<Instruction, Refusal> {
-        known_names(from, &["id", "lvalue", "span", "value"])?;
-        let id = required(alloc, from, "id")?;
-        let lvalue = required(alloc, from, "lvalue")?;
-        let value = required(alloc, from, "value")?;
-        let span = optional(alloc, from, "span")?;
+        let (id, lvalue, span, value) = four_fields(from, "id", "lvalue", "span", "value")?;
+        let id = required(alloc, id)?;
+        let lvalue = required(alloc, lvalue)?;
+        let value = required(alloc, value)?;
+        let span = optional(alloc, span)?;
         Ok(Instruction {
             id,
             lvalue,
@@ -38,10 +38,16 @@ impl Read for BasicBlock {
 
     #[tactic(auto, unfolding(crate::specs::Graph::block_of))]
     fn read(alloc: Global, from: &Value) -> Result<BasicBlock, Refusal> {
-        known_names(from, &["id", "instructions", "key", "terminal"])?;
-        let id = required(alloc, from, "id")?;
-        let instructions = list_or_empty(alloc, from, "instructions")?;
-        let terminal = required(alloc, from, "terminal")?;
+        let (id, instructions, _, terminal) = four_fields(
+            from,
+            "id",
+            "instructions",
+            "key",
+            "terminal",
+        )?;
+        let id = required(alloc, id)?;
+        let instructions = list_or_empty(alloc, instructions)?;
+        let terminal = required(alloc, terminal)?;
         Ok(BasicBlock {
             id,
             instructions,
@@ -55,7 +61,7 @@ fn keyed_block(alloc: Global, from: &Value) -> Result<(BlockId, BasicBlock), Ref
     ensures { IsRead result (keyed_block_of (view from.now)) }
 {
     let block = BasicBlock::read(alloc, from)?;
-    let key: Option<BlockId> = optional(alloc, from, "key")?;
+    let key: Option<BlockId> = optional(alloc, from.get("key"))?;
     Ok((key.unwrap_or(block.id), block))
 }
 
@@ -87,9 +93,9 @@ impl Read for Hir {
 
     #[tactic(auto, unfolding(crate::specs::Graph::hir_of))]
     fn read(alloc: Global, from: &Value) -> Result<Hir, Refusal> {
-        known_names(from, &["blocks", "entry"])?;
-        let entry = required(alloc, from, "entry")?;
-        let blocks = required(alloc, from, "blocks")?;
+        let (blocks, entry) = two_fields(from, "blocks", "entry")?;
+        let entry = required(alloc, entry)?;
+        let blocks = required(alloc, blocks)?;
         Ok(Hir { entry, blocks })
     }
 }
@@ -99,31 +105,40 @@ impl Read for HirFunction {
 
     #[tactic(auto, unfolding(crate::specs::Graph::function_of))]
     fn read(alloc: Global, from: &Value) -> Result<HirFunction, Refusal> {
-        known_names(
+        let (
+            body,
+            context,
+            directives,
+            generator,
+            id,
+            instructions,
+            is_async,
+            name_hint,
+            params,
+            span,
+        ) = ten_fields(
             from,
-            &[
-                "body",
-                "context",
-                "directives",
-                "generator",
-                "id",
-                "instructions",
-                "is_async",
-                "name_hint",
-                "params",
-                "span",
-            ],
+            "body",
+            "context",
+            "directives",
+            "generator",
+            "id",
+            "instructions",
+            "is_async",
+            "name_hint",
+            "params",
+            "span",
         )?;
-        let span = optional(alloc, from, "span")?;
-        let id = optional(alloc, from, "id")?;
-        let name_hint = optional(alloc, from, "name_hint")?;
-        let params = list_or_empty(alloc, from, "params")?;
-        let generator = flag(from, "generator")?;
-        let is_async = flag(from, "is_async")?;
-        let context = list_or_empty(alloc, from, "context")?;
-        let body = required(alloc, from, "body")?;
-        let instructions = list_or_empty(alloc, from, "instructions")?;
-        let directives = list_or_empty(alloc, from, "directives")?;
+        let span = optional(alloc, span)?;
+        let id = optional(alloc, id)?;
+        let name_hint = optional(alloc, name_hint)?;
+        let params = list_or_empty(alloc, params)?;
+        let generator = flag(generator)?;
+        let is_async = flag(is_async)?;
+        let context = list_or_empty(alloc, context)?;
+        let body = required(alloc, body)?;
+        let instructions = list_or_empty(alloc, instructions)?;
+        let directives = list_or_empty(alloc, directives)?;
         Ok(HirFunction {
             span,
             id,

@@ -6,8 +6,8 @@ ghost use Rattle.rc_doc.specs.Parts.{module_name_of, named_attribute_of, primiti
 ghost use Rattle.rc_doc.specs.Parts.{spread_attribute_of};
 ghost use Rattle.rc_doc.specs.Reading.{IsRead};
 
-use crate::fields::{Read, flag, required, tag};
-use crate::known::known_names;
+use crate::fields::{Read, flag, required, tag, variant_name};
+use crate::members::{one_field, three_fields, two_fields};
 use crate::refusal::Refusal;
 use rc_hir::{JsxAttribute, JsxTag, LoweredFunction, NonLocalBinding, PrimitiveValue};
 use serde_json::Value;
@@ -17,11 +17,11 @@ use std::alloc::Global;
 fn primitive_content(alloc: Global, value: &Value) -> Result<PrimitiveValue, Refusal>
     ensures { IsRead result (primitive_content_of (view value.now)) }
 {
-    known_names(value, &["k", "v"])?;
-    match tag(value) {
-        Some("Boolean") => Ok(PrimitiveValue::Boolean(flag(value, "v")?)),
-        Some("Number") => Ok(PrimitiveValue::Number(required(alloc, value, "v")?)),
-        Some("String") => Ok(PrimitiveValue::String(required(alloc, value, "v")?)),
+    let (k, v) = two_fields(value, "k", "v")?;
+    match variant_name(k) {
+        Some("Boolean") => Ok(PrimitiveValue::Boolean(flag(v)?)),
+        Some("Number") => Ok(PrimitiveValue::Number(required(alloc, v)?)),
+        Some("String") => Ok(PrimitiveValue::String(required(alloc, v)?)),
         _ => Err(Refusal::NotDoc),
     }
 }
@@ -43,8 +43,8 @@ impl Read for PrimitiveValue {
 fn global(alloc: Global, value: &Value) -> Result<NonLocalBinding, Refusal>
     ensures { IsRead result (global_of (view value.now)) }
 {
-    known_names(value, &["k", "name"])?;
-    let name = required(alloc, value, "name")?;
+    let (_, name) = two_fields(value, "k", "name")?;
+    let name = required(alloc, name)?;
     Ok(NonLocalBinding::Global { name })
 }
 
@@ -52,9 +52,9 @@ fn global(alloc: Global, value: &Value) -> Result<NonLocalBinding, Refusal>
 fn module_name(alloc: Global, value: &Value) -> Result<NonLocalBinding, Refusal>
     ensures { IsRead result (module_name_of (view value.now)) }
 {
-    known_names(value, &["k", "module", "name"])?;
-    let name = required(alloc, value, "name")?;
-    let module = required(alloc, value, "module")?;
+    let (_, module, name) = three_fields(value, "k", "module", "name")?;
+    let name = required(alloc, name)?;
+    let module = required(alloc, module)?;
     Ok(NonLocalBinding::Module { name, module })
 }
 
@@ -76,10 +76,10 @@ impl Read for JsxTag {
 
     #[tactic(auto, unfolding(crate::specs::Parts::jsx_tag_of))]
     fn read(alloc: Global, value: &Value) -> Result<JsxTag, Refusal> {
-        known_names(value, &["k", "v"])?;
-        match tag(value) {
-            Some("Place") => Ok(JsxTag::Place(required(alloc, value, "v")?)),
-            Some("Builtin") => Ok(JsxTag::Builtin(required(alloc, value, "v")?)),
+        let (k, v) = two_fields(value, "k", "v")?;
+        match variant_name(k) {
+            Some("Place") => Ok(JsxTag::Place(required(alloc, v)?)),
+            Some("Builtin") => Ok(JsxTag::Builtin(required(alloc, v)?)),
             _ => Err(Refusal::NotDoc),
         }
     }
@@ -89,9 +89,9 @@ impl Read for JsxTag {
 fn named_attribute(alloc: Global, value: &Value) -> Result<JsxAttribute, Refusal>
     ensures { IsRead result (named_attribute_of (view value.now)) }
 {
-    known_names(value, &["k", "name", "place"])?;
-    let name = required(alloc, value, "name")?;
-    let place = required(alloc, value, "place")?;
+    let (_, name, place) = three_fields(value, "k", "name", "place")?;
+    let name = required(alloc, name)?;
+    let place = required(alloc, place)?;
     Ok(JsxAttribute::Attribute { name, place })
 }
 
@@ -99,8 +99,8 @@ fn named_attribute(alloc: Global, value: &Value) -> Result<JsxAttribute, Refusal
 fn spread_attribute(alloc: Global, value: &Value) -> Result<JsxAttribute, Refusal>
     ensures { IsRead result (spread_attribute_of (view value.now)) }
 {
-    known_names(value, &["argument", "k"])?;
-    let argument = required(alloc, value, "argument")?;
+    let (argument, _) = two_fields(value, "argument", "k")?;
+    let argument = required(alloc, argument)?;
     Ok(JsxAttribute::SpreadAttribute { argument })
 }
 
@@ -122,8 +122,8 @@ impl Read for LoweredFunction {
 
     #[tactic(auto, unfolding(crate::specs::Parts::lowered_function_of))]
     fn read(alloc: Global, value: &Value) -> Result<LoweredFunction, Refusal> {
-        known_names(value, &["func"])?;
-        let func = required(alloc, value, "func")?;
+        let func = one_field(value, "func")?;
+        let func = required(alloc, func)?;
         Ok(LoweredFunction { func })
     }
 }

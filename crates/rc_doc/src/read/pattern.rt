@@ -8,8 +8,8 @@ ghost use Rattle.rc_doc.specs.Patterns.{object_pattern_of, object_property_of, p
 ghost use Rattle.rc_doc.specs.Patterns.{property_literal_of, property_of};
 ghost use Rattle.rc_doc.specs.Reading.{IsRead};
 
-use crate::fields::{Read, list_or_empty, or_refuse, required, tag};
-use crate::known::known_names;
+use crate::fields::{Read, list_or_empty, or_refuse, required, tag, variant_name};
+use crate::members::two_fields;
 use crate::refusal::Refusal;
 use rc_hir::{
     ArrayElement, ArrayPatternElement, InstructionKind, LValue, LValuePattern, ObjectProperty,
@@ -48,9 +48,9 @@ impl Read for LValue {
 
     #[tactic(auto, unfolding(crate::specs::Patterns::lvalue_of))]
     fn read(alloc: Global, value: &Value) -> Result<LValue, Refusal> {
-        known_names(value, &["kind", "place"])?;
-        let kind = required(alloc, value, "kind")?;
-        let place = required(alloc, value, "place")?;
+        let (kind, place) = two_fields(value, "kind", "place")?;
+        let kind = required(alloc, kind)?;
+        let place = required(alloc, place)?;
         Ok(LValue { kind, place })
     }
 }
@@ -60,10 +60,10 @@ impl Read for PropertyLiteral {
 
     #[tactic(auto, unfolding(crate::specs::Patterns::property_literal_of))]
     fn read(alloc: Global, value: &Value) -> Result<PropertyLiteral, Refusal> {
-        known_names(value, &["k", "v"])?;
-        match tag(value) {
-            Some("String") => Ok(PropertyLiteral::String(required(alloc, value, "v")?)),
-            Some("Number") => Ok(PropertyLiteral::Number(required(alloc, value, "v")?)),
+        let (k, v) = two_fields(value, "k", "v")?;
+        match variant_name(k) {
+            Some("String") => Ok(PropertyLiteral::String(required(alloc, v)?)),
+            Some("Number") => Ok(PropertyLiteral::Number(required(alloc, v)?)),
             _ => Err(Refusal::NotDoc),
         }
     }
@@ -74,12 +74,12 @@ impl Read for ObjectPropertyKey {
 
     #[tactic(auto, unfolding(crate::specs::Patterns::property_key_of))]
     fn read(alloc: Global, value: &Value) -> Result<ObjectPropertyKey, Refusal> {
-        known_names(value, &["k", "v"])?;
-        match tag(value) {
-            Some("Identifier") => Ok(ObjectPropertyKey::Identifier(required(alloc, value, "v")?)),
-            Some("String") => Ok(ObjectPropertyKey::String(required(alloc, value, "v")?)),
-            Some("Number") => Ok(ObjectPropertyKey::Number(required(alloc, value, "v")?)),
-            Some("Computed") => Ok(ObjectPropertyKey::Computed(required(alloc, value, "v")?)),
+        let (k, v) = two_fields(value, "k", "v")?;
+        match variant_name(k) {
+            Some("Identifier") => Ok(ObjectPropertyKey::Identifier(required(alloc, v)?)),
+            Some("String") => Ok(ObjectPropertyKey::String(required(alloc, v)?)),
+            Some("Number") => Ok(ObjectPropertyKey::Number(required(alloc, v)?)),
+            Some("Computed") => Ok(ObjectPropertyKey::Computed(required(alloc, v)?)),
             _ => Err(Refusal::NotDoc),
         }
     }
@@ -90,9 +90,9 @@ impl Read for ObjectProperty {
 
     #[tactic(auto, unfolding(crate::specs::Patterns::object_property_of))]
     fn read(alloc: Global, value: &Value) -> Result<ObjectProperty, Refusal> {
-        known_names(value, &["key", "place"])?;
-        let key = required(alloc, value, "key")?;
-        let place = required(alloc, value, "place")?;
+        let (key, place) = two_fields(value, "key", "place")?;
+        let key = required(alloc, key)?;
+        let place = required(alloc, place)?;
         Ok(ObjectProperty { key, place })
     }
 }
@@ -102,12 +102,10 @@ impl Read for ObjectPropertyOrSpread {
 
     #[tactic(auto, unfolding(crate::specs::Patterns::property_of))]
     fn read(alloc: Global, value: &Value) -> Result<ObjectPropertyOrSpread, Refusal> {
-        known_names(value, &["k", "v"])?;
-        match tag(value) {
-            Some("Property") => {
-                Ok(ObjectPropertyOrSpread::Property(required(alloc, value, "v")?))
-            }
-            Some("Spread") => Ok(ObjectPropertyOrSpread::Spread(required(alloc, value, "v")?)),
+        let (k, v) = two_fields(value, "k", "v")?;
+        match variant_name(k) {
+            Some("Property") => { Ok(ObjectPropertyOrSpread::Property(required(alloc, v)?)) }
+            Some("Spread") => Ok(ObjectPropertyOrSpread::Spread(required(alloc, v)?)),
             _ => Err(Refusal::NotDoc),
         }
     }
@@ -117,10 +115,10 @@ impl Read for ObjectPropertyOrSpread {
 fn filled_pattern_element(alloc: Global, value: &Value) -> Result<ArrayPatternElement, Refusal>
     ensures { IsRead result (filled_pattern_element_of (view value.now)) }
 {
-    known_names(value, &["k", "v"])?;
-    match tag(value) {
-        Some("Place") => Ok(ArrayPatternElement::Place(required(alloc, value, "v")?)),
-        Some("Spread") => Ok(ArrayPatternElement::Spread(required(alloc, value, "v")?)),
+    let (k, v) = two_fields(value, "k", "v")?;
+    match variant_name(k) {
+        Some("Place") => Ok(ArrayPatternElement::Place(required(alloc, v)?)),
+        Some("Spread") => Ok(ArrayPatternElement::Spread(required(alloc, v)?)),
         _ => Err(Refusal::NotDoc),
     }
 }
@@ -141,10 +139,10 @@ impl Read for ArrayPatternElement {
 fn filled_element(alloc: Global, value: &Value) -> Result<ArrayElement, Refusal>
     ensures { IsRead result (filled_element_of (view value.now)) }
 {
-    known_names(value, &["k", "v"])?;
-    match tag(value) {
-        Some("Place") => Ok(ArrayElement::Place(required(alloc, value, "v")?)),
-        Some("Spread") => Ok(ArrayElement::Spread(required(alloc, value, "v")?)),
+    let (k, v) = two_fields(value, "k", "v")?;
+    match variant_name(k) {
+        Some("Place") => Ok(ArrayElement::Place(required(alloc, v)?)),
+        Some("Spread") => Ok(ArrayElement::Spread(required(alloc, v)?)),
         _ => Err(Refusal::NotDoc),
     }
 }
@@ -165,8 +163,8 @@ impl Read for ArrayElement {
 fn array_pattern(alloc: Global, value: &Value) -> Result<Pattern, Refusal>
     ensures { IsRead result (array_pattern_of (view value.now)) }
 {
-    known_names(value, &["items", "k"])?;
-    let items = list_or_empty(alloc, value, "items")?;
+    let (items, _) = two_fields(value, "items", "k")?;
+    let items = list_or_empty(alloc, items)?;
     Ok(Pattern::Array { items })
 }
 
@@ -174,8 +172,8 @@ fn array_pattern(alloc: Global, value: &Value) -> Result<Pattern, Refusal>
 fn object_pattern(alloc: Global, value: &Value) -> Result<Pattern, Refusal>
     ensures { IsRead result (object_pattern_of (view value.now)) }
 {
-    known_names(value, &["k", "properties"])?;
-    let properties = list_or_empty(alloc, value, "properties")?;
+    let (_, properties) = two_fields(value, "k", "properties")?;
+    let properties = list_or_empty(alloc, properties)?;
     Ok(Pattern::Object { properties })
 }
 
@@ -197,9 +195,9 @@ impl Read for LValuePattern {
 
     #[tactic(auto, unfolding(crate::specs::Patterns::lvalue_pattern_of))]
     fn read(alloc: Global, value: &Value) -> Result<LValuePattern, Refusal> {
-        known_names(value, &["kind", "pattern"])?;
-        let kind = required(alloc, value, "kind")?;
-        let pattern = required(alloc, value, "pattern")?;
+        let (kind, pattern) = two_fields(value, "kind", "pattern")?;
+        let kind = required(alloc, kind)?;
+        let pattern = required(alloc, pattern)?;
         Ok(LValuePattern { kind, pattern })
     }
 }

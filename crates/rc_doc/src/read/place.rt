@@ -5,8 +5,8 @@ ghost use Rattle.serde_json.specs.View.{view};
 ghost use Rattle.rc_doc.specs.Places.{argument_of, effect_named, effect_of, long_place, param_of, place_of};
 ghost use Rattle.rc_doc.specs.Places.{short_place, span_of, spanned_place, spread_of};
 
-use crate::fields::{Read, array_len, number, or_refuse, required, tag};
-use crate::known::known_names;
+use crate::fields::{Read, array_len, number, or_refuse, required, variant_name};
+use crate::members::{one_field, two_fields};
 use crate::refusal::Refusal;
 use rc_hir::{Effect, ParamPattern, Place, PlaceOrSpread, SpreadPattern};
 use rc_names::{IdentifierId, Span};
@@ -113,8 +113,8 @@ impl Read for SpreadPattern {
 
     #[tactic(auto, unfolding(crate::specs::Places::spread_of))]
     fn read(alloc: Global, value: &Value) -> Result<SpreadPattern, Refusal> {
-        known_names(value, &["place"])?;
-        let place = required(alloc, value, "place")?;
+        let place = one_field(value, "place")?;
+        let place = required(alloc, place)?;
         Ok(SpreadPattern { place })
     }
 }
@@ -124,10 +124,10 @@ impl Read for ParamPattern {
 
     #[tactic(auto, unfolding(crate::specs::Places::param_of))]
     fn read(alloc: Global, value: &Value) -> Result<ParamPattern, Refusal> {
-        known_names(value, &["k", "v"])?;
-        match tag(value) {
-            Some("Place") => Ok(ParamPattern::Place(required(alloc, value, "v")?)),
-            Some("Spread") => Ok(ParamPattern::Spread(required(alloc, value, "v")?)),
+        let (k, v) = two_fields(value, "k", "v")?;
+        match variant_name(k) {
+            Some("Place") => Ok(ParamPattern::Place(required(alloc, v)?)),
+            Some("Spread") => Ok(ParamPattern::Spread(required(alloc, v)?)),
             _ => Err(Refusal::NotDoc),
         }
     }
@@ -138,10 +138,10 @@ impl Read for PlaceOrSpread {
 
     #[tactic(auto, unfolding(crate::specs::Places::argument_of))]
     fn read(alloc: Global, value: &Value) -> Result<PlaceOrSpread, Refusal> {
-        known_names(value, &["k", "v"])?;
-        match tag(value) {
-            Some("Place") => Ok(PlaceOrSpread::Place(required(alloc, value, "v")?)),
-            Some("Spread") => Ok(PlaceOrSpread::Spread(required(alloc, value, "v")?)),
+        let (k, v) = two_fields(value, "k", "v")?;
+        match variant_name(k) {
+            Some("Place") => Ok(PlaceOrSpread::Place(required(alloc, v)?)),
+            Some("Spread") => Ok(PlaceOrSpread::Spread(required(alloc, v)?)),
             _ => Err(Refusal::NotDoc),
         }
     }

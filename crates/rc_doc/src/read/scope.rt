@@ -4,7 +4,7 @@ ghost use Rattle.rc_doc.specs.Environment.Scopes.{declaration_entry_of, declarat
 ghost use Rattle.rc_doc.specs.Environment.Scopes.{path_entry_of, range_of, scope_of};
 
 use crate::fields::{Read, flag, list_or_empty, optional, required};
-use crate::known::known_names;
+use crate::members::{four_fields, six_fields, three_fields, two_fields};
 use crate::refusal::Refusal;
 use rc_hir::{
     DeclarationEntry, DependencyPathEntry, MutableRange, ReactiveScope, ReactiveScopeDeclaration,
@@ -18,9 +18,9 @@ impl Read for MutableRange {
 
     #[tactic(auto, unfolding(crate::specs::Environment::Scopes::range_of))]
     fn read(alloc: Global, from: &Value) -> Result<MutableRange, Refusal> {
-        known_names(from, &["end", "start"])?;
-        let start = required(alloc, from, "start")?;
-        let end = required(alloc, from, "end")?;
+        let (end, start) = two_fields(from, "end", "start")?;
+        let start = required(alloc, start)?;
+        let end = required(alloc, end)?;
         Ok(MutableRange { start, end })
     }
 }
@@ -30,9 +30,9 @@ impl Read for DependencyPathEntry {
 
     #[tactic(auto, unfolding(crate::specs::Environment::Scopes::path_entry_of))]
     fn read(alloc: Global, from: &Value) -> Result<DependencyPathEntry, Refusal> {
-        known_names(from, &["optional", "property"])?;
-        let property = required(alloc, from, "property")?;
-        let optional = flag(from, "optional")?;
+        let (optional, property) = two_fields(from, "optional", "property")?;
+        let property = required(alloc, property)?;
+        let optional = flag(optional)?;
         Ok(DependencyPathEntry { property, optional })
     }
 }
@@ -42,11 +42,17 @@ impl Read for ReactiveScopeDependency {
 
     #[tactic(auto, unfolding(crate::specs::Environment::Scopes::dependency_of))]
     fn read(alloc: Global, from: &Value) -> Result<ReactiveScopeDependency, Refusal> {
-        known_names(from, &["identifier", "path", "reactive", "span"])?;
-        let identifier = required(alloc, from, "identifier")?;
-        let reactive = flag(from, "reactive")?;
-        let path = list_or_empty(alloc, from, "path")?;
-        let span = optional(alloc, from, "span")?;
+        let (identifier, path, reactive, span) = four_fields(
+            from,
+            "identifier",
+            "path",
+            "reactive",
+            "span",
+        )?;
+        let identifier = required(alloc, identifier)?;
+        let reactive = flag(reactive)?;
+        let path = list_or_empty(alloc, path)?;
+        let span = optional(alloc, span)?;
         Ok(ReactiveScopeDependency {
             identifier,
             reactive,
@@ -61,9 +67,9 @@ impl Read for ReactiveScopeDeclaration {
 
     #[tactic(auto, unfolding(crate::specs::Environment::Scopes::declaration_of))]
     fn read(alloc: Global, from: &Value) -> Result<ReactiveScopeDeclaration, Refusal> {
-        known_names(from, &["identifier", "scope"])?;
-        let identifier = required(alloc, from, "identifier")?;
-        let scope = required(alloc, from, "scope")?;
+        let (identifier, scope) = two_fields(from, "identifier", "scope")?;
+        let identifier = required(alloc, identifier)?;
+        let scope = required(alloc, scope)?;
         Ok(ReactiveScopeDeclaration { identifier, scope })
     }
 }
@@ -73,9 +79,9 @@ impl Read for DeclarationEntry {
 
     #[tactic(auto, unfolding(crate::specs::Environment::Scopes::declaration_entry_of))]
     fn read(alloc: Global, from: &Value) -> Result<DeclarationEntry, Refusal> {
-        known_names(from, &["key", "value"])?;
-        let key = required(alloc, from, "key")?;
-        let value = required(alloc, from, "value")?;
+        let (key, value) = two_fields(from, "key", "value")?;
+        let key = required(alloc, key)?;
+        let value = required(alloc, value)?;
         Ok(DeclarationEntry { key, value })
     }
 }
@@ -85,10 +91,10 @@ impl Read for ReactiveScopeEarlyReturn {
 
     #[tactic(auto, unfolding(crate::specs::Environment::Scopes::early_return_of))]
     fn read(alloc: Global, from: &Value) -> Result<ReactiveScopeEarlyReturn, Refusal> {
-        known_names(from, &["label", "span", "value"])?;
-        let value = required(alloc, from, "value")?;
-        let span = optional(alloc, from, "span")?;
-        let label = required(alloc, from, "label")?;
+        let (label, span, value) = three_fields(from, "label", "span", "value")?;
+        let value = required(alloc, value)?;
+        let span = optional(alloc, span)?;
+        let label = required(alloc, label)?;
         Ok(ReactiveScopeEarlyReturn { value, span, label })
     }
 }
@@ -98,23 +104,22 @@ impl Read for ReactiveScope {
 
     #[tactic(auto, unfolding(crate::specs::Environment::Scopes::scope_of))]
     fn read(alloc: Global, from: &Value) -> Result<ReactiveScope, Refusal> {
-        known_names(
-            from,
-            &[
+        let (declarations, dependencies, early_return_value, merged, range, reassignments) =
+            six_fields(
+                from,
                 "declarations",
                 "dependencies",
                 "early_return_value",
                 "merged",
                 "range",
                 "reassignments",
-            ],
-        )?;
-        let range = required(alloc, from, "range")?;
-        let dependencies = list_or_empty(alloc, from, "dependencies")?;
-        let declarations = list_or_empty(alloc, from, "declarations")?;
-        let reassignments = list_or_empty(alloc, from, "reassignments")?;
-        let early_return_value = optional(alloc, from, "early_return_value")?;
-        let merged = list_or_empty(alloc, from, "merged")?;
+            )?;
+        let range = required(alloc, range)?;
+        let dependencies = list_or_empty(alloc, dependencies)?;
+        let declarations = list_or_empty(alloc, declarations)?;
+        let reassignments = list_or_empty(alloc, reassignments)?;
+        let early_return_value = optional(alloc, early_return_value)?;
+        let merged = list_or_empty(alloc, merged)?;
         Ok(ReactiveScope {
             range,
             dependencies,

@@ -6,8 +6,8 @@ ghost use Rattle.rc_doc.specs.Environment.Types.{shape_named, shape_of, shape_ro
 ghost use Rattle.rc_doc.specs.Environment.Types.{shaped_type_of, type_of};
 ghost use Rattle.rc_doc.specs.Reading.{IsRead};
 
-use crate::fields::{Read, flag, optional, or_refuse, required, tag};
-use crate::known::known_names;
+use crate::fields::{Read, flag, optional, or_refuse, required, variant_name};
+use crate::members::two_fields;
 use crate::refusal::Refusal;
 use rc_hir::{HirType, Shape, ShapeRow};
 use serde_json::Value;
@@ -35,9 +35,9 @@ fn shape_named(name: &str) -> Option<Shape>
 fn shape_row_number(alloc: Global, value: &Value) -> Result<Shape, Refusal>
     ensures { IsRead result (shape_row_number_of (view value.now)) }
 {
-    known_names(value, &["k", "v"])?;
-    match tag(value) {
-        Some("Row") => Ok(Shape::Row(required(alloc, value, "v")?)),
+    let (k, v) = two_fields(value, "k", "v")?;
+    match variant_name(k) {
+        Some("Row") => Ok(Shape::Row(required(alloc, v)?)),
         _ => Err(Refusal::NotDoc),
     }
 }
@@ -57,9 +57,9 @@ impl Read for Shape {
 fn shaped_type(alloc: Global, value: &Value) -> Result<HirType, Refusal>
     ensures { IsRead result (shaped_type_of (view value.now)) }
 {
-    known_names(value, &["k", "shape"])?;
-    let name = or_refuse(tag(value))?;
-    let shape = optional(alloc, value, "shape")?;
+    let (k, shape) = two_fields(value, "k", "shape")?;
+    let name = or_refuse(variant_name(k))?;
+    let shape = optional(alloc, shape)?;
     match name {
         "Object" => Ok(HirType::Object { shape }),
         "Function" => Ok(HirType::Function { shape }),
@@ -85,9 +85,9 @@ impl Read for ShapeRow {
 
     #[tactic(auto, unfolding(crate::specs::Environment::Types::shape_row_of))]
     fn read(_alloc: Global, value: &Value) -> Result<ShapeRow, Refusal> {
-        known_names(value, &["hook", "no_alias"])?;
-        let hook = flag(value, "hook")?;
-        let no_alias = flag(value, "no_alias")?;
+        let (hook, no_alias) = two_fields(value, "hook", "no_alias")?;
+        let hook = flag(hook)?;
+        let no_alias = flag(no_alias)?;
         Ok(ShapeRow { hook, no_alias })
     }
 }

@@ -9,7 +9,7 @@ ghost use Rattle.rc_doc.specs.Kinds.Objects.{object_kinds};
 ghost use Rattle.rc_doc.specs.Reading.{IsRead, variant};
 
 use crate::fields::{flag, list_or_empty, optional, required};
-use crate::known::known_names;
+use crate::members::{five_fields, four_fields, three_fields, two_fields};
 use crate::read::instruction::objects;
 use crate::refusal::Refusal;
 use rc_hir::InstructionValue;
@@ -41,10 +41,10 @@ pub(super) fn value_named(
 fn new_expression(alloc: Global, from: &Value) -> Result<InstructionValue, Refusal>
     ensures { IsRead result (new_expression_of (view from.now)) }
 {
-    known_names(from, &["args", "callee", "k", "span"])?;
-    let callee = required(alloc, from, "callee")?;
-    let args = list_or_empty(alloc, from, "args")?;
-    let span = optional(alloc, from, "span")?;
+    let (args, callee, _, span) = four_fields(from, "args", "callee", "k", "span")?;
+    let callee = required(alloc, callee)?;
+    let args = list_or_empty(alloc, args)?;
+    let span = optional(alloc, span)?;
     Ok(InstructionValue::NewExpression { callee, args, span })
 }
 
@@ -52,10 +52,10 @@ fn new_expression(alloc: Global, from: &Value) -> Result<InstructionValue, Refus
 fn call_expression(alloc: Global, from: &Value) -> Result<InstructionValue, Refusal>
     ensures { IsRead result (call_expression_of (view from.now)) }
 {
-    known_names(from, &["args", "callee", "k", "span"])?;
-    let callee = required(alloc, from, "callee")?;
-    let args = list_or_empty(alloc, from, "args")?;
-    let span = optional(alloc, from, "span")?;
+    let (args, callee, _, span) = four_fields(from, "args", "callee", "k", "span")?;
+    let callee = required(alloc, callee)?;
+    let args = list_or_empty(alloc, args)?;
+    let span = optional(alloc, span)?;
     Ok(InstructionValue::CallExpression { callee, args, span })
 }
 
@@ -63,11 +63,13 @@ fn call_expression(alloc: Global, from: &Value) -> Result<InstructionValue, Refu
 fn method_call(alloc: Global, from: &Value) -> Result<InstructionValue, Refusal>
     ensures { IsRead result (method_call_of (view from.now)) }
 {
-    known_names(from, &["args", "k", "property", "receiver", "span"])?;
-    let receiver = required(alloc, from, "receiver")?;
-    let property = required(alloc, from, "property")?;
-    let args = list_or_empty(alloc, from, "args")?;
-    let span = optional(alloc, from, "span")?;
+    let (args, _, property, receiver, span) = five_fields(
+        from, "args", "k", "property", "receiver", "span",
+    )?;
+    let receiver = required(alloc, receiver)?;
+    let property = required(alloc, property)?;
+    let args = list_or_empty(alloc, args)?;
+    let span = optional(alloc, span)?;
     Ok(InstructionValue::MethodCall {
         receiver,
         property,
@@ -80,9 +82,9 @@ fn method_call(alloc: Global, from: &Value) -> Result<InstructionValue, Refusal>
 fn object_method(alloc: Global, from: &Value) -> Result<InstructionValue, Refusal>
     ensures { IsRead result (object_method_of (view from.now)) }
 {
-    known_names(from, &["k", "lowered_func", "span"])?;
-    let lowered_func = required(alloc, from, "lowered_func")?;
-    let span = optional(alloc, from, "span")?;
+    let (_, lowered_func, span) = three_fields(from, "k", "lowered_func", "span")?;
+    let lowered_func = required(alloc, lowered_func)?;
+    let span = optional(alloc, span)?;
     Ok(InstructionValue::ObjectMethod { lowered_func, span })
 }
 
@@ -90,10 +92,10 @@ fn object_method(alloc: Global, from: &Value) -> Result<InstructionValue, Refusa
 fn function_expression(alloc: Global, from: &Value) -> Result<InstructionValue, Refusal>
     ensures { IsRead result (function_expression_of (view from.now)) }
 {
-    known_names(from, &["k", "lowered_func", "name", "span"])?;
-    let name = optional(alloc, from, "name")?;
-    let lowered_func = required(alloc, from, "lowered_func")?;
-    let span = optional(alloc, from, "span")?;
+    let (_, lowered_func, name, span) = four_fields(from, "k", "lowered_func", "name", "span")?;
+    let name = optional(alloc, name)?;
+    let lowered_func = required(alloc, lowered_func)?;
+    let span = optional(alloc, span)?;
     Ok(InstructionValue::FunctionExpression {
         name,
         lowered_func,
@@ -105,8 +107,8 @@ fn function_expression(alloc: Global, from: &Value) -> Result<InstructionValue, 
 fn debugger(alloc: Global, from: &Value) -> Result<InstructionValue, Refusal>
     ensures { IsRead result (debugger_of (view from.now)) }
 {
-    known_names(from, &["k", "span"])?;
-    let span = optional(alloc, from, "span")?;
+    let (_, span) = two_fields(from, "k", "span")?;
+    let span = optional(alloc, span)?;
     Ok(InstructionValue::Debugger { span })
 }
 
@@ -114,10 +116,10 @@ fn debugger(alloc: Global, from: &Value) -> Result<InstructionValue, Refusal>
 fn start_memoize(alloc: Global, from: &Value) -> Result<InstructionValue, Refusal>
     ensures { IsRead result (start_memoize_of (view from.now)) }
 {
-    known_names(from, &["deps", "k", "manual_memo_id", "span"])?;
-    let manual_memo_id = required(alloc, from, "manual_memo_id")?;
-    let deps = list_or_empty(alloc, from, "deps")?;
-    let span = optional(alloc, from, "span")?;
+    let (deps, _, manual_memo_id, span) = four_fields(from, "deps", "k", "manual_memo_id", "span")?;
+    let manual_memo_id = required(alloc, manual_memo_id)?;
+    let deps = list_or_empty(alloc, deps)?;
+    let span = optional(alloc, span)?;
     Ok(InstructionValue::StartMemoize {
         manual_memo_id,
         deps,
@@ -129,11 +131,18 @@ fn start_memoize(alloc: Global, from: &Value) -> Result<InstructionValue, Refusa
 fn finish_memoize(alloc: Global, from: &Value) -> Result<InstructionValue, Refusal>
     ensures { IsRead result (finish_memoize_of (view from.now)) }
 {
-    known_names(from, &["decl", "k", "manual_memo_id", "pruned", "span"])?;
-    let manual_memo_id = required(alloc, from, "manual_memo_id")?;
-    let decl = required(alloc, from, "decl")?;
-    let pruned = flag(from, "pruned")?;
-    let span = optional(alloc, from, "span")?;
+    let (decl, _, manual_memo_id, pruned, span) = five_fields(
+        from,
+        "decl",
+        "k",
+        "manual_memo_id",
+        "pruned",
+        "span",
+    )?;
+    let manual_memo_id = required(alloc, manual_memo_id)?;
+    let decl = required(alloc, decl)?;
+    let pruned = flag(pruned)?;
+    let span = optional(alloc, span)?;
     Ok(InstructionValue::FinishMemoize {
         manual_memo_id,
         decl,

@@ -11,7 +11,7 @@ ghost use Rattle.rc_doc.specs.Kinds.Objects.{object_kinds};
 ghost use Rattle.rc_doc.specs.Reading.{IsRead, variant};
 
 use crate::fields::{list_or_empty, optional, required};
-use crate::known::known_names;
+use crate::members::{five_fields, four_fields, three_fields};
 use crate::read::instruction::calls;
 use crate::refusal::Refusal;
 use rc_hir::InstructionValue;
@@ -48,9 +48,9 @@ pub(super) fn value_named(
 fn primitive(alloc: Global, from: &Value) -> Result<InstructionValue, Refusal>
     ensures { IsRead result (primitive_of (view from.now)) }
 {
-    known_names(from, &["k", "span", "value"])?;
-    let value = required(alloc, from, "value")?;
-    let span = optional(alloc, from, "span")?;
+    let (_, span, value) = three_fields(from, "k", "span", "value")?;
+    let value = required(alloc, value)?;
+    let span = optional(alloc, span)?;
     Ok(InstructionValue::Primitive { value, span })
 }
 
@@ -58,9 +58,9 @@ fn primitive(alloc: Global, from: &Value) -> Result<InstructionValue, Refusal>
 fn jsx_text(alloc: Global, from: &Value) -> Result<InstructionValue, Refusal>
     ensures { IsRead result (jsx_text_of (view from.now)) }
 {
-    known_names(from, &["k", "span", "value"])?;
-    let value = required(alloc, from, "value")?;
-    let span = optional(alloc, from, "span")?;
+    let (_, span, value) = three_fields(from, "k", "span", "value")?;
+    let value = required(alloc, value)?;
+    let span = optional(alloc, span)?;
     Ok(InstructionValue::JSXText { value, span })
 }
 
@@ -68,11 +68,13 @@ fn jsx_text(alloc: Global, from: &Value) -> Result<InstructionValue, Refusal>
 fn binary_expression(alloc: Global, from: &Value) -> Result<InstructionValue, Refusal>
     ensures { IsRead result (binary_expression_of (view from.now)) }
 {
-    known_names(from, &["k", "left", "operator", "right", "span"])?;
-    let operator = required(alloc, from, "operator")?;
-    let left = required(alloc, from, "left")?;
-    let right = required(alloc, from, "right")?;
-    let span = optional(alloc, from, "span")?;
+    let (_, left, operator, right, span) = five_fields(
+        from, "k", "left", "operator", "right", "span",
+    )?;
+    let operator = required(alloc, operator)?;
+    let left = required(alloc, left)?;
+    let right = required(alloc, right)?;
+    let span = optional(alloc, span)?;
     Ok(InstructionValue::BinaryExpression {
         operator,
         left,
@@ -85,10 +87,10 @@ fn binary_expression(alloc: Global, from: &Value) -> Result<InstructionValue, Re
 fn unary_expression(alloc: Global, from: &Value) -> Result<InstructionValue, Refusal>
     ensures { IsRead result (unary_expression_of (view from.now)) }
 {
-    known_names(from, &["k", "operator", "span", "value"])?;
-    let operator = required(alloc, from, "operator")?;
-    let value = required(alloc, from, "value")?;
-    let span = optional(alloc, from, "span")?;
+    let (_, operator, span, value) = four_fields(from, "k", "operator", "span", "value")?;
+    let operator = required(alloc, operator)?;
+    let value = required(alloc, value)?;
+    let span = optional(alloc, span)?;
     Ok(InstructionValue::UnaryExpression {
         operator,
         value,
@@ -100,10 +102,10 @@ fn unary_expression(alloc: Global, from: &Value) -> Result<InstructionValue, Ref
 fn type_cast_expression(alloc: Global, from: &Value) -> Result<InstructionValue, Refusal>
     ensures { IsRead result (type_cast_expression_of (view from.now)) }
 {
-    known_names(from, &["annotation", "k", "span", "value"])?;
-    let value = required(alloc, from, "value")?;
-    let annotation = required(alloc, from, "annotation")?;
-    let span = optional(alloc, from, "span")?;
+    let (annotation, _, span, value) = four_fields(from, "annotation", "k", "span", "value")?;
+    let value = required(alloc, value)?;
+    let annotation = required(alloc, annotation)?;
+    let span = optional(alloc, span)?;
     Ok(InstructionValue::TypeCastExpression {
         value,
         annotation,
@@ -115,9 +117,9 @@ fn type_cast_expression(alloc: Global, from: &Value) -> Result<InstructionValue,
 fn await_value(alloc: Global, from: &Value) -> Result<InstructionValue, Refusal>
     ensures { IsRead result (await_of (view from.now)) }
 {
-    known_names(from, &["k", "span", "value"])?;
-    let value = required(alloc, from, "value")?;
-    let span = optional(alloc, from, "span")?;
+    let (_, span, value) = three_fields(from, "k", "span", "value")?;
+    let value = required(alloc, value)?;
+    let span = optional(alloc, span)?;
     Ok(InstructionValue::Await { value, span })
 }
 
@@ -125,10 +127,10 @@ fn await_value(alloc: Global, from: &Value) -> Result<InstructionValue, Refusal>
 fn regexp_literal(alloc: Global, from: &Value) -> Result<InstructionValue, Refusal>
     ensures { IsRead result (regexp_literal_of (view from.now)) }
 {
-    known_names(from, &["flags", "k", "pattern", "span"])?;
-    let pattern = required(alloc, from, "pattern")?;
-    let flags = required(alloc, from, "flags")?;
-    let span = optional(alloc, from, "span")?;
+    let (flags, _, pattern, span) = four_fields(from, "flags", "k", "pattern", "span")?;
+    let pattern = required(alloc, pattern)?;
+    let flags = required(alloc, flags)?;
+    let span = optional(alloc, span)?;
     Ok(InstructionValue::RegExpLiteral {
         pattern,
         flags,
@@ -140,10 +142,10 @@ fn regexp_literal(alloc: Global, from: &Value) -> Result<InstructionValue, Refus
 fn meta_property(alloc: Global, from: &Value) -> Result<InstructionValue, Refusal>
     ensures { IsRead result (meta_property_of (view from.now)) }
 {
-    known_names(from, &["k", "meta", "property", "span"])?;
-    let meta = required(alloc, from, "meta")?;
-    let property = required(alloc, from, "property")?;
-    let span = optional(alloc, from, "span")?;
+    let (_, meta, property, span) = four_fields(from, "k", "meta", "property", "span")?;
+    let meta = required(alloc, meta)?;
+    let property = required(alloc, property)?;
+    let span = optional(alloc, span)?;
     Ok(InstructionValue::MetaProperty {
         meta,
         property,
@@ -155,10 +157,10 @@ fn meta_property(alloc: Global, from: &Value) -> Result<InstructionValue, Refusa
 fn tagged_template_expression(alloc: Global, from: &Value) -> Result<InstructionValue, Refusal>
     ensures { IsRead result (tagged_template_expression_of (view from.now)) }
 {
-    known_names(from, &["k", "quasi", "span", "tag"])?;
-    let tag = required(alloc, from, "tag")?;
-    let quasi = required(alloc, from, "quasi")?;
-    let span = optional(alloc, from, "span")?;
+    let (_, quasi, span, tag) = four_fields(from, "k", "quasi", "span", "tag")?;
+    let tag = required(alloc, tag)?;
+    let quasi = required(alloc, quasi)?;
+    let span = optional(alloc, span)?;
     Ok(InstructionValue::TaggedTemplateExpression { tag, quasi, span })
 }
 
@@ -166,10 +168,10 @@ fn tagged_template_expression(alloc: Global, from: &Value) -> Result<Instruction
 fn template_literal(alloc: Global, from: &Value) -> Result<InstructionValue, Refusal>
     ensures { IsRead result (template_literal_of (view from.now)) }
 {
-    known_names(from, &["k", "quasis", "span", "subexprs"])?;
-    let subexprs = list_or_empty(alloc, from, "subexprs")?;
-    let quasis = list_or_empty(alloc, from, "quasis")?;
-    let span = optional(alloc, from, "span")?;
+    let (_, quasis, span, subexprs) = four_fields(from, "k", "quasis", "span", "subexprs")?;
+    let subexprs = list_or_empty(alloc, subexprs)?;
+    let quasis = list_or_empty(alloc, quasis)?;
+    let span = optional(alloc, span)?;
     Ok(InstructionValue::TemplateLiteral {
         subexprs,
         quasis,
@@ -181,9 +183,9 @@ fn template_literal(alloc: Global, from: &Value) -> Result<InstructionValue, Ref
 fn get_iterator(alloc: Global, from: &Value) -> Result<InstructionValue, Refusal>
     ensures { IsRead result (get_iterator_of (view from.now)) }
 {
-    known_names(from, &["collection", "k", "span"])?;
-    let collection = required(alloc, from, "collection")?;
-    let span = optional(alloc, from, "span")?;
+    let (collection, _, span) = three_fields(from, "collection", "k", "span")?;
+    let collection = required(alloc, collection)?;
+    let span = optional(alloc, span)?;
     Ok(InstructionValue::GetIterator { collection, span })
 }
 
@@ -191,10 +193,10 @@ fn get_iterator(alloc: Global, from: &Value) -> Result<InstructionValue, Refusal
 fn iterator_next(alloc: Global, from: &Value) -> Result<InstructionValue, Refusal>
     ensures { IsRead result (iterator_next_of (view from.now)) }
 {
-    known_names(from, &["collection", "iterator", "k", "span"])?;
-    let iterator = required(alloc, from, "iterator")?;
-    let collection = required(alloc, from, "collection")?;
-    let span = optional(alloc, from, "span")?;
+    let (collection, iterator, _, span) = four_fields(from, "collection", "iterator", "k", "span")?;
+    let iterator = required(alloc, iterator)?;
+    let collection = required(alloc, collection)?;
+    let span = optional(alloc, span)?;
     Ok(InstructionValue::IteratorNext {
         iterator,
         collection,
@@ -206,8 +208,8 @@ fn iterator_next(alloc: Global, from: &Value) -> Result<InstructionValue, Refusa
 fn next_property_of(alloc: Global, from: &Value) -> Result<InstructionValue, Refusal>
     ensures { IsRead result (next_property_of_of (view from.now)) }
 {
-    known_names(from, &["k", "span", "value"])?;
-    let value = required(alloc, from, "value")?;
-    let span = optional(alloc, from, "span")?;
+    let (_, span, value) = three_fields(from, "k", "span", "value")?;
+    let value = required(alloc, value)?;
+    let span = optional(alloc, span)?;
     Ok(InstructionValue::NextPropertyOf { value, span })
 }

@@ -8,7 +8,7 @@ ghost use Rattle.rc_doc.specs.Kinds.Objects.{property_store_of};
 ghost use Rattle.rc_doc.specs.Reading.{IsRead, variant};
 
 use crate::fields::{list_or_empty, optional, required};
-use crate::known::known_names;
+use crate::members::{five_fields, four_fields, three_fields};
 use crate::refusal::Refusal;
 use rc_hir::InstructionValue;
 use serde_json::Value;
@@ -41,9 +41,9 @@ pub(super) fn value_named(
 fn object_expression(alloc: Global, from: &Value) -> Result<InstructionValue, Refusal>
     ensures { IsRead result (object_expression_of (view from.now)) }
 {
-    known_names(from, &["k", "properties", "span"])?;
-    let properties = list_or_empty(alloc, from, "properties")?;
-    let span = optional(alloc, from, "span")?;
+    let (_, properties, span) = three_fields(from, "k", "properties", "span")?;
+    let properties = list_or_empty(alloc, properties)?;
+    let span = optional(alloc, span)?;
     Ok(InstructionValue::ObjectExpression { properties, span })
 }
 
@@ -51,9 +51,9 @@ fn object_expression(alloc: Global, from: &Value) -> Result<InstructionValue, Re
 fn array_expression(alloc: Global, from: &Value) -> Result<InstructionValue, Refusal>
     ensures { IsRead result (array_expression_of (view from.now)) }
 {
-    known_names(from, &["elements", "k", "span"])?;
-    let elements = list_or_empty(alloc, from, "elements")?;
-    let span = optional(alloc, from, "span")?;
+    let (elements, _, span) = three_fields(from, "elements", "k", "span")?;
+    let elements = list_or_empty(alloc, elements)?;
+    let span = optional(alloc, span)?;
     Ok(InstructionValue::ArrayExpression { elements, span })
 }
 
@@ -61,11 +61,13 @@ fn array_expression(alloc: Global, from: &Value) -> Result<InstructionValue, Ref
 fn jsx_expression(alloc: Global, from: &Value) -> Result<InstructionValue, Refusal>
     ensures { IsRead result (jsx_expression_of (view from.now)) }
 {
-    known_names(from, &["children", "k", "props", "span", "tag"])?;
-    let tag = required(alloc, from, "tag")?;
-    let props = list_or_empty(alloc, from, "props")?;
-    let children = optional(alloc, from, "children")?;
-    let span = optional(alloc, from, "span")?;
+    let (children, _, props, span, tag) = five_fields(
+        from, "children", "k", "props", "span", "tag",
+    )?;
+    let tag = required(alloc, tag)?;
+    let props = list_or_empty(alloc, props)?;
+    let children = optional(alloc, children)?;
+    let span = optional(alloc, span)?;
     Ok(InstructionValue::JsxExpression {
         tag,
         props,
@@ -78,9 +80,9 @@ fn jsx_expression(alloc: Global, from: &Value) -> Result<InstructionValue, Refus
 fn jsx_fragment(alloc: Global, from: &Value) -> Result<InstructionValue, Refusal>
     ensures { IsRead result (jsx_fragment_of (view from.now)) }
 {
-    known_names(from, &["children", "k", "span"])?;
-    let children = list_or_empty(alloc, from, "children")?;
-    let span = optional(alloc, from, "span")?;
+    let (children, _, span) = three_fields(from, "children", "k", "span")?;
+    let children = list_or_empty(alloc, children)?;
+    let span = optional(alloc, span)?;
     Ok(InstructionValue::JsxFragment { children, span })
 }
 
@@ -88,10 +90,10 @@ fn jsx_fragment(alloc: Global, from: &Value) -> Result<InstructionValue, Refusal
 fn property_load(alloc: Global, from: &Value) -> Result<InstructionValue, Refusal>
     ensures { IsRead result (property_load_of (view from.now)) }
 {
-    known_names(from, &["k", "object", "property", "span"])?;
-    let object = required(alloc, from, "object")?;
-    let property = required(alloc, from, "property")?;
-    let span = optional(alloc, from, "span")?;
+    let (_, object, property, span) = four_fields(from, "k", "object", "property", "span")?;
+    let object = required(alloc, object)?;
+    let property = required(alloc, property)?;
+    let span = optional(alloc, span)?;
     Ok(InstructionValue::PropertyLoad {
         object,
         property,
@@ -103,10 +105,10 @@ fn property_load(alloc: Global, from: &Value) -> Result<InstructionValue, Refusa
 fn property_delete(alloc: Global, from: &Value) -> Result<InstructionValue, Refusal>
     ensures { IsRead result (property_delete_of (view from.now)) }
 {
-    known_names(from, &["k", "object", "property", "span"])?;
-    let object = required(alloc, from, "object")?;
-    let property = required(alloc, from, "property")?;
-    let span = optional(alloc, from, "span")?;
+    let (_, object, property, span) = four_fields(from, "k", "object", "property", "span")?;
+    let object = required(alloc, object)?;
+    let property = required(alloc, property)?;
+    let span = optional(alloc, span)?;
     Ok(InstructionValue::PropertyDelete {
         object,
         property,
@@ -118,11 +120,13 @@ fn property_delete(alloc: Global, from: &Value) -> Result<InstructionValue, Refu
 fn property_store(alloc: Global, from: &Value) -> Result<InstructionValue, Refusal>
     ensures { IsRead result (property_store_of (view from.now)) }
 {
-    known_names(from, &["k", "object", "property", "span", "value"])?;
-    let object = required(alloc, from, "object")?;
-    let property = required(alloc, from, "property")?;
-    let value = required(alloc, from, "value")?;
-    let span = optional(alloc, from, "span")?;
+    let (_, object, property, span, value) = five_fields(
+        from, "k", "object", "property", "span", "value",
+    )?;
+    let object = required(alloc, object)?;
+    let property = required(alloc, property)?;
+    let value = required(alloc, value)?;
+    let span = optional(alloc, span)?;
     Ok(InstructionValue::PropertyStore {
         object,
         property,
@@ -135,10 +139,10 @@ fn property_store(alloc: Global, from: &Value) -> Result<InstructionValue, Refus
 fn computed_load(alloc: Global, from: &Value) -> Result<InstructionValue, Refusal>
     ensures { IsRead result (computed_load_of (view from.now)) }
 {
-    known_names(from, &["k", "object", "property", "span"])?;
-    let object = required(alloc, from, "object")?;
-    let property = required(alloc, from, "property")?;
-    let span = optional(alloc, from, "span")?;
+    let (_, object, property, span) = four_fields(from, "k", "object", "property", "span")?;
+    let object = required(alloc, object)?;
+    let property = required(alloc, property)?;
+    let span = optional(alloc, span)?;
     Ok(InstructionValue::ComputedLoad {
         object,
         property,
@@ -150,10 +154,10 @@ fn computed_load(alloc: Global, from: &Value) -> Result<InstructionValue, Refusa
 fn computed_delete(alloc: Global, from: &Value) -> Result<InstructionValue, Refusal>
     ensures { IsRead result (computed_delete_of (view from.now)) }
 {
-    known_names(from, &["k", "object", "property", "span"])?;
-    let object = required(alloc, from, "object")?;
-    let property = required(alloc, from, "property")?;
-    let span = optional(alloc, from, "span")?;
+    let (_, object, property, span) = four_fields(from, "k", "object", "property", "span")?;
+    let object = required(alloc, object)?;
+    let property = required(alloc, property)?;
+    let span = optional(alloc, span)?;
     Ok(InstructionValue::ComputedDelete {
         object,
         property,
@@ -165,11 +169,13 @@ fn computed_delete(alloc: Global, from: &Value) -> Result<InstructionValue, Refu
 fn computed_store(alloc: Global, from: &Value) -> Result<InstructionValue, Refusal>
     ensures { IsRead result (computed_store_of (view from.now)) }
 {
-    known_names(from, &["k", "object", "property", "span", "value"])?;
-    let object = required(alloc, from, "object")?;
-    let property = required(alloc, from, "property")?;
-    let value = required(alloc, from, "value")?;
-    let span = optional(alloc, from, "span")?;
+    let (_, object, property, span, value) = five_fields(
+        from, "k", "object", "property", "span", "value",
+    )?;
+    let object = required(alloc, object)?;
+    let property = required(alloc, property)?;
+    let value = required(alloc, value)?;
+    let span = optional(alloc, span)?;
     Ok(InstructionValue::ComputedStore {
         object,
         property,

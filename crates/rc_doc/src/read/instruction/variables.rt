@@ -8,7 +8,7 @@ ghost use Rattle.rc_doc.specs.Kinds.Variables.{store_context_of, store_global_of
 ghost use Rattle.rc_doc.specs.Reading.{IsRead};
 
 use crate::fields::{optional, required};
-use crate::known::known_names;
+use crate::members::{five_fields, four_fields, three_fields};
 use crate::read::instruction::expressions;
 use crate::refusal::Refusal;
 use rc_hir::InstructionValue;
@@ -43,9 +43,9 @@ pub(super) fn value_named(
 fn load_local(alloc: Global, from: &Value) -> Result<InstructionValue, Refusal>
     ensures { IsRead result (load_local_of (view from.now)) }
 {
-    known_names(from, &["k", "place", "span"])?;
-    let place = required(alloc, from, "place")?;
-    let span = optional(alloc, from, "span")?;
+    let (_, place, span) = three_fields(from, "k", "place", "span")?;
+    let place = required(alloc, place)?;
+    let span = optional(alloc, span)?;
     Ok(InstructionValue::LoadLocal { place, span })
 }
 
@@ -53,9 +53,9 @@ fn load_local(alloc: Global, from: &Value) -> Result<InstructionValue, Refusal>
 fn load_context(alloc: Global, from: &Value) -> Result<InstructionValue, Refusal>
     ensures { IsRead result (load_context_of (view from.now)) }
 {
-    known_names(from, &["k", "place", "span"])?;
-    let place = required(alloc, from, "place")?;
-    let span = optional(alloc, from, "span")?;
+    let (_, place, span) = three_fields(from, "k", "place", "span")?;
+    let place = required(alloc, place)?;
+    let span = optional(alloc, span)?;
     Ok(InstructionValue::LoadContext { place, span })
 }
 
@@ -63,9 +63,9 @@ fn load_context(alloc: Global, from: &Value) -> Result<InstructionValue, Refusal
 fn declare_local(alloc: Global, from: &Value) -> Result<InstructionValue, Refusal>
     ensures { IsRead result (declare_local_of (view from.now)) }
 {
-    known_names(from, &["k", "lvalue", "span"])?;
-    let lvalue = required(alloc, from, "lvalue")?;
-    let span = optional(alloc, from, "span")?;
+    let (_, lvalue, span) = three_fields(from, "k", "lvalue", "span")?;
+    let lvalue = required(alloc, lvalue)?;
+    let span = optional(alloc, span)?;
     Ok(InstructionValue::DeclareLocal { lvalue, span })
 }
 
@@ -73,9 +73,9 @@ fn declare_local(alloc: Global, from: &Value) -> Result<InstructionValue, Refusa
 fn declare_context(alloc: Global, from: &Value) -> Result<InstructionValue, Refusal>
     ensures { IsRead result (declare_context_of (view from.now)) }
 {
-    known_names(from, &["k", "lvalue", "span"])?;
-    let lvalue = required(alloc, from, "lvalue")?;
-    let span = optional(alloc, from, "span")?;
+    let (_, lvalue, span) = three_fields(from, "k", "lvalue", "span")?;
+    let lvalue = required(alloc, lvalue)?;
+    let span = optional(alloc, span)?;
     Ok(InstructionValue::DeclareContext { lvalue, span })
 }
 
@@ -83,10 +83,10 @@ fn declare_context(alloc: Global, from: &Value) -> Result<InstructionValue, Refu
 fn store_local(alloc: Global, from: &Value) -> Result<InstructionValue, Refusal>
     ensures { IsRead result (store_local_of (view from.now)) }
 {
-    known_names(from, &["k", "lvalue", "span", "value"])?;
-    let lvalue = required(alloc, from, "lvalue")?;
-    let value = required(alloc, from, "value")?;
-    let span = optional(alloc, from, "span")?;
+    let (_, lvalue, span, value) = four_fields(from, "k", "lvalue", "span", "value")?;
+    let lvalue = required(alloc, lvalue)?;
+    let value = required(alloc, value)?;
+    let span = optional(alloc, span)?;
     Ok(InstructionValue::StoreLocal {
         lvalue,
         value,
@@ -98,10 +98,10 @@ fn store_local(alloc: Global, from: &Value) -> Result<InstructionValue, Refusal>
 fn store_context(alloc: Global, from: &Value) -> Result<InstructionValue, Refusal>
     ensures { IsRead result (store_context_of (view from.now)) }
 {
-    known_names(from, &["k", "lvalue", "span", "value"])?;
-    let lvalue = required(alloc, from, "lvalue")?;
-    let value = required(alloc, from, "value")?;
-    let span = optional(alloc, from, "span")?;
+    let (_, lvalue, span, value) = four_fields(from, "k", "lvalue", "span", "value")?;
+    let lvalue = required(alloc, lvalue)?;
+    let value = required(alloc, value)?;
+    let span = optional(alloc, span)?;
     Ok(InstructionValue::StoreContext {
         lvalue,
         value,
@@ -113,10 +113,10 @@ fn store_context(alloc: Global, from: &Value) -> Result<InstructionValue, Refusa
 fn destructure(alloc: Global, from: &Value) -> Result<InstructionValue, Refusal>
     ensures { IsRead result (destructure_of (view from.now)) }
 {
-    known_names(from, &["k", "lvalue", "span", "value"])?;
-    let lvalue = required(alloc, from, "lvalue")?;
-    let value = required(alloc, from, "value")?;
-    let span = optional(alloc, from, "span")?;
+    let (_, lvalue, span, value) = four_fields(from, "k", "lvalue", "span", "value")?;
+    let lvalue = required(alloc, lvalue)?;
+    let value = required(alloc, value)?;
+    let span = optional(alloc, span)?;
     Ok(InstructionValue::Destructure {
         lvalue,
         value,
@@ -128,9 +128,9 @@ fn destructure(alloc: Global, from: &Value) -> Result<InstructionValue, Refusal>
 fn load_global(alloc: Global, from: &Value) -> Result<InstructionValue, Refusal>
     ensures { IsRead result (load_global_of (view from.now)) }
 {
-    known_names(from, &["binding", "k", "span"])?;
-    let binding = required(alloc, from, "binding")?;
-    let span = optional(alloc, from, "span")?;
+    let (binding, _, span) = three_fields(from, "binding", "k", "span")?;
+    let binding = required(alloc, binding)?;
+    let span = optional(alloc, span)?;
     Ok(InstructionValue::LoadGlobal { binding, span })
 }
 
@@ -138,10 +138,10 @@ fn load_global(alloc: Global, from: &Value) -> Result<InstructionValue, Refusal>
 fn store_global(alloc: Global, from: &Value) -> Result<InstructionValue, Refusal>
     ensures { IsRead result (store_global_of (view from.now)) }
 {
-    known_names(from, &["k", "name", "span", "value"])?;
-    let name = required(alloc, from, "name")?;
-    let value = required(alloc, from, "value")?;
-    let span = optional(alloc, from, "span")?;
+    let (_, name, span, value) = four_fields(from, "k", "name", "span", "value")?;
+    let name = required(alloc, name)?;
+    let value = required(alloc, value)?;
+    let span = optional(alloc, span)?;
     Ok(InstructionValue::StoreGlobal { name, value, span })
 }
 
@@ -149,11 +149,18 @@ fn store_global(alloc: Global, from: &Value) -> Result<InstructionValue, Refusal
 fn prefix_update(alloc: Global, from: &Value) -> Result<InstructionValue, Refusal>
     ensures { IsRead result (prefix_update_of (view from.now)) }
 {
-    known_names(from, &["k", "lvalue", "operation", "span", "value"])?;
-    let lvalue = required(alloc, from, "lvalue")?;
-    let operation = required(alloc, from, "operation")?;
-    let value = required(alloc, from, "value")?;
-    let span = optional(alloc, from, "span")?;
+    let (_, lvalue, operation, span, value) = five_fields(
+        from,
+        "k",
+        "lvalue",
+        "operation",
+        "span",
+        "value",
+    )?;
+    let lvalue = required(alloc, lvalue)?;
+    let operation = required(alloc, operation)?;
+    let value = required(alloc, value)?;
+    let span = optional(alloc, span)?;
     Ok(InstructionValue::PrefixUpdate {
         lvalue,
         operation,
@@ -166,11 +173,18 @@ fn prefix_update(alloc: Global, from: &Value) -> Result<InstructionValue, Refusa
 fn postfix_update(alloc: Global, from: &Value) -> Result<InstructionValue, Refusal>
     ensures { IsRead result (postfix_update_of (view from.now)) }
 {
-    known_names(from, &["k", "lvalue", "operation", "span", "value"])?;
-    let lvalue = required(alloc, from, "lvalue")?;
-    let operation = required(alloc, from, "operation")?;
-    let value = required(alloc, from, "value")?;
-    let span = optional(alloc, from, "span")?;
+    let (_, lvalue, operation, span, value) = five_fields(
+        from,
+        "k",
+        "lvalue",
+        "operation",
+        "span",
+        "value",
+    )?;
+    let lvalue = required(alloc, lvalue)?;
+    let operation = required(alloc, operation)?;
+    let value = required(alloc, value)?;
+    let span = optional(alloc, span)?;
     Ok(InstructionValue::PostfixUpdate {
         lvalue,
         operation,

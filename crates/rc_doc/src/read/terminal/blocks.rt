@@ -6,7 +6,7 @@ ghost use Rattle.rc_doc.specs.Terminals.Blocks.{block_terminals, label_of, prune
 ghost use Rattle.rc_doc.specs.Terminals.Blocks.{try_of};
 
 use crate::fields::{optional, required};
-use crate::known::known_names;
+use crate::members::{five_fields, seven_fields, six_fields};
 use crate::refusal::Refusal;
 use rc_hir::Terminal;
 use serde_json::Value;
@@ -30,11 +30,18 @@ pub(super) fn terminal_named(alloc: Global, name: &str, from: &Value) -> Result<
 fn sequence(alloc: Global, from: &Value) -> Result<Terminal, Refusal>
     ensures { IsRead result (sequence_of (view from.now)) }
 {
-    known_names(from, &["block", "fallthrough", "id", "k", "span"])?;
-    let block = required(alloc, from, "block")?;
-    let fallthrough = required(alloc, from, "fallthrough")?;
-    let id = required(alloc, from, "id")?;
-    let span = optional(alloc, from, "span")?;
+    let (block, fallthrough, id, _, span) = five_fields(
+        from,
+        "block",
+        "fallthrough",
+        "id",
+        "k",
+        "span",
+    )?;
+    let block = required(alloc, block)?;
+    let fallthrough = required(alloc, fallthrough)?;
+    let id = required(alloc, id)?;
+    let span = optional(alloc, span)?;
     Ok(Terminal::Sequence {
         block,
         fallthrough,
@@ -47,11 +54,18 @@ fn sequence(alloc: Global, from: &Value) -> Result<Terminal, Refusal>
 fn label(alloc: Global, from: &Value) -> Result<Terminal, Refusal>
     ensures { IsRead result (label_of (view from.now)) }
 {
-    known_names(from, &["block", "fallthrough", "id", "k", "span"])?;
-    let block = required(alloc, from, "block")?;
-    let fallthrough = required(alloc, from, "fallthrough")?;
-    let id = required(alloc, from, "id")?;
-    let span = optional(alloc, from, "span")?;
+    let (block, fallthrough, id, _, span) = five_fields(
+        from,
+        "block",
+        "fallthrough",
+        "id",
+        "k",
+        "span",
+    )?;
+    let block = required(alloc, block)?;
+    let fallthrough = required(alloc, fallthrough)?;
+    let id = required(alloc, id)?;
+    let span = optional(alloc, span)?;
     Ok(Terminal::Label {
         block,
         fallthrough,
@@ -64,12 +78,20 @@ fn label(alloc: Global, from: &Value) -> Result<Terminal, Refusal>
 fn scope(alloc: Global, from: &Value) -> Result<Terminal, Refusal>
     ensures { IsRead result (scope_of (view from.now)) }
 {
-    known_names(from, &["block", "fallthrough", "id", "k", "scope", "span"])?;
-    let fallthrough = required(alloc, from, "fallthrough")?;
-    let block = required(alloc, from, "block")?;
-    let scope = required(alloc, from, "scope")?;
-    let id = required(alloc, from, "id")?;
-    let span = optional(alloc, from, "span")?;
+    let (block, fallthrough, id, _, scope, span) = six_fields(
+        from,
+        "block",
+        "fallthrough",
+        "id",
+        "k",
+        "scope",
+        "span",
+    )?;
+    let fallthrough = required(alloc, fallthrough)?;
+    let block = required(alloc, block)?;
+    let scope = required(alloc, scope)?;
+    let id = required(alloc, id)?;
+    let span = optional(alloc, span)?;
     Ok(Terminal::Scope {
         fallthrough,
         block,
@@ -83,12 +105,20 @@ fn scope(alloc: Global, from: &Value) -> Result<Terminal, Refusal>
 fn pruned_scope(alloc: Global, from: &Value) -> Result<Terminal, Refusal>
     ensures { IsRead result (pruned_scope_of (view from.now)) }
 {
-    known_names(from, &["block", "fallthrough", "id", "k", "scope", "span"])?;
-    let fallthrough = required(alloc, from, "fallthrough")?;
-    let block = required(alloc, from, "block")?;
-    let scope = required(alloc, from, "scope")?;
-    let id = required(alloc, from, "id")?;
-    let span = optional(alloc, from, "span")?;
+    let (block, fallthrough, id, _, scope, span) = six_fields(
+        from,
+        "block",
+        "fallthrough",
+        "id",
+        "k",
+        "scope",
+        "span",
+    )?;
+    let fallthrough = required(alloc, fallthrough)?;
+    let block = required(alloc, block)?;
+    let scope = required(alloc, scope)?;
+    let id = required(alloc, id)?;
+    let span = optional(alloc, span)?;
     Ok(Terminal::PrunedScope {
         fallthrough,
         block,
@@ -102,24 +132,22 @@ fn pruned_scope(alloc: Global, from: &Value) -> Result<Terminal, Refusal>
 fn try_terminal(alloc: Global, from: &Value) -> Result<Terminal, Refusal>
     ensures { IsRead result (try_of (view from.now)) }
 {
-    known_names(
+    let (block, fallthrough, handler, handler_binding, id, _, span) = seven_fields(
         from,
-        &[
-            "block",
-            "fallthrough",
-            "handler",
-            "handler_binding",
-            "id",
-            "k",
-            "span",
-        ],
+        "block",
+        "fallthrough",
+        "handler",
+        "handler_binding",
+        "id",
+        "k",
+        "span",
     )?;
-    let block = required(alloc, from, "block")?;
-    let handler_binding = optional(alloc, from, "handler_binding")?;
-    let handler = required(alloc, from, "handler")?;
-    let fallthrough = required(alloc, from, "fallthrough")?;
-    let id = required(alloc, from, "id")?;
-    let span = optional(alloc, from, "span")?;
+    let block = required(alloc, block)?;
+    let handler_binding = optional(alloc, handler_binding)?;
+    let handler = required(alloc, handler)?;
+    let fallthrough = required(alloc, fallthrough)?;
+    let id = required(alloc, id)?;
+    let span = optional(alloc, span)?;
     Ok(Terminal::Try {
         block,
         handler_binding,

@@ -8,7 +8,7 @@ ghost use Rattle.rc_doc.specs.Terminals.Branches.{branch_of, case_of, if_of, log
 ghost use Rattle.rc_doc.specs.Terminals.Branches.{operator_named, optional_of, switch_of, ternary_of};
 
 use crate::fields::{Read, flag, list_or_empty, optional, or_refuse, required};
-use crate::known::known_names;
+use crate::members::{five_fields, seven_fields, six_fields, two_fields};
 use crate::read::terminal::loops;
 use crate::refusal::Refusal;
 use rc_hir::{Case, LogicalOperator, Terminal};
@@ -55,9 +55,9 @@ impl Read for Case {
 
     #[tactic(auto, unfolding(crate::specs::Terminals::Branches::case_of))]
     fn read(alloc: Global, from: &Value) -> Result<Case, Refusal> {
-        known_names(from, &["block", "test"])?;
-        let test = optional(alloc, from, "test")?;
-        let block = required(alloc, from, "block")?;
+        let (block, test) = two_fields(from, "block", "test")?;
+        let test = optional(alloc, test)?;
+        let block = required(alloc, block)?;
         Ok(Case { test, block })
     }
 }
@@ -66,24 +66,22 @@ impl Read for Case {
 fn if_terminal(alloc: Global, from: &Value) -> Result<Terminal, Refusal>
     ensures { IsRead result (if_of (view from.now)) }
 {
-    known_names(
+    let (alternate, consequent, fallthrough, id, _, span, test) = seven_fields(
         from,
-        &[
-            "alternate",
-            "consequent",
-            "fallthrough",
-            "id",
-            "k",
-            "span",
-            "test",
-        ],
+        "alternate",
+        "consequent",
+        "fallthrough",
+        "id",
+        "k",
+        "span",
+        "test",
     )?;
-    let test = required(alloc, from, "test")?;
-    let consequent = required(alloc, from, "consequent")?;
-    let alternate = required(alloc, from, "alternate")?;
-    let fallthrough = required(alloc, from, "fallthrough")?;
-    let id = required(alloc, from, "id")?;
-    let span = optional(alloc, from, "span")?;
+    let test = required(alloc, test)?;
+    let consequent = required(alloc, consequent)?;
+    let alternate = required(alloc, alternate)?;
+    let fallthrough = required(alloc, fallthrough)?;
+    let id = required(alloc, id)?;
+    let span = optional(alloc, span)?;
     Ok(Terminal::If {
         test,
         consequent,
@@ -98,15 +96,20 @@ fn if_terminal(alloc: Global, from: &Value) -> Result<Terminal, Refusal>
 fn branch(alloc: Global, from: &Value) -> Result<Terminal, Refusal>
     ensures { IsRead result (branch_of (view from.now)) }
 {
-    known_names(
+    let (alternate, consequent, id, _, span, test) = six_fields(
         from,
-        &["alternate", "consequent", "id", "k", "span", "test"],
+        "alternate",
+        "consequent",
+        "id",
+        "k",
+        "span",
+        "test",
     )?;
-    let test = required(alloc, from, "test")?;
-    let consequent = required(alloc, from, "consequent")?;
-    let alternate = required(alloc, from, "alternate")?;
-    let id = required(alloc, from, "id")?;
-    let span = optional(alloc, from, "span")?;
+    let test = required(alloc, test)?;
+    let consequent = required(alloc, consequent)?;
+    let alternate = required(alloc, alternate)?;
+    let id = required(alloc, id)?;
+    let span = optional(alloc, span)?;
     Ok(Terminal::Branch {
         test,
         consequent,
@@ -120,15 +123,20 @@ fn branch(alloc: Global, from: &Value) -> Result<Terminal, Refusal>
 fn logical(alloc: Global, from: &Value) -> Result<Terminal, Refusal>
     ensures { IsRead result (logical_of (view from.now)) }
 {
-    known_names(
+    let (fallthrough, id, _, operator, span, test) = six_fields(
         from,
-        &["fallthrough", "id", "k", "operator", "span", "test"],
+        "fallthrough",
+        "id",
+        "k",
+        "operator",
+        "span",
+        "test",
     )?;
-    let operator = required(alloc, from, "operator")?;
-    let test = required(alloc, from, "test")?;
-    let fallthrough = required(alloc, from, "fallthrough")?;
-    let id = required(alloc, from, "id")?;
-    let span = optional(alloc, from, "span")?;
+    let operator = required(alloc, operator)?;
+    let test = required(alloc, test)?;
+    let fallthrough = required(alloc, fallthrough)?;
+    let id = required(alloc, id)?;
+    let span = optional(alloc, span)?;
     Ok(Terminal::Logical {
         operator,
         test,
@@ -142,11 +150,18 @@ fn logical(alloc: Global, from: &Value) -> Result<Terminal, Refusal>
 fn ternary(alloc: Global, from: &Value) -> Result<Terminal, Refusal>
     ensures { IsRead result (ternary_of (view from.now)) }
 {
-    known_names(from, &["fallthrough", "id", "k", "span", "test"])?;
-    let test = required(alloc, from, "test")?;
-    let fallthrough = required(alloc, from, "fallthrough")?;
-    let id = required(alloc, from, "id")?;
-    let span = optional(alloc, from, "span")?;
+    let (fallthrough, id, _, span, test) = five_fields(
+        from,
+        "fallthrough",
+        "id",
+        "k",
+        "span",
+        "test",
+    )?;
+    let test = required(alloc, test)?;
+    let fallthrough = required(alloc, fallthrough)?;
+    let id = required(alloc, id)?;
+    let span = optional(alloc, span)?;
     Ok(Terminal::Ternary {
         test,
         fallthrough,
@@ -159,15 +174,20 @@ fn ternary(alloc: Global, from: &Value) -> Result<Terminal, Refusal>
 fn optional_terminal(alloc: Global, from: &Value) -> Result<Terminal, Refusal>
     ensures { IsRead result (optional_of (view from.now)) }
 {
-    known_names(
+    let (fallthrough, id, _, is_optional, span, test) = six_fields(
         from,
-        &["fallthrough", "id", "k", "optional", "span", "test"],
+        "fallthrough",
+        "id",
+        "k",
+        "optional",
+        "span",
+        "test",
     )?;
-    let is_optional = flag(from, "optional")?;
-    let test = required(alloc, from, "test")?;
-    let fallthrough = required(alloc, from, "fallthrough")?;
-    let id = required(alloc, from, "id")?;
-    let span = optional(alloc, from, "span")?;
+    let is_optional = flag(is_optional)?;
+    let test = required(alloc, test)?;
+    let fallthrough = required(alloc, fallthrough)?;
+    let id = required(alloc, id)?;
+    let span = optional(alloc, span)?;
     Ok(Terminal::Optional {
         optional: is_optional,
         test,
@@ -181,12 +201,20 @@ fn optional_terminal(alloc: Global, from: &Value) -> Result<Terminal, Refusal>
 fn switch(alloc: Global, from: &Value) -> Result<Terminal, Refusal>
     ensures { IsRead result (switch_of (view from.now)) }
 {
-    known_names(from, &["cases", "fallthrough", "id", "k", "span", "test"])?;
-    let test = required(alloc, from, "test")?;
-    let cases = list_or_empty(alloc, from, "cases")?;
-    let fallthrough = required(alloc, from, "fallthrough")?;
-    let id = required(alloc, from, "id")?;
-    let span = optional(alloc, from, "span")?;
+    let (cases, fallthrough, id, _, span, test) = six_fields(
+        from,
+        "cases",
+        "fallthrough",
+        "id",
+        "k",
+        "span",
+        "test",
+    )?;
+    let test = required(alloc, test)?;
+    let cases = list_or_empty(alloc, cases)?;
+    let fallthrough = required(alloc, fallthrough)?;
+    let id = required(alloc, id)?;
+    let span = optional(alloc, span)?;
     Ok(Terminal::Switch {
         test,
         cases,

@@ -8,7 +8,7 @@ ghost use Rattle.rc_doc.specs.Terminals.Jumps.{goto_named, goto_of, goto_variant
 ghost use Rattle.rc_doc.specs.Terminals.Jumps.{return_of, throw_of, unreachable_of};
 
 use crate::fields::{Read, optional, or_refuse, required};
-use crate::known::known_names;
+use crate::members::{five_fields, four_fields, three_fields};
 use crate::read::terminal::blocks;
 use crate::refusal::Refusal;
 use rc_hir::{GotoVariant, Terminal};
@@ -53,10 +53,10 @@ impl Read for GotoVariant {
 fn throw(alloc: Global, from: &Value) -> Result<Terminal, Refusal>
     ensures { IsRead result (throw_of (view from.now)) }
 {
-    known_names(from, &["id", "k", "span", "value"])?;
-    let value = required(alloc, from, "value")?;
-    let id = required(alloc, from, "id")?;
-    let span = optional(alloc, from, "span")?;
+    let (id, _, span, value) = four_fields(from, "id", "k", "span", "value")?;
+    let value = required(alloc, value)?;
+    let id = required(alloc, id)?;
+    let span = optional(alloc, span)?;
     Ok(Terminal::Throw { value, id, span })
 }
 
@@ -64,10 +64,10 @@ fn throw(alloc: Global, from: &Value) -> Result<Terminal, Refusal>
 fn return_terminal(alloc: Global, from: &Value) -> Result<Terminal, Refusal>
     ensures { IsRead result (return_of (view from.now)) }
 {
-    known_names(from, &["id", "k", "span", "value"])?;
-    let value = required(alloc, from, "value")?;
-    let id = required(alloc, from, "id")?;
-    let span = optional(alloc, from, "span")?;
+    let (id, _, span, value) = four_fields(from, "id", "k", "span", "value")?;
+    let value = required(alloc, value)?;
+    let id = required(alloc, id)?;
+    let span = optional(alloc, span)?;
     Ok(Terminal::Return { value, id, span })
 }
 
@@ -75,11 +75,11 @@ fn return_terminal(alloc: Global, from: &Value) -> Result<Terminal, Refusal>
 fn goto(alloc: Global, from: &Value) -> Result<Terminal, Refusal>
     ensures { IsRead result (goto_of (view from.now)) }
 {
-    known_names(from, &["block", "id", "k", "span", "variant"])?;
-    let block = required(alloc, from, "block")?;
-    let variant = required(alloc, from, "variant")?;
-    let id = required(alloc, from, "id")?;
-    let span = optional(alloc, from, "span")?;
+    let (block, id, _, span, variant) = five_fields(from, "block", "id", "k", "span", "variant")?;
+    let block = required(alloc, block)?;
+    let variant = required(alloc, variant)?;
+    let id = required(alloc, id)?;
+    let span = optional(alloc, span)?;
     Ok(Terminal::Goto {
         block,
         variant,
@@ -92,9 +92,9 @@ fn goto(alloc: Global, from: &Value) -> Result<Terminal, Refusal>
 fn unreachable(alloc: Global, from: &Value) -> Result<Terminal, Refusal>
     ensures { IsRead result (unreachable_of (view from.now)) }
 {
-    known_names(from, &["id", "k", "span"])?;
-    let id = required(alloc, from, "id")?;
-    let span = optional(alloc, from, "span")?;
+    let (id, _, span) = three_fields(from, "id", "k", "span")?;
+    let id = required(alloc, id)?;
+    let span = optional(alloc, span)?;
     Ok(Terminal::Unreachable { id, span })
 }
 
@@ -102,11 +102,18 @@ fn unreachable(alloc: Global, from: &Value) -> Result<Terminal, Refusal>
 fn maybe_throw(alloc: Global, from: &Value) -> Result<Terminal, Refusal>
     ensures { IsRead result (maybe_throw_of (view from.now)) }
 {
-    known_names(from, &["continuation", "handler", "id", "k", "span"])?;
-    let continuation = required(alloc, from, "continuation")?;
-    let handler = optional(alloc, from, "handler")?;
-    let id = required(alloc, from, "id")?;
-    let span = optional(alloc, from, "span")?;
+    let (continuation, handler, id, _, span) = five_fields(
+        from,
+        "continuation",
+        "handler",
+        "id",
+        "k",
+        "span",
+    )?;
+    let continuation = required(alloc, continuation)?;
+    let handler = optional(alloc, handler)?;
+    let id = required(alloc, id)?;
+    let span = optional(alloc, span)?;
     Ok(Terminal::MaybeThrow {
         continuation,
         handler,

@@ -8,7 +8,7 @@ ghost use Rattle.rc_doc.specs.Terminals.Jumps.{jump_terminals};
 ghost use Rattle.rc_doc.specs.Terminals.Loops.{do_while_of, for_in_of, for_of, for_of_of, loop_terminals, while_of};
 
 use crate::fields::{optional, required};
-use crate::known::known_names;
+use crate::members::{eight_fields, seven_fields, six_fields};
 use crate::read::terminal::jumps;
 use crate::refusal::Refusal;
 use rc_hir::Terminal;
@@ -33,15 +33,20 @@ pub(super) fn terminal_named(alloc: Global, name: &str, from: &Value) -> Result<
 fn do_while(alloc: Global, from: &Value) -> Result<Terminal, Refusal>
     ensures { IsRead result (do_while_of (view from.now)) }
 {
-    known_names(
+    let (fallthrough, id, _, loop_block, span, test) = six_fields(
         from,
-        &["fallthrough", "id", "k", "loop_block", "span", "test"],
+        "fallthrough",
+        "id",
+        "k",
+        "loop_block",
+        "span",
+        "test",
     )?;
-    let loop_block = required(alloc, from, "loop_block")?;
-    let test = required(alloc, from, "test")?;
-    let fallthrough = required(alloc, from, "fallthrough")?;
-    let id = required(alloc, from, "id")?;
-    let span = optional(alloc, from, "span")?;
+    let loop_block = required(alloc, loop_block)?;
+    let test = required(alloc, test)?;
+    let fallthrough = required(alloc, fallthrough)?;
+    let id = required(alloc, id)?;
+    let span = optional(alloc, span)?;
     Ok(Terminal::DoWhile {
         loop_block,
         test,
@@ -55,15 +60,20 @@ fn do_while(alloc: Global, from: &Value) -> Result<Terminal, Refusal>
 fn while_terminal(alloc: Global, from: &Value) -> Result<Terminal, Refusal>
     ensures { IsRead result (while_of (view from.now)) }
 {
-    known_names(
+    let (fallthrough, id, _, loop_block, span, test) = six_fields(
         from,
-        &["fallthrough", "id", "k", "loop_block", "span", "test"],
+        "fallthrough",
+        "id",
+        "k",
+        "loop_block",
+        "span",
+        "test",
     )?;
-    let test = required(alloc, from, "test")?;
-    let loop_block = required(alloc, from, "loop_block")?;
-    let fallthrough = required(alloc, from, "fallthrough")?;
-    let id = required(alloc, from, "id")?;
-    let span = optional(alloc, from, "span")?;
+    let test = required(alloc, test)?;
+    let loop_block = required(alloc, loop_block)?;
+    let fallthrough = required(alloc, fallthrough)?;
+    let id = required(alloc, id)?;
+    let span = optional(alloc, span)?;
     Ok(Terminal::While {
         test,
         loop_block,
@@ -77,26 +87,24 @@ fn while_terminal(alloc: Global, from: &Value) -> Result<Terminal, Refusal>
 fn for_terminal(alloc: Global, from: &Value) -> Result<Terminal, Refusal>
     ensures { IsRead result (for_of (view from.now)) }
 {
-    known_names(
+    let (fallthrough, id, init, _, loop_block, span, test, update) = eight_fields(
         from,
-        &[
-            "fallthrough",
-            "id",
-            "init",
-            "k",
-            "loop_block",
-            "span",
-            "test",
-            "update",
-        ],
+        "fallthrough",
+        "id",
+        "init",
+        "k",
+        "loop_block",
+        "span",
+        "test",
+        "update",
     )?;
-    let init = required(alloc, from, "init")?;
-    let test = required(alloc, from, "test")?;
-    let update = optional(alloc, from, "update")?;
-    let loop_block = required(alloc, from, "loop_block")?;
-    let fallthrough = required(alloc, from, "fallthrough")?;
-    let id = required(alloc, from, "id")?;
-    let span = optional(alloc, from, "span")?;
+    let init = required(alloc, init)?;
+    let test = required(alloc, test)?;
+    let update = optional(alloc, update)?;
+    let loop_block = required(alloc, loop_block)?;
+    let fallthrough = required(alloc, fallthrough)?;
+    let id = required(alloc, id)?;
+    let span = optional(alloc, span)?;
     Ok(Terminal::For {
         init,
         test,
@@ -112,24 +120,22 @@ fn for_terminal(alloc: Global, from: &Value) -> Result<Terminal, Refusal>
 fn for_of(alloc: Global, from: &Value) -> Result<Terminal, Refusal>
     ensures { IsRead result (for_of_of (view from.now)) }
 {
-    known_names(
+    let (fallthrough, id, init, _, loop_block, span, test) = seven_fields(
         from,
-        &[
-            "fallthrough",
-            "id",
-            "init",
-            "k",
-            "loop_block",
-            "span",
-            "test",
-        ],
+        "fallthrough",
+        "id",
+        "init",
+        "k",
+        "loop_block",
+        "span",
+        "test",
     )?;
-    let init = required(alloc, from, "init")?;
-    let test = required(alloc, from, "test")?;
-    let loop_block = required(alloc, from, "loop_block")?;
-    let fallthrough = required(alloc, from, "fallthrough")?;
-    let id = required(alloc, from, "id")?;
-    let span = optional(alloc, from, "span")?;
+    let init = required(alloc, init)?;
+    let test = required(alloc, test)?;
+    let loop_block = required(alloc, loop_block)?;
+    let fallthrough = required(alloc, fallthrough)?;
+    let id = required(alloc, id)?;
+    let span = optional(alloc, span)?;
     Ok(Terminal::ForOf {
         init,
         test,
@@ -144,15 +150,20 @@ fn for_of(alloc: Global, from: &Value) -> Result<Terminal, Refusal>
 fn for_in(alloc: Global, from: &Value) -> Result<Terminal, Refusal>
     ensures { IsRead result (for_in_of (view from.now)) }
 {
-    known_names(
+    let (fallthrough, id, init, _, loop_block, span) = six_fields(
         from,
-        &["fallthrough", "id", "init", "k", "loop_block", "span"],
+        "fallthrough",
+        "id",
+        "init",
+        "k",
+        "loop_block",
+        "span",
     )?;
-    let init = required(alloc, from, "init")?;
-    let loop_block = required(alloc, from, "loop_block")?;
-    let fallthrough = required(alloc, from, "fallthrough")?;
-    let id = required(alloc, from, "id")?;
-    let span = optional(alloc, from, "span")?;
+    let init = required(alloc, init)?;
+    let loop_block = required(alloc, loop_block)?;
+    let fallthrough = required(alloc, fallthrough)?;
+    let id = required(alloc, id)?;
+    let span = optional(alloc, span)?;
     Ok(Terminal::ForIn {
         init,
         loop_block,

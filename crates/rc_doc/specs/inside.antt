@@ -1,0 +1,2 @@
+-- What the functions of this crate say of each other; no public clause needs it.
+pub mod Found
