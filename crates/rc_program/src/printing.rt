@@ -4,7 +4,6 @@ mod fates;
 mod fault;
 mod function;
 mod page;
-mod place;
 mod sentence;
 mod statement;
 mod terminal;

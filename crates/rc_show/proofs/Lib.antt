@@ -1,8 +1,9 @@
+mod JsonTexts
 mod KindsReadBack
 mod PartsReadBack
+mod PlaceLemmas
 mod PlainForms
 mod PlainValues
 pub mod ReadsBack
-mod SendingLemmas
-mod SentTexts
 mod ShownLists
+mod WritingLemmas

@@ -1,3 +1,3 @@
 -- What private functions say of each other.
 pub mod Plain
-pub mod Sending
+pub mod Writing

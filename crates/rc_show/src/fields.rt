@@ -1,13 +1,14 @@
-//! Sending a printing form part by part: `Show` for types, and `Fields` for the fields of an object.
+//! Writing a printing form part by part: `Show` for types, and `Fields` for the fields of an object.
 
-ghost use Rattle.std.specs.Prelude.{◌≡◌, Option, OnOk, Some, codes, ⊤};
+ghost use Rattle.std.specs.Prelude.{◌≡◌, Option, OnOk, Some, codes, string_bytes, ⊤};
 ghost use Rattle.serde_json.specs.Data.{Data, Members, boolean, no_members, object, string};
 ghost use Rattle.rc_doc.specs.Reading.{flag_of, list_of, number_of, text_of};
 ghost use Rattle.rc_show.specs.Showing.{add, add_some, list_data, number_data, IsReadAgain, tagged, variant_data};
-ghost use Rattle.rc_show.specs.inside.Sending.{Sends, SendsFields};
+ghost use Rattle.rc_show.specs.inside.Writing.{Writes, WritesFields, has_members};
 
+use crate::text::{push, write_comma, write_flag, write_key, write_number, write_quoted};
 use rc_names::{List, Text};
-use serde::Serializer;
+use std::alloc::AllocError;
 
 /// A type that has a printing form.
 pub(crate) trait Show: Sized {
@@ -17,9 +18,9 @@ pub(crate) trait Show: Sized {
     /// The printing form.
     ghost shows: { Self → Data };
 
-    /// Sends the printing form of a value, which reads as that value again. Fails only when the serializer does.
-    fn send<S: Serializer>(&self, out: &mut S) -> Result<(), S::Error>
-        ensures sends { OnOk result (Sends (shows self.now) (S.written out.old) (S.written out.new)) }
+    /// Writes the printing form of a value, which reads as that value again. Fails only when out of memory.
+    fn write(&self, out: &mut String) -> Result<(), AllocError>
+        ensures writes { OnOk result (Writes (shows self.now) (string_bytes out.old) (string_bytes out.new)) }
         ensures again { OnOk result (Self.reads (shows self.now) ≡ Some self.now) };
 }
 
@@ -28,9 +29,9 @@ impl Show for u32 {
 
     ghost shows = { number_data };
 
-    #[tactic(auto, using(crate::proofs::ReadsBack::number_again, crate::proofs::SendingLemmas::number_sent))]
-    fn send<S: Serializer>(&self, out: &mut S) -> Result<(), S::Error> {
-        out.u64(u64::from(*self))
+    #[tactic(auto, using(crate::proofs::ReadsBack::number_again, crate::proofs::WritingLemmas::number_written))]
+    fn write(&self, out: &mut String) -> Result<(), AllocError> {
+        write_number(out, *self)
     }
 }
 
@@ -39,9 +40,9 @@ impl Show for bool {
 
     ghost shows = { boolean };
 
-    #[tactic(auto, using(crate::proofs::SendingLemmas::flag_sent))]
-    fn send<S: Serializer>(&self, out: &mut S) -> Result<(), S::Error> {
-        out.bool(*self)
+    #[tactic(auto, using(crate::proofs::WritingLemmas::flag_written))]
+    fn write(&self, out: &mut String) -> Result<(), AllocError> {
+        write_flag(out, *self)
     }
 }
 
@@ -50,9 +51,9 @@ impl Show for Text {
 
     ghost shows = { string };
 
-    #[tactic(auto, using(crate::proofs::SendingLemmas::text_sent))]
-    fn send<S: Serializer>(&self, out: &mut S) -> Result<(), S::Error> {
-        out.str(self.as_str())
+    #[tactic(auto, using(crate::proofs::WritingLemmas::text_written))]
+    fn write(&self, out: &mut String) -> Result<(), AllocError> {
+        write_quoted(out, self.as_str())
     }
 }
 
@@ -61,16 +62,17 @@ impl<T: Show> Show for List<T> {
 
     ghost shows = { list_data T.shows };
 
-    fn send<S: Serializer>(&self, out: &mut S) -> Result<(), S::Error> {
-        out.begin_seq(None)?;
-        for x in self.as_slice() {
-            x.send(out)?;
+    fn write(&self, out: &mut String) -> Result<(), AllocError> {
+        push(out, "[")?;
+        for (i, x) in self.as_slice().iter().enumerate() {
+            write_comma(out, i > 0)?;
+            x.write(out)?;
         }
-        out.end_seq()
+        push(out, "]")
     }
 }
 
-/// The fields of an object, in the order in which they are sent.
+/// The fields of an object, in the order in which they are written.
 pub(crate) trait Fields: Sized + Drop {
     /// The fields.
     ghost members: { Self → Members };
@@ -78,9 +80,13 @@ pub(crate) trait Fields: Sized + Drop {
     /// Each field reads as itself again.
     ghost again: { Self → Type 0 };
 
-    /// Sends the fields. Fails only when the serializer does.
-    fn send_fields<S: Serializer>(self, out: &mut S) -> Result<(), S::Error>
-        ensures sends { OnOk result (SendsFields (members self) (S.written out.old) (S.written out.new)) }
+    /// Returns whether there is a field.
+    fn has_fields(&self) -> bool
+        ensures { result ≡ has_members (members self.now) };
+
+    /// Writes the fields. Fails only when out of memory.
+    fn write_fields(self, out: &mut String) -> Result<(), AllocError>
+        ensures writes { OnOk result (WritesFields (members self) (string_bytes out.old) (string_bytes out.new)) }
         ensures again { OnOk result (again self) };
 
     /// Adds a field at the end.
@@ -119,16 +125,16 @@ pub(crate) trait Fields: Sized + Drop {
         }
     }
 
-    /// Sends the object with these fields. Fails only when the serializer does.
-    #[tactic(auto, using(crate::proofs::SendingLemmas::object_sent))]
-    final fn send<S: Serializer>(self, out: &mut S) -> Result<(), S::Error>
-        ensures sends { OnOk result
-            (Sends (object (Self.members self)) (S.written out.old) (S.written out.new)) }
+    /// Writes the object with these fields. Fails only when out of memory.
+    #[tactic(auto, using(crate::proofs::WritingLemmas::object_written))]
+    final fn write(self, out: &mut String) -> Result<(), AllocError>
+        ensures writes { OnOk result
+            (Writes (object (Self.members self)) (string_bytes out.old) (string_bytes out.new)) }
         ensures again { OnOk result (Self.again self) }
     {
-        out.begin_map(None)?;
-        self.send_fields(out)?;
-        out.end_map()
+        push(out, "{")?;
+        self.write_fields(out)?;
+        push(out, "}")
     }
 }
 
@@ -141,8 +147,12 @@ impl Fields for NoFields {
 
     ghost again = { λ _. ⊤ };
 
-    #[tactic(auto, using(crate::proofs::SendingLemmas::no_fields_sent))]
-    fn send_fields<S: Serializer>(self, _out: &mut S) -> Result<(), S::Error> {
+    fn has_fields(&self) -> bool {
+        false
+    }
+
+    #[tactic(auto, using(crate::proofs::WritingLemmas::no_fields_written))]
+    fn write_fields(self, _out: &mut String) -> Result<(), AllocError> {
         Ok(())
     }
 }
@@ -161,16 +171,22 @@ impl<F: Fields, T: Show> Fields for With<'_, F, T> {
     ghost again = { λ fields. F.again fields.before
         × (T.reads (T.shows fields.value.now) ≡ Some fields.value.now) };
 
-    #[tactic(auto, using(crate::proofs::SendingLemmas::field_sent))]
-    fn send_fields<S: Serializer>(self, out: &mut S) -> Result<(), S::Error> {
+    #[tactic(auto, using(crate::proofs::WritingLemmas::added_is_member))]
+    fn has_fields(&self) -> bool {
+        true
+    }
+
+    #[tactic(auto, using(crate::proofs::WritingLemmas::field_written))]
+    fn write_fields(self, out: &mut String) -> Result<(), AllocError> {
         let With {
             before,
             name,
             value,
         } = self;
-        before.send_fields(out)?;
-        out.key(name)?;
-        value.send(out)
+        let later = before.has_fields();
+        before.write_fields(out)?;
+        write_key(out, later, name)?;
+        value.write(out)
     }
 }
 
@@ -188,16 +204,24 @@ impl<F: Fields, T: Show> Fields for WithSome<'_, F, T> {
 
     ghost again = { λ fields. F.again fields.before × IsReadAgain T.reads T.shows fields.value.now };
 
+    #[tactic(auto, using(crate::proofs::WritingLemmas::added_is_member), unfolding(crate::specs::Showing::add_some))]
+    fn has_fields(&self) -> bool {
+        match self.value {
+            Some(_) => true,
+            None => self.before.has_fields(),
+        }
+    }
+
     #[tactic(auto, unfolding(crate::specs::Showing::add_some))]
-    fn send_fields<S: Serializer>(self, out: &mut S) -> Result<(), S::Error> {
+    fn write_fields(self, out: &mut String) -> Result<(), AllocError> {
         let WithSome {
             before,
             name,
             value,
         } = self;
         match value {
-            Some(value) => before.with(name, value).send_fields(out),
-            None => before.send_fields(out),
+            Some(value) => before.with(name, value).write_fields(out),
+            None => before.write_fields(out),
         }
     }
 }
@@ -214,24 +238,30 @@ impl<F: Fields> Fields for Tagged<'_, F> {
 
     ghost again = { λ fields. F.again fields.before };
 
-    #[tactic(auto, using(crate::proofs::SendingLemmas::field_sent, crate::proofs::SendingLemmas::text_sent))]
-    fn send_fields<S: Serializer>(self, out: &mut S) -> Result<(), S::Error> {
+    #[tactic(auto, using(crate::proofs::WritingLemmas::added_is_member))]
+    fn has_fields(&self) -> bool {
+        true
+    }
+
+    #[tactic(auto, using(crate::proofs::WritingLemmas::field_written, crate::proofs::WritingLemmas::text_written))]
+    fn write_fields(self, out: &mut String) -> Result<(), AllocError> {
         let Tagged { before, variant } = self;
-        before.send_fields(out)?;
-        out.key("k")?;
-        out.str(variant)
+        let later = before.has_fields();
+        before.write_fields(out)?;
+        write_key(out, later, "k")?;
+        write_quoted(out, variant)
     }
 }
 
-/// Sends a variant whose one field has no name of its own. Fails only when the serializer does.
-pub(crate) fn send_variant<S: Serializer, T: Show>(
-    out: &mut S,
+/// Writes a variant whose one field has no name of its own. Fails only when out of memory.
+pub(crate) fn write_variant<T: Show>(
+    out: &mut String,
     name: &str,
     content: &T,
-) -> Result<(), S::Error>
-    ensures sends { OnOk result
-        (Sends (variant_data name.now (T.shows content.now)) (S.written out.old) (S.written out.new)) }
+) -> Result<(), AllocError>
+    ensures writes { OnOk result
+        (Writes (variant_data name.now (T.shows content.now)) (string_bytes out.old) (string_bytes out.new)) }
     ensures again { OnOk result (T.reads (T.shows content.now) ≡ Some content.now) }
 {
-    NoFields.tagged(name).with("v", content).send(out)
+    NoFields.tagged(name).with("v", content).write(out)
 }

@@ -8,6 +8,8 @@ mod part;
 mod pattern;
 mod place;
 mod shown;
+mod text;
 
-pub use instruction::{value_json, value_text};
-pub use place::{is_short, place_json};
+pub use instruction::{value_json, write_value};
+pub use place::{is_short, place_json, write_place};
+pub use text::{write_number, write_quoted};

@@ -9,12 +9,13 @@ ghost use Rattle.rc_show.specs.ShownParts.Patterns.{lvalue_pattern_data, object_
 ghost use Rattle.rc_show.specs.ShownParts.Patterns.{pattern_element_data, property_data, property_key_data};
 ghost use Rattle.rc_show.specs.ShownParts.Patterns.{property_literal_data};
 
-use crate::fields::{Fields, NoFields, Show, send_variant};
+use crate::fields::{Fields, NoFields, Show, write_variant};
+use crate::text::write_quoted;
 use rc_hir::{
     ArrayElement, ArrayPatternElement, InstructionKind, LValue, LValuePattern, ObjectProperty,
     ObjectPropertyKey, ObjectPropertyOrSpread, Pattern, PropertyLiteral,
 };
-use serde::Serializer;
+use std::alloc::AllocError;
 
 fn kind_name(kind: InstructionKind) -> &'static str
     ensures { result.now ≡ kind_name kind }
@@ -36,9 +37,9 @@ impl Show for InstructionKind {
 
     ghost shows = { kind_data };
 
-    #[tactic(auto, using(crate::proofs::PartsReadBack::kind_again, crate::proofs::SendingLemmas::text_sent))]
-    fn send<S: Serializer>(&self, out: &mut S) -> Result<(), S::Error> {
-        out.str(kind_name(*self))
+    #[tactic(auto, using(crate::proofs::PartsReadBack::kind_again, crate::proofs::WritingLemmas::text_written))]
+    fn write(&self, out: &mut String) -> Result<(), AllocError> {
+        write_quoted(out, kind_name(*self))
     }
 }
 
@@ -48,11 +49,11 @@ impl Show for LValue {
     ghost shows = { lvalue_data };
 
     #[tactic(auto, using(crate::proofs::PartsReadBack::lvalue_again), unfolding(crate::specs::ShownParts::Patterns::lvalue_data))]
-    fn send<S: Serializer>(&self, out: &mut S) -> Result<(), S::Error> {
+    fn write(&self, out: &mut String) -> Result<(), AllocError> {
         NoFields
             .with("kind", &self.kind)
             .with("place", &self.place)
-            .send(out)
+            .write(out)
     }
 }
 
@@ -62,10 +63,10 @@ impl Show for PropertyLiteral {
     ghost shows = { property_literal_data };
 
     #[tactic(auto, using(crate::proofs::PartsReadBack::property_literal_again), unfolding(crate::specs::ShownParts::Patterns::property_literal_data))]
-    fn send<S: Serializer>(&self, out: &mut S) -> Result<(), S::Error> {
+    fn write(&self, out: &mut String) -> Result<(), AllocError> {
         match self {
-            PropertyLiteral::String(name) => send_variant(out, "String", name),
-            PropertyLiteral::Number(name) => send_variant(out, "Number", name),
+            PropertyLiteral::String(name) => write_variant(out, "String", name),
+            PropertyLiteral::Number(name) => write_variant(out, "Number", name),
         }
     }
 }
@@ -76,12 +77,12 @@ impl Show for ObjectPropertyKey {
     ghost shows = { property_key_data };
 
     #[tactic(auto, using(crate::proofs::PartsReadBack::property_key_again), unfolding(crate::specs::ShownParts::Patterns::property_key_data))]
-    fn send<S: Serializer>(&self, out: &mut S) -> Result<(), S::Error> {
+    fn write(&self, out: &mut String) -> Result<(), AllocError> {
         match self {
-            ObjectPropertyKey::Identifier(name) => send_variant(out, "Identifier", name),
-            ObjectPropertyKey::String(name) => send_variant(out, "String", name),
-            ObjectPropertyKey::Number(name) => send_variant(out, "Number", name),
-            ObjectPropertyKey::Computed(place) => send_variant(out, "Computed", place),
+            ObjectPropertyKey::Identifier(name) => write_variant(out, "Identifier", name),
+            ObjectPropertyKey::String(name) => write_variant(out, "String", name),
+            ObjectPropertyKey::Number(name) => write_variant(out, "Number", name),
+            ObjectPropertyKey::Computed(place) => write_variant(out, "Computed", place),
         }
     }
 }
@@ -92,11 +93,11 @@ impl Show for ObjectProperty {
     ghost shows = { object_property_data };
 
     #[tactic(auto, using(crate::proofs::PartsReadBack::object_property_again), unfolding(crate::specs::ShownParts::Patterns::object_property_data))]
-    fn send<S: Serializer>(&self, out: &mut S) -> Result<(), S::Error> {
+    fn write(&self, out: &mut String) -> Result<(), AllocError> {
         NoFields
             .with("key", &self.key)
             .with("place", &self.place)
-            .send(out)
+            .write(out)
     }
 }
 
@@ -106,10 +107,10 @@ impl Show for ObjectPropertyOrSpread {
     ghost shows = { property_data };
 
     #[tactic(auto, using(crate::proofs::PartsReadBack::property_again), unfolding(crate::specs::ShownParts::Patterns::property_data))]
-    fn send<S: Serializer>(&self, out: &mut S) -> Result<(), S::Error> {
+    fn write(&self, out: &mut String) -> Result<(), AllocError> {
         match self {
-            ObjectPropertyOrSpread::Property(property) => send_variant(out, "Property", property),
-            ObjectPropertyOrSpread::Spread(spread) => send_variant(out, "Spread", spread),
+            ObjectPropertyOrSpread::Property(property) => write_variant(out, "Property", property),
+            ObjectPropertyOrSpread::Spread(spread) => write_variant(out, "Spread", spread),
         }
     }
 }
@@ -119,12 +120,12 @@ impl Show for ArrayPatternElement {
 
     ghost shows = { pattern_element_data };
 
-    #[tactic(auto, using(crate::proofs::PartsReadBack::pattern_element_again, crate::proofs::SendingLemmas::text_sent), unfolding(crate::specs::ShownParts::Patterns::pattern_element_data))]
-    fn send<S: Serializer>(&self, out: &mut S) -> Result<(), S::Error> {
+    #[tactic(auto, using(crate::proofs::PartsReadBack::pattern_element_again, crate::proofs::WritingLemmas::text_written), unfolding(crate::specs::ShownParts::Patterns::pattern_element_data))]
+    fn write(&self, out: &mut String) -> Result<(), AllocError> {
         match self {
-            ArrayPatternElement::Place(place) => send_variant(out, "Place", place),
-            ArrayPatternElement::Spread(spread) => send_variant(out, "Spread", spread),
-            ArrayPatternElement::Hole => out.str("Hole"),
+            ArrayPatternElement::Place(place) => write_variant(out, "Place", place),
+            ArrayPatternElement::Spread(spread) => write_variant(out, "Spread", spread),
+            ArrayPatternElement::Hole => write_quoted(out, "Hole"),
         }
     }
 }
@@ -134,12 +135,12 @@ impl Show for ArrayElement {
 
     ghost shows = { element_data };
 
-    #[tactic(auto, using(crate::proofs::PartsReadBack::element_again, crate::proofs::SendingLemmas::text_sent), unfolding(crate::specs::ShownParts::Patterns::element_data))]
-    fn send<S: Serializer>(&self, out: &mut S) -> Result<(), S::Error> {
+    #[tactic(auto, using(crate::proofs::PartsReadBack::element_again, crate::proofs::WritingLemmas::text_written), unfolding(crate::specs::ShownParts::Patterns::element_data))]
+    fn write(&self, out: &mut String) -> Result<(), AllocError> {
         match self {
-            ArrayElement::Place(place) => send_variant(out, "Place", place),
-            ArrayElement::Spread(spread) => send_variant(out, "Spread", spread),
-            ArrayElement::Hole => out.str("Hole"),
+            ArrayElement::Place(place) => write_variant(out, "Place", place),
+            ArrayElement::Spread(spread) => write_variant(out, "Spread", spread),
+            ArrayElement::Hole => write_quoted(out, "Hole"),
         }
     }
 }
@@ -150,14 +151,14 @@ impl Show for Pattern {
     ghost shows = { pattern_data };
 
     #[tactic(auto, using(crate::proofs::PartsReadBack::pattern_again), unfolding(crate::specs::ShownParts::Patterns::pattern_data))]
-    fn send<S: Serializer>(&self, out: &mut S) -> Result<(), S::Error> {
+    fn write(&self, out: &mut String) -> Result<(), AllocError> {
         match self {
-            Pattern::Array { items } => NoFields.with("items", items).tagged("Array").send(out),
+            Pattern::Array { items } => NoFields.with("items", items).tagged("Array").write(out),
             Pattern::Object { properties } => {
                 NoFields
                     .tagged("Object")
                     .with("properties", properties)
-                    .send(out)
+                    .write(out)
             }
         }
     }
@@ -169,10 +170,10 @@ impl Show for LValuePattern {
     ghost shows = { lvalue_pattern_data };
 
     #[tactic(auto, using(crate::proofs::PartsReadBack::lvalue_pattern_again), unfolding(crate::specs::ShownParts::Patterns::lvalue_pattern_data))]
-    fn send<S: Serializer>(&self, out: &mut S) -> Result<(), S::Error> {
+    fn write(&self, out: &mut String) -> Result<(), AllocError> {
         NoFields
             .with("kind", &self.kind)
             .with("pattern", &self.pattern)
-            .send(out)
+            .write(out)
     }
 }

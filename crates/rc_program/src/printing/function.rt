@@ -6,9 +6,8 @@ ghost use Rattle.rc_program.specs.FunctionLines.{header_lines, lines_of};
 
 use crate::printing::fates::write_fates;
 use crate::printing::page::Page;
-use crate::printing::place::write_place;
 use crate::printing::statement::write_block;
-use crate::printing::text::{write_bool, write_json, write_quoted, write_span};
+use crate::printing::text::{write_bool, write_json, write_span};
 use rc_hir::ParamPattern;
 use rc_names::{List, Text};
 use rc_pipe::ScopeFate;
@@ -78,11 +77,11 @@ fn write_param(page: &mut Page, param: ParamPattern) -> Result<(), AllocError>
     match param {
         ParamPattern::Place(place) => {
             page.push("param ")?;
-            write_place(page, &place)
+            page.place(&place)
         }
         ParamPattern::Spread(spread) => {
             page.push("param ...")?;
-            write_place(page, &spread.place)
+            page.place(&spread.place)
         }
     }
 }
@@ -92,7 +91,7 @@ fn write_directives(page: &mut Page, directives: &[Text]) -> Result<(), AllocErr
 {
     for text in directives {
         page.push("directive ")?;
-        write_quoted(page, text)?;
+        page.quoted(text.as_str())?;
         page.push("\n")?;
     }
     Ok(())

@@ -4,12 +4,15 @@
 //! began with, so that a line's spaces are one copy and a step down takes no memory.
 
 ghost use Rattle.std.specs.Prelude.{◌≡◌, [], ◌++◌, replicate, decimal, IfOk, OnOk, ◌≤◌, string_bytes, length};
-ghost use Rattle.rc_program.specs.LineText.{deeper};
+ghost use Rattle.serde_json.specs.Written.{compact_text};
+ghost use Rattle.rc_show.specs.ShownKinds.{value_data};
+ghost use Rattle.rc_program.specs.LineText.{deeper, place_text, quoted_text};
 ghost use Rattle.rc_program.specs.Blank.{IsBlank};
 
+use rc_hir::{InstructionValue, Place};
 use rc_names::Text;
+use rc_show::{write_number, write_place, write_quoted, write_value};
 use std::alloc::{AllocError, Global};
-use std::fmt::Write;
 use std::marker::Model;
 
 /// A text that grows, which contracts see as its bytes.
@@ -43,11 +46,6 @@ impl Page {
         }
     }
 
-    /// The allocator of the text.
-    pub fn allocator(&self) -> Global {
-        *self.text.allocator()
-    }
-
     /// Writes a text.
     pub fn push(&mut self, piece: &str) -> Result<(), AllocError>
         ensures { OnOk result (self.new ≡ self.old ++ piece.now) }
@@ -59,10 +57,28 @@ impl Page {
     pub fn number(&mut self, n: u32) -> Result<(), AllocError>
         ensures { OnOk result (self.new ≡ self.old ++ decimal n) }
     {
-        match write!(self.text, "{n}") {
-            Ok(()) => Ok(()),
-            Err(_) => Err(AllocError),
-        }
+        write_number(&mut self.text, n)
+    }
+
+    /// Writes a text in JSON's quotes.
+    pub fn quoted(&mut self, text: &str) -> Result<(), AllocError>
+        ensures { OnOk result (self.new ≡ self.old ++ quoted_text text.now) }
+    {
+        write_quoted(&mut self.text, text)
+    }
+
+    /// Writes a place in the shortest of its three forms.
+    pub fn place(&mut self, place: &Place) -> Result<(), AllocError>
+        ensures { OnOk result (self.new ≡ self.old ++ place_text place.now) }
+    {
+        write_place(&mut self.text, place)
+    }
+
+    /// Writes the compact text of an instruction's printing form.
+    pub fn base_value(&mut self, value: &InstructionValue) -> Result<(), AllocError>
+        ensures { OnOk result (self.new ≡ self.old ++ compact_text (value_data value.now)) }
+    {
+        write_value(&mut self.text, value)
     }
 
     /// Writes the spaces that a line begins with.

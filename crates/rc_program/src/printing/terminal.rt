@@ -6,7 +6,6 @@ ghost use Rattle.rc_program.specs.LineText.{place_text, id_text};
 ghost use Rattle.rc_program.specs.Lines.{catch_text, case_text, value_line, optional_value_line, terminal_lines};
 
 use crate::printing::page::Page;
-use crate::printing::place::write_place;
 use crate::printing::text::{write_id, write_span};
 use crate::printing::value::write_value;
 use rc_hir::Place;
@@ -83,7 +82,7 @@ fn write_of(
     ensures { OnOk result (page.new ≡ page.old ++ (name.now ++ (place_text place.now ++ id_text id label))) }
 {
     page.push(name)?;
-    write_place(page, place)?;
+    page.place(place)?;
     write_id(page, id, label)
 }
 
@@ -186,7 +185,7 @@ pub fn write_catch_name(page: &mut Page, binding: Option<Place>) -> Result<(), A
         None => page.push("catch"),
         Some(place) => {
             page.push("catch ")?;
-            write_place(page, &place)
+            page.place(&place)
         }
     }
 }
@@ -199,7 +198,7 @@ pub fn write_case_name(page: &mut Page, test: Option<Place>) -> Result<(), Alloc
         None => page.push("default"),
         Some(test) => {
             page.push("case ")?;
-            write_place(page, &test)
+            page.place(&test)
         }
     }
 }

@@ -1,12 +1,11 @@
 //! The words that lines are made of.
 
 ghost use Rattle.std.specs.Prelude.{◌≡◌, ◌++◌, OnOk};
-ghost use Rattle.rc_program.specs.LineText.{bool_text, quoted_text, json_text, span_text, label_text, id_text};
+ghost use Rattle.rc_program.specs.LineText.{bool_text, json_text, span_text, label_text, id_text};
 
 use crate::printing::page::Page;
 use rc_names::{EvaluationOrder, Span, Text};
 use rc_tree::ReactiveLabel;
-use serde_json::Value;
 use std::alloc::AllocError;
 
 /// A truth value.
@@ -22,17 +21,8 @@ pub fn write_json(page: &mut Page, text: &Option<Text>) -> Result<(), AllocError
 {
     match text {
         None => page.push("null"),
-        Some(text) => write_quoted(page, text),
+        Some(text) => page.quoted(text.as_str()),
     }
-}
-
-/// A text in JSON's quotes.
-pub fn write_quoted(page: &mut Page, text: &Text) -> Result<(), AllocError>
-    ensures { OnOk result (page.new ≡ page.old ++ quoted_text text.now) }
-{
-    let alloc = page.allocator();
-    let quoted = Value::try_from_str(alloc, text.as_str())?.to_string(alloc)?;
-    page.push(quoted.as_str())
 }
 
 /// A part of the source, where it is known.

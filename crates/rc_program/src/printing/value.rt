@@ -1,17 +1,13 @@
 //! A value and a row, which each stand on one line.
 
 ghost use Rattle.std.specs.Prelude.{◌≡◌, ◌++◌, OnOk, false, map};
-ghost use Rattle.serde_json.specs.Written.{compact_text};
-ghost use Rattle.rc_show.specs.ShownKinds.{value_data};
 ghost use Rattle.rc_program.specs.ValueLines.{operator_text, next_text, joined, rows_text, target_text, value_text};
 ghost use Rattle.rc_program.specs.ValueLines.{row_text};
 
 use crate::printing::page::Page;
-use crate::printing::place::write_place;
 use crate::printing::text::{write_bool, write_span};
-use rc_hir::{InstructionValue, LogicalOperator, Place};
+use rc_hir::{LogicalOperator, Place};
 use rc_names::EvaluationOrder;
-use rc_show::value_text;
 use rc_tree::{ReactiveInstruction, ReactiveValue};
 use std::alloc::AllocError;
 
@@ -21,7 +17,7 @@ pub fn write_value(page: &mut Page, value: &ReactiveValue) -> Result<(), AllocEr
     ensures { OnOk result (page.new ≡ page.old ++ value_text value.now) }
 {
     match value {
-        ReactiveValue::Instruction(value) => write_base_value(page, value),
+        ReactiveValue::Instruction(value) => page.base_value(value),
         ReactiveValue::LogicalExpression {
             operator,
             left,
@@ -118,17 +114,9 @@ fn write_target(page: &mut Page, target: Option<Place>) -> Result<(), AllocError
     ensures { OnOk result (page.new ≡ page.old ++ target_text target) }
 {
     match target {
-        Some(place) => write_place(page, &place),
+        Some(place) => page.place(&place),
         None => page.push("_"),
     }
-}
-
-/// The compact text of an instruction's printing form.
-fn write_base_value(page: &mut Page, value: &InstructionValue) -> Result<(), AllocError>
-    ensures { OnOk result (page.new ≡ page.old ++ compact_text (value_data value.now)) }
-{
-    let text = value_text(page.allocator(), value)?;
-    page.push(text.as_str())
 }
 
 fn operator_name(operator: LogicalOperator) -> &'static str
