@@ -16,10 +16,13 @@ module _ {X : Type 0} (reads : Data → Option X) (shows : X → Data) where
   abbrev pub Stand : List X → Type 0
   Stand xs = (items_small (items_of (map shows xs)) ≡ true) × (all_items reads (items_of (map shows xs)) ≡ Some xs)
 
+  -- the entries' texts, with the closing bracket
+  abbrev pub texts : Bool → List X → List ℕ
+  texts later xs = items_text later (items_of (map shows xs))
+
   -- the entries so far and those that are left are the whole, which stands if those that are left do
   pub record WrittenSoFar (i : ℕ) (xs : List X) (first now : List ℕ) : Type 0 where
-    pub text : now ++ items_text (nat_lt 0 i) (items_of (map shows (drop i xs)))
-        ≡ first ++ items_text false (items_of (map shows xs))
+    pub text : now ++ texts (nat_lt 0 i) (drop i xs) ≡ first ++ texts false xs
     pub stand : Stand (drop i xs) → Stand xs
 
   pub none_written : (xs : List X) (first : List ℕ) → WrittenSoFar 0 xs first first
@@ -45,9 +48,7 @@ module _ {X : Type 0} (reads : Data → Option X) (shows : X → Data) where
       record {
         text = rw later
             (next_text (nat_lt 0 i) (shows x) (items_of (map shows (drop (i + 1) xs))) old mid new first _
-            (subst
-            (λ ys. old ++ items_text (nat_lt 0 i) (items_of (map shows ys)) ≡ first ++ items_text false (items_of (map shows xs)))
-            more so_far.text) comma value.0);
+            (subst (λ ys. old ++ texts (nat_lt 0 i) ys ≡ first ++ texts false xs) more so_far.text) comma value.0);
         stand = λ rest. so_far.stand (subst Stand (sym more) (both_stand x (drop (i + 1) xs) value.1 again rest));
       }
 
@@ -56,11 +57,9 @@ module _ {X : Type 0} (reads : Data → Option X) (shows : X → Data) where
   unfolding Writes
   whole_written i xs old first last new le begun so_far ended =
       let none : drop i xs ≡ [] = drop_all i xs le in
-      let whole : new ≡ first ++ items_text false (items_of (map shows xs)) = ended
-      ∙ subst
-      (λ ys. last ++ items_text (nat_lt 0 i) (items_of (map shows ys)) ≡ first ++ items_text false (items_of (map shows xs)))
-      none so_far.text in (
-        whole ∙ ap (λ ys. ys ++ items_text false (items_of (map shows xs))) begun ∙ append_assoc old (codes "[") _,
+      let whole : new ≡ first ++ texts false xs = ended
+      ∙ subst (λ ys. last ++ texts (nat_lt 0 i) ys ≡ first ++ texts false xs) none so_far.text in (
+        whole ∙ ap (λ ys. ys ++ texts false xs) begun ∙ append_assoc old (codes "[") _,
         (so_far.stand (subst Stand (sym none) (refl, refl))).0,
       )
 
@@ -68,7 +67,8 @@ module _ {X : Type 0} (reads : Data → Option X) (shows : X → Data) where
       → first ≡ old ++ codes "[" → WrittenSoFar i ys first last → new ≡ last ++ codes "]"
       → Writes (list_data shows xs) old new
   all_written i xs ys old first last new same le begun so_far ended =
-      subst (λ zs. Writes (list_data shows zs) old new) same (whole_written i ys old first last new le begun so_far ended)
+      subst (λ zs. Writes (list_data shows zs) old new) same
+      (whole_written i ys old first last new le begun so_far ended)
 
   pub all_again : (i : ℕ) (xs ys : List X) (first last : List ℕ) → ys ≡ xs → length ys ≤ i
       → WrittenSoFar i ys first last → list_of reads (list_data shows xs) ≡ Some xs

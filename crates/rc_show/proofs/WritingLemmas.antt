@@ -88,7 +88,8 @@ behind_key later name rest =
     ap (λ xs. comma_if later ++ xs) (sym (append_assoc (quoted name) (58 ∷ []) rest))
     ∙ sym (append_assoc (comma_if later) _ rest)
 
-members_text-fields : (later : Bool) (fields : Members) → members_text later fields ≡ fields_text later fields ++ codes "}"
+members_text-fields : (later : Bool) (fields : Members)
+    → members_text later fields ≡ fields_text later fields ++ codes "}"
 members_text-fields later no_members = refl
 members_text-fields true (member name d fields) =
     behind_key true name _ ∙ ap (λ xs. key_text true name ++ (compact_text d ++ xs)) (members_text-fields true fields)

@@ -6,7 +6,7 @@ ghost use Rattle.rc_doc.specs.Reading.{flag_of, list_of, number_of, text_of};
 ghost use Rattle.rc_show.specs.Showing.{add, add_some, list_data, number_data, IsReadAgain, tagged, variant_data};
 ghost use Rattle.rc_show.specs.inside.Writing.{Writes, WritesFields, has_members};
 
-use crate::text::{push, write_comma, write_flag, write_key, write_number, write_quoted};
+use crate::text::{mark, write_comma, write_flag, write_key, write_number, write_quoted};
 use rc_names::{List, Text};
 use std::alloc::AllocError;
 
@@ -63,12 +63,12 @@ impl<T: Show> Show for List<T> {
     ghost shows = { list_data T.shows };
 
     fn write(&self, out: &mut String) -> Result<(), AllocError> {
-        push(out, "[")?;
+        mark(out, '[')?;
         for (i, x) in self.as_slice().iter().enumerate() {
             write_comma(out, i > 0)?;
             x.write(out)?;
         }
-        push(out, "]")
+        mark(out, ']')
     }
 }
 
@@ -132,9 +132,9 @@ pub(crate) trait Fields: Sized + Drop {
             (Writes (object (Self.members self)) (string_bytes out.old) (string_bytes out.new)) }
         ensures again { OnOk result (Self.again self) }
     {
-        push(out, "{")?;
+        mark(out, '{')?;
         self.write_fields(out)?;
-        push(out, "}")
+        mark(out, '}')
     }
 }
 

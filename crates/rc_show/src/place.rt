@@ -12,7 +12,7 @@ ghost use Rattle.rc_show.specs.inside.Plain.{are_small, items_small};
 
 use crate::fields::{Fields, NoFields, Show, write_variant};
 use crate::shown::to_json;
-use crate::text::{push, write_flag, write_number};
+use crate::text::{mark, push, write_flag, write_number};
 use rc_hir::{Effect, Place, PlaceOrSpread, SpreadPattern};
 use rc_names::Span;
 use serde_json::Value;
@@ -36,11 +36,11 @@ fn write_ends(out: &mut String, span: &Span) -> Result<(), AllocError>
     ensures small { OnOk result (are_small (span_data span.now) ≡ true) }
     ensures again { OnOk result (span_of (span_data span.now) ≡ Some span.now) }
 {
-    push(out, "[")?;
+    mark(out, '[')?;
     write_number(out, span.start)?;
-    push(out, ",")?;
+    mark(out, ',')?;
     write_number(out, span.end)?;
-    push(out, "]")
+    mark(out, ']')
 }
 
 /// An effect between commas.
@@ -76,7 +76,7 @@ fn write_long_form(out: &mut String, place: &Place) -> Result<(), AllocError>
     ensures small { OnOk result (are_small (long_form place.now) ≡ true) }
     ensures again { OnOk result (IsReadAgain span_of span_data place.now.span) }
 {
-    push(out, "[")?;
+    mark(out, '[')?;
     write_number(out, place.identifier.0)?;
     push(out, quoted_effect(place.effect))?;
     write_flag(out, place.reactive)?;
@@ -91,11 +91,11 @@ fn write_end(out: &mut String, span: &Option<Span>) -> Result<(), AllocError>
     ensures again { OnOk result (IsReadAgain span_of span_data span.now) }
 {
     match span {
-        None => push(out, "]"),
+        None => mark(out, ']'),
         Some(span) => {
-            push(out, ",")?;
+            mark(out, ',')?;
             write_ends(out, span)?;
-            push(out, "]")
+            mark(out, ']')
         }
     }
 }

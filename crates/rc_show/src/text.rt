@@ -1,6 +1,6 @@
 //! The texts that a printing form is made of, each behind what was written before.
 
-ghost use Rattle.std.specs.Prelude.{◌≡◌, ◌++◌, OnOk, decimal, length, string_bytes};
+ghost use Rattle.std.specs.Prelude.{◌≡◌, ◌<◌, [], ◌∷◌, ◌++◌, OnOk, decimal, length, string_bytes};
 ghost use Rattle.std.specs.Bool.{OnTrue};
 ghost use Rattle.json.specs.Print.{escape};
 ghost use Rattle.json.specs.Written.{PlainBetween};
@@ -17,6 +17,15 @@ pub(crate) fn push(out: &mut String, piece: &str) -> Result<(), AllocError>
     ensures { OnOk result (string_bytes out.new ≡ string_bytes out.old ++ piece.now) }
 {
     out.push_str(piece)
+}
+
+/// Writes an ASCII character. Fails only when out of memory.
+#[inline(always)]
+pub(crate) fn mark(out: &mut String, c: char) -> Result<(), AllocError>
+    requires { c < 128 }
+    ensures { OnOk result (string_bytes out.new ≡ string_bytes out.old ++ c ∷ []) }
+{
+    out.push(c)
 }
 
 /// Writes a number's digits. Fails only when out of memory.
@@ -39,9 +48,9 @@ pub fn write_quoted(out: &mut String, text: &str) -> Result<(), AllocError>
     ensures { OnOk result (string_bytes out.new ≡ string_bytes out.old ++ compact_text (string text.now)) }
 {
     if is_plain(text.as_bytes()) {
-        push(out, "\"")?;
+        mark(out, '"')?;
         push(out, text)?;
-        push(out, "\"")
+        mark(out, '"')
     } else {
         write_escaped(out, text)
     }
@@ -82,12 +91,12 @@ pub(crate) fn write_key(out: &mut String, later: bool, name: &str) -> Result<(),
 {
     write_comma(out, later)?;
     write_quoted(out, name)?;
-    push(out, ":")
+    mark(out, ':')
 }
 
 /// Writes a comma, if something stands before it.
 pub(crate) fn write_comma(out: &mut String, later: bool) -> Result<(), AllocError>
     ensures { OnOk result (string_bytes out.new ≡ string_bytes out.old ++ comma_if later) }
 {
-    push(out, if later { "," } else { "" })
+    if later { mark(out, ',') } else { Ok(()) }
 }

@@ -79,7 +79,8 @@ pub(super) fn object_method(
     span: &Option<Span>,
 ) -> Result<(), AllocError>
     ensures writes { OnOk result
-        (Writes (value_data (kinds.ObjectMethod lowered_func.now span.now)) (string_bytes out.old) (string_bytes out.new)) }
+        (Writes (value_data (kinds.ObjectMethod lowered_func.now span.now))
+        (string_bytes out.old) (string_bytes out.new)) }
     ensures again { OnOk result (IsReadBack (kinds.ObjectMethod lowered_func.now span.now)) }
 {
     NoFields

@@ -210,7 +210,8 @@ pub(super) fn get_iterator(
     span: &Option<Span>,
 ) -> Result<(), AllocError>
     ensures writes { OnOk result
-        (Writes (value_data (kinds.GetIterator collection.now span.now)) (string_bytes out.old) (string_bytes out.new)) }
+        (Writes (value_data (kinds.GetIterator collection.now span.now))
+        (string_bytes out.old) (string_bytes out.new)) }
     ensures again { OnOk result (IsReadBack (kinds.GetIterator collection.now span.now)) }
 {
     NoFields

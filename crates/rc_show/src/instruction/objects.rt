@@ -17,7 +17,8 @@ pub(super) fn object_expression(
     span: &Option<Span>,
 ) -> Result<(), AllocError>
     ensures writes { OnOk result
-        (Writes (value_data (kinds.ObjectExpression properties.now span.now)) (string_bytes out.old) (string_bytes out.new)) }
+        (Writes (value_data (kinds.ObjectExpression properties.now span.now))
+        (string_bytes out.old) (string_bytes out.new)) }
     ensures again { OnOk result (IsReadBack (kinds.ObjectExpression properties.now span.now)) }
 {
     NoFields
@@ -34,7 +35,8 @@ pub(super) fn array_expression(
     span: &Option<Span>,
 ) -> Result<(), AllocError>
     ensures writes { OnOk result
-        (Writes (value_data (kinds.ArrayExpression elements.now span.now)) (string_bytes out.old) (string_bytes out.new)) }
+        (Writes (value_data (kinds.ArrayExpression elements.now span.now))
+        (string_bytes out.old) (string_bytes out.new)) }
     ensures again { OnOk result (IsReadBack (kinds.ArrayExpression elements.now span.now)) }
 {
     NoFields

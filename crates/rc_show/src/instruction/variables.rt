@@ -86,7 +86,8 @@ pub(super) fn store_local(
     span: &Option<Span>,
 ) -> Result<(), AllocError>
     ensures writes { OnOk result
-        (Writes (value_data (kinds.StoreLocal lvalue.now value.now span.now)) (string_bytes out.old) (string_bytes out.new)) }
+        (Writes (value_data (kinds.StoreLocal lvalue.now value.now span.now))
+        (string_bytes out.old) (string_bytes out.new)) }
     ensures again { OnOk result (IsReadBack (kinds.StoreLocal lvalue.now value.now span.now)) }
 {
     NoFields
@@ -125,7 +126,8 @@ pub(super) fn destructure(
     span: &Option<Span>,
 ) -> Result<(), AllocError>
     ensures writes { OnOk result
-        (Writes (value_data (kinds.Destructure lvalue.now value.now span.now)) (string_bytes out.old) (string_bytes out.new)) }
+        (Writes (value_data (kinds.Destructure lvalue.now value.now span.now))
+        (string_bytes out.old) (string_bytes out.new)) }
     ensures again { OnOk result (IsReadBack (kinds.Destructure lvalue.now value.now span.now)) }
 {
     NoFields
@@ -161,7 +163,8 @@ pub(super) fn store_global(
     span: &Option<Span>,
 ) -> Result<(), AllocError>
     ensures writes { OnOk result
-        (Writes (value_data (kinds.StoreGlobal name.now value.now span.now)) (string_bytes out.old) (string_bytes out.new)) }
+        (Writes (value_data (kinds.StoreGlobal name.now value.now span.now))
+        (string_bytes out.old) (string_bytes out.new)) }
     ensures again { OnOk result (IsReadBack (kinds.StoreGlobal name.now value.now span.now)) }
 {
     NoFields

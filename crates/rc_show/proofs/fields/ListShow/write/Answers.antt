@@ -12,13 +12,13 @@ loop-i-preserved g c =
 
 pub returns-clause-writes : goal.returns-clause-writes
 returns-clause-writes g c =
-    on_ok_weaker c.push-2.result
-    (all_written _ _ _ _ _ _ _ _ _ c.as_slice-x-items.ensures c.loop-i-test.false c.in_ok-push.ensures
+    on_ok_weaker c.mark-2.result
+    (all_written _ _ _ _ _ _ _ _ _ c.as_slice-x-items.ensures c.loop-i-test.false c.in_ok-mark.ensures
     c.loop-i.invariant)
-    c.push-2.ensures
+    c.mark-2.ensures
 
 pub returns-clause-again : goal.returns-clause-again
 returns-clause-again g c =
-    on_ok_weaker c.push-2.result
+    on_ok_weaker c.mark-2.result
     (λ ended. all_again _ _ _ _ _ _ _ c.as_slice-x-items.ensures c.loop-i-test.false c.loop-i.invariant)
-    c.push-2.ensures
+    c.mark-2.ensures
