@@ -194,7 +194,8 @@ holds true e = refl
 holds false e = cc
 
 module _ {names : List (List ℕ)} {founds : List (Option Data)} {members left : Members} (d : Data)
-    (is : as_object d ≡ Some members) (walk : Takes names founds members left) (names_ascend : are_ascending names ≡ true)
+    (is : as_object d ≡ Some members) (walk : Takes names founds members left) (names_ascend : are_ascending names
+    ≡ true)
     (ascend : are_ascending (keys members) ≡ true) where
   pub only_if_passed : only names d ≡ if_none left
   only_if_passed = rw (is_object d members is) (known-takes members left walk names_ascend ascend)
