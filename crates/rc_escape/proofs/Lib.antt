@@ -9,6 +9,7 @@ pub mod LeastIsMemoized
 pub mod MemoizedIsInGreatest
 pub mod LowestScopeLemmas
 pub mod MemoSetLemmas
+pub mod WalkEnds
 pub mod OutputsLemmas
 pub mod StoresLemmas
 pub mod OneRecord
