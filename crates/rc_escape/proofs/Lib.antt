@@ -13,5 +13,8 @@ pub mod WalkEnds
 pub mod OutputsLemmas
 pub mod StoresLemmas
 pub mod OneRecord
+pub mod EachLemmas
+pub mod ScopelessEvents
+pub mod ScopelessRecords
 pub mod RebuiltRelated
 pub mod NotEscaping
