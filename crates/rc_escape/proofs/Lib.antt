@@ -17,4 +17,6 @@ pub mod EachLemmas
 pub mod ScopelessEvents
 pub mod ScopelessRecords
 pub mod RebuiltRelated
+pub mod ScopelessParts
+pub mod ScopelessRules
 pub mod NotEscaping

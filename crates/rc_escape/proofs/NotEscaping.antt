@@ -2,4 +2,5 @@
 pub mod StepsLemmas
 pub mod KeptParts
 pub mod LeftScopes
+pub mod ScopelessBodies
 pub mod NeededOutputs
