@@ -10,12 +10,12 @@ use Rattle.rc_memo.proofs.AddingLemmas.{missing_kept, missing_next, next_by, tak
 use Rattle.rc_memo.proofs.LoadsLemmas.{definitions_push, resolve_is}
 use Rattle.rc_memo.specs.Events.{Loaded, definitions_told, event_facts, facts_behind, loads_in, params_facts}
 use Rattle.rc_memo.specs.Events.{resolved_after}
-use Rattle.rc_memo.specs.Facts.{first_missing, names_told, node_told}
+use Rattle.rc_memo.specs.Facts.{Fact, first_missing, names_told, node_told}
 use Rattle.rc_memo.specs.Record.{IsUninitialised}
 use Rattle.rc_memo.specs.declared.event.MemoEvent.{MemoEvent}
-use Rattle.rc_memo.specs.declared.nodes.Nodes.{Nodes}
-use Rattle.rc_memo.specs.declared.record.MemoNode.{MemoNode}
-use Rattle.rc_memo.specs.inside.Gathering.{Adds, AddsEvents, Gathers, HasGathered, Holds, resolved, with_loads}
+use Rattle.rc_memo.specs.declared.nodes.Gathered.{Gathered}
+use Rattle.rc_memo.specs.inside.Gathering.{Adds, AddsEvents, Gathers, HasGathered, HoldsNames, HoldsNodes, resolved}
+use Rattle.rc_memo.specs.inside.Gathering.{Held, with_loads}
 
 -- the facts of some events and more
 facts_behind-append : (loads : List Loaded) (xs ys : List MemoEvent)
@@ -48,133 +48,140 @@ onward : {A : Type 0} {P Q : Type 0} (r : Result A Fault) → (P → Q) → OnOk
 onward (Ok a) f p = f p
 onward (Err fault) f p = p
 
--- one event
-pub adds_event : (event : MemoEvent) (old new : Nodes) (r : Result (Unit {0}) Fault)
-    → Adds (event_facts (resolved old.definitions) event) old.nodes r new.nodes
-    → OnOk r (new.definitions ≡ with_loads old.definitions (loads_in event)) → AddsEvents (event ∷ []) old r new
-unfolding Adds AddsEvents
-adds_event event old new r facts loaded before loads holds defs =
-    let same : resolved old.definitions ≡ resolved_after loads = ap resolved defs ∙ resolved_told loads in
-    record {
-      facts = subst (λ w. Gathers before w r new.nodes) (ap (λ f. event_facts f event) same
-          ∙ sym (append-nil (event_facts (resolved_after loads) event))) (facts before holds);
-      definitions = onward r (λ e. e ∙ ap (λ w. with_loads w (loads_in event)) defs
-          ∙ with_loads_told loads (loads_in event)
-          ∙ ap (λ w. definitions_told (loads ++ w)) (sym (append-nil (loads_in event)))) loaded;
-    }
+module _ {S : Type 0} (Holds : List Fact → S → Type 0) where
+  -- one event
+  pub adds_event : (event : MemoEvent) (old new : Gathered S) (r : Result (Unit {0}) Fault)
+      → Adds Holds (event_facts (resolved old.definitions) event) old.held r new.held
+      → OnOk r (new.definitions ≡ with_loads old.definitions (loads_in event)) → AddsEvents Holds (event ∷ []) old r new
+  unfolding Adds AddsEvents
+  adds_event event old new r facts loaded before loads holds defs =
+      let same : resolved old.definitions ≡ resolved_after loads = ap resolved defs ∙ resolved_told loads in
+      record {
+        facts = subst (λ w. Gathers Holds before w r new.held) (ap (λ f. event_facts f event) same
+            ∙ sym (append-nil (event_facts (resolved_after loads) event))) (facts before holds);
+        definitions = onward r (λ e. e ∙ ap (λ w. with_loads w (loads_in event)) defs
+            ∙ with_loads_told loads (loads_in event)
+            ∙ ap (λ w. definitions_told (loads ++ w)) (sym (append-nil (loads_in event)))) loaded;
+      }
 
--- some events, and then more
-pub adds_events_next : (xs ys : List MemoEvent) (r : Result (Unit {0}) Fault) (u : Unit {0}) (old mid new : Nodes)
-    → AddsEvents xs old (Ok u) mid → AddsEvents ys mid r new → AddsEvents (xs ++ ys) old r new
-unfolding AddsEvents Gathers
-adds_events_next xs ys r u old mid new first next before loads holds defs =
-    let a = first before loads holds defs in
-    let b = next (before ++ facts_behind loads xs) (loads ++ flat_map loads_in xs) a.facts.1 a.definitions in
-    record {
-      facts = subst (λ w. Gathers before w r new.nodes) (sym (facts_behind-append loads xs ys))
-          (next_by before (facts_behind loads xs) (facts_behind (loads ++ flat_map loads_in xs) ys) r new.nodes
-          a.facts.0
-          b.facts);
-      definitions = onward r (λ e. e ∙ ap definitions_told (append_assoc loads (flat_map loads_in xs)
-          (flat_map loads_in ys) ∙ ap (λ w. loads ++ w) (sym (loads_in-append xs ys)))) b.definitions;
-    }
+  -- some events, and then more
+  pub adds_events_next : (xs ys : List MemoEvent) (r : Result (Unit {0}) Fault) (u : Unit {0})
+      (old mid new : Gathered S)
+      → AddsEvents Holds xs old (Ok u) mid → AddsEvents Holds ys mid r new → AddsEvents Holds (xs ++ ys) old r new
+  unfolding AddsEvents Gathers
+  adds_events_next xs ys r u old mid new first next before loads holds defs =
+      let a = first before loads holds defs in
+      let b = next (before ++ facts_behind loads xs) (loads ++ flat_map loads_in xs) a.facts.1 a.definitions in
+      record {
+        facts = subst (λ w. Gathers Holds before w r new.held) (sym (facts_behind-append loads xs ys))
+            (next_by Holds before (facts_behind loads xs) (facts_behind (loads ++ flat_map loads_in xs) ys) r new.held
+            a.facts.0
+            b.facts);
+        definitions = onward r (λ e. e ∙ ap definitions_told (append_assoc loads (flat_map loads_in xs)
+            (flat_map loads_in ys) ∙ ap (λ w. loads ++ w) (sym (loads_in-append xs ys)))) b.definitions;
+      }
 
--- events that stop stop the whole
-pub adds_events_stop : (xs ys : List MemoEvent) (fault : Fault) (old new : Nodes)
-    → AddsEvents xs old (Err fault) new → AddsEvents (xs ++ ys) old (Err fault) new
-unfolding AddsEvents Gathers
-adds_events_stop xs ys fault old new first before loads holds defs = record {
-  facts = elim ((first before loads holds defs).facts) [
-    | inl memory ↦ inl memory
-    | inr missing ↦ inr (
-      missing.0,
-      missing.1,
-      ap (first_missing before) (facts_behind-append loads xs ys)
-          ∙ missing_kept before (facts_behind loads xs) (facts_behind (loads ++ flat_map loads_in xs) ys) missing.0
-          missing.2,
-    )
-  ];
-  definitions = (first before loads holds defs).definitions;
-}
-
-pub adds_no_events : (old : Nodes) → AddsEvents [] old (Ok tt) old
-unfolding AddsEvents Gathers
-adds_no_events old before loads holds defs = record {
-  facts = (refl, subst (λ w. Holds w old.nodes) (sym (append-nil before)) holds);
-  definitions = defs ∙ ap definitions_told (sym (append-nil loads));
-}
-
--- a loop over events
-
-pub adds_more_events : (xs : List MemoEvent) (i : ℕ) (event : MemoEvent) (u v : Unit {0}) (old mid new : Nodes)
-    → i < length xs → event ≡ get_or xs i event → AddsEvents (take i xs) old (Ok u) mid
-    → AddsEvents (event ∷ []) mid (Ok v) new → AddsEvents (take (i + 1) xs) old (Ok v) new
-adds_more_events xs i event u v old mid new below at first next =
-    subst (λ w. AddsEvents w old (Ok v) new)
-    (sym (take_more xs i event below ∙ ap (λ w. take i xs ++ w ∷ []) (sym at)))
-    (adds_events_next (take i xs) (event ∷ []) (Ok v) u old mid new first next)
-
-pub adds_all_events : (xs : List MemoEvent) (i : ℕ) (r : Result (Unit {0}) Fault) (old new : Nodes) → length xs ≤ i
-    → AddsEvents (take i xs) old r new → AddsEvents xs old r new
-adds_all_events xs i r old new le h = subst (λ w. AddsEvents w old r new) (take_all xs i le) h
-
-pub adds_events_stopped : (whole_list xs : List MemoEvent) (i : ℕ) (event : MemoEvent) (u : Unit {0}) (fault : Fault)
-    (old mid new : Nodes) → xs ≡ whole_list → i < length xs → event ≡ get_or xs i event
-    → AddsEvents (take i xs) old (Ok u) mid → AddsEvents (event ∷ []) mid (Err fault) new
-    → AddsEvents whole_list old (Err fault) new
-adds_events_stopped whole_list xs i event u fault old mid new same below at first next =
-    let so_far = subst (λ w. AddsEvents w old (Err fault) new)
-    (sym (take_more xs i event below ∙ ap (λ w. take i xs ++ w ∷ []) (sym at)))
-    (adds_events_next (take i xs) (event ∷ []) (Err fault) u old mid new first next) in
-    subst (λ w. AddsEvents w old (Err fault) new) (whole xs (i + 1) ∙ same)
-    (adds_events_stop (take (i + 1) xs) (drop (i + 1) xs) fault old new so_far)
-
--- nothing is told before the first fact
-nothing_told : Holds [] []
-unfolding node_told names_told
-nothing_told = record { nodes_are = refl; grounded = λ name gone. refl }
-
--- parameters, and then events
-
-pub gathers_ok : (params : List DeclarationId) (events : List MemoEvent) (start : List (DeclarationId × MemoNode))
-    (between found : Nodes) (u v : Unit {0}) → start ≡ [] → Adds (params_facts params) start (Ok u) between.nodes
-    → between.definitions ≡ []
-    → AddsEvents events between (Ok v) found → HasGathered params events found
-unfolding Adds AddsEvents Gathers
-gathers_ok params events start between found u v empty first none next =
-    let a = first [] (subst (Holds []) (sym empty) nothing_told) in
-    let b = next (params_facts params) [] a.1 none in
-    record {
-      complete = missing_next [] (params_facts params) (facts_behind [] events) a.0 ∙ b.facts.0;
-      nodes = b.facts.1.nodes_are;
-      definitions = b.definitions;
-    }
-
-pub gathers_no_params : (params : List DeclarationId) (events : List MemoEvent) (fault : Fault)
-    (new : List (DeclarationId × MemoNode)) → Adds (params_facts params) [] (Err fault) new
-    → (fault ≡ NoMemory) ⊎ IsUninitialised params events fault
-unfolding Adds Gathers
-gathers_no_params params events fault new first = elim (first [] nothing_told) [
-  | inl memory ↦ inl memory
-  | inr missing ↦ inr (record {
-    name = missing.0;
-    names_it = missing.1;
-    first = missing_kept [] (params_facts params) (facts_behind [] events) missing.0 missing.2;
-  })
-]
-
-pub gathers_no_events : (params : List DeclarationId) (events : List MemoEvent) (fault : Fault)
-    (start : List (DeclarationId × MemoNode)) (between found : Nodes) (u : Unit {0}) → start ≡ []
-    → Adds (params_facts params) start (Ok u) between.nodes → between.definitions ≡ []
-    → AddsEvents events between (Err fault) found → (fault ≡ NoMemory) ⊎ IsUninitialised params events fault
-unfolding Adds AddsEvents Gathers
-gathers_no_events params events fault start between found u empty first none next =
-    let a = first [] (subst (Holds []) (sym empty) nothing_told) in
-    elim ((next (params_facts params) [] a.1 none).facts) [
+  -- events that stop stop the whole
+  pub adds_events_stop : (xs ys : List MemoEvent) (fault : Fault) (old new : Gathered S)
+      → AddsEvents Holds xs old (Err fault) new → AddsEvents Holds (xs ++ ys) old (Err fault) new
+  unfolding AddsEvents Gathers
+  adds_events_stop xs ys fault old new first before loads holds defs = record {
+    facts = elim ((first before loads holds defs).facts) [
       | inl memory ↦ inl memory
-      | inr missing ↦ inr (record {
-        name = missing.0;
-        names_it = missing.1;
-        first = missing_next [] (params_facts params) (facts_behind [] events) a.0 ∙ missing.2;
-      })
-    ]
+      | inr missing ↦ inr (
+        missing.0,
+        missing.1,
+        ap (first_missing before) (facts_behind-append loads xs ys)
+            ∙ missing_kept before (facts_behind loads xs) (facts_behind (loads ++ flat_map loads_in xs) ys) missing.0
+            missing.2,
+      )
+    ];
+    definitions = (first before loads holds defs).definitions;
+  }
+
+  pub adds_no_events : (old : Gathered S) → AddsEvents Holds [] old (Ok tt) old
+  unfolding AddsEvents Gathers
+  adds_no_events old before loads holds defs = record {
+    facts = (refl, subst (λ w. Holds w old.held) (sym (append-nil before)) holds);
+    definitions = defs ∙ ap definitions_told (sym (append-nil loads));
+  }
+
+  -- a loop over events
+
+  pub adds_more_events : (xs : List MemoEvent) (i : ℕ) (event : MemoEvent) (u v : Unit {0}) (old mid new : Gathered S)
+      → i < length xs → event ≡ get_or xs i event → AddsEvents Holds (take i xs) old (Ok u) mid
+      → AddsEvents Holds (event ∷ []) mid (Ok v) new → AddsEvents Holds (take (i + 1) xs) old (Ok v) new
+  adds_more_events xs i event u v old mid new below at first next =
+      subst (λ w. AddsEvents Holds w old (Ok v) new)
+      (sym (take_more xs i event below ∙ ap (λ w. take i xs ++ w ∷ []) (sym at)))
+      (adds_events_next (take i xs) (event ∷ []) (Ok v) u old mid new first next)
+
+  pub adds_all_events : (xs : List MemoEvent) (i : ℕ) (r : Result (Unit {0}) Fault) (old new : Gathered S)
+      → length xs ≤ i → AddsEvents Holds (take i xs) old r new → AddsEvents Holds xs old r new
+  adds_all_events xs i r old new le h = subst (λ w. AddsEvents Holds w old r new) (take_all xs i le) h
+
+  pub adds_events_stopped : (whole_list xs : List MemoEvent) (i : ℕ) (event : MemoEvent) (u : Unit {0}) (fault : Fault)
+      (old mid new : Gathered S) → xs ≡ whole_list → i < length xs → event ≡ get_or xs i event
+      → AddsEvents Holds (take i xs) old (Ok u) mid → AddsEvents Holds (event ∷ []) mid (Err fault) new
+      → AddsEvents Holds whole_list old (Err fault) new
+  adds_events_stopped whole_list xs i event u fault old mid new same below at first next =
+      let so_far = subst (λ w. AddsEvents Holds w old (Err fault) new)
+      (sym (take_more xs i event below ∙ ap (λ w. take i xs ++ w ∷ []) (sym at)))
+      (adds_events_next (take i xs) (event ∷ []) (Err fault) u old mid new first next) in
+      subst (λ w. AddsEvents Holds w old (Err fault) new) (whole xs (i + 1) ∙ same)
+      (adds_events_stop (take (i + 1) xs) (drop (i + 1) xs) fault old new so_far)
+
+  -- parameters, and then events
+
+  pub gathers_ok : (params : List DeclarationId) (events : List MemoEvent) (start : S) (between found : Gathered S)
+      (u v : Unit {0}) → Holds [] start → Adds Holds (params_facts params) start (Ok u) between.held
+      → between.definitions ≡ [] → AddsEvents Holds events between (Ok v) found
+      → HasGathered Holds params events found
+  unfolding Adds AddsEvents Gathers
+  gathers_ok params events start between found u v empty first none next =
+      let a = first [] empty in
+      let b = next (params_facts params) [] a.1 none in
+      record {
+        complete = missing_next [] (params_facts params) (facts_behind [] events) a.0 ∙ b.facts.0;
+        held = b.facts.1;
+        definitions = b.definitions;
+      }
+
+  pub gathers_no_params : (params : List DeclarationId) (events : List MemoEvent) (fault : Fault) (start new : S)
+      → Holds [] start → Adds Holds (params_facts params) start (Err fault) new
+      → (fault ≡ NoMemory) ⊎ IsUninitialised params events fault
+  unfolding Adds Gathers
+  gathers_no_params params events fault start new empty first = elim (first [] empty) [
+    | inl memory ↦ inl memory
+    | inr missing ↦ inr (record {
+      name = missing.0;
+      names_it = missing.1;
+      first = missing_kept [] (params_facts params) (facts_behind [] events) missing.0 missing.2;
+    })
+  ]
+
+  pub gathers_no_events : (params : List DeclarationId) (events : List MemoEvent) (fault : Fault) (start : S)
+      (between found : Gathered S) (u : Unit {0}) → Holds [] start
+      → Adds Holds (params_facts params) start (Ok u) between.held → between.definitions ≡ []
+      → AddsEvents Holds events between (Err fault) found → (fault ≡ NoMemory) ⊎ IsUninitialised params events fault
+  unfolding Adds AddsEvents Gathers
+  gathers_no_events params events fault start between found u empty first none next =
+      let a = first [] empty in
+      elim ((next (params_facts params) [] a.1 none).facts) [
+        | inl memory ↦ inl memory
+        | inr missing ↦ inr (record {
+          name = missing.0;
+          names_it = missing.1;
+          first = missing_next [] (params_facts params) (facts_behind [] events) a.0 ∙ missing.2;
+        })
+      ]
+
+-- before the first fact there is no node, and no name has one
+pub no_nodes : (nodes : Held) → nodes ≡ [] → HoldsNodes [] nodes
+unfolding node_told names_told
+no_nodes nodes empty =
+    subst (HoldsNodes []) (sym empty) (record { nodes_are = refl; grounded = λ name gone. refl })
+
+pub no_names : (names : List DeclarationId) → names ≡ [] → HoldsNames [] names
+unfolding names_told
+no_names names empty = empty

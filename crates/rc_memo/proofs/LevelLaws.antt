@@ -44,3 +44,9 @@ pub stronger_associates : (a b c : MemoizationLevel) → stronger (stronger a b)
 stronger_associates a b c = grind arith
 
 pub ruleset laws = (stronger_commutes, stronger_associates, stronger_same, stronger_never)
+
+pub never_stronger : (level : MemoizationLevel) → stronger Never level ≡ level
+never_stronger Memoized = refl
+never_stronger Conditional = refl
+never_stronger Unmemoized = refl
+never_stronger Never = refl

@@ -3,6 +3,8 @@ pub mod DistinctLemmas
 pub mod NodesLemmas
 pub mod EntryLemmas
 pub mod AddingLemmas
+pub mod HeldNodesLemmas
+pub mod HeldNamesLemmas
 pub mod LoadsLemmas
 pub mod EventsLemmas
 pub mod HeldEventsLemmas

@@ -8,7 +8,7 @@ use Rattle.indexmap.specs.IndexMap.{insert_entry}
 use Rattle.indexmap.specs.IndexSet.{insert_key}
 use Rattle.rc_names.proofs.NumbersLemmas.{same_id-eq}
 use Rattle.rc_names.specs.Numbers.{DeclarationId, same_id}
-use Rattle.rc_memo.proofs.AddingLemmas.{keys_each}
+use Rattle.rc_memo.proofs.HeldNodesLemmas.{keys_each}
 use Rattle.rc_memo.proofs.DistinctLemmas.{any_distinct, distinct_is, distinct_push}
 use Rattle.rc_memo.proofs.EntryLemmas.{insert_absent}
 use Rattle.rc_memo.proofs.NodesLemmas.{itself, none_changed, one_changed}

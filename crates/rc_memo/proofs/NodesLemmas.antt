@@ -1,5 +1,6 @@
 -- What one more fact changes in the nodes.
-use Rattle.std.proofs.Common.{◌≡◌, ◌∙◌, ◌++◌, Bool, true, false, List, [], ◌∷◌, Option, None, Some, ap, append-nil, cond}
+use Rattle.std.proofs.Common.{◌≡◌, ◌∙◌, ◌++◌, Bool, true, false, List, [], ◌∷◌, Option, None, Some, ap, append-nil}
+use Rattle.std.proofs.Common.{cond}
 use Rattle.std.proofs.Common.{refl, subst, sym}
 use Rattle.std.specs.Prelude.{◌||◌, filter_map}
 use Rattle.std.specs.List.{list_any, cons_option, AllByRecursion, IsDistinct}
@@ -11,13 +12,14 @@ use Rattle.rc_names.specs.Numbers.{DeclarationId, ScopeId, same_id}
 use Rattle.rc_names.specs.declared.numbers.Id.{Id}
 use Rattle.rc_memo.proofs.DistinctLemmas.{distinct_is, distinct_push}
 use Rattle.rc_memo.proofs.LevelLaws.{stronger_associates, stronger_commutes}
-use Rattle.rc_memo.specs.Facts.{Fact, GivesLevel, DependsOn, HasScope, NeedsNode, distinct, strongest, only_if, target_told}
+use Rattle.rc_memo.specs.Facts.{Fact, GivesLevel, DependsOn, HasScope, NeedsNode, distinct, strongest, only_if}
+use Rattle.rc_memo.specs.Facts.{target_told}
 use Rattle.rc_memo.specs.Facts.{level_told, dependency_told, scope_told, node_told, names_told, at_each}
 use Rattle.rc_memo.specs.Level.{stronger}
 use Rattle.rc_memo.specs.declared.level.MemoizationLevel.{MemoizationLevel}
 use Rattle.rc_memo.specs.declared.level.MemoizationLevel.TheVariants.{Never}
 use Rattle.rc_memo.specs.declared.record.MemoNode.{MemoNode}
-use Rattle.rc_memo.specs.inside.Gathering.{at_name, empty_node, Holds, with_dependency, with_level, with_scope}
+use Rattle.rc_memo.specs.inside.Gathering.{at_name, empty_node, HoldsNodes, with_dependency, with_level, with_scope}
 
 pub itself : {K : Type 0} (x : Id K) → same_id x x ≡ true
 itself x = ids_equivalence.refl x
@@ -119,11 +121,11 @@ level_at fs d l =
     (ap (distinct same_id) (one_less (dependency_told d) fs (GivesLevel d l) refl))
     (ap (distinct same_id) (one_less (scope_told d) fs (GivesLevel d l) refl))
 
-names_same : (fs : List Fact) (f : Fact) → target_told f ≡ None → names_told (fs ++ f ∷ []) ≡ names_told fs
+pub names_same : (fs : List Fact) (f : Fact) → target_told f ≡ None → names_told (fs ++ f ∷ []) ≡ names_told fs
 unfolding names_told
 names_same fs f none = ap (distinct same_id) (one_less target_told fs f none)
 
-names_more : (fs : List Fact) (d : DeclarationId) (l : MemoizationLevel) → names_told (fs ++ GivesLevel d l ∷ [])
+pub names_more : (fs : List Fact) (d : DeclarationId) (l : MemoizationLevel) → names_told (fs ++ GivesLevel d l ∷ [])
     ≡ insert_key same_id (names_told fs) d
 unfolding names_told
 names_more fs d l = ap (distinct same_id) (one_more target_told fs (GivesLevel d l) d refl)
@@ -137,8 +139,8 @@ names_distinct fs = distinct_is same_id same_id-eq itself (filter_map target_tol
 told : (fs : List Fact) (f : Fact) (d : DeclarationId) (change : MemoNode → MemoNode) → names_told (fs ++ f ∷ [])
     ≡ names_told fs → node_told (fs ++ f ∷ []) d ≡ change (node_told fs d) →
     ((k : DeclarationId) → same_id d k ≡ false → node_told (fs ++ f ∷ []) k ≡ node_told fs k)
-    → (nodes : List (DeclarationId × MemoNode)) → Holds fs nodes → list_any (same_id d) (names_told fs) ≡ true
-    → Holds (fs ++ f ∷ []) (at_name d change nodes)
+    → (nodes : List (DeclarationId × MemoNode)) → HoldsNodes fs nodes → list_any (same_id d) (names_told fs) ≡ true
+    → HoldsNodes (fs ++ f ∷ []) (at_name d change nodes)
 told fs f d change names at off nodes holds there = record {
   nodes_are = ap (at_name d change) holds.nodes_are
       ∙ sym (one_changed (node_told fs) (node_told (fs ++ f ∷ [])) d change at off (names_told fs) (names_distinct fs)
@@ -152,23 +154,23 @@ told fs f d change names at off nodes holds there = record {
   differs k before false e = e
   differs k before true e = cc (ap (λ w. list_any (same_id w) (names_told fs)) (same_id-eq d k e), there, before)
 
-pub told_need : (fs : List Fact) (d e : DeclarationId) (nodes : List (DeclarationId × MemoNode)) → Holds fs nodes
+pub told_need : (fs : List Fact) (d e : DeclarationId) (nodes : List (DeclarationId × MemoNode)) → HoldsNodes fs nodes
     → list_any (same_id d) (names_told fs) ≡ true
-    → Holds (fs ++ DependsOn d e ∷ []) (at_name d (with_dependency e) nodes)
+    → HoldsNodes (fs ++ DependsOn d e ∷ []) (at_name d (with_dependency e) nodes)
 told_need fs d e nodes =
     told fs (DependsOn d e) d (with_dependency e) (names_same fs (DependsOn d e) refl) (need_at fs d e)
     (λ k off. node_toldf fs (DependsOn d e) k refl (other d k e off) refl) nodes
 
 pub told_scope : (fs : List Fact) (d : DeclarationId) (c : ScopeId) (nodes : List (DeclarationId × MemoNode))
-    → Holds fs nodes → list_any (same_id d) (names_told fs) ≡ true
-    → Holds (fs ++ HasScope d c ∷ []) (at_name d (with_scope c) nodes)
+    → HoldsNodes fs nodes → list_any (same_id d) (names_told fs) ≡ true
+    → HoldsNodes (fs ++ HasScope d c ∷ []) (at_name d (with_scope c) nodes)
 told_scope fs d c nodes =
     told fs (HasScope d c) d (with_scope c) (names_same fs (HasScope d c) refl) (scope_at fs d c)
     (λ k off. node_toldf fs (HasScope d c) k refl refl (other d k c off)) nodes
 
 pub told_level : (fs : List Fact) (d : DeclarationId) (l : MemoizationLevel) (nodes : List (DeclarationId × MemoNode))
-    → Holds fs nodes → list_any (same_id d) (names_told fs) ≡ true
-    → Holds (fs ++ GivesLevel d l ∷ []) (at_name d (with_level l) nodes)
+    → HoldsNodes fs nodes → list_any (same_id d) (names_told fs) ≡ true
+    → HoldsNodes (fs ++ GivesLevel d l ∷ []) (at_name d (with_level l) nodes)
 told_level fs d l nodes holds there =
     told fs (GivesLevel d l) d (with_level l)
     (names_more fs d l ∙ ap (λ w. cond w (names_told fs) (names_told fs ++ d ∷ [])) there) (level_at fs d l)
@@ -176,8 +178,8 @@ told_level fs d l nodes holds there =
 
 -- a target that comes first
 pub told_first : (fs : List Fact) (d : DeclarationId) (l : MemoizationLevel) (nodes : List (DeclarationId × MemoNode))
-    → Holds fs nodes → list_any (same_id d) (names_told fs) ≡ false
-    → Holds (fs ++ GivesLevel d l ∷ []) (nodes ++ (d, with_level l empty_node) ∷ [])
+    → HoldsNodes fs nodes → list_any (same_id d) (names_told fs) ≡ false
+    → HoldsNodes (fs ++ GivesLevel d l ∷ []) (nodes ++ (d, with_level l empty_node) ∷ [])
 told_first fs d l nodes holds none =
     let fs' = fs ++ GivesLevel d l ∷ [] in
     let names : names_told fs' ≡ names_told fs ++ d ∷ [] =
@@ -222,8 +224,8 @@ each_off g h off [] = refl
 each_off g h off (k ∷ ks) = let u = off k in let v = each_off g h off ks in cc
 
 -- a name that is asked for changes nothing
-pub told_asked : (fs : List Fact) (d : DeclarationId) (nodes : List (DeclarationId × MemoNode)) → Holds fs nodes
-    → Holds (fs ++ NeedsNode d ∷ []) nodes
+pub told_asked : (fs : List Fact) (d : DeclarationId) (nodes : List (DeclarationId × MemoNode)) → HoldsNodes fs nodes
+    → HoldsNodes (fs ++ NeedsNode d ∷ []) nodes
 told_asked fs d nodes holds =
     let names = names_same fs (NeedsNode d) refl in
     let off = λ (k : DeclarationId). node_toldf fs (NeedsNode d) k refl refl refl in

@@ -1,10 +1,10 @@
-//! The memo record of a whole tree.
+//! The memo record of a whole tree, and whether there is one.
 
-ghost use Rattle.std.specs.Prelude.{◌≡◌, ◌⊎◌, [], ◌∷◌, map, IfErr, IfOk, OnOk};
+ghost use Rattle.std.specs.Prelude.{◌≡◌, ◌⊎◌, [], ◌∷◌, None, map, IfErr, IfOk, OnOk};
 ghost use Rattle.std.specs.List.{flat_map};
 ghost use Rattle.rc_names.specs.Numbers.{same_id};
-ghost use Rattle.rc_memo.specs.Events.{escaping_in, listed, mention_scopes, scopes_in, target_scopes};
-ghost use Rattle.rc_memo.specs.Facts.{distinct};
+ghost use Rattle.rc_memo.specs.Events.{escaping_in, facts_told, listed, mention_scopes, scopes_in, target_scopes};
+ghost use Rattle.rc_memo.specs.Facts.{distinct, first_missing};
 ghost use Rattle.rc_memo.specs.Record.{dependency_name, dependency_names, IsRecordOf, IsUninitialised, param_name, recorded_scopes};
 ghost use Rattle.rc_memo.specs.TreeEvents.{events_in};
 ghost use Rattle.rc_memo.specs.inside.Growing.{AddsScopes, insert_all};
@@ -12,10 +12,10 @@ ghost use Rattle.rc_memo.specs.inside.HeldEvents.{as_event};
 
 use crate::event::{Mention, Target};
 use crate::events::{EventParts, Events};
-use crate::nodes::gather;
+use crate::nodes::{Gathered, gather};
 use crate::reader::RowReader;
 use crate::tree::events_of;
-use crate::{DeclSet, MemoRecord};
+use crate::{DeclSet, MemoNode, MemoRecord};
 use rc_hir::{Environment, Fault, ParamPattern, ReactiveScopeDependency};
 use rc_names::{DeclarationId, KeySet, Keyed, List, ScopeId};
 use rc_tree::ReactiveFunction;
@@ -43,13 +43,33 @@ pub fn collect(
     let events = events_of(&reader, &func.body)?;
     let escaping = escaping_of(alloc, &events)?;
     let scopes = scopes_of(&reader, &events)?;
-    let found = gather(alloc, &params, &events)?;
+    let found: Gathered<Keyed<DeclarationId, MemoNode>> = gather(alloc, &params, &events)?;
     Ok(MemoRecord {
-        nodes: found.nodes,
+        nodes: found.held,
         scopes,
         definitions: found.definitions,
         escaping,
     })
+}
+
+/// Checks that a function has a memo record, and makes none: each name of which the record needs a node has one.
+///
+/// Fails as `collect` does: with `Uninitialised` exactly if a name has no node where one is needed, and names the first
+/// such name; with `NoMemory` when out of memory; and with no other fault.
+///
+/// After oxc's prune_non_escaping_scopes.
+pub fn check_nodes(alloc: Global, func: &ReactiveFunction, env: &Environment) -> Result<(), Fault>
+    ensures ok { OnOk result
+        (first_missing [] (facts_told (map (param_name env.now) func.now.params) (events_in env.now func.now.body)) ≡ None) }
+
+    ensures uninitialised { IfErr result (λ fault. (fault ≡ Fault.NoMemory) ⊎ IsUninitialised
+        (map (param_name env.now) func.now.params) (events_in env.now func.now.body) fault) }
+{
+    let reader = RowReader { alloc, env };
+    let params = params_of(&reader, &func.params)?;
+    let events = events_of(&reader, &func.body)?;
+    let _names: Gathered<DeclSet> = gather(alloc, &params, &events)?;
+    Ok(())
 }
 
 /// Returns the declaration of a parameter.

@@ -18,6 +18,6 @@ mod rows;
 mod table;
 mod tree;
 
-pub use collecting::collect;
+pub use collecting::{check_nodes, collect};
 pub use level::{MemoizationLevel, join_aliases};
 pub use record::{DeclSet, MemoNode, MemoRecord};

@@ -1,7 +1,7 @@
-//! The nodes of a record, to which the facts of events are added one by one.
+//! What is held of the facts of events, to which they are added one by one.
 //!
-//! Each function has one clause: which facts it adds to nodes that hold the facts before. A fault names the first name
-//! of which a node is needed and which has none yet.
+//! Each function has one clause: which facts it adds to what holds the facts before. A fault names the first name of
+//! which a node is needed and which has none yet.
 
 ghost use Rattle.std.specs.Prelude.{◌≡◌, [], ◌∷◌, ◌++◌, ◌⊎◌, IfErr, IfOk, OnOk};
 ghost use Rattle.std.specs.List.{flat_map};
@@ -16,19 +16,21 @@ ghost use Rattle.rc_memo.specs.inside.Gathering.{with_loads};
 ghost use Rattle.rc_memo.specs.inside.HeldEvents.{as_event};
 
 mod facts;
+mod held;
+mod names;
 
+use crate::MemoizationLevel;
 use crate::event::{Mention, Target};
 use crate::events::{EventParts, Events};
-use crate::nodes::facts::{add_dependency, add_level, add_need, add_scope};
-use crate::{MemoNode, MemoizationLevel};
+use crate::nodes::held::HoldsFacts;
 use rc_hir::Fault;
 use rc_names::{DeclarationId, Keyed, List, ScopeId};
 use std::alloc::{AllocError, Global};
 
-/// The nodes so far, and the names that loads define.
+/// What is held of the facts so far, and the names that loads define.
 #[derive(Drop)]
-pub struct Nodes {
-    pub nodes: Keyed<DeclarationId, MemoNode>,
+pub struct Gathered<H> {
+    pub held: H,
     pub definitions: Keyed<DeclarationId, DeclarationId>,
 }
 
@@ -44,30 +46,30 @@ fn resolved(definitions: &Keyed<DeclarationId, DeclarationId>, name: Declaration
 
 /// Adds the scope of a name, where it has one.
 #[tactic(auto, using(crate::proofs::AddingLemmas::adds_nothing))]
-fn add_scope_if(
-    nodes: &mut Keyed<DeclarationId, MemoNode>,
+fn add_scope_if<H: HoldsFacts>(
+    held: &mut H,
     name: DeclarationId,
     scope: Option<ScopeId>,
 ) -> Result<(), Fault>
-    ensures { Adds (scope_facts name scope) nodes.old result nodes.new }
+    ensures { Adds H.holds (scope_facts name scope) held.old result held.new }
 {
     match scope {
-        Some(scope) => add_scope(nodes, name, scope),
+        Some(scope) => held.add_scope(name, scope),
         None => Ok(()),
     }
 }
 
 /// Adds each of these scopes to a name.
 #[tactic(auto, using(crate::proofs::AddingLemmas::adds_nothing, crate::proofs::AddingLemmas::adds_all))]
-fn add_scopes(
-    nodes: &mut Keyed<DeclarationId, MemoNode>,
+fn add_scopes<H: HoldsFacts>(
+    held: &mut H,
     name: DeclarationId,
     scopes: &[ScopeId],
 ) -> Result<(), Fault>
-    ensures { Adds (scopes_facts name scopes.now) nodes.old result nodes.new }
+    ensures { Adds H.holds (scopes_facts name scopes.now) held.old result held.new }
 {
     for scope in scopes {
-        match add_scope(nodes, name, *scope) {
+        match held.add_scope(name, *scope) {
             Ok(()) => {}
             Err(fault) => return Err(fault),
         }
@@ -76,28 +78,28 @@ fn add_scopes(
 }
 
 /// Adds the active scope of a mentioned name.
-fn add_mention(
+fn add_mention<H: HoldsFacts>(
     definitions: &Keyed<DeclarationId, DeclarationId>,
-    nodes: &mut Keyed<DeclarationId, MemoNode>,
+    held: &mut H,
     mention: Mention,
 ) -> Result<(), Fault>
-    ensures { Adds (mention_facts (spec_resolved definitions.now) mention) nodes.old result nodes.new }
+    ensures { Adds H.holds (mention_facts (spec_resolved definitions.now) mention) held.old result held.new }
 {
     let name = resolved(definitions, mention.name);
-    add_scope_if(nodes, name, mention.scope)
+    add_scope_if(held, name, mention.scope)
 }
 
 /// Adds the active scope of each mentioned name.
 #[tactic(auto, using(crate::proofs::AddingLemmas::adds_nothing, crate::proofs::AddingLemmas::adds_all))]
-fn add_mentions(
+fn add_mentions<H: HoldsFacts>(
     definitions: &Keyed<DeclarationId, DeclarationId>,
-    nodes: &mut Keyed<DeclarationId, MemoNode>,
+    held: &mut H,
     mentions: &[Mention],
 ) -> Result<(), Fault>
-    ensures { Adds (flat_map (mention_facts (spec_resolved definitions.now)) mentions.now) nodes.old result nodes.new }
+    ensures { Adds H.holds (flat_map (mention_facts (spec_resolved definitions.now)) mentions.now) held.old result held.new }
 {
     for mention in mentions {
-        match add_mention(definitions, nodes, *mention) {
+        match add_mention(definitions, held, *mention) {
             Ok(()) => {}
             Err(fault) => return Err(fault),
         }
@@ -107,35 +109,35 @@ fn add_mentions(
 
 /// Adds that a name depends on an operand, unless it is the operand.
 #[tactic(auto, using(crate::proofs::AddingLemmas::adds_nothing), unfolding(crate::specs::Events::operand_facts))]
-fn add_operand(
+fn add_operand<H: HoldsFacts>(
     definitions: &Keyed<DeclarationId, DeclarationId>,
-    nodes: &mut Keyed<DeclarationId, MemoNode>,
+    held: &mut H,
     name: DeclarationId,
     operand: Mention,
 ) -> Result<(), Fault>
-    ensures { Adds (operand_facts (spec_resolved definitions.now) name operand) nodes.old result nodes.new }
+    ensures { Adds H.holds (operand_facts (spec_resolved definitions.now) name operand) held.old result held.new }
 {
     let other = resolved(definitions, operand.name);
     if name == other {
         Ok(())
     } else {
-        add_dependency(nodes, name, other)
+        held.add_dependency(name, other)
     }
 }
 
 /// Adds that a name depends on each operand but itself.
 #[tactic(auto, using(crate::proofs::AddingLemmas::adds_nothing, crate::proofs::AddingLemmas::adds_all))]
-fn add_operands(
+fn add_operands<H: HoldsFacts>(
     definitions: &Keyed<DeclarationId, DeclarationId>,
-    nodes: &mut Keyed<DeclarationId, MemoNode>,
+    held: &mut H,
     name: DeclarationId,
     operands: &[Mention],
 ) -> Result<(), Fault>
-    ensures { Adds (flat_map (operand_facts (spec_resolved definitions.now) name) operands.now) nodes.old result
-        nodes.new }
+    ensures { Adds H.holds (flat_map (operand_facts (spec_resolved definitions.now) name) operands.now) held.old result
+        held.new }
 {
     for operand in operands {
-        match add_operand(definitions, nodes, name, *operand) {
+        match add_operand(definitions, held, name, *operand) {
             Ok(()) => {}
             Err(fault) => return Err(fault),
         }
@@ -145,54 +147,54 @@ fn add_operands(
 
 /// Adds what a target has besides its level: its dependencies and its active scope.
 #[tactic(auto, using(crate::proofs::AddingLemmas::adds_next, crate::proofs::AddingLemmas::adds_stop))]
-fn add_parts(
+fn add_parts<H: HoldsFacts>(
     definitions: &Keyed<DeclarationId, DeclarationId>,
-    nodes: &mut Keyed<DeclarationId, MemoNode>,
+    held: &mut H,
     name: DeclarationId,
     operands: &[Mention],
     mention: Mention,
 ) -> Result<(), Fault>
-    ensures { Adds (flat_map (operand_facts (spec_resolved definitions.now) name) operands.now
-        ++ mention_facts (spec_resolved definitions.now) mention) nodes.old result nodes.new }
+    ensures { Adds H.holds (flat_map (operand_facts (spec_resolved definitions.now) name) operands.now
+        ++ mention_facts (spec_resolved definitions.now) mention) held.old result held.new }
 {
-    match add_operands(definitions, nodes, name, operands) {
-        Ok(()) => add_mention(definitions, nodes, mention),
+    match add_operands(definitions, held, name, operands) {
+        Ok(()) => add_mention(definitions, held, mention),
         Err(fault) => Err(fault),
     }
 }
 
 /// Adds a target: its level, its dependencies and its active scope.
 #[tactic(auto, using(crate::proofs::AddingLemmas::adds_next, crate::proofs::AddingLemmas::adds_stop), unfolding(crate::specs::Events::target_facts))]
-fn add_target(
+fn add_target<H: HoldsFacts>(
     alloc: Global,
     definitions: &Keyed<DeclarationId, DeclarationId>,
-    nodes: &mut Keyed<DeclarationId, MemoNode>,
+    held: &mut H,
     operands: &[Mention],
     target: Target,
 ) -> Result<(), Fault>
-    ensures { Adds (target_facts (spec_resolved definitions.now) operands.now target) nodes.old result nodes.new }
+    ensures { Adds H.holds (target_facts (spec_resolved definitions.now) operands.now target) held.old result held.new }
 {
     let name = resolved(definitions, target.mention.name);
-    match add_level(alloc, nodes, name, target.level) {
-        Ok(()) => add_parts(definitions, nodes, name, operands, target.mention),
+    match held.add_level(alloc, name, target.level) {
+        Ok(()) => add_parts(definitions, held, name, operands, target.mention),
         Err(fault) => Err(fault),
     }
 }
 
 /// Adds each target of a row.
 #[tactic(auto, using(crate::proofs::AddingLemmas::adds_nothing, crate::proofs::AddingLemmas::adds_all))]
-fn add_targets(
+fn add_targets<H: HoldsFacts>(
     alloc: Global,
     definitions: &Keyed<DeclarationId, DeclarationId>,
-    nodes: &mut Keyed<DeclarationId, MemoNode>,
+    held: &mut H,
     operands: &[Mention],
     targets: &[Target],
 ) -> Result<(), Fault>
-    ensures { Adds (flat_map (target_facts (spec_resolved definitions.now) operands.now) targets.now) nodes.old result
-        nodes.new }
+    ensures { Adds H.holds (flat_map (target_facts (spec_resolved definitions.now) operands.now) targets.now) held.old result
+        held.new }
 {
     for target in targets {
-        match add_target(alloc, definitions, nodes, operands, *target) {
+        match add_target(alloc, definitions, held, operands, *target) {
             Ok(()) => {}
             Err(fault) => return Err(fault),
         }
@@ -202,32 +204,32 @@ fn add_targets(
 
 /// Adds a row: its operands, and then its targets.
 #[tactic(auto, using(crate::proofs::AddingLemmas::adds_next, crate::proofs::AddingLemmas::adds_stop))]
-fn add_row(
+fn add_row<H: HoldsFacts>(
     alloc: Global,
     definitions: &Keyed<DeclarationId, DeclarationId>,
-    nodes: &mut Keyed<DeclarationId, MemoNode>,
+    held: &mut H,
     operands: &[Mention],
     targets: &[Target],
 ) -> Result<(), Fault>
-    ensures { Adds (row_facts (spec_resolved definitions.now) operands.now targets.now) nodes.old result nodes.new }
+    ensures { Adds H.holds (row_facts (spec_resolved definitions.now) operands.now targets.now) held.old result held.new }
 {
-    match add_mentions(definitions, nodes, operands) {
-        Ok(()) => add_targets(alloc, definitions, nodes, operands, targets),
+    match add_mentions(definitions, held, operands) {
+        Ok(()) => add_targets(alloc, definitions, held, operands, targets),
         Err(fault) => Err(fault),
     }
 }
 
 /// Adds that a name needs a node, and that it has each of these scopes.
 #[tactic(auto, using(crate::proofs::AddingLemmas::adds_next, crate::proofs::AddingLemmas::adds_stop_first))]
-fn add_within(
-    nodes: &mut Keyed<DeclarationId, MemoNode>,
+fn add_within<H: HoldsFacts>(
+    held: &mut H,
     name: DeclarationId,
     scopes: &[ScopeId],
 ) -> Result<(), Fault>
-    ensures { Adds (NeedsNode name ∷ scopes_facts name scopes.now) nodes.old result nodes.new }
+    ensures { Adds H.holds (NeedsNode name ∷ scopes_facts name scopes.now) held.old result held.new }
 {
-    match add_need(nodes, name) {
-        Ok(()) => add_scopes(nodes, name, scopes),
+    match held.add_need(name) {
+        Ok(()) => add_scopes(held, name, scopes),
         Err(fault) => Err(fault),
     }
 }
@@ -244,18 +246,18 @@ fn define(
     Ok(())
 }
 
-impl Nodes {
+impl<H: HoldsFacts> Gathered<H> {
     /// Adds an event.
     #[tactic(auto, using(crate::proofs::AddingLemmas::adds_nothing, crate::proofs::AddingLemmas::adds_memory))]
     fn add_event(&mut self, alloc: Global, event: EventParts<'_>) -> Result<(), Fault>
-        ensures facts { Adds (event_facts (spec_resolved self.old.definitions) (as_event event.entry)) self.old.nodes
-            result self.new.nodes }
+        ensures facts { Adds H.holds (event_facts (spec_resolved self.old.definitions) (as_event event.entry)) self.old.held
+            result self.new.held }
         ensures definitions { OnOk result
             (self.new.definitions ≡ with_loads self.old.definitions (loads_in (as_event event.entry))) }
     {
         match event {
             EventParts::Row { operands, targets } => {
-                add_row(alloc, &self.definitions, &mut self.nodes, operands, targets)
+                add_row(alloc, &self.definitions, &mut self.held, operands, targets)
             }
             EventParts::Load { target, loaded } => {
                 match define(&mut self.definitions, target, loaded) {
@@ -263,7 +265,7 @@ impl Nodes {
                     Err(_) => Err(Fault::NoMemory),
                 }
             }
-            EventParts::Within { name, scopes } => add_within(&mut self.nodes, name, scopes),
+            EventParts::Within { name, scopes } => add_within(&mut self.held, name, scopes),
             EventParts::Escape { .. } => Ok(()),
         }
     }
@@ -271,7 +273,7 @@ impl Nodes {
     /// Adds events, one after the other.
     #[tactic(auto, using(crate::proofs::EventsLemmas::adds_no_events, crate::proofs::EventsLemmas::adds_all_events))]
     fn add_events(&mut self, alloc: Global, events: &Events) -> Result<(), Fault>
-        ensures { AddsEvents events.now self.old result self.new }
+        ensures { AddsEvents H.holds events.now self.old result self.new }
     {
         for i in 0..events.len() {
             match self.add_one(alloc, events.at(i)) {
@@ -285,7 +287,7 @@ impl Nodes {
     /// Adds an event, whatever the events before are.
     #[tactic(auto, using(crate::proofs::EventsLemmas::adds_event))]
     fn add_one(&mut self, alloc: Global, event: EventParts<'_>) -> Result<(), Fault>
-        ensures { AddsEvents (as_event event.entry ∷ []) self.old result self.new }
+        ensures { AddsEvents H.holds (as_event event.entry ∷ []) self.old result self.new }
     {
         self.add_event(alloc, event)
     }
@@ -293,15 +295,15 @@ impl Nodes {
 
 /// Adds that each parameter is a target that asks nothing.
 #[tactic(auto, using(crate::proofs::AddingLemmas::adds_nothing, crate::proofs::AddingLemmas::adds_all))]
-fn add_params(
+fn add_params<H: HoldsFacts>(
     alloc: Global,
-    nodes: &mut Keyed<DeclarationId, MemoNode>,
+    held: &mut H,
     params: &List<DeclarationId>,
 ) -> Result<(), Fault>
-    ensures { Adds (params_facts params.now) nodes.old result nodes.new }
+    ensures { Adds H.holds (params_facts params.now) held.old result held.new }
 {
     for param in params.as_slice() {
-        match add_level(alloc, nodes, *param, MemoizationLevel::Never) {
+        match held.add_level(alloc, *param, MemoizationLevel::Never) {
             Ok(()) => {}
             Err(fault) => return Err(fault),
         }
@@ -309,21 +311,25 @@ fn add_params(
     Ok(())
 }
 
-/// Returns the nodes of these parameters and events, with the names that loads define.
+/// Returns what is held of the facts of these parameters and events, with the names that loads define.
 ///
 /// Fails with `Uninitialised` exactly if a name of which a node is needed has none yet, and names the first such name.
 /// Fails with `NoMemory` when out of memory, and with no other fault.
 #[tactic(auto, using(crate::proofs::EventsLemmas::gathers_ok, crate::proofs::EventsLemmas::gathers_no_params, crate::proofs::EventsLemmas::gathers_no_events))]
-pub fn gather(alloc: Global, params: &List<DeclarationId>, events: &Events) -> Result<Nodes, Fault>
-    ensures ok { IfOk result (λ found. HasGathered params.now events.now found) }
+pub fn gather<H: HoldsFacts>(
+    alloc: Global,
+    params: &List<DeclarationId>,
+    events: &Events,
+) -> Result<Gathered<H>, Fault>
+    ensures ok { IfOk result (λ found. HasGathered H.holds params.now events.now found) }
     ensures uninitialised { IfErr result (λ fault. (fault ≡ Fault.NoMemory)
         ⊎ IsUninitialised params.now events.now fault) }
 {
-    let mut found = Nodes {
-        nodes: Keyed::new(alloc),
+    let mut found = Gathered {
+        held: H::none(alloc),
         definitions: Keyed::new(alloc),
     };
-    match add_params(alloc, &mut found.nodes, params) {
+    match add_params(alloc, &mut found.held, params) {
         Ok(()) => {}
         Err(fault) => return Err(fault),
     }

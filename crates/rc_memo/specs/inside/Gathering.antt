@@ -1,4 +1,4 @@
--- Facts that are put into nodes, one after the other.
+-- Facts that are added to what is held of them, one after the other: to nodes, or to the names that have one.
 use Rattle.std.specs.Prelude.{◌≡◌, ◌⊎◌, false, List, [], ◌∷◌, ◌++◌, None, Some, Result, Ok, Err, OnOk}
 use Rattle.std.specs.Prelude.{unwrap_or, if◌then◌else◌}
 use Rattle.std.specs.List.{flat_map}
@@ -14,7 +14,7 @@ use Rattle.rc_memo.specs.Level.{stronger}
 use Rattle.rc_memo.specs.declared.event.MemoEvent.{MemoEvent}
 use Rattle.rc_memo.specs.declared.level.MemoizationLevel.{MemoizationLevel}
 use Rattle.rc_memo.specs.declared.level.MemoizationLevel.TheVariants.{Never}
-use Rattle.rc_memo.specs.declared.nodes.Nodes.{Nodes}
+use Rattle.rc_memo.specs.declared.nodes.Gathered.{Gathered}
 use Rattle.rc_memo.specs.declared.record.MemoNode.{MemoNode}
 
 -- the nodes as they are held
@@ -40,19 +40,25 @@ abbrev pub with_level : MemoizationLevel → MemoNode → MemoNode
 with_level level node = record node { level = stronger node.level level }
 
 -- the nodes are those of the facts, which tell nothing of a name that is no target
-pub record Holds (facts : List Fact) (nodes : Held) : Type 0 where
+pub record HoldsNodes (facts : List Fact) (nodes : Held) : Type 0 where
   pub nodes_are : nodes ≡ nodes_told facts
   pub grounded : (name : DeclarationId) → is_among (names_told facts) name ≡ false → node_told facts name ≡ empty_node
 
--- after nodes of the facts before: the nodes are those of more facts, or the fault names the first missing name
-unfoldable pub Gathers : List Fact → List Fact → Result (Unit {0}) Fault → Held → Type 0
-Gathers before facts (Ok u) nodes = (first_missing before facts ≡ None) × Holds (before ++ facts) nodes
-Gathers before facts (Err fault) nodes = (fault ≡ NoMemory)
-    ⊎ ((name : DeclarationId) × (fault ≡ Uninitialised name) × (first_missing before facts ≡ Some name))
+-- the names are those that have a node
+abbrev pub HoldsNames : List Fact → List DeclarationId → Type 0
+HoldsNames facts names = names ≡ names_told facts
 
--- a call puts more facts into the nodes, whatever the facts before are
-unfoldable pub Adds : List Fact → Held → Result (Unit {0}) Fault → Held → Type 0
-Adds facts old result new = (before : List Fact) → Holds before old → Gathers before facts result new
+-- what is held of facts
+module _ {S : Type 0} (Holds : List Fact → S → Type 0) where
+  -- after what holds the facts before: it holds more facts, or the fault names the first missing name
+  unfoldable pub Gathers : List Fact → List Fact → Result (Unit {0}) Fault → S → Type 0
+  Gathers before facts (Ok u) held = (first_missing before facts ≡ None) × Holds (before ++ facts) held
+  Gathers before facts (Err fault) held = (fault ≡ NoMemory)
+      ⊎ ((name : DeclarationId) × (fault ≡ Uninitialised name) × (first_missing before facts ≡ Some name))
+
+  -- a call adds more facts to what is held, whatever the facts before are
+  unfoldable pub Adds : List Fact → S → Result (Unit {0}) Fault → S → Type 0
+  Adds facts old result new = (before : List Fact) → Holds before old → Gathers before facts result new
 
 -- a name as the definitions resolve it
 abbrev pub resolved : List (DeclarationId × DeclarationId) → DeclarationId → DeclarationId
@@ -63,19 +69,20 @@ abbrev pub with_loads : List Loaded → List Loaded → List Loaded
 with_loads definitions [] = definitions
 with_loads definitions (load ∷ loads) = with_loads (insert_entry same_id definitions load.0 load.1) loads
 
--- after the facts and loads before: what more events put into the nodes and definitions
-pub record GathersEvents (before : List Fact) (loads : List Loaded) (events : List MemoEvent)
-    (result : Result (Unit {0}) Fault) (new : Nodes) : Type 0 where
-  pub facts : Gathers before (facts_behind loads events) result new.nodes
-  pub definitions : OnOk result (new.definitions ≡ definitions_told (loads ++ flat_map loads_in events))
+module _ {S : Type 0} (Holds : List Fact → S → Type 0) where
+  -- after the facts and loads before: what more events add to what is held, and to the definitions
+  pub record GathersEvents (before : List Fact) (loads : List Loaded) (events : List MemoEvent)
+      (result : Result (Unit {0}) Fault) (new : Gathered S) : Type 0 where
+    pub facts : Gathers Holds before (facts_behind loads events) result new.held
+    pub definitions : OnOk result (new.definitions ≡ definitions_told (loads ++ flat_map loads_in events))
 
--- a call adds events, whatever the facts and loads before are
-unfoldable pub AddsEvents : List MemoEvent → Nodes → Result (Unit {0}) Fault → Nodes → Type 0
-AddsEvents events old result new = (before : List Fact) (loads : List Loaded) → Holds before old.nodes
-    → old.definitions ≡ definitions_told loads → GathersEvents before loads events result new
+  -- a call adds events, whatever the facts and loads before are
+  unfoldable pub AddsEvents : List MemoEvent → Gathered S → Result (Unit {0}) Fault → Gathered S → Type 0
+  AddsEvents events old result new = (before : List Fact) (loads : List Loaded) → Holds before old.held
+      → old.definitions ≡ definitions_told loads → GathersEvents before loads events result new
 
--- the nodes and definitions are those of the parameters and events, and no name that needs a node has none
-pub record HasGathered (params : List DeclarationId) (events : List MemoEvent) (found : Nodes) : Type 0 where
-  pub complete : first_missing [] (facts_told params events) ≡ None
-  pub nodes : found.nodes ≡ nodes_told (facts_told params events)
-  pub definitions : found.definitions ≡ definitions_told (flat_map loads_in events)
+  -- the facts of the parameters and events are held with the definitions, and no name that needs a node has none
+  pub record HasGathered (params : List DeclarationId) (events : List MemoEvent) (found : Gathered S) : Type 0 where
+    pub complete : first_missing [] (facts_told params events) ≡ None
+    pub held : Holds (facts_told params events) found.held
+    pub definitions : found.definitions ≡ definitions_told (flat_map loads_in events)

@@ -5,16 +5,17 @@ use Rattle.rc_memo.specs.inside.Gathering.{resolved}
 use Rattle.rc_memo.proofs.nodes.add_operands.Goals as goal
 
 pub loop-operand-preserved : goal.loop-operand-preserved
-loop-operand-preserved c =
-    adds_more (operand_facts (resolved c.args.definitions.now) c.args.name) c.args.operands.now
+loop-operand-preserved g c =
+    adds_more g.H.HoldsFacts.holds (operand_facts (resolved c.args.definitions.now) c.args.name) c.args.operands.now
     c.loop-operand.operand-index _
-    c.in-Ok.field-0 c.args.nodes.now c.loop-operand.nodes c.add_operand.new.nodes c.loop-operand-test.true
+    c.in-Ok.field-0 c.args.held.now c.loop-operand.held c.add_operand.new.held c.loop-operand-test.true
     c.loop-operand.invariant
     c.in-Ok.ensures
 
 pub returns-in-Err : goal.returns-in-Err
-returns-in-Err c =
-    adds_stopped (operand_facts (resolved c.args.definitions.now) c.args.name) _ c.args.operands.now
+returns-in-Err g c =
+    adds_stopped g.H.HoldsFacts.holds (operand_facts (resolved c.args.definitions.now) c.args.name) _
+    c.args.operands.now
     c.loop-operand.operand-index _
-    c.in-Err.fault c.args.nodes.now c.loop-operand.nodes c.add_operand.new.nodes refl
+    c.in-Err.fault c.args.held.now c.loop-operand.held c.add_operand.new.held refl
     c.loop-operand-test.true c.loop-operand.invariant c.in-Err.ensures

@@ -5,6 +5,7 @@ use Rattle.rc_memo.specs.inside.Gathering.{Adds, resolved}
 use Rattle.rc_memo.proofs.nodes.add_operands.Given as goal
 
 abbrev pub invariant-loop-operand : goal.invariant-loop-operand
-invariant-loop-operand l =
-    Adds (flat_map (operand_facts (resolved l.definitions) l.name) (take l.operand-index l.operands)) l.fn.nodes (Ok
-    tt) l.nodes
+invariant-loop-operand g l =
+    Adds g.H.HoldsFacts.holds (flat_map (operand_facts (resolved l.definitions) l.name) (take l.operand-index
+    l.operands)) l.fn.held (Ok
+    tt) l.held

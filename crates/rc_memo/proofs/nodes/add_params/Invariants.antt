@@ -6,5 +6,6 @@ use Rattle.rc_memo.specs.inside.Gathering.{Adds}
 use Rattle.rc_memo.proofs.nodes.add_params.Given as goal
 
 abbrev pub invariant-loop-param : goal.invariant-loop-param
-invariant-loop-param l =
-    Adds (flat_map (λ param. GivesLevel param Never ∷ []) (take l.param-index l.param-items)) l.fn.nodes (Ok tt) l.nodes
+invariant-loop-param g l =
+    Adds g.H.HoldsFacts.holds (flat_map (λ param. GivesLevel param Never ∷ []) (take l.param-index l.param-items))
+    l.fn.held (Ok tt) l.held

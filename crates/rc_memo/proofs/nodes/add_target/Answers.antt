@@ -9,10 +9,11 @@ use Rattle.rc_memo.proofs.nodes.add_target.Goals as goal
 
 pub returns-in-Err : goal.returns-in-Err
 unfolding target_facts
-returns-in-Err c =
+returns-in-Err g c =
     let resolve = resolved c.args.definitions.now in
-    subst (λ (name : DeclarationId). Adds (GivesLevel name c.args.target.level
+    subst (λ (name : DeclarationId). Adds g.H.HoldsFacts.holds (GivesLevel name c.args.target.level
     ∷ (flat_map (operand_facts resolve name) c.args.operands.now ++ mention_facts resolve c.args.target.mention))
-    c.args.nodes.now (Err c.in-Err.fault) c.add_level.new.nodes)
-    c.resolved-name.ensures (adds_stop (GivesLevel c.resolved-name.result c.args.target.level ∷ []) _ c.in-Err.fault
-    c.args.nodes.now c.add_level.new.nodes c.add_level.new.nodes c.in-Err.ensures)
+    c.args.held.now (Err c.in-Err.fault) c.add_level.new.self)
+    c.resolved-name.ensures (adds_stop g.H.HoldsFacts.holds (GivesLevel c.resolved-name.result c.args.target.level ∷
+    []) _ c.in-Err.fault
+    c.args.held.now c.add_level.new.self c.add_level.new.self c.in-Err.ensures)

@@ -1,0 +1,100 @@
+-- Facts that are added one by one to nodes.
+use Rattle.std.proofs.Common.{◌≡◌, ◌∙◌, ◌++◌, inr, Bool, true, false, List, [], ◌∷◌, None, Some, Ok, Err, ap, cond}
+use Rattle.std.proofs.Common.{refl}
+use Rattle.std.proofs.Common.{subst, sym}
+use Rattle.std.specs.List.{list_any}
+use Rattle.std.specs.Map.{keys_of}
+use Rattle.indexmap.specs.IndexMap.{insert_entry}
+use Rattle.rc_hir.specs.declared.fault.Fault.TheVariants.{Uninitialised}
+use Rattle.rc_names.specs.Numbers.{DeclarationId, ScopeId, same_id}
+use Rattle.rc_memo.proofs.EntryLemmas.{at_absent, insert_absent}
+use Rattle.rc_memo.proofs.NodesLemmas.{told_asked, told_first, told_level, told_need, told_scope}
+use Rattle.rc_memo.specs.Facts.{Fact, GivesLevel, DependsOn, HasScope, NeedsNode, at_each, names_told, node_told}
+use Rattle.rc_memo.specs.Facts.{or_else}
+use Rattle.rc_memo.specs.declared.level.MemoizationLevel.{MemoizationLevel}
+use Rattle.rc_memo.specs.declared.record.MemoNode.{MemoNode}
+use Rattle.rc_memo.specs.inside.Gathering.{Adds, Gathers, HoldsNodes, at_name, empty_node, with_dependency, with_level}
+use Rattle.rc_memo.specs.inside.Gathering.{with_scope}
+
+pub keys_each : {V : Type 0} (g : DeclarationId → V) (ks : List DeclarationId) → keys_of (at_each g ks) ≡ ks
+keys_each g [] = refl
+keys_each g (k ∷ ks) = ap (λ w. k ∷ w) (keys_each g ks)
+
+-- the keys are the targets
+pub keys_are : (fs : List Fact) (nodes : List (DeclarationId × MemoNode)) → HoldsNodes fs nodes → keys_of nodes
+    ≡ names_told fs
+keys_are fs nodes holds = ap keys_of holds.nodes_are ∙ keys_each (node_told fs) (names_told fs)
+
+there : (fs : List Fact) (nodes : List (DeclarationId × MemoNode)) (d : DeclarationId) (b : Bool) → HoldsNodes fs nodes
+    → list_any (same_id d) (keys_of nodes) ≡ b → list_any (same_id d) (names_told fs) ≡ b
+there fs nodes d b holds e = ap (list_any (same_id d)) (sym (keys_are fs nodes holds)) ∙ e
+
+pub adds_dependency : (d e : DeclarationId) (old new : List (DeclarationId × MemoNode)) → new
+    ≡ at_name d (with_dependency e) old → list_any (same_id d) (keys_of old) ≡ true
+    → Adds HoldsNodes (DependsOn d e ∷ []) old (Ok tt) new
+unfolding Adds Gathers
+adds_dependency d e old new is found fs holds = let t = there fs old d true holds found in (
+  ap (λ w. or_else (cond w None (Some d)) None) t,
+  subst (HoldsNodes (fs ++ DependsOn d e ∷ [])) (sym is)
+      (told_need fs d e old holds t),
+)
+
+pub adds_dependency_missing : (d e : DeclarationId) (old new : List (DeclarationId × MemoNode))
+    → list_any (same_id d) (keys_of old) ≡ false → Adds HoldsNodes (DependsOn d e ∷ []) old (Err (Uninitialised d)) new
+unfolding Adds Gathers
+adds_dependency_missing d e old new found fs holds =
+    inr (d, refl, ap (λ w. or_else (cond w None (Some d)) None) (there fs old d false holds found))
+
+pub adds_scope : (d : DeclarationId) (c : ScopeId) (old new : List (DeclarationId × MemoNode)) → new
+    ≡ at_name d (with_scope c) old → list_any (same_id d) (keys_of old) ≡ true
+    → Adds HoldsNodes (HasScope d c ∷ []) old (Ok tt) new
+unfolding Adds Gathers
+adds_scope d c old new is found fs holds = let t = there fs old d true holds found in (
+  ap (λ w. or_else (cond w None (Some d)) None) t,
+  subst (HoldsNodes (fs ++ HasScope d c ∷ [])) (sym is)
+      (told_scope fs d c old holds t),
+)
+
+pub adds_scope_missing : (d : DeclarationId) (c : ScopeId) (old new : List (DeclarationId × MemoNode))
+    → list_any (same_id d) (keys_of old) ≡ false → Adds HoldsNodes (HasScope d c ∷ []) old (Err (Uninitialised d)) new
+unfolding Adds Gathers
+adds_scope_missing d c old new found fs holds =
+    inr (d, refl, ap (λ w. or_else (cond w None (Some d)) None) (there fs old d false holds found))
+
+pub adds_level : (d : DeclarationId) (l : MemoizationLevel) (old new : List (DeclarationId × MemoNode)) → new
+    ≡ at_name d (with_level l) old → list_any (same_id d) (keys_of old) ≡ true
+    → Adds HoldsNodes (GivesLevel d l ∷ []) old (Ok tt) new
+unfolding Adds Gathers
+adds_level d l old new is found fs holds = (
+  refl,
+  subst (HoldsNodes (fs ++ GivesLevel d l ∷ [])) (sym is)
+      (told_level fs d l old holds (there fs old d true holds found)),
+)
+
+-- a first target; `between` are the nodes after the look for an old one
+pub adds_first : (d : DeclarationId) (l : MemoizationLevel) (old between new : List (DeclarationId × MemoNode))
+    (node : MemoNode) → between ≡ at_name d (with_level l) old → list_any (same_id d) (keys_of old) ≡ false → node
+    ≡ with_level l empty_node →
+    new ≡ insert_entry same_id between d node → Adds HoldsNodes (GivesLevel d l ∷ []) old (Ok tt) new
+unfolding Adds Gathers
+adds_first d l old between new node is found node_is put fs holds =
+    let same = is ∙ at_absent d (with_level l) old found in
+    let whole = put ∙ ap (λ w. insert_entry same_id w d node) same ∙ insert_absent d node old found
+    ∙ ap (λ w. old ++ (d, w) ∷ []) node_is in (
+      refl,
+      subst (HoldsNodes (fs ++ GivesLevel d l ∷ [])) (sym whole)
+          (told_first fs d l old holds (there fs old d false holds found)),
+    )
+
+pub adds_asked : (d : DeclarationId) (nodes : List (DeclarationId × MemoNode)) → list_any (same_id d) (keys_of nodes)
+    ≡ true → Adds HoldsNodes (NeedsNode d ∷ []) nodes (Ok tt) nodes
+unfolding Adds Gathers
+adds_asked d nodes found fs holds =
+    (ap (λ w. or_else (cond w None (Some d)) None) (there fs nodes d true holds found), told_asked fs d nodes holds)
+
+pub adds_asked_missing : (d : DeclarationId) (nodes : List (DeclarationId × MemoNode))
+    → list_any (same_id d) (keys_of nodes) ≡ false → Adds HoldsNodes (NeedsNode d ∷ []) nodes (Err (Uninitialised d))
+    nodes
+unfolding Adds Gathers
+adds_asked_missing d nodes found fs holds =
+    inr (d, refl, ap (λ w. or_else (cond w None (Some d)) None) (there fs nodes d false holds found))

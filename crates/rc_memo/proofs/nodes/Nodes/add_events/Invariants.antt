@@ -1,6 +1,0 @@
-use Rattle.std.proofs.Common.{Ok, take}
-use Rattle.rc_memo.specs.inside.Gathering.{AddsEvents}
-use Rattle.rc_memo.proofs.nodes.Nodes.add_events.Given as goal
-
-abbrev pub invariant-loop-i : goal.invariant-loop-i
-invariant-loop-i l = AddsEvents (take l.i l.events) l.fn.self (Ok tt) l.self

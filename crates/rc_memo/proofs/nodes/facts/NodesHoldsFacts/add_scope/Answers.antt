@@ -1,0 +1,13 @@
+use Rattle.std.proofs.Common.{◌∙◌, sym}
+use Rattle.rc_memo.proofs.HeldNodesLemmas.{adds_scope, adds_scope_missing}
+use Rattle.rc_memo.proofs.nodes.facts.NodesHoldsFacts.add_scope.Goals as goal
+
+pub returns-in-Ok-true : goal.returns-in-Ok-true
+returns-in-Ok-true c =
+    adds_scope c.args.name c.args.scope c.args.self.now c.put_scope.new.nodes c.in-Ok-true.ensures.nodes
+    (sym c.in-Ok-true.ensures.found ∙ c.in-Ok-true.field-0-test)
+
+pub returns-in-Ok-false : goal.returns-in-Ok-false
+returns-in-Ok-false c =
+    adds_scope_missing c.args.name c.args.scope c.args.self.now c.put_scope.new.nodes
+    (sym c.in-Ok-false.ensures.found ∙ c.in-Ok-false.field-0-test)

@@ -1,0 +1,58 @@
+//! Adding one fact to the names that have a node, where nothing else is asked of the facts.
+
+ghost use Rattle.std.specs.Prelude.{◌≡◌, ◌∷◌, [], None, Some};
+ghost use Rattle.rc_memo.specs.Facts.{Fact, needed_by, target_told};
+ghost use Rattle.rc_memo.specs.inside.Gathering.{Adds, HoldsNames};
+
+use crate::nodes::held::HoldsFacts;
+use crate::{DeclSet, MemoizationLevel};
+use rc_hir::Fault;
+use rc_names::{DeclarationId, KeySet, ScopeId};
+use std::alloc::Global;
+
+/// Refuses a fact that needs a node of the name, if the name has none.
+#[tactic(auto, using(crate::proofs::HeldNamesLemmas::names_needed, crate::proofs::HeldNamesLemmas::names_missing))]
+fn need(names: &DeclSet, name: DeclarationId) -> Result<(), Fault>
+    ensures { (fact : Fact) → needed_by fact ≡ Some name → target_told fact ≡ None
+        → Adds HoldsNames (fact ∷ []) names.now result names.now }
+{
+    if names.contains(name) {
+        Ok(())
+    } else {
+        Err(Fault::Uninitialised { declaration: name })
+    }
+}
+
+impl HoldsFacts for KeySet<DeclarationId> {
+    ghost holds = { HoldsNames };
+
+    #[tactic(auto, using(crate::proofs::EventsLemmas::no_names))]
+    fn none(alloc: Global) -> KeySet<DeclarationId> {
+        KeySet::new(alloc)
+    }
+
+    #[tactic(auto, using(crate::proofs::HeldNamesLemmas::names_level, crate::proofs::AddingLemmas::adds_memory))]
+    fn add_level(
+        &mut self,
+        _alloc: Global,
+        name: DeclarationId,
+        _level: MemoizationLevel,
+    ) -> Result<(), Fault> {
+        match self.insert(name) {
+            Ok(_) => Ok(()),
+            Err(_) => Err(Fault::NoMemory),
+        }
+    }
+
+    fn add_dependency(&mut self, name: DeclarationId, _other: DeclarationId) -> Result<(), Fault> {
+        need(self, name)
+    }
+
+    fn add_scope(&mut self, name: DeclarationId, _scope: ScopeId) -> Result<(), Fault> {
+        need(self, name)
+    }
+
+    fn add_need(&mut self, name: DeclarationId) -> Result<(), Fault> {
+        need(self, name)
+    }
+}
