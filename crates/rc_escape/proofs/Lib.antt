@@ -10,6 +10,7 @@ pub mod MemoizedIsInGreatest
 pub mod LowestScopeLemmas
 pub mod MemoSetLemmas
 pub mod WalkEnds
+pub mod BlockScopes
 pub mod OutputsLemmas
 pub mod StoresLemmas
 pub mod OneRecord

@@ -2,10 +2,11 @@
 //!
 //! After oxc's prune_non_escaping_scopes.
 
-ghost use Rattle.std.specs.Prelude.{◌≡◌, Contains, IfErr, OnOk};
+ghost use Rattle.std.specs.Prelude.{◌≡◌, Contains, IfErr, IfOk, OnOk};
 ghost use Rattle.rc_escape.specs.Outputs.{block_scopes};
 ghost use Rattle.rc_escape.specs.WholeRecord.{IsEscapeFault};
 ghost use Rattle.rc_escape.specs.NotEscaping.{IsNeededOutput, IsWithoutNotEscaping};
+ghost use Rattle.rc_escape.specs.inside.NotEscapingSteps.{Decide};
 ghost use Rattle.std.specs.List.{IsDistinct};
 ghost use Rattle.rc_names.specs.Numbers.{DeclarationId as Declaration, same_id, ScopeId as Scope};
 ghost use Rattle.rc_runs.specs.Erase.{erased};
@@ -16,11 +17,13 @@ mod outputs;
 mod rows;
 mod transform;
 
-use crate::memoized;
 use crate::not_escaping::met::Met;
 use crate::not_escaping::transform::NotEscaping;
+use crate::{DeclSet, memoized};
+use rc_checks::scopes_in;
 use rc_hir::{Environment, Fault};
-use rc_memo::collect;
+use rc_memo::{check_nodes, collect};
+use rc_names::KeySet;
 use rc_tree::ReactiveFunction;
 use rc_walk::rewrite::transform_reactive_function;
 use std::alloc::Global;
@@ -51,8 +54,7 @@ pub fn prune_non_escaping_scopes(
 
     ensures refused { IfErr result (IsEscapeFault env.now func.old) }
 {
-    let rec = collect(alloc, func, env)?;
-    let set = memoized(alloc, &rec)?;
+    let set = deciding_names(alloc, func, env)?;
     let mut transform = NotEscaping {
         alloc,
         env,
@@ -60,4 +62,25 @@ pub fn prune_non_escaping_scopes(
     };
     let mut met = Met::new(alloc);
     transform_reactive_function(alloc, func, &mut transform, &mut met)
+}
+
+/// Returns the memoized names of a function. Where no scope has a block they make no difference: then no record is made,
+/// and none of them is returned.
+///
+/// Fails as `prune_non_escaping_scopes` does.
+fn deciding_names(
+    alloc: Global,
+    func: &ReactiveFunction,
+    env: &Environment,
+) -> Result<DeclSet, Fault>
+    ensures ok { IfOk result (Decide env.now func.now) }
+    ensures refused { IfErr result (IsEscapeFault env.now func.now) }
+{
+    if scopes_in(alloc, &func.body)?.is_empty() {
+        check_nodes(alloc, func, env)?;
+        return Ok(KeySet::new(alloc));
+    }
+    let rec = collect(alloc, func, env)?;
+    let set = memoized(alloc, &rec)?;
+    Ok(set)
 }

@@ -21,7 +21,7 @@ use Rattle.rc_escape.specs.Outputs.{is_dissolved, staying_scopes}
 use Rattle.rc_escape.specs.WholeRecord.{HasWholeRecord}
 use Rattle.rc_escape.specs.NotEscaping.{IsNeededOutput}
 use Rattle.rc_pipe.proofs.EventsStay.{events_stay, same_needed, same_record}
-use Rattle.rc_pipe.proofs.BlockScopes.{same_scopes}
+use Rattle.rc_escape.proofs.BlockScopes.{same_scopes}
 use Rattle.rc_pipe.proofs.EndedScopes.{ended_scopes}
 use Rattle.rc_pipe.proofs.ListedOnce.{from_filter, from_map, into_filter, into_map, one_element}
 

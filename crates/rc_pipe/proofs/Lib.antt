@@ -6,7 +6,6 @@ mod OutsideLemmas
 mod CausesLemmas
 mod BlocksLemmas
 mod RunsElsewhere
-mod BlockScopes
 mod EventsStay
 mod PassesLemmas
 mod OperandsStayRead

@@ -1,22 +1,15 @@
 -- The body is rebuilt for the memoized names, and the faults are those of the record.
 use Rattle.std.proofs.lemmas.Result.{IfErr-weaker, err_from_is_err_and, on_ok_weaker}
 use Rattle.rc_escape.proofs.NotEscaping.KeptParts.{erased_kept, still_known}
-use Rattle.rc_escape.proofs.NotEscaping.LeftScopes.{left_once, without_not_escaping}
+use Rattle.rc_escape.proofs.NotEscaping.LeftScopes.{left_once}
 use Rattle.rc_escape.proofs.NotEscaping.NeededOutputs.{needed_left}
-use Rattle.rc_escape.proofs.NotEscaping.StepsLemmas.{left_rebuilt, memory_fault, node_fault, only_memory, scope_fault}
+use Rattle.rc_escape.proofs.NotEscaping.StepsLemmas.{left_rebuilt, memory_fault, only_memory}
 use Rattle.rc_escape.proofs.not_escaping.prune_non_escaping_scopes.Goals as goal
 
 pub returns-clause-ok : goal.returns-clause-ok
 returns-clause-ok c =
     let call = c.transform_reactive_function in
-    on_ok_weaker call.result
-    (without_not_escaping c.args.env.now c.args.func.now c.in_ok-set.set call.new.func.body
-    (record {
-      rec = c.in_ok-rec.rec;
-      recorded = c.in_ok-rec.ensures.ok;
-      whole = c.in_ok-set.ensures.recorded;
-      memoized = c.in_ok-set.ensures.ok;
-    }))
+    on_ok_weaker call.result (c.in_ok-set.ensures.ok call.new.func.body)
     (left_rebuilt (λ it. it.env.now) (λ it. it.set.now) _ _ _ _ c.args.func.now.body call.new.func.body call.result
     call.ensures.walk c.new-met.ensures)
 
@@ -54,14 +47,7 @@ returns-clause-refused c =
     (only_memory (λ it. it.env.now) (λ it. it.set.now) _ _ _ _ c.args.func.now.body call.new.func.body call.result
     call.ensures.walk c.new-met.ensures)
 
-pub returns-in_err-rec-clause-refused : goal.returns-in_err-rec-clause-refused
-returns-in_err-rec-clause-refused c =
-    let p = err_from_is_err_and c.from_residual.result c.from_residual.ensures.1 in
-    rw (p.1, p.2) (node_fault c.args.env.now c.args.func.now c.in_err-rec.field-0.0 c.in_err-rec.ensures.uninitialised)
-
 pub returns-in_err-set-clause-refused : goal.returns-in_err-set-clause-refused
 returns-in_err-set-clause-refused c =
-    let exit = c.from_residual-in_err-set in
-    let p = err_from_is_err_and exit.result exit.ensures.1 in
-    rw (p.1, p.2) (scope_fault c.args.env.now c.args.func.now c.in_err-set.field-0.0 c.in_ok-rec.rec
-    c.in_ok-rec.ensures.ok c.in_err-set.ensures.no_scope_node)
+    let p = err_from_is_err_and c.from_residual.result c.from_residual.ensures.1 in
+    rw (p.1, p.2) c.in_err-set.ensures.refused
