@@ -10,4 +10,8 @@ mod EventsStay
 mod PassesLemmas
 mod OperandsStayRead
 mod ScopelessTrees
+mod NoEnds
+mod RecordedWithoutEnds
+mod ValuesWithoutEnds
+mod FlowsWithoutEnds
 mod ScopelessPasses

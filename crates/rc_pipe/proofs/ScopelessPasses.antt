@@ -1,25 +1,28 @@
--- A body without a scope block is what the passes on scopes make of it, and so is a table without a scope.
-use Rattle.std.proofs.Common.{◌≡◌, ◌∙◌, List, [], ◌∷◌, ◌++◌, IsOk, Result, Ok, Err, false, filter, map, refl}
-use Rattle.std.proofs.Common.{sym, ap, subst}
+-- A body without a scope block is what the passes on scopes make of it, and so is its environment.
+use Rattle.std.proofs.Common.{◌≡◌, ◌∙◌, List, [], ◌∷◌, ◌++◌, IfOk, IsOk, Result, Ok, Err, filter, map, refl}
+use Rattle.std.proofs.Common.{false, sym, ap, subst}
 use Rattle.std.proofs.lemmas.Bool.{false≢true}
 use Rattle.rc_hir.specs.Model.{Environment, Fault}
 use Rattle.rc_names.specs.Numbers.{ScopeId}
 use Rattle.rc_tree.specs.Model.{ReactiveBlock}
 use Rattle.rc_tree.specs.Step.{bind}
 use Rattle.rc_checks.specs.ScopeBlocks.{ScopeBlock, scope_blocks, scopes_in}
-use Rattle.rc_checks.specs.UnusedScopes.{IsWithoutUnusedScopes, staying_blocks, stays, unused_scope_rules}
+use Rattle.rc_checks.specs.UnusedScopes.{IsWithoutUnusedScopes, stays, unused_scope_rules}
 use Rattle.rc_flow.proofs.EmptyLists.{not_empty}
 use Rattle.rc_flow.proofs.InvalidatingLemmas.{answers_right}
 use Rattle.rc_flow.proofs.LeftScopes.{leaves_others}
 use Rattle.rc_flow.specs.AlwaysInvalidating.{IsWithoutInvalidating, dropping_rules}
 use Rattle.rc_flow.specs.Collected.{recorded_steps}
 use Rattle.rc_flow.specs.Flows.{flows_in}
-use Rattle.rc_flow.specs.ReactiveNames.{HasReactiveDependencies, KeepReactive}
+use Rattle.rc_flow.specs.ReactiveNames.{HasReactiveDependencies}
 use Rattle.rc_flow.specs.ValueSteps.{value_steps_in}
 use Rattle.rc_flow.specs.declared.step.Step.{Step}
 use Rattle.rc_flow.specs.inside.Invalidating.{answers_of}
-use Rattle.rc_pipe.specs.Passes.{AfterDependencies, PassState}
+use Rattle.rc_pipe.specs.Passes.{PassState}
 use Rattle.rc_pipe.specs.inside.PrunedParts.{HasScopesPruned}
+use Rattle.rc_pipe.proofs.FlowsWithoutEnds.{flows_without_ends}
+use Rattle.rc_pipe.proofs.NoEnds.{NoEnds, all_stay, both_steps}
+use Rattle.rc_pipe.proofs.RecordedWithoutEnds.{recorded_without_ends}
 use Rattle.rc_pipe.proofs.ScopelessTrees.{scopeless_stays}
 
 -- blocks without a scope are none
@@ -46,39 +49,39 @@ module _ (env : Environment) (body : ReactiveBlock) where
         rebuilt = record { left = it.0; rebuilt = it.1 };
       }
 
-  -- a table without a scope keeps the dependencies that are reactive
-  pub no_dependencies : env.scopes ≡ [] → IsOk (recorded_steps env body) → HasReactiveDependencies body env env
-  no_dependencies none read = by (recorded_steps env body) refl read
+  -- and every dependency stays, as no block of its scope ends
+  all_reactive : scope_blocks body ≡ [] → IsOk (recorded_steps env body) → HasReactiveDependencies body env env
+  all_reactive none read = by (recorded_steps env body) refl read (recorded_without_ends env body)
     where
-      by : (r : Result (List Step) Fault) → recorded_steps env body ≡ r → IsOk r → HasReactiveDependencies body env env
-      by (Ok steps) is ok =
-          let all = steps ++ flows_in env body in
+      by : (r : Result (List Step) Fault) → recorded_steps env body ≡ r → IsOk r → IfOk r NoEnds
+          → HasReactiveDependencies body env env
+      by (Ok steps) is ok here =
+          let flows = flows_in env body in
+          let ends = both_steps steps flows here (flows_without_ends env body none) in
           record {
-            steps = all;
-            listed = ap (λ r. bind r (λ steps. Ok (steps ++ flows_in env body))) is;
+            steps = steps ++ flows;
+            listed = ap (λ r. bind r (λ steps. Ok (steps ++ flows))) is;
             others = refl;
-            scopes = subst (λ scopes. KeepReactive env all 0 scopes scopes) (sym none) tt;
+            scopes = all_stay env (steps ++ flows) ends 0 env.scopes;
           }
-      by (Err fault) is ok = absurd (false≢true ok)
+      by (Err fault) is ok here = absurd (false≢true ok)
 
--- the passes on scopes leave a body without a scope block
-pub none_pruned : (before after : PassState) → AfterDependencies before after → scopes_in before.func.body ≡ []
-    → (left : List ScopeId) → left ≡ [] → HasScopesPruned before after left
-none_pruned before after dependencies empty left is =
-    let body = after.func.body in
-    let same : body ≡ before.func.body = ap (λ func. func.body) dependencies.kept_function in
-    let none : scope_blocks body ≡ [] = ap scope_blocks same ∙ no_blocks (scope_blocks before.func.body) empty in
-    let invalidating = none_invalidating after.env body none in
-    let staying : scopes_in body ≡ map (λ (block : ScopeBlock). block.scope) (staying_blocks after.env body) =
-    subst (λ blocks. map (λ (block : ScopeBlock). block.scope) blocks
-    ≡ map (λ (block : ScopeBlock). block.scope) (filter (stays after.env) blocks)) (sym none) refl in
+-- the passes on scopes leave a body without a scope block, and its environment
+pub none_pruned : (before : PassState) → IsOk (recorded_steps before.env before.func.body)
+    → scopes_in before.func.body ≡ [] → (left : List ScopeId) → left ≡ [] → HasScopesPruned before before left
+none_pruned before read empty left is =
+    let env = before.env in
+    let body = before.func.body in
+    let none : scope_blocks body ≡ [] = no_blocks (scope_blocks body) empty in
+    let invalidating = none_invalidating env body none in
     record {
-      reactive = after;
-      dependencies = dependencies;
-      used = after;
-      scopes = record { scopes = none_unused after.env body none; header = refl; kept_environment = refl };
+      reactive = before;
+      dependencies = record { scopes = all_reactive env body none read; kept_function = refl };
+      used = before;
+      scopes = record { scopes = none_unused env body none; header = refl; kept_environment = refl };
       invalidating = record { scopes = invalidating; header = refl; kept_environment = refl };
-      listed = is ∙ sym (ap scopes_in same ∙ empty);
-      staying = staying;
-      others = leaves_others after.env body body invalidating;
+      listed = is ∙ sym empty;
+      staying = subst (λ blocks. map (λ (block : ScopeBlock). block.scope) blocks
+          ≡ map (λ (block : ScopeBlock). block.scope) (filter (stays env) blocks)) (sym none) refl;
+      others = leaves_others env body body invalidating;
     }

@@ -13,7 +13,7 @@ ghost use Rattle.rc_runs.specs.EarlyReturns.{NoEarlyReturnSet};
 ghost use Rattle.rc_runs.specs.Erase.{erased};
 ghost use Rattle.rc_runs.specs.Event.{Event, End};
 ghost use Rattle.rc_runs.specs.Spelled.{Spells};
-ghost use Rattle.rc_pipe.specs.Passes.{AfterDependencies, AreInside, IsPassFault, state};
+ghost use Rattle.rc_pipe.specs.Passes.{AreInside, IsPassFault, state};
 ghost use Rattle.rc_pipe.specs.inside.PrunedParts.{HasScopesPruned, IsChecked, IsEscapePruned, IsPrunedWith};
 
 use rc_checks::{
@@ -96,8 +96,8 @@ fn prune_escaping(
     Ok(left)
 }
 
-/// Prunes the scopes that are left, those with a block, and answers which of them are used. Where there is none, only the
-/// pass on dependencies has something to do.
+/// Prunes the scopes that are left, those with a block, and answers which of them are used. Where there is none, the
+/// passes on scopes would change nothing: a dependency goes only where a block of its scope ends.
 fn prune_left(
     alloc: Global,
     func: &mut ReactiveFunction,
@@ -113,29 +113,9 @@ fn prune_left(
     ensures known_names { (hir : HirFunction) → NamesInTables hir env.old → NamesInTables hir env.new }
 {
     if left.is_empty() {
-        prune_dependencies(alloc, func, env)?;
         return Ok(List::new(alloc));
     }
     prune_scopes(alloc, func, env)
-}
-
-/// Prunes dependencies that aren't reactive, where the table has a scope.
-fn prune_dependencies(
-    alloc: Global,
-    func: &mut ReactiveFunction,
-    env: &mut Environment,
-) -> Result<(), Fault>
-    requires read { IsOk (recorded_steps env.old func.old.body) }
-    ensures ok { OnOk result (AfterDependencies (state func.old env.old) (state func.new env.new)) }
-    ensures tree { func.new ≡ func.old }
-    ensures known { OnOk result (TreeInTables func.old env.old → TreeInTables func.new env.new) }
-    ensures refused { TreeInTables func.old env.old → IfErr result (λ fault. fault ≡ faults.NoMemory) }
-    ensures known_names { (hir : HirFunction) → NamesInTables hir env.old → NamesInTables hir env.new }
-{
-    if env.scopes.as_slice().is_empty() {
-        return Ok(());
-    }
-    prune_non_reactive_dependencies(alloc, func, env)
 }
 
 /// Prunes dependencies that aren't reactive, unused scopes, and scopes that always invalidate. Answers the scopes that

@@ -1,4 +1,4 @@
--- Where no scope has a block, the tree stays behind the pass on dependencies.
+-- Where no scope has a block, the passes on scopes leave the tree and the environment.
 use Rattle.std.proofs.Common.{◌≡◌, ◌∙◌, [], rules, sym}
 use Rattle.rc_pipe.proofs.ScopelessPasses.{none_pruned}
 use Rattle.rc_pipe.specs.Passes.{state}
@@ -7,6 +7,5 @@ use Rattle.rc_pipe.proofs.passes.prune_left.Goals as goal
 pub returns-then-is_empty-clause-ok : goal.returns-then-is_empty-clause-ok
 returns-then-is_empty-clause-ok c =
     let none : c.args.left.now ≡ [] = search rules in
-    none_pruned (state c.args.func.now c.args.env.now)
-    (state c.prune_dependencies.new.func c.prune_dependencies.new.env) c.in_ok-prune_dependencies.ensures.ok
-    (sym c.requires.left ∙ none) c.new.result c.new.ensures
+    none_pruned (state c.args.func.now c.args.env.now) c.requires.read (sym c.requires.left ∙ none) c.new.result
+    c.new.ensures
