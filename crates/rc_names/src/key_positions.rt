@@ -22,7 +22,7 @@ impl Positions {
         if keys.len() > FEW {
             return self.find(key.index());
         }
-        keys.iter().position(|other| key == *other)
+        position_among(keys, key)
     }
 
     /// Has the keys of a list found, where those before its last one are. The first eight need nothing, and with the
@@ -45,6 +45,7 @@ impl Positions {
     }
 
     /// Returns the positions of the keys of a list, with memory from the same place. Fails only when out of memory.
+    #[inline(never)]
     fn of_keys<K: Name>(&self, keys: &[K]) -> Result<Positions, AllocError>
         requires { IsDistinct K.eq keys.now }
         ensures { IfOk result (λ positions. ArePositions K.number K.eq keys.now positions) }
@@ -55,4 +56,13 @@ impl Positions {
         }
         Ok(positions)
     }
+}
+
+/// Returns the index of a key among few, and `None` if it isn't there.
+// Not inlined, so that a look-up in a longer list is short wherever it stands.
+#[inline(never)]
+fn position_among<K: Name>(keys: &[K], key: K) -> Option<usize>
+    ensures { result ≡ position (K.eq key) keys.now }
+{
+    keys.iter().position(|other| key == *other)
 }

@@ -1,6 +1,6 @@
 //! Distinct keys, in the order of insertion.
 
-ghost use Rattle.std.specs.Prelude.{◌≡◌, [], length, not, position, slice_get, IfOk, OnOk, OnErr};
+ghost use Rattle.std.specs.Prelude.{◌≡◌, [], ◌∷◌, ◌++◌, false, length, not, position, slice_get, IfOk, OnOk, OnErr};
 ghost use Rattle.std.specs.List.{list_any, IsDistinct};
 ghost use Rattle.indexmap.specs.IndexSet.{insert_key};
 
@@ -41,6 +41,16 @@ impl<K: Name> KeySet<K> {
             keys: List::new(alloc),
             positions: Positions::new(alloc),
         }
+    }
+
+    /// Returns an empty set with room for so many keys. Fails only when out of memory.
+    pub fn with_capacity(alloc: Global, n: usize) -> Result<KeySet<K>, AllocError>
+        ensures { IfOk result (λ set. set ≡ []) }
+    {
+        Ok(KeySet {
+            keys: List::with_capacity(alloc, n)?,
+            positions: Positions::new(alloc),
+        })
     }
 
     /// Returns the number of keys.
@@ -89,10 +99,20 @@ impl<K: Name> KeySet<K> {
         if self.contains(key) {
             return Ok(false);
         }
+        self.push_new(key)?;
+        Ok(true)
+    }
+
+    /// Puts a key that isn't there behind the others. Fails only when out of memory, and then nothing has changed.
+    pub(crate) fn push_new(&mut self, key: K) -> Result<(), AllocError>
+        requires { list_any (K.eq key) self.old ≡ false }
+        ensures keys { OnOk result (self.new ≡ self.old ++ key ∷ []) }
+        ensures err { OnErr result (self.new ≡ self.old) }
+    {
         let last = self.keys.len();
         self.keys.push(key)?;
         match self.positions.put_last(self.keys.as_slice(), last) {
-            Ok(()) => Ok(true),
+            Ok(()) => Ok(()),
             Err(error) => {
                 self.keys.pop();
                 Err(error)

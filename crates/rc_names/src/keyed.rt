@@ -45,6 +45,16 @@ impl<K: Name, V> Keyed<K, V> {
         }
     }
 
+    /// Returns an empty map with room for so many pairs. Fails only when out of memory.
+    pub fn with_capacity(alloc: Global, n: usize) -> Result<Keyed<K, V>, AllocError>
+        ensures { IfOk result (λ map. map ≡ []) }
+    {
+        Ok(Keyed {
+            keys: KeySet::with_capacity(alloc, n)?,
+            values: List::with_capacity(alloc, n)?,
+        })
+    }
+
     /// Returns the number of pairs.
     pub fn len(&self) -> usize
         ensures value { result ≡ length self.now }
@@ -124,8 +134,8 @@ impl<K: Name, V: Drop> Keyed<K, V> {
             return Ok(Some(mem::replace(held, value)));
         }
         self.values.push(value)?;
-        match self.keys.insert(key) {
-            Ok(_) => Ok(None),
+        match self.keys.push_new(key) {
+            Ok(()) => Ok(None),
             Err(error) => {
                 self.values.pop();
                 Err(error)

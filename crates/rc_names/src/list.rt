@@ -38,6 +38,15 @@ impl<T> List<T> {
         }
     }
 
+    /// Returns an empty list with room for so many entries. Fails only when out of memory.
+    pub fn with_capacity(alloc: Global, n: usize) -> Result<List<T>, AllocError>
+        ensures { IfOk result (λ list. list ≡ []) }
+    {
+        Ok(List {
+            items: Vec::with_capacity(alloc, n)?,
+        })
+    }
+
     /// Returns the number of entries.
     pub fn len(&self) -> usize
         ensures { result ≡ length self.now }
@@ -119,6 +128,13 @@ impl<T> List<T> {
 }
 
 impl<T: Drop> List<T> {
+    /// Makes room for so many more entries. Fails only when out of memory, and never changes what is there.
+    pub fn reserve(&mut self, additional: usize) -> Result<(), AllocError>
+        ensures { self.new ≡ self.old }
+    {
+        self.items.reserve(additional)
+    }
+
     /// Appends an entry. Fails only when out of memory, and then nothing has changed.
     pub fn push(&mut self, t: T) -> Result<(), AllocError>
         ensures ok { OnOk result (self.new ≡ self.old ++ t ∷ []) }

@@ -1,10 +1,10 @@
-use Rattle.std.proofs.Common.{◌≡◌, ◌∙◌, ◌++◌, ◌∷◌, ◌+◌, [], None, Some, ap, sym, length, position}
+use Rattle.std.proofs.Common.{◌≡◌, ◌∙◌, ◌++◌, ◌∷◌, ◌+◌, [], None, Some, ap, is_some, sym, length, position}
 use Rattle.std.proofs.lemmas.List.{length_push}
 use Rattle.std.specs.Map.{lookup}
 use Rattle.std.specs.Option.{option_copied_mut}
 use Rattle.std.specs.Prelude.{slice_set}
 use Rattle.indexmap.specs.IndexMap.{insert_entry}
-use Rattle.rc_names.proofs.KeysLemmas.{insert_new}
+use Rattle.rc_names.proofs.KeysLemmas.{some_position}
 use Rattle.rc_names.proofs.PairsLemmas.{insert_absent, insert_at, lookup_absent, lookup_at}
 use Rattle.rc_names.proofs.keyed.Keyed.insert.Goals as goal
 use Rattle.rc_names.specs.inside.Pairs.{pairs_of}
@@ -26,18 +26,16 @@ returns-in-Some-clause-old g c =
 
 pub invariant_of-self-in-Ok : goal.invariant_of-self-in-Ok
 invariant_of-self-in-Ok g c =
-    let none : position (g.K.PartialEq.eq c.args.key) c.self.inside.keys ≡ None =
-    sym c.position.ensures ∙ c.in_default.is in
     ap length c.in_ok-push.ensures.ok ∙ length_push c.self.inside.values c.args.value
     ∙ ap (λ n. n + 1) c.self.invariant ∙ sym (length_push c.self.inside.keys c.args.key)
-    ∙ sym (ap length (c.in-Ok.ensures.keys ∙ insert_new g.K.PartialEq.eq c.self.inside.keys c.args.key none))
+    ∙ sym (ap length c.in-Ok.ensures.keys)
 
 pub returns-in-Ok-clause-entries : goal.returns-in-Ok-clause-entries
 returns-in-Ok-clause-entries g c =
     let none : position (g.K.PartialEq.eq c.args.key) c.self.inside.keys ≡ None =
     sym c.position.ensures ∙ c.in_default.is in
     ap (λ keys. pairs_of keys c.push.new.self)
-    (c.in-Ok.ensures.keys ∙ insert_new g.K.PartialEq.eq c.self.inside.keys c.args.key none)
+    c.in-Ok.ensures.keys
     ∙ ap (pairs_of (c.self.inside.keys ++ c.args.key ∷ [])) c.in_ok-push.ensures.ok
     ∙ sym (insert_absent g.K.PartialEq.eq c.self.inside.keys c.self.inside.values c.self.invariant c.args.key
     c.args.value
@@ -49,3 +47,8 @@ returns-in-Ok-clause-old g c =
     sym (lookup_absent (g.K.PartialEq.eq c.args.key) c.self.inside.keys c.self.inside.values c.self.invariant
     (sym c.position.ensures ∙ c.in_default.is))
     ∙ ap (lookup (g.K.PartialEq.eq c.args.key)) c.self.view_is
+
+pub push_new-requires : goal.push_new-requires
+push_new-requires g c =
+    sym (some_position (g.K.PartialEq.eq c.args.key) c.self.inside.keys)
+    ∙ ap is_some (sym c.position.ensures ∙ c.in_default.is)
