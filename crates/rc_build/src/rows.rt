@@ -31,6 +31,24 @@ pub fn put_rows(
     ensures refused { IfRefused result (HasIds hir.now block.now → ⊥) }
     ensures facts { IfErr result (FaultFact hir.now) }
 {
+    // Room for the rows, and for the terminal behind them.
+    out.reserve(block.instructions.len().saturating_add(1))?;
+    put_each(alloc, hir, key, block, out)
+}
+
+/// Puts the statements one by one.
+fn put_each(
+    alloc: Global,
+    hir: &HirFunction,
+    key: BlockId,
+    block: &BasicBlock,
+    out: &mut List<ReactiveStatement>,
+) -> Result<(), Fault>
+    requires { basic_block hir.now key ≡ Some block.now }
+    ensures ok { IfOk result (λ _. BuiltRows hir.now block.now out.old out.new) }
+    ensures refused { IfRefused result (HasIds hir.now block.now → ⊥) }
+    ensures facts { IfErr result (FaultFact hir.now) }
+{
     for number in block.instructions.as_slice() {
         let row = find_row(hir, *number)?;
         if row.id.0 == 0 {

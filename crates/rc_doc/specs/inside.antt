@@ -1,2 +1,3 @@
 -- What the functions of this crate say of each other; no public clause needs it.
 pub mod Found
+pub mod Blocks

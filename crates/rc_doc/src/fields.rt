@@ -75,7 +75,7 @@ impl<T: Read + Drop> Read for List<T> {
 fn list_of_items<T: Read + Drop>(alloc: Global, values: &[Value]) -> Result<List<T>, Refusal>
     ensures { IsRead result (all_items T.reads (items_view values.now)) }
 {
-    let mut items = List::new(alloc);
+    let mut items = List::with_capacity(alloc, values.len())?;
     for value in values {
         items.push(T::read(alloc, value)?)?;
     }

@@ -5,6 +5,8 @@ ghost use Rattle.serde_json.specs.View.{view, items_view};
 ghost use Rattle.rc_doc.specs.Graph.{block_of, blocks_of, function_of, hir_of, if_distinct, instruction_of};
 ghost use Rattle.rc_doc.specs.Graph.{keyed_block_of};
 ghost use Rattle.rc_doc.specs.Reading.{IsRead, all_items};
+ghost use Rattle.rc_doc.specs.inside.Blocks.{block_of_members};
+ghost use Rattle.rc_doc.specs.inside.Found.{found_data};
 
 use crate::fields::{Read, flag, list_or_empty, optional, or_refuse, required};
 use crate::members::{four_fields, ten_fields, two_fields};
@@ -33,6 +35,26 @@ impl Read for Instruction {
     }
 }
 
+/// A block of its members; its key isn't a part of it.
+fn block_of_members(
+    alloc: Global,
+    id: Option<&Value>,
+    instructions: Option<&Value>,
+    terminal: Option<&Value>,
+) -> Result<BasicBlock, Refusal>
+    ensures { IsRead result (block_of_members (found_data id.entry) (found_data instructions.entry)
+        (found_data terminal.entry)) }
+{
+    let id = required(alloc, id)?;
+    let instructions = list_or_empty(alloc, instructions)?;
+    let terminal = required(alloc, terminal)?;
+    Ok(BasicBlock {
+        id,
+        instructions,
+        terminal,
+    })
+}
+
 impl Read for BasicBlock {
     ghost reads = { block_of };
 
@@ -45,30 +67,30 @@ impl Read for BasicBlock {
             "key",
             "terminal",
         )?;
-        let id = required(alloc, id)?;
-        let instructions = list_or_empty(alloc, instructions)?;
-        let terminal = required(alloc, terminal)?;
-        Ok(BasicBlock {
-            id,
-            instructions,
-            terminal,
-        })
+        block_of_members(alloc, id, instructions, terminal)
     }
 }
 
-#[tactic(auto, unfolding(crate::specs::Graph::keyed_block_of))]
+#[tactic(auto, unfolding(crate::specs::Graph::keyed_block_of, crate::specs::Graph::block_of))]
 fn keyed_block(alloc: Global, from: &Value) -> Result<(BlockId, BasicBlock), Refusal>
     ensures { IsRead result (keyed_block_of (view from.now)) }
 {
-    let block = BasicBlock::read(alloc, from)?;
-    let key: Option<BlockId> = optional(alloc, from.get("key"))?;
+    let (id, instructions, key, terminal) = four_fields(
+        from,
+        "id",
+        "instructions",
+        "key",
+        "terminal",
+    )?;
+    let block = block_of_members(alloc, id, instructions, terminal)?;
+    let key: Option<BlockId> = optional(alloc, key)?;
     Ok((key.unwrap_or(block.id), block))
 }
 
 fn distinct_blocks(alloc: Global, values: &[Value]) -> Result<Keyed<BlockId, BasicBlock>, Refusal>
     ensures { IsRead result (option_and_then if_distinct (all_items keyed_block_of (items_view values.now))) }
 {
-    let mut blocks = Keyed::new(alloc);
+    let mut blocks = Keyed::with_capacity(alloc, values.len())?;
     for value in values {
         let (key, block) = keyed_block(alloc, value)?;
         if blocks.insert(key, block)?.is_some() {

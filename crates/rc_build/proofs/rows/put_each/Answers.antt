@@ -4,7 +4,7 @@ use Rattle.std.specs.List.{list_any}
 use Rattle.std.proofs.lemmas.List.Folds.{list_any_at}
 use Rattle.rc_names.specs.Numbers.{InstructionId, to_id}
 use Rattle.rc_build.proofs.RowsLemmas.{row_further, unset_refused}
-use Rattle.rc_build.proofs.rows.put_rows.Goals as goal
+use Rattle.rc_build.proofs.rows.put_each.Goals as goal
 
 pub loop-number-preserved : goal.loop-number-preserved
 loop-number-preserved c =
