@@ -1,16 +1,19 @@
 -- What the five kinds of loops have in common: their fallthrough, where their turns begin, their values and blocks.
-use Rattle.std.proofs.Common.{◌≡◌, ◌≤◌, true, List, [], ◌∷◌, ◌++◌, Option, Some, None, refl, sym, subst, arith}
+use Rattle.std.proofs.Common.{◌≡◌, ◌≤◌, true, List, [], ◌∷◌, ◌++◌, Option, Some, None, refl, sym, ap, subst, arith}
 use Rattle.std.specs.Option.{option_to_list}
 use Rattle.std.proofs.lemmas.Bool.{or_left, or_right}
 use Rattle.rc_names.specs.Numbers.{BlockId, is_among, same_id, times}
 use Rattle.rc_names.proofs.NumbersLemmas.{ids_equivalence}
 use Rattle.rc_runs.specs.LoopParts.{first_of}
+use Rattle.rc_hir.specs.Model.{Terminal}
+use Rattle.rc_hir.specs.declared.terminal.Terminal.TheVariants as terminals
 use Rattle.rc_build.specs.declared.loops.LoopKind.{LoopKind}
 use Rattle.rc_build.specs.declared.loops.LoopKind.TheVariants as kinds
 use Rattle.rc_build.specs.declared.loops.LoopTerminal.{LoopTerminal}
 use Rattle.rc_build.specs.References.{fallthrough_of, is_while, referenced_blocks, tested_blocks, turn_block}
 use Rattle.rc_build.specs.References.{value_references}
-use Rattle.rc_build.specs.inside.LoopKinds.{before_of, init_of, is_while_kind, terminal_with}
+use Rattle.rc_build.specs.inside.LoopKinds.{before_of, init_of, is_while_kind, loop_of, loop_with, terminal_of}
+use Rattle.rc_build.specs.inside.LoopKinds.{terminal_with}
 
 -- a block is the first of these, or one of those behind it
 pub among_first : (key : BlockId) (later : List BlockId) → is_among (key ∷ later) key ≡ true
@@ -19,6 +22,21 @@ among_first key later = or_left (same_id key key) (is_among later key) (ids_equi
 pub among_next : (first key : BlockId) (later : List BlockId) → is_among later key ≡ true
     → is_among (first ∷ later) key ≡ true
 among_next first key later h = or_right (same_id key first) (is_among later key) h
+
+-- a terminal that is a loop
+pub loop_same : (terminal : Terminal) (found : LoopTerminal) → loop_of terminal ≡ Some found
+    → terminal ≡ terminal_of found
+loop_same (terminals.While test loop_block fallthrough id span) found e =
+    let same : loop_with kinds.While test loop_block fallthrough id span ≡ found = cc in ap terminal_of same
+loop_same (terminals.DoWhile loop_block test fallthrough id span) found e =
+    let same : loop_with kinds.DoWhile test loop_block fallthrough id span ≡ found = cc in ap terminal_of same
+loop_same (terminals.For init test update loop_block fallthrough id span) found e =
+    let same : loop_with (kinds.For init update) test loop_block fallthrough id span ≡ found = cc in ap terminal_of same
+loop_same (terminals.ForOf init test loop_block fallthrough id span) found e =
+    let same : loop_with (kinds.ForOf init) test loop_block fallthrough id span ≡ found = cc in ap terminal_of same
+loop_same (terminals.ForIn init loop_block fallthrough id span) found e =
+    let same : loop_with kinds.ForIn init loop_block fallthrough id span ≡ found = cc in ap terminal_of same
+loop_same terminal found e = let bad : ⊥ = cc in absurd bad
 
 module _ (t : LoopTerminal) where
   pub falls_with : (kind : LoopKind) → fallthrough_of (terminal_with kind t) ≡ Some t.fallthrough

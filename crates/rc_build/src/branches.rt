@@ -25,20 +25,22 @@ use std::mem;
 impl<'g> Builder<'g> {
     /// Builds an if, where an alternate that is the fallthrough gives none; returns where the list goes on.
     /// `Malformed` with `FallsElsewhere`: there is no alternate, and leaving the if leads elsewhere.
+    // Not inlined, so that the frames of other statements have no room for its parts.
+    #[inline(never)]
     #[cycle(builder)]
     pub fn build_if(
         &mut self,
         site: Site,
-        test: Place,
+        test: &Place,
         consequent: BlockId,
         alternate: BlockId,
         fallthrough: BlockId,
         id: EvaluationOrder,
     ) -> Result<Option<BlockId>, Fault>
         requires { (span : Option Span) × CanBuildTerminal self.old.hir.now self.old.marks site.handler self.old.frames
-            site.block (terminals.If test consequent alternate fallthrough id span) }
+            site.block (terminals.If test.now consequent alternate fallthrough id span) }
         ensures { (span : Option Span) → BuildsTask self.old self.new site
-            (FromTerminal (terminals.If test consequent alternate fallthrough id span)) left result }
+            (FromTerminal (terminals.If test.now consequent alternate fallthrough id span)) left result }
     {
         let opened = self.open_reachable(fallthrough);
         if falls_elsewhere(alternate, fallthrough, opened, site.next) {
@@ -62,15 +64,15 @@ impl<'g> Builder<'g> {
     pub fn build_branch(
         &mut self,
         site: Site,
-        test: Place,
+        test: &Place,
         consequent: BlockId,
         alternate: BlockId,
         id: EvaluationOrder,
     ) -> Result<Option<BlockId>, Fault>
         requires { (span : Option Span) × CanBuildTerminal self.old.hir.now self.old.marks site.handler self.old.frames
-            site.block (terminals.Branch test consequent alternate id span) }
+            site.block (terminals.Branch test.now consequent alternate id span) }
         ensures { (span : Option Span) → BuildsTask self.old self.new site
-            (FromTerminal (terminals.Branch test consequent alternate id span)) left result }
+            (FromTerminal (terminals.Branch test.now consequent alternate id span)) left result }
     {
         if self.frames.is_jump_target(alternate) {
             return Err(malformed(site.block, Rule::BreakTarget));
@@ -149,17 +151,17 @@ fn falls_elsewhere(
 fn put_if(
     alloc: Global,
     out: &mut List<ReactiveStatement>,
-    test: Place,
+    test: &Place,
     consequent: List<ReactiveStatement>,
     alternate: Option<ReactiveBlock>,
     id: EvaluationOrder,
     label: Option<ReactiveLabel>,
 ) -> Result<(), AllocError>
     ensures { OnOk result (out.new ≡ out.old
-        ++ settings.terminal_statement (tree.If test (record { statements = consequent }) alternate id) label ∷ []) }
+        ++ settings.terminal_statement (tree.If test.now (record { statements = consequent }) alternate id) label ∷ []) }
 {
     let terminal = ReactiveTerminal::If {
-        test,
+        test: *test,
         consequent: ReactiveBlock {
             statements: consequent,
         },

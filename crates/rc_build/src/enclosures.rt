@@ -76,6 +76,8 @@ impl Enclosure {
 
 impl<'g> Builder<'g> {
     /// Builds a statement with one part; returns where the list goes on.
+    // Not inlined, so that the frames of other statements have no room for its parts.
+    #[inline(never)]
     #[cycle(builder)]
     pub fn build_enclosure(
         &mut self,

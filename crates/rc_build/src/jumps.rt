@@ -22,38 +22,41 @@ use rc_tree::ReactiveTerminal;
 
 impl<'g> Builder<'g> {
     /// Builds a return, which ends the list. The only error is out of memory.
+    // Not inlined, so that the frames of other statements have no room for it, as with throws and jumps.
+    #[inline(never)]
     pub fn build_return(
         &mut self,
         site: Site,
-        value: Place,
+        value: &Place,
         id: EvaluationOrder,
     ) -> Result<Option<BlockId>, Fault>
         requires { (span : Option Span) × CanBuildTerminal self.old.hir.now self.old.marks site.handler self.old.frames
-            site.block (terminals.Return value id span) }
+            site.block (terminals.Return value.now id span) }
         ensures { (span : Option Span) → BuildsTask self.old self.new site
-            (FromTerminal (terminals.Return value id span)) left result }
+            (FromTerminal (terminals.Return value.now id span)) left result }
     {
-        let terminal = ReactiveTerminal::Return { value, id };
+        let terminal = ReactiveTerminal::Return { value: *value, id };
         put_terminal(self.alloc, &mut self.out, terminal, None)?;
         Ok(None)
     }
 
     /// Builds a throw, which ends the list. `Malformed` with `ThrowInTry`: a handler protects the list.
+    #[inline(never)]
     pub fn build_throw(
         &mut self,
         site: Site,
-        value: Place,
+        value: &Place,
         id: EvaluationOrder,
     ) -> Result<Option<BlockId>, Fault>
         requires { (span : Option Span) × CanBuildTerminal self.old.hir.now self.old.marks site.handler self.old.frames
-            site.block (terminals.Throw value id span) }
+            site.block (terminals.Throw value.now id span) }
         ensures { (span : Option Span) → BuildsTask self.old self.new site
-            (FromTerminal (terminals.Throw value id span)) left result }
+            (FromTerminal (terminals.Throw value.now id span)) left result }
     {
         if site.handler.is_some() {
             return Err(malformed(site.block, Rule::ThrowInTry));
         }
-        let terminal = ReactiveTerminal::Throw { value, id };
+        let terminal = ReactiveTerminal::Throw { value: *value, id };
         put_terminal(self.alloc, &mut self.out, terminal, None)?;
         Ok(None)
     }
@@ -61,6 +64,7 @@ impl<'g> Builder<'g> {
     /// Builds the statement of a jump, if it has one, and ends the list.
     ///
     /// `Malformed`: as for a break, a continue, or the jump out of a try.
+    #[inline(never)]
     pub fn build_goto(
         &mut self,
         site: Site,

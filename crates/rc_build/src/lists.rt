@@ -9,8 +9,6 @@ ghost use Rattle.rc_build.specs.inside.Built.{Builds, BuildsList, BuildsTask, Bu
 
 use crate::builder::{Builder, Site};
 use crate::enclosures::Enclosure;
-use crate::loops::loop_of;
-use crate::value_terminals::value_terminal;
 use rc_hir::{Fault, Terminal};
 use rc_names::{BlockId, List};
 use rc_runs::Frame;
@@ -50,8 +48,8 @@ impl<'g> Builder<'g> {
         ensures { BuildsTask self.old self.new site (FromTerminal terminal.now) left result }
     {
         match terminal {
-            Terminal::Return { value, id, .. } => self.build_return(site, *value, *id),
-            Terminal::Throw { value, id, .. } => self.build_throw(site, *value, *id),
+            Terminal::Return { value, id, .. } => self.build_return(site, value, *id),
+            Terminal::Throw { value, id, .. } => self.build_throw(site, value, *id),
             Terminal::Unreachable { .. } => Ok(None),
             Terminal::Goto {
                 block,
@@ -66,21 +64,21 @@ impl<'g> Builder<'g> {
                 fallthrough,
                 id,
                 ..
-            } => self.build_if(site, *test, *consequent, *alternate, *fallthrough, *id),
+            } => self.build_if(site, test, *consequent, *alternate, *fallthrough, *id),
             Terminal::Branch {
                 test,
                 consequent,
                 alternate,
                 id,
                 ..
-            } => self.build_branch(site, *test, *consequent, *alternate, *id),
+            } => self.build_branch(site, test, *consequent, *alternate, *id),
             Terminal::Switch {
                 test,
                 cases,
                 fallthrough,
                 id,
                 ..
-            } => self.build_switch(site, *test, cases, *fallthrough, *id),
+            } => self.build_switch(site, test, cases, *fallthrough, *id),
             Terminal::Label {
                 block,
                 fallthrough,
@@ -119,7 +117,7 @@ impl<'g> Builder<'g> {
                 fallthrough,
                 id,
                 ..
-            } => self.build_try(site, *block, *handler_binding, *handler, *fallthrough, *id),
+            } => self.build_try(site, *block, handler_binding, *handler, *fallthrough, *id),
             Terminal::MaybeThrow {
                 continuation,
                 handler,
@@ -129,13 +127,11 @@ impl<'g> Builder<'g> {
             | Terminal::While { .. }
             | Terminal::For { .. }
             | Terminal::ForOf { .. }
-            | Terminal::ForIn { .. } => self.build_loop(site, loop_of(terminal).unwrap()),
+            | Terminal::ForIn { .. } => self.build_loop_of(site, terminal),
             Terminal::Logical { .. }
             | Terminal::Ternary { .. }
             | Terminal::Optional { .. }
-            | Terminal::Sequence { .. } => {
-                self.build_value_statement(site, value_terminal(terminal).unwrap())
-            }
+            | Terminal::Sequence { .. } => self.build_row_of(site, terminal),
         }
     }
 

@@ -4,7 +4,7 @@
 //!
 //! After the loops of oxc's build_reactive_function.
 
-ghost use Rattle.std.specs.Prelude.{◌≡◌, ◌&&◌, ◌||◌, Some, IsSome};
+ghost use Rattle.std.specs.Prelude.{◌≡◌, ◌&&◌, ◌||◌, Some, IsSome, OnOk};
 ghost use Rattle.rc_runs.specs.Frames.{is_jump_target};
 ghost use Rattle.rc_runs.specs.Graph.{ends_unreachable};
 ghost use Rattle.rc_runs.specs.LoopParts.{loop_frame, turn_start};
@@ -22,6 +22,7 @@ use rc_hir::{Fault, Rule, Terminal};
 use rc_names::{BlockId, Boxed, EvaluationOrder, List, Span};
 use rc_runs::Frame;
 use rc_tree::{ReactiveBlock, ReactiveStatement, ReactiveTerminal, ReactiveValue};
+use std::alloc::{AllocError, Global};
 
 /// A loop of the graph.
 #[derive(Clone, Copy)]
@@ -146,19 +147,29 @@ impl LoopTerminal {
 }
 
 impl<'g> Builder<'g> {
+    /// Builds the loop that a terminal is; returns where the list goes on. The faults are those of `build_loop`.
+    // Not inlined, so that the frames of other statements have no room for its parts.
+    #[inline(never)]
+    #[cycle(builder)]
+    pub fn build_loop_of(
+        &mut self,
+        site: Site,
+        terminal: &Terminal,
+    ) -> Result<Option<BlockId>, Fault>
+        requires { CanBuildTerminal self.old.hir.now self.old.marks site.handler self.old.frames site.block terminal.now
+            × IsSome (kinds.loop_of terminal.now) }
+        ensures { BuildsTask self.old self.new site (FromTerminal terminal.now) left result }
+    {
+        self.build_loop(site, loop_of(terminal).unwrap())
+    }
+
     /// Builds a loop; returns where the list goes on.
     ///
     /// - `Malformed` with `LoopLive`: a jump can name its fallthrough already, or the block with which its turns begin,
     ///   or it is a while whose fallthrough ends in `Unreachable`.
     /// - `Malformed`, `Todo`, `BadName`: as for its values and its body.
-    // Not inlined, so that the frames of other statements have no room for its parts.
-    #[inline(never)]
     #[cycle(builder)]
-    pub fn build_loop(
-        &mut self,
-        site: Site,
-        terminal: LoopTerminal,
-    ) -> Result<Option<BlockId>, Fault>
+    fn build_loop(&mut self, site: Site, terminal: LoopTerminal) -> Result<Option<BlockId>, Fault>
         requires { CanBuildTerminal self.old.hir.now self.old.marks site.handler self.old.frames site.block
             (kinds.terminal_of terminal) }
         ensures { BuildsTask self.old self.new site (FromTerminal (kinds.terminal_of terminal)) left result }
@@ -168,9 +179,7 @@ impl<'g> Builder<'g> {
         }
         let init = self.build_before(site, terminal, terminal.init(), true)?;
         let turns = self.build_turns(site, terminal)?;
-        let tree = loop_tree(terminal, init, turns);
-        let label = label_at(Some(terminal.fallthrough));
-        put_terminal(self.alloc, &mut self.out, tree, label)?;
+        put_loop(self.alloc, &mut self.out, &terminal, init, turns)?;
         Ok(Some(terminal.fallthrough))
     }
 
@@ -234,7 +243,7 @@ impl<'g> Builder<'g> {
 }
 
 /// The loop of a terminal, if it is one.
-pub fn loop_of(terminal: &Terminal) -> Option<LoopTerminal>
+fn loop_of(terminal: &Terminal) -> Option<LoopTerminal>
     ensures { result ≡ kinds.loop_of terminal.now }
 {
     match terminal {
@@ -296,6 +305,23 @@ fn for_of(terminal: &Terminal) -> Option<LoopTerminal>
         } => Some(LoopKind::ForIn.looping(*init, *loop_block, *fallthrough, *id, *span)),
         _ => None,
     }
+}
+
+/// Puts the statement of a loop whose parts are built behind others. The only error is out of memory.
+#[inline(never)]
+fn put_loop(
+    alloc: Global,
+    out: &mut List<ReactiveStatement>,
+    terminal: &LoopTerminal,
+    init: Option<Boxed<ReactiveValue>>,
+    turns: BuiltTurns,
+) -> Result<(), AllocError>
+    requires { IsSome (spec.tree_of terminal.now init turns) }
+    ensures { OnOk result (spec.PutsLoop out.old out.new terminal.now init turns) }
+{
+    let tree = loop_tree(*terminal, init, turns);
+    let label = label_at(Some(terminal.fallthrough));
+    put_terminal(alloc, out, tree, label)
 }
 
 /// The tree of a loop whose parts are built.

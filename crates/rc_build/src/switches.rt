@@ -40,15 +40,15 @@ impl<'g> Builder<'g> {
     pub fn build_switch(
         &mut self,
         site: Site,
-        test: Place,
+        test: &Place,
         cases: &List<Case>,
         fallthrough: BlockId,
         id: EvaluationOrder,
     ) -> Result<Option<BlockId>, Fault>
         requires { (span : Option Span) × CanBuildTerminal self.old.hir.now self.old.marks site.handler self.old.frames
-            site.block (terminals.Switch test cases.now fallthrough id span) }
+            site.block (terminals.Switch test.now cases.now fallthrough id span) }
         ensures { (span : Option Span) → BuildsTask self.old self.new site
-            (FromTerminal (terminals.Switch test cases.now fallthrough id span)) left result }
+            (FromTerminal (terminals.Switch test.now cases.now fallthrough id span)) left result }
     {
         if has_odd_cases(cases, fallthrough) {
             return Err(malformed(site.block, Rule::SwitchCase));
@@ -112,7 +112,7 @@ impl<'g> Builder<'g> {
             };
             let statements = self.build_apart(here)?;
             self.frames.push(Frame::Case { block: case.block })?;
-            parts.push(switch_case(case, statements))?;
+            put_case(&mut parts, &case.test, statements)?;
             next = Some(case.block);
         }
         self.frames.pop_many(parts.len());
@@ -210,14 +210,19 @@ fn is_kept(case: Case, fallthrough: BlockId, is_target: bool) -> bool
     !(case.test.is_none() && case.block == fallthrough && is_target)
 }
 
-/// The case of the tree for a case of the graph.
-fn switch_case(case: Case, statements: List<ReactiveStatement>) -> ReactiveSwitchCase
-    ensures { result ≡ switches.switch_case case.test statements }
+/// Puts the case of the tree with that test behind others. The only error is out of memory.
+#[inline(never)]
+fn put_case(
+    cases: &mut List<ReactiveSwitchCase>,
+    test: &Option<Place>,
+    statements: List<ReactiveStatement>,
+) -> Result<(), AllocError>
+    ensures { OnOk result (cases.new ≡ cases.old ++ switches.switch_case test.now statements ∷ []) }
 {
-    ReactiveSwitchCase {
-        test: case.test,
+    cases.push(ReactiveSwitchCase {
+        test: *test,
         block: Some(ReactiveBlock { statements }),
-    }
+    })
 }
 
 /// Puts the statement of a switch behind others. The only error is out of memory.
@@ -225,17 +230,17 @@ fn switch_case(case: Case, statements: List<ReactiveStatement>) -> ReactiveSwitc
 fn put_switch(
     alloc: Global,
     out: &mut List<ReactiveStatement>,
-    test: Place,
+    test: &Place,
     cases: List<ReactiveSwitchCase>,
     id: EvaluationOrder,
     label: Option<ReactiveLabel>,
 ) -> Result<(), AllocError>
-    ensures { OnOk result (out.new ≡ out.old ++ settings.terminal_statement (tree.Switch test cases id) label ∷ []) }
+    ensures { OnOk result (out.new ≡ out.old ++ settings.terminal_statement (tree.Switch test.now cases id) label ∷ []) }
 {
-    put_terminal(
-        alloc,
-        out,
-        ReactiveTerminal::Switch { test, cases, id },
-        label,
-    )
+    let terminal = ReactiveTerminal::Switch {
+        test: *test,
+        cases,
+        id,
+    };
+    put_terminal(alloc, out, terminal, label)
 }

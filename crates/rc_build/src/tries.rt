@@ -27,15 +27,15 @@ impl<'g> Builder<'g> {
         &mut self,
         site: Site,
         part: BlockId,
-        binding: Option<Place>,
+        binding: &Option<Place>,
         handler: BlockId,
         fallthrough: BlockId,
         id: EvaluationOrder,
     ) -> Result<Option<BlockId>, Fault>
         requires { (span : Option Span) × CanBuildTerminal self.old.hir.now self.old.marks site.handler self.old.frames
-            site.block (terminals.Try part binding handler fallthrough id span) }
+            site.block (terminals.Try part binding.now handler fallthrough id span) }
         ensures { (span : Option Span) → BuildsTask self.old self.new site
-            (FromTerminal (terminals.Try part binding handler fallthrough id span)) left result }
+            (FromTerminal (terminals.Try part binding.now handler fallthrough id span)) left result }
     {
         let opened = self.open_reachable(fallthrough);
         let frame = Frame::Statement { block: fallthrough };
@@ -76,17 +76,17 @@ fn put_try(
     alloc: Global,
     out: &mut List<ReactiveStatement>,
     block: List<ReactiveStatement>,
-    handler_binding: Option<Place>,
+    handler_binding: &Option<Place>,
     handler: List<ReactiveStatement>,
     id: EvaluationOrder,
     label: Option<ReactiveLabel>,
 ) -> Result<(), AllocError>
     ensures { OnOk result (out.new ≡ out.old ++ settings.terminal_statement
-        (tree.Try (record { statements = block }) handler_binding (record { statements = handler }) id) label ∷ []) }
+        (tree.Try (record { statements = block }) handler_binding.now (record { statements = handler }) id) label ∷ []) }
 {
     let terminal = ReactiveTerminal::Try {
         block: ReactiveBlock { statements: block },
-        handler_binding,
+        handler_binding: *handler_binding,
         handler: ReactiveBlock {
             statements: handler,
         },

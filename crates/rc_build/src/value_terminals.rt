@@ -5,6 +5,7 @@
 ghost use Rattle.std.specs.Prelude.{◌≡◌, Option, None, Some, IfOk};
 ghost use Rattle.rc_names.specs.Numbers.{BlockId};
 ghost use Rattle.rc_hir.specs.Model.{LogicalOperator, HirFunction};
+ghost use Rattle.rc_tree.specs.declared.value.ReactiveValue.TheVariants as reactive;
 ghost use Rattle.rc_runs.specs.PlainTree.{NoRows, Row, Sequence, Value};
 ghost use Rattle.rc_runs.specs.TreeOf.{value_of};
 ghost use Rattle.rc_runs.specs.ValueEnd.{ValueEnd};
@@ -118,6 +119,8 @@ impl<'g> Builder<'g> {
     }
 
     /// Builds the one value of a sequence.
+    // Not inlined, so that the frames of other value terminals have no room for its parts; so the others.
+    #[inline(never)]
     #[cycle(values)]
     fn build_sequence(
         &mut self,
@@ -139,6 +142,7 @@ impl<'g> Builder<'g> {
     }
 
     /// Builds a test and the two arms between which it chooses.
+    #[inline(never)]
     #[cycle(values)]
     fn build_ternary(
         &mut self,
@@ -155,13 +159,13 @@ impl<'g> Builder<'g> {
         let condition = self.build_condition(test, around, false)?;
         let first = self.build_arm(condition.arms.consequent, fallthrough, around)?;
         let second = self.build_arm(condition.arms.alternate, fallthrough, around)?;
-        let conditional = ReactiveValue::ConditionalExpression {
-            test: condition.tested.value,
-            consequent: first.value,
-            alternate: second.value,
-        };
         Ok(NestedValue {
-            value: Boxed::new(self.alloc, conditional)?,
+            value: conditional(
+                self.alloc,
+                condition.tested.value,
+                first.value,
+                second.value,
+            )?,
             answer: first.answer,
             short: None,
         })
@@ -170,6 +174,7 @@ impl<'g> Builder<'g> {
     /// Builds a test and two arms, of which the first only hands the answer of the test on.
     ///
     /// `Malformed` with `LoudArm`: the first arm does more.
+    #[inline(never)]
     #[cycle(values)]
     fn build_logical(
         &mut self,
@@ -192,13 +197,9 @@ impl<'g> Builder<'g> {
         self.check_silent_since(before, arms.consequent)?;
         let second = self.build_arm(arms.alternate, fallthrough, around)?;
         let answer = first.answer;
-        let logical = ReactiveValue::LogicalExpression {
-            operator,
-            left: tested_then(self.alloc, condition.tested, terminal.span, first)?,
-            right: second.value,
-        };
+        let left = tested_then(self.alloc, condition.tested, terminal.span, first)?;
         Ok(NestedValue {
-            value: Boxed::new(self.alloc, logical)?,
+            value: logical(self.alloc, operator, left, second.value)?,
             answer,
             short: None,
         })
@@ -207,6 +208,7 @@ impl<'g> Builder<'g> {
     /// Builds a test and one arm; the other one is its short arm.
     ///
     /// `Malformed` with `ShortArm`: the test leaves another arm open.
+    #[inline(never)]
     #[cycle(values)]
     fn build_optional(
         &mut self,
@@ -230,12 +232,9 @@ impl<'g> Builder<'g> {
         let first = self.build_arm(arms.consequent, fallthrough, around)?;
         let answer = first.answer;
         let branch = condition.tested.block;
-        let whole = ReactiveValue::OptionalExpression {
-            value: tested_then(self.alloc, condition.tested, arms.span, first)?,
-            optional,
-        };
+        let value = tested_then(self.alloc, condition.tested, arms.span, first)?;
         Ok(NestedValue {
-            value: Boxed::new(self.alloc, whole)?,
+            value: optional_value(self.alloc, value, optional)?,
             answer,
             short: Some(ShortArm {
                 alternate: arms.alternate,
@@ -259,7 +258,58 @@ fn other_arm(left_open: Option<ShortArm>, alternate: BlockId) -> Option<BlockId>
     }
 }
 
+/// The value of a ternary. The only error is out of memory.
+// It isn't inlined, nor are the functions that make other values: a value takes no room in the frames of nested ones.
+#[inline(never)]
+fn conditional(
+    alloc: Global,
+    test: Boxed<ReactiveValue>,
+    consequent: Boxed<ReactiveValue>,
+    alternate: Boxed<ReactiveValue>,
+) -> Result<Boxed<ReactiveValue>, AllocError>
+    ensures { IfOk result (λ made. made ≡ reactive.ConditionalExpression test consequent alternate) }
+{
+    let whole = ReactiveValue::ConditionalExpression {
+        test,
+        consequent,
+        alternate,
+    };
+    Boxed::new(alloc, whole)
+}
+
+/// The value of a logical. The only error is out of memory.
+#[inline(never)]
+fn logical(
+    alloc: Global,
+    operator: LogicalOperator,
+    left: Boxed<ReactiveValue>,
+    right: Boxed<ReactiveValue>,
+) -> Result<Boxed<ReactiveValue>, AllocError>
+    ensures { IfOk result (λ made. made ≡ reactive.LogicalExpression operator left right) }
+{
+    let whole = ReactiveValue::LogicalExpression {
+        operator,
+        left,
+        right,
+    };
+    Boxed::new(alloc, whole)
+}
+
+/// The value of an optional. The only error is out of memory.
+#[inline(never)]
+fn optional_value(
+    alloc: Global,
+    value: Boxed<ReactiveValue>,
+    optional: bool,
+) -> Result<Boxed<ReactiveValue>, AllocError>
+    ensures { IfOk result (λ made. made ≡ reactive.OptionalExpression value optional) }
+{
+    let whole = ReactiveValue::OptionalExpression { value, optional };
+    Boxed::new(alloc, whole)
+}
+
 /// The sequence of a test, as its only row, and the value behind it. The only error is out of memory.
+#[inline(never)]
 fn tested_then(
     alloc: Global,
     tested: BuiltValue<'_>,

@@ -5,9 +5,10 @@
 //!
 //! After the value blocks of oxc's build_reactive_function.
 
-ghost use Rattle.std.specs.Prelude.{◌≡◌, Bool, false, ◌∷◌, [], ◌||◌, ◌&&◌, Option, IfOk, Some, None, option_map, slice_get, if◌then◌else◌};
+ghost use Rattle.std.specs.Prelude.{◌≡◌, Bool, false, ◌++◌, ◌∷◌, [], ◌||◌, ◌&&◌, Option, IfOk, OnOk, Some, None, option_map, slice_get, if◌then◌else◌};
 ghost use Rattle.rc_names.specs.Numbers.{BlockId, same_id};
 ghost use Rattle.rc_hir.specs.Model.{HirFunction};
+ghost use Rattle.rc_hir.specs.declared.fault.Fault.TheVariants as faults;
 ghost use Rattle.rc_runs.specs.AnsweredTest as answered;
 ghost use Rattle.rc_runs.specs.ListContext.{ValueContext, value_context};
 ghost use Rattle.rc_runs.specs.PlainTree.{Base, Value};
@@ -150,7 +151,7 @@ impl<'g> Builder<'g> {
     {
         let condition = self.build_condition(key, showing.around(site), false)?;
         if !condition.arms.are(consequent, alternate) {
-            return Err(malformed(condition.tested.block, Rule::ValueEnd));
+            return Err(refuse(condition.tested, Rule::ValueEnd));
         }
         Ok(condition.tested.shown(self.alloc, showing)?)
     }
@@ -172,7 +173,7 @@ impl<'g> Builder<'g> {
     {
         let built = self.build_value(key, around, false)?;
         if !goes_to(built.last, next) {
-            return Err(malformed(built.block, Rule::ValueEnd));
+            return Err(refuse(built, Rule::ValueEnd));
         }
         Ok(built)
     }
@@ -196,10 +197,10 @@ impl<'g> Builder<'g> {
     {
         let tested = self.build_value(key, around, is_test)?;
         let Some(arms) = arms_of(tested.last) else {
-            return Err(malformed(tested.block, Rule::ValueEnd));
+            return Err(refuse(tested, Rule::ValueEnd));
         };
         if !same_declaration(self.env, arms.test, tested.answer) {
-            return Err(malformed(tested.block, Rule::Tested));
+            return Err(refuse(tested, Rule::Tested));
         }
         Ok(Condition { tested, arms })
     }
@@ -225,6 +226,25 @@ impl<'g> Builder<'g> {
             at = row.next;
             pending.push(row)?;
         }
+        self.build_back(pending, at, around, is_test)
+    }
+
+    /// Builds the last block of a value, and puts the rows that wait before it, from the last to the first.
+    ///
+    /// `Malformed`, `Todo`, `BadName`: as for the last block and the short arms of the rows.
+    // Not inlined, so that the frames of nested values have no room for it.
+    #[inline(never)]
+    fn build_back(
+        &mut self,
+        rows: List<ValueRow>,
+        at: BlockId,
+        around: Around,
+        is_test: bool,
+    ) -> Result<BuiltValue<'g>, Fault>
+        requires { loops.CanBuildBack self.old rows at around }
+        ensures { loops.BuildsBack self.old self.new rows at around is_test result }
+    {
+        let mut pending = rows;
         let mut built = self.build_last(at, around.handler)?;
         'back: while let Some(row) = pending.pop() {
             built = self.put_behind(row, built, is_test, around.handler)?;
@@ -280,12 +300,7 @@ impl<'g> Builder<'g> {
             answer,
             short,
         } = self.build_nested(terminal, around.handler)?;
-        rows.push(ReactiveInstruction {
-            id: terminal.id,
-            lvalue: Some(answer),
-            value: value.into_inner(),
-            span: around.span,
-        })?;
+        put_row(&mut rows, terminal.id, &answer, value, around.span)?;
         Ok(ValueRow {
             rows,
             next: terminal.fallthrough,
@@ -448,6 +463,34 @@ impl<'g> BuiltValue<'g> {
             Ok(value)
         }
     }
+}
+
+/// The fault of a value whose last block breaks a rule; the value is let go.
+// Not inlined, so that the frames of nested values have no room for what letting go takes.
+#[inline(never)]
+fn refuse(built: BuiltValue<'_>, rule: Rule) -> Fault
+    ensures { result ≡ faults.Malformed built.entry.block rule }
+{
+    malformed(built.block, rule)
+}
+
+/// Puts a row with that value behind others. The only error is out of memory.
+#[inline(never)]
+fn put_row(
+    rows: &mut List<ReactiveInstruction>,
+    id: EvaluationOrder,
+    answer: &Place,
+    value: Boxed<ReactiveValue>,
+    span: Option<Span>,
+) -> Result<(), AllocError>
+    ensures { OnOk result (rows.new ≡ rows.old ++ loops.row_with id answer.now value span ∷ []) }
+{
+    rows.push(ReactiveInstruction {
+        id,
+        lvalue: Some(*answer),
+        value: value.into_inner(),
+        span,
+    })
 }
 
 /// How a value goes on behind a block with the terminal, if that isn't the value's last one: a block that may throw is,

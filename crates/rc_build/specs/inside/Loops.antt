@@ -3,7 +3,7 @@ use Rattle.std.specs.Prelude.{◌≡◌, Bool, false, List, [], ◌∷◌, ◌++
 use Rattle.std.specs.Option.{option_to_list}
 use Rattle.rc_names.specs.Numbers.{BlockId}
 use Rattle.rc_hir.specs.Model.{Fault, HirFunction}
-use Rattle.rc_tree.specs.Model.{ReactiveValue, ReactiveTerminal}
+use Rattle.rc_tree.specs.Model.{ReactiveStatement, ReactiveTerminal, ReactiveValue}
 use Rattle.rc_tree.specs.declared.terminal.ReactiveTerminal.TheVariants as tree
 use Rattle.rc_runs.specs.declared.frames.Frame.{Frame}
 use Rattle.rc_runs.specs.Frames.{is_jump_target}
@@ -20,7 +20,7 @@ use Rattle.rc_build.specs.declared.loops.BuiltTurns.{BuiltTurns}
 use Rattle.rc_build.specs.BlockFacts.{BlockIs}
 use Rattle.rc_build.specs.inside.CanBuild.{AreMarked, AreOwned, AreReferenced, AreUsed, IsHandler, IsUsed}
 use Rattle.rc_build.specs.inside.CanBuild.{pending_blocks, used_blocks}
-use Rattle.rc_build.specs.inside.Setting.{setting_of, Setting}
+use Rattle.rc_build.specs.inside.Setting.{Setting, label_at, setting_of, terminal_statement}
 use Rattle.rc_build.specs.inside.Task.{Progress, progress_of}
 use Rattle.rc_build.specs.inside.Built.{Builds, BuiltPart, Refused}
 use Rattle.rc_build.specs.inside.Values.{CanBuildValue}
@@ -85,3 +85,9 @@ tree_with kinds.ForIn t init turns = Some (tree.ForIn turns.test (record { state
 
 abbrev pub tree_of : LoopTerminal → Option ReactiveValue → BuiltTurns → Option ReactiveTerminal
 tree_of t init turns = tree_with t.kind t init turns
+
+-- the statement of a loop with these parts stands behind others
+abbrev pub PutsLoop : List ReactiveStatement → List ReactiveStatement → LoopTerminal → Option ReactiveValue → BuiltTurns
+    → Type 0
+PutsLoop before after t init turns = (looping : ReactiveTerminal) × (tree_of t init turns ≡ Some looping)
+    × (after ≡ before ++ terminal_statement looping (label_at (Some t.fallthrough)) ∷ [])

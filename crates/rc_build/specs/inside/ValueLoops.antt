@@ -2,7 +2,9 @@
 use Rattle.std.specs.Prelude.{◌≡◌, Bool, false, List, [], ◌∷◌, ◌++◌, Option, Some, None, Result, ◌&&◌}
 use Rattle.std.specs.List.{flat_map}
 use Rattle.rc_names.specs.Numbers.{BlockId, EvaluationOrder}
+use Rattle.rc_names.specs.declared.span.Span.{Span}
 use Rattle.rc_hir.specs.Model.{Place, Fault, HirFunction, Environment}
+use Rattle.rc_tree.specs.Model.{ReactiveInstruction, ReactiveValue}
 use Rattle.rc_runs.specs.PlainTree.{Value, Sequence, Rows, NoRows}
 use Rattle.rc_runs.specs.TreeOf.{instructions_of}
 use Rattle.rc_runs.specs.AnsweredTest.{answers_test}
@@ -20,9 +22,9 @@ use Rattle.rc_build.specs.inside.Marks.{MarksBlocks}
 use Rattle.rc_build.specs.inside.Setting.{setting_of}
 use Rattle.rc_build.specs.inside.Task.{Progress, progress_of}
 use Rattle.rc_build.specs.inside.Built.{Builds, Refused}
-use Rattle.rc_build.specs.inside.ValueSteps.{value_at}
+use Rattle.rc_build.specs.inside.ValueSteps.{step_at, value_at}
 use Rattle.rc_build.specs.inside.ShortArms.{alternate_of, arm_blocks}
-use Rattle.rc_build.specs.inside.Values.{IsBuilt}
+use Rattle.rc_build.specs.inside.Values.{BuildsValue, CanBuildValue, IsBuilt, any_end}
 use Rattle.rc_build.specs.inside.StepRows.{IsStep}
 
 -- the rows lead from one block to the other, and use these blocks
@@ -32,6 +34,10 @@ pub data RowsLead (hir : HirFunction) (env : Environment) (around : Around) (key
   one_more : {rows : List ValueRow} {at : BlockId} {newly used : List BlockId} (row : ValueRow) →
       RowsLead hir env around key rows at newly → IsStep hir env around at row used →
       RowsLead hir env around key (rows ++ row ∷ []) row.next (newly ++ used)
+
+-- the row of a value terminal with that value, which answers with the place
+abbrev pub row_with : EvaluationOrder → Place → ReactiveValue → Option Span → ReactiveInstruction
+row_with id answer value span = record { id = id; lvalue = Some answer; value = value; span = span }
 
 -- the blocks of the short arms of these rows
 abbrev pub arms_of_rows : List ValueRow → List BlockId
@@ -46,6 +52,22 @@ pub record RowsSoFar (old now : Builder) (key : BlockId) (around : Around) (rows
   pub valued : IsValueReferenced old.hir.now at
   pub kept : now.out ≡ old.out
   pub setting : (site : Site) → setting_of now site ≡ setting_of old site
+
+-- the loop from the key on has come to the last block of its value, behind these rows
+pub record IsAtEnd (old now : Builder) (key : BlockId) (around : Around) (rows : List ValueRow) (at : BlockId) : Type 0
+  where
+    pub so_far : RowsSoFar old now key around rows at
+    pub can : CanBuildValue old.hir.now old.marks key
+    pub ends : step_at now.hir.now at ≡ None
+
+-- the last block can be built, and the rows can be put before it
+abbrev pub CanBuildBack : Builder → List ValueRow → BlockId → Around → Type 0
+CanBuildBack now rows at around = (old : Builder) × (key : BlockId) × IsAtEnd old now key around rows at
+
+-- they are, which builds the value from where the loop began
+abbrev pub BuildsBack : Builder → Builder → List ValueRow → BlockId → Around → Bool → Result BuiltValue Fault → Type 0
+BuildsBack now new rows at around is_test result = (old : Builder) (key : BlockId) → IsAtEnd old now key around rows at
+    → (site : Site) → BuildsValue old new site key (value_at around is_test) any_end result
 
 -- how far the loop has come that puts the rows before the value
 pub record BackSoFar (old now : Builder) (key : BlockId) (around : Around) (is_test : Bool)

@@ -241,6 +241,12 @@ build_enclosure-returns t c = λ span.
 
 -- the answers of a loop's functions
 
+pub build_loop_of-build_loop-requires : goal.build_loop_of-build_loop-requires
+build_loop_of-build_loop-requires = loops.build_loop_of-build_loop-requires
+
+pub build_loop_of-returns : goal.build_loop_of-returns
+build_loop_of-returns = loops.build_loop_of-returns
+
 pub build_loop-returns-then-is_live : goal.build_loop-returns-then-is_live
 build_loop-returns-then-is_live = loops.build_loop-returns-then-is_live
 
@@ -256,8 +262,8 @@ build_loop-build_turns-requires = loops.build_loop-build_turns-requires
 pub build_loop-returns-in_err-turns : goal.build_loop-returns-in_err-turns
 build_loop-returns-in_err-turns = loops.build_loop-returns-in_err-turns
 
-pub build_loop-loop_tree-tree-requires : goal.build_loop-loop_tree-tree-requires
-build_loop-loop_tree-tree-requires = loops.build_loop-loop_tree-tree-requires
+pub build_loop-put_loop-requires : goal.build_loop-put_loop-requires
+build_loop-put_loop-requires = loops.build_loop-put_loop-requires
 
 pub build_loop-returns : goal.build_loop-returns
 build_loop-returns = loops.build_loop-returns

@@ -17,7 +17,7 @@ abbrev pub decreases-build_block : goal.decreases-build_block
 decreases-build_block l = unused l.self.now + 1
 
 abbrev pub decreases-build_terminal : goal.decreases-build_terminal
-decreases-build_terminal l = unused l.self.now + 8
+decreases-build_terminal l = unused l.self.now + 9
 
 abbrev pub decreases-build_if : goal.decreases-build_if
 decreases-build_if l = unused l.self.now + 7
@@ -48,6 +48,9 @@ invariant-build_cases-cases l = CasesSoFar l.fn.self l.self l.fn.site l.fn.kept 
 
 abbrev pub decreases-build_cases-cases : goal.decreases-build_cases-cases
 decreases-build_cases-cases l = length l.waiting
+
+abbrev pub decreases-build_loop_of : goal.decreases-build_loop_of
+decreases-build_loop_of l = unused l.self.now + 8
 
 abbrev pub decreases-build_loop : goal.decreases-build_loop
 decreases-build_loop l = unused l.self.now + 7

@@ -1,6 +1,5 @@
-use Rattle.std.proofs.Common.{[], ◌∷◌, refl, sym, ap, ◌∙◌, subst, arith, length, true, ◌++◌, Some, Err, ◌≡◌, eq-eqb}
+use Rattle.std.proofs.Common.{[], refl, sym, ap, ◌∙◌, subst, arith, length, true, Some, Err, ◌≡◌, eq-eqb}
 use Rattle.std.proofs.Common.{ne_eqb}
-use Rattle.std.proofs.lemmas.List.{length-append}
 use Rattle.rc_hir.specs.declared.fault.Rule.TheVariants as rules
 use Rattle.rc_runs.specs.PlainTree.{NoRows, Row, Sequence}
 use Rattle.rc_runs.specs.Silent.{is_unset}
@@ -36,9 +35,8 @@ use Rattle.rc_build.proofs.ValueEndLemmas.{arms_as, arms_none, arms_unlike, decl
 use Rattle.rc_build.proofs.ValueEndLemmas.{ends_not, goes_as, goes_not, tested_fact}
 use Rattle.rc_build.proofs.ValueKindLemmas.{nested_can}
 use Rattle.rc_build.proofs.ValueLemmas.{spells_unusable, value_has_rows}
-use Rattle.rc_build.proofs.ValueLoopLemmas.{back_done, back_further, back_refused, back_start, built_at, further_can}
-use Rattle.rc_build.proofs.ValueLoopLemmas.{last_can, popped_last, popped_none, rows_further, rows_refused, rows_start}
-use Rattle.rc_build.proofs.ValueLoopLemmas.{short_can}
+use Rattle.rc_build.proofs.ValueLoopLemmas.{further_can}
+use Rattle.rc_build.proofs.ValueLoopLemmas.{rows_further, rows_refused, rows_start}
 use Rattle.rc_build.proofs.ValueRowLemmas.{step_starts}
 use Rattle.rc_build.proofs.builder.Builder.+values.Goals as goal
 
@@ -55,7 +53,7 @@ build_arm-returns-in_err-built t c = λ site.
 pub build_arm-returns-then-not-goes_to : goal.build_arm-returns-then-not-goes_to
 build_arm-returns-then-not-goes_to t c = λ site.
     let built = c.in_ok-built.ensures site in
-    breaks_rule _ rules.ValueEnd c.malformed.ensures
+    breaks_rule _ rules.ValueEnd c.refuse.ensures
     (ends_not built.ok (GoesTo c.args.next) c.args.self.now.marks.used
     (goes_not built.ok (sym c.goes_to.ensures ∙ c.if-not-goes_to.true))) (end_elsewhere built.ok)
 
@@ -77,7 +75,7 @@ build_condition-returns-in_err-tested t c = λ site.
 pub build_condition-returns-in_default : goal.build_condition-returns-in_default
 build_condition-returns-in_default t c = λ site.
     let built = c.in_ok-tested.ensures site in
-    breaks_rule _ rules.ValueEnd c.malformed.ensures
+    breaks_rule _ rules.ValueEnd c.refuse.ensures
     (ends_not built.ok (IsChoice c.args.self.now.env.now) c.args.self.now.marks.used
     (arms_none built.ok (sym c.arms_of.ensures ∙ c.in_default.is)))
     (end_elsewhere built.ok)
@@ -86,7 +84,7 @@ pub build_condition-returns-then-not-same_declaration : goal.build_condition-ret
 build_condition-returns-then-not-same_declaration t c = λ site.
     let built = c.in_ok-tested.ensures site in
     let found = sym c.arms_of.ensures ∙ c.in-Some.is in
-    breaks_rule _ rules.Tested c.malformed-then-not-same_declaration.ensures
+    breaks_rule _ rules.Tested c.refuse-then-not-same_declaration.ensures
     (ends_not built.ok (IsChoice c.args.self.now.env.now) c.args.self.now.marks.used
     (arms_unlike built.ok found (declared_in c.in-Some.arms.test c.in_ok-tested.tested.answer built.frames
     (sym c.same_declaration.ensures ∙ c.if-not-same_declaration.true)))) (tested_fact built.ok found)
@@ -133,59 +131,25 @@ build_value-rows-smaller t c =
     let used = ap length (step_starts row.ok.is).1 in
     omega (arith, fewer_left row row.ok.marking.marked (omega (arith, used_longer row.ok.marking, used)))
 
--- its last block
-
-pub build_value-build_last-requires : goal.build_value-build_last-requires
-build_value-build_last-requires t c =
-    last_can c.rows.invariant c.requires (any_site c.args.key) (sym c.step_at.ensures ∙ c.in_default.is)
-
-pub build_value-returns-in_err-built : goal.build_value-returns-in_err-built
-build_value-returns-in_err-built t c = λ site.
-    let s = c.rows.invariant in
-    passes_on c.from_residual-in_err-built.ensures.1 (same_graph (s.setting site))
-    (c.in_err-built.ensures site (value_at c.args.around c.args.is_test) refl) (rows_refused site s)
-
 -- and back
 
-pub build_value-back-init : goal.build_value-back-init
-build_value-back-init t c =
-    let site = any_site c.args.key in
-    let context = value_at c.args.around c.args.is_test in
-    back_start site (λ site. (c.in_ok-built.ensures site context refl).frames) c.rows.invariant
-    (c.in_ok-built.ensures site context refl).ok
-
-pub build_value-put_behind-requires : goal.build_value-put_behind-requires
-build_value-put_behind-requires t c =
-    short_can c.pop.new.self c.in-Some-pop.row c.back.invariant
-    (popped_last c.back.pending c.pop.new.self c.in-Some-pop.is c.pop.ensures.last) c.requires (any_site c.args.key)
-
-pub build_value-returns-in_err-built-2 : goal.build_value-returns-in_err-built-2
-build_value-returns-in_err-built-2 t c = λ site.
-    let s = c.back.invariant in
-    let last = popped_last c.back.pending c.pop.new.self c.in-Some-pop.is c.pop.ensures.last in
-    let same = same_graph (s.setting site) in
-    passes_on c.from_residual-in_err-built-2.ensures.1 same
-    (c.in_err-built-2.ensures site s.value s.end (built_at same s.is))
-    (back_refused c.pop.new.self c.in-Some-pop.row s last site)
-
-pub build_value-back-preserved : goal.build_value-back-preserved
-build_value-back-preserved t c =
-    let s = c.back.invariant in
-    let site = any_site c.args.key in
-    let last = popped_last c.back.pending c.pop.new.self c.in-Some-pop.is c.pop.ensures.last in
-    let is = built_at (same_graph (s.setting site)) s.is in
-    back_further site (λ site. (c.in_ok-built-2.ensures site s.value s.end is).frames) s last
-    (c.in_ok-built-2.ensures site s.value s.end is).ok
-
-pub build_value-back-smaller : goal.build_value-back-smaller
-build_value-back-smaller t c =
-    let last = popped_last c.back.pending c.pop.new.self c.in-Some-pop.is c.pop.ensures.last in
-    omega (arith, ap length last, length-append c.pop.new.self (c.in-Some-pop.row ∷ []))
+pub build_value-build_back-requires : goal.build_value-build_back-requires
+build_value-build_back-requires t c = (
+  c.args.self.now,
+  c.args.key,
+  record {
+    so_far = c.rows.invariant;
+    can = c.requires;
+    ends = sym c.step_at.ensures ∙ c.in_default.is;
+  },
+)
 
 pub build_value-returns : goal.build_value-returns
-build_value-returns t c = λ site.
-    let s = c.back.invariant in
-    is_built _ (back_done s (popped_none c.back.pending c.in_default-pop.is c.pop.ensures.none)) (s.setting site)
+build_value-returns t c = c.build_back.ensures c.args.self.now c.args.key (record {
+  so_far = c.rows.invariant;
+  can = c.requires;
+  ends = sym c.step_at.ensures ∙ c.in_default.is;
+})
 
 -- a step
 
@@ -272,20 +236,13 @@ build_row-returns t c = λ site is_test.
     let nested = c.in_ok-value.ensures site in
     let block = c.in_ok-block.block.now in
     let made = c.in_ok-rows.rows in
-    let id = c.args.terminal.id in
-    let answer = c.in_ok-value.field-0.answer in
     is_built _ (row_built c.args.key c.args.terminal block c.in_ok-block.ensures.found c.requires refl marked.ok
     c.in_ok-block.ensures.own
     (subst (λ z. HasRows c.args.self.now.hir.now z made) c.as_slice.ensures c.in_ok-rows.ensures.ok)
-    (ne_eqb id.0 0 c.if-terminal-eq0.false)
+    (ne_eqb c.args.terminal.id.0 0 c.if-terminal-eq0.false)
     (subst (λ (z : Setting). NestedBuilt z.hir z.env c.args.around.handler c.args.terminal c.in_ok-value.field-0
     (progress_of mid) (progress_of late)) marked.frames nested.ok)
-    (c.in_ok-push.ensures.ok ∙ ap (λ z. made ++ record {
-      id = id;
-      lvalue = Some answer;
-      value = z;
-      span = c.args.around.span;
-    } ∷ []) c.into_inner.ensures)) (nested.frames ∙ marked.frames)
+    c.in_ok-put_row.ensures) (nested.frames ∙ marked.frames)
 
 -- the value of a value terminal
 
@@ -361,7 +318,7 @@ build_ternary-returns t c = λ site.
     let second = c.in_ok-second.ensures site in
     let same = same_behind tested first in
     nested_around c.args.terminal c.args.handler (kinds.Ternary c.args.test) c.around-around.ensures
-    (is_built _ (ternary_built tested.ok (arm_there tested first) (arm_at same second.ok) c.in_ok-new.ensures)
+    (is_built _ (ternary_built tested.ok (arm_there tested first) (arm_at same second.ok) c.in_ok-conditional.ensures)
     (second.frames ∙ same))
 
 -- a logical
@@ -423,10 +380,10 @@ build_logical-returns t c = λ site.
     let same = same_behind tested first in
     nested_around c.args.terminal c.args.handler (kinds.Logical c.args.operator c.args.test) c.around-around.ensures
     (is_built _ (logical_built tested.ok arm (arm_at same second.ok)
-    (c.in_ok-tested_then.ensures c.args.self.now.hir.now _ _ _ _ tested.ok.is arm.is
+    (c.in_ok-left.ensures c.args.self.now.hir.now _ _ _ _ tested.ok.is arm.is
     ∙ ap (λ (z : Around). value_of (Sequence (Row tested.ok.end.id (Some tested.ok.end.answer) tested.ok.value z.span
     NoRows) arm.end.id arm.value)) (sym c.around-around.ensures))
-    (first_silent tested first c.len-before.ensures.value c.in_ok-check_silent_since.ensures.ok) c.in_ok-new.ensures)
+    (first_silent tested first c.len-before.ensures.value c.in_ok-check_silent_since.ensures.ok) c.in_ok-logical.ensures)
     (second.frames ∙ same))
 
 -- an optional
@@ -472,5 +429,5 @@ build_optional-returns t c = λ site.
     nested_around c.args.terminal c.args.handler (kinds.Optional c.args.optional c.args.test) c.around-around.ensures
     (is_built _ (optional_built tested.ok arm
     (other_none c.in_ok-condition.condition.tested.left_open arms.alternate (sym c.other_arm.ensures ∙ c.in_default.is))
-    (c.in_ok-tested_then.ensures c.args.self.now.hir.now _ _ _ _ tested.ok.is arm.is) c.in_ok-new.ensures)
+    (c.in_ok-value.ensures c.args.self.now.hir.now _ _ _ _ tested.ok.is arm.is) c.in_ok-optional_value.ensures)
     (same_behind tested first))

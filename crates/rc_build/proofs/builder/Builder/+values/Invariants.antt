@@ -2,7 +2,7 @@
 -- marks the functions call each other in one order.
 use Rattle.std.proofs.Common.{ℕ, ◌+◌, ◌-◌, ◌*◌, length}
 use Rattle.rc_build.specs.declared.builder.Builder.{Builder}
-use Rattle.rc_build.specs.inside.ValueLoops.{BackSoFar, RowsSoFar}
+use Rattle.rc_build.specs.inside.ValueLoops.{RowsSoFar}
 use Rattle.rc_build.proofs.builder.Builder.+values.Given as goal
 
 -- ten for each block that isn't used
@@ -44,9 +44,3 @@ invariant-build_value-rows l = RowsSoFar l.fn.self l.self l.fn.key l.fn.around l
 
 abbrev pub decreases-build_value-rows : goal.decreases-build_value-rows
 decreases-build_value-rows l = length l.self.hir.now.body.blocks - length l.self.marks.used
-
-abbrev pub invariant-build_value-back : goal.invariant-build_value-back
-invariant-build_value-back l = BackSoFar l.fn.self l.self l.fn.key l.fn.around l.fn.is_test l.pending l.built
-
-abbrev pub decreases-build_value-back : goal.decreases-build_value-back
-decreases-build_value-back l = length l.pending

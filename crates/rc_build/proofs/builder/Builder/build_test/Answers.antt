@@ -26,7 +26,7 @@ returns-then-not-are c =
     let test = subst (λ (z : Around). ConditionBuilt old.hir.now old.env.now c.args.key z.span z.handler false
     c.in_ok-condition.condition.arms c.in_ok-condition.condition.tested (progress_of old)
     (progress_of c.build_condition.new.self)) c.around.ensures built.ok in
-    breaks_rule _ rules.ValueEnd c.malformed.ensures
+    breaks_rule _ rules.ValueEnd c.refuse.ensures
     (test_elsewhere test old.marks.used
     (arms_differ c.in_ok-condition.condition.arms c.args.consequent c.args.alternate
     (sym c.are.ensures ∙ c.if-not-are.true))) (end_elsewhere test)

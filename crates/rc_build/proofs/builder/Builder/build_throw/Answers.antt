@@ -18,7 +18,7 @@ returns-then-is_some c = λ span.
     (throws_at c.requires.1 some)
 
 pub returns : goal.returns
-returns c = λ span. builds_end (terminals.Throw c.args.value c.args.id span)
-    (unlabeled (Throw c.args.value c.args.id)) c.requires.1.marked
+returns c = λ span. builds_end (terminals.Throw c.args.value.now c.args.id span)
+    (unlabeled (Throw c.args.value.now c.args.id)) c.requires.1.marked
     c.in_ok-put_terminal.ensures
     (grammar.throws (no_handler c.args.site.handler (sym c.is_some.ensures ∙ c.if-is_some.false)))

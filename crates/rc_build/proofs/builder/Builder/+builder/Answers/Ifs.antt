@@ -34,7 +34,7 @@ build_branch-returns-then-is_jump_target t c = λ span.
 
 pub build_branch-build_consequent-requires : goal.build_branch-build_consequent-requires
 build_branch-build_consequent-requires t c =
-    (omega arith, (c.args.test, c.args.alternate, c.requires.0, c.requires.1))
+    (omega arith, (c.args.test.now, c.args.alternate, c.requires.0, c.requires.1))
 
 pub build_branch-returns-in_err-part : goal.build_branch-returns-in_err-part
 build_branch-returns-in_err-part t c = λ span.
@@ -167,7 +167,7 @@ build_if-returns t c = λ span.
     (if_built c.open_reachable-opened.ensures (sym c.falls_elsewhere.ensures ∙ c.if-falls_elsewhere.false) part.ok
     (built_in (λ z. SpellsAlternate (part_setting c.open_reachable-opened.result
     (frame_kinds.Statement c.args.fallthrough) z) c.args.alternate c.args.fallthrough) part.frames other.ok)
-    (ap (terminal_statement (tree.If c.args.test (record { statements = c.in_ok-part.part }) c.in_ok-other.other
+    (ap (terminal_statement (tree.If c.args.test.now (record { statements = c.in_ok-part.part }) c.in_ok-other.other
     c.args.id)) c.label_at-label.ensures) c.in_ok-put_if.ensures)
     (other.frames ∙ part.frames)
 

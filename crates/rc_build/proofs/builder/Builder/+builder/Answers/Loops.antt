@@ -1,22 +1,38 @@
-use Rattle.std.proofs.Common.{◌∷◌, Some, refl, sym, ap, ◌∙◌, subst, arith}
+use Rattle.std.proofs.Common.{◌∷◌, Some, refl, sym, ◌∙◌, subst, arith}
 use Rattle.rc_hir.specs.declared.fault.Rule.TheVariants.{LoopLive}
 use Rattle.rc_runs.specs.LoopParts.{loop_frame}
-use Rattle.rc_build.specs.inside.Built.{BuiltList, Refused}
-use Rattle.rc_build.specs.inside.CanBuild.{CanBuildList}
+use Rattle.rc_build.specs.inside.Built.{BuildsTask, BuiltList, Refused}
+use Rattle.rc_build.specs.inside.CanBuild.{CanBuildList, CanBuildTerminal}
 use Rattle.rc_build.specs.inside.Depths.{frames_inside}
 use Rattle.rc_build.specs.inside.LoopKinds.{before_of, blocks_of}
 use Rattle.rc_build.specs.inside.Loops.{CanBuildBefore, CanBuildTurns, SpellsTurnsOf, TurnsBuilt}
-use Rattle.rc_build.specs.inside.Setting.{Setting, setting_of, terminal_statement}
-use Rattle.rc_build.specs.inside.Task.{FromBlock, Spells, progress_of}
+use Rattle.rc_build.specs.inside.Setting.{Setting, setting_of}
+use Rattle.rc_build.specs.inside.Task.{FromBlock, FromTerminal, Spells, left, progress_of}
 use Rattle.rc_build.proofs.BuildsLemmas.{breaks_rule, is_built, passes_on, refused_in, same_graph}
 use Rattle.rc_build.proofs.ListLemmas.{as_few_left, same_blocks, used_longer}
 use Rattle.rc_build.proofs.CanBuildTurnsLemmas.{before_can, body_can, init_can, test_can, turns_can}
+use Rattle.rc_build.proofs.LoopKindLemmas.{loop_same}
 use Rattle.rc_build.proofs.LoopLemmas.{SpellsLoopBefore, before_at, in_frame, start_marked, test_at, turns_built}
 use Rattle.rc_build.proofs.LoopLemmas.{turns_refused_before, turns_refused_body, turns_refused_test, values_built}
 use Rattle.rc_build.proofs.LoopLemmas.{values_marked}
 use Rattle.rc_build.proofs.LoopStatementLemmas.{init_refused, live_fact, live_refused, loop_built, loop_refused}
 use Rattle.rc_build.proofs.LoopStatementLemmas.{not_live, tree_there}
 use Rattle.rc_build.proofs.builder.Builder.+builder.Goals as goal
+
+-- a terminal that is a loop
+
+pub build_loop_of-build_loop-requires : goal.build_loop_of-build_loop-requires
+build_loop_of-build_loop-requires t c =
+    let old = c.args.self.now in (
+      omega arith,
+      subst (CanBuildTerminal old.hir.now old.marks c.args.site.handler old.frames c.args.site.block)
+          (loop_same c.args.terminal.now c.unwrap.result (sym c.loop_of.ensures ∙ c.unwrap.ensures)) c.requires.0,
+    )
+
+pub build_loop_of-returns : goal.build_loop_of-returns
+build_loop_of-returns t c = subst (λ z. BuildsTask c.args.self.now c.build_loop.new.self c.args.site (FromTerminal z) left
+    c.build_loop.result) (sym (loop_same c.args.terminal.now c.unwrap.result (sym c.loop_of.ensures ∙ c.unwrap.ensures)))
+    c.build_loop.ensures
 
 -- a loop
 
@@ -62,8 +78,8 @@ build_loop-returns-in_err-turns t c =
     (λ none. loop_refused s c.args.terminal init.ok
     (refused_in (λ z. SpellsTurnsOf z c.args.terminal) c.build_before.new.self.marks.used init.frames none))
 
-pub build_loop-loop_tree-tree-requires : goal.build_loop-loop_tree-tree-requires
-build_loop-loop_tree-tree-requires t c =
+pub build_loop-put_loop-requires : goal.build_loop-put_loop-requires
+build_loop-put_loop-requires t c =
     let s = setting_of c.args.self.now c.args.site in
     let init = before_at c.args.terminal c.init.ensures refl c.in_ok-init.ensures in
     let free = not_live s c.args.terminal (sym c.is_live.ensures ∙ c.if-is_live.false) in
@@ -77,11 +93,11 @@ build_loop-returns t c =
     let init = before_at c.args.terminal c.init.ensures refl c.in_ok-init.ensures in
     let free = not_live s c.args.terminal (sym c.is_live.ensures ∙ c.if-is_live.false) in
     let turns = c.in_ok-turns.ensures in
+    let put = c.in_ok-put_loop.ensures in
     is_built (Some c.args.terminal.fallthrough)
     (loop_built s c.args.terminal init.ok (subst (λ (z : Setting). TurnsBuilt z c.args.terminal c.in_ok-turns.turns
     (progress_of c.build_before.new.self) (progress_of c.build_turns.new.self)) init.frames turns.ok) free.2
-    c.loop_tree-tree.ensures
-    (ap (terminal_statement c.loop_tree-tree.result) c.label_at-label.ensures) c.in_ok-put_terminal.ensures) (turns.frames ∙ init.frames)
+    put.1 refl put.2) (turns.frames ∙ init.frames)
 
 -- its turns
 

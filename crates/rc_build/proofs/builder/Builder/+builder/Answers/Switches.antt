@@ -1,4 +1,4 @@
-use Rattle.std.proofs.Common.{[], ◌∷◌, ◌++◌, refl, sym, ap, ◌∙◌, subst, arith, List, drop}
+use Rattle.std.proofs.Common.{refl, sym, ap, ◌∙◌, subst, arith, List, drop}
 use Rattle.std.proofs.lemmas.Bool.{not-false, not-true}
 use Rattle.rc_hir.specs.Model.{Case}
 use Rattle.rc_hir.specs.declared.fault.Rule.TheVariants.{FallsElsewhere, SwitchCase}
@@ -69,7 +69,7 @@ build_switch-returns t c = λ span.
     (switch_built {s = setting_of old c.args.site} c.open_reachable-opened.ensures
     (kept_chosen c.args.cases.now c.args.fallthrough c.in_ok-kept.ensures c.is_target_inside-is_target.ensures) odd.0
     odd.1 falls parts.ok
-    (ap (terminal_statement (tree.Switch c.args.test c.in_ok-parts.parts c.args.id)) c.label_at.ensures)
+    (ap (terminal_statement (tree.Switch c.args.test.now c.in_ok-parts.parts c.args.id)) c.label_at.ensures)
     c.in_ok-put_switch.ensures) parts.frames
 
 -- its cases inside its frame
@@ -130,8 +130,7 @@ build_cases-cases-preserved t c =
     let step = c.in_ok-statements.ensures in
     cases_further c.pop.new.self c.in-Some.case
     (popped_last c.cases.waiting c.pop.new.self c.in-Some.is c.pop.ensures.last) c.cases.invariant
-    c.build_apart.new.self step.ok step.frames refl refl refl refl c.in_ok-push.ensures.ok
-    (c.in_ok-push-2.ensures.ok ∙ ap (λ z. c.cases.parts ++ z ∷ []) c.switch_case.ensures)
+    c.build_apart.new.self step.ok step.frames refl refl refl refl c.in_ok-push.ensures.ok c.in_ok-put_case.ensures
 
 pub build_cases-returns : goal.build_cases-returns
 build_cases-returns t c =

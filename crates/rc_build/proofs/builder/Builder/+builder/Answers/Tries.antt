@@ -75,5 +75,5 @@ build_try-returns t c = λ span.
     (try_built {s = setting_of old c.args.site} c.open_reachable-opened.ensures block.ok
     (built_in (λ z. Spells (part_setting c.open_reachable-opened.result (frame_kinds.Statement c.args.fallthrough) z)
     (FromBlock c.args.handler)) same other.ok)
-    (ap (terminal_statement (tree.Try (record { statements = c.in_ok-block.block }) c.args.binding
+    (ap (terminal_statement (tree.Try (record { statements = c.in_ok-block.block }) c.args.binding.now
     (record { statements = c.in_ok-other.other }) c.args.id)) c.label_at-label.ensures) c.in_ok-put_try.ensures) (other.frames ∙ same)
