@@ -110,6 +110,8 @@ impl<'g> Builder<'g> {
     }
 
     /// Builds the list of an alternate; none where it is the fallthrough.
+    // Not inlined, so that the frame of a consequent has no room for it.
+    #[inline(never)]
     #[cycle(builder)]
     fn build_alternate(
         &mut self,

@@ -136,6 +136,8 @@ impl<'g> Builder<'g> {
     }
 
     /// Builds the list of a part of a statement, inside one more frame where the statement's fallthrough is opened.
+    // Inlined, so that a level of nested statements has a frame less.
+    #[inline(always)]
     #[cycle(builder)]
     pub fn build_part(
         &mut self,
@@ -159,6 +161,8 @@ impl<'g> Builder<'g> {
     }
 
     /// Builds the list from the site's block on, apart from the statements in front of it.
+    // Inlined, so that a level of nested statements has a frame less.
+    #[inline(always)]
     #[cycle(builder)]
     pub fn build_apart(&mut self, site: Site) -> Result<List<ReactiveStatement>, Fault>
         requires { CanBuildList self.old.hir.now self.old.marks site.handler self.old.frames site.block }

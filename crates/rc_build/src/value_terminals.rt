@@ -97,6 +97,8 @@ impl<'g> Builder<'g> {
     /// Builds the value of a value terminal, whose parts meet at its fallthrough.
     ///
     /// `Malformed`, `Todo`, `BadName`: as for its parts.
+    // Inlined, so that a level of nested values has a frame less.
+    #[inline(always)]
     #[cycle(values)]
     pub fn build_nested(
         &mut self,

@@ -184,6 +184,8 @@ impl<'g> Builder<'g> {
     /// - `Malformed` with `ValueEnd`: it doesn't end in a `Branch`.
     /// - `Malformed` with `Tested`: the `Branch` tests another declaration than that of the answer.
     /// - `Malformed`, `Todo`, `BadName`: as for a value.
+    // Inlined, so that a level of nested values has a frame less.
+    #[inline(always)]
     #[cycle(values)]
     pub fn build_condition(
         &mut self,
