@@ -159,8 +159,8 @@ fn put_if(
     id: EvaluationOrder,
     label: Option<ReactiveLabel>,
 ) -> Result<(), AllocError>
-    ensures { OnOk result (out.new ≡ out.old
-        ++ settings.terminal_statement (tree.If test.now (record { statements = consequent }) alternate id) label ∷ []) }
+    ensures { OnOk result (out.new ≡ out.old ++ settings.terminal_statement
+        (tree.If test.now (record { statements = consequent }) alternate id) label ∷ []) }
 {
     let terminal = ReactiveTerminal::If {
         test: *test,

@@ -235,7 +235,8 @@ fn put_switch(
     id: EvaluationOrder,
     label: Option<ReactiveLabel>,
 ) -> Result<(), AllocError>
-    ensures { OnOk result (out.new ≡ out.old ++ settings.terminal_statement (tree.Switch test.now cases id) label ∷ []) }
+    ensures { OnOk result (out.new ≡ out.old
+        ++ settings.terminal_statement (tree.Switch test.now cases id) label ∷ []) }
 {
     let terminal = ReactiveTerminal::Switch {
         test: *test,

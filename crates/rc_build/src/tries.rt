@@ -82,7 +82,8 @@ fn put_try(
     label: Option<ReactiveLabel>,
 ) -> Result<(), AllocError>
     ensures { OnOk result (out.new ≡ out.old ++ settings.terminal_statement
-        (tree.Try (record { statements = block }) handler_binding.now (record { statements = handler }) id) label ∷ []) }
+        (tree.Try (record { statements = block }) handler_binding.now (record { statements = handler }) id) label
+        ∷ []) }
 {
     let terminal = ReactiveTerminal::Try {
         block: ReactiveBlock { statements: block },

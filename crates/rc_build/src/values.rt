@@ -5,7 +5,8 @@
 //!
 //! After the value blocks of oxc's build_reactive_function.
 
-ghost use Rattle.std.specs.Prelude.{◌≡◌, Bool, false, ◌++◌, ◌∷◌, [], ◌||◌, ◌&&◌, Option, IfOk, OnOk, Some, None, option_map, slice_get, if◌then◌else◌};
+ghost use Rattle.std.specs.Prelude.{◌≡◌, ◌++◌, ◌∷◌, [], ◌&&◌, Bool, false, Option, Some, None, IfOk, OnOk};
+ghost use Rattle.std.specs.Prelude.{option_map, slice_get};
 ghost use Rattle.rc_names.specs.Numbers.{BlockId, same_id};
 ghost use Rattle.rc_hir.specs.Model.{HirFunction};
 ghost use Rattle.rc_hir.specs.declared.fault.Fault.TheVariants as faults;

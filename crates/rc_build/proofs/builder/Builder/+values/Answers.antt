@@ -383,7 +383,8 @@ build_logical-returns t c = λ site.
     (c.in_ok-left.ensures c.args.self.now.hir.now _ _ _ _ tested.ok.is arm.is
     ∙ ap (λ (z : Around). value_of (Sequence (Row tested.ok.end.id (Some tested.ok.end.answer) tested.ok.value z.span
     NoRows) arm.end.id arm.value)) (sym c.around-around.ensures))
-    (first_silent tested first c.len-before.ensures.value c.in_ok-check_silent_since.ensures.ok) c.in_ok-logical.ensures)
+    (first_silent tested first c.len-before.ensures.value c.in_ok-check_silent_since.ensures.ok)
+    c.in_ok-logical.ensures)
     (second.frames ∙ same))
 
 -- an optional

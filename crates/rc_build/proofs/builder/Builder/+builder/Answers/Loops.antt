@@ -30,9 +30,10 @@ build_loop_of-build_loop-requires t c =
     )
 
 pub build_loop_of-returns : goal.build_loop_of-returns
-build_loop_of-returns t c = subst (λ z. BuildsTask c.args.self.now c.build_loop.new.self c.args.site (FromTerminal z) left
-    c.build_loop.result) (sym (loop_same c.args.terminal.now c.unwrap.result (sym c.loop_of.ensures ∙ c.unwrap.ensures)))
-    c.build_loop.ensures
+build_loop_of-returns t c =
+    let same = loop_same c.args.terminal.now c.unwrap.result (sym c.loop_of.ensures ∙ c.unwrap.ensures) in
+    subst (λ z. BuildsTask c.args.self.now c.build_loop.new.self c.args.site (FromTerminal z) left c.build_loop.result)
+    (sym same) c.build_loop.ensures
 
 -- a loop
 
