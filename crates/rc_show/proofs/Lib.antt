@@ -1,5 +1,6 @@
 mod JsonTexts
 mod KindsReadBack
+mod NameLemmas
 mod PartsReadBack
 mod PlaceLemmas
 mod PlainForms

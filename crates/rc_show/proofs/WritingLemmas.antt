@@ -6,7 +6,7 @@ use Rattle.json.specs.Print.{quoted}
 use Rattle.serde_json.specs.Data.{Data, boolean, object, string}
 use Rattle.serde_json.specs.Data.{Members, no_members, member}
 use Rattle.serde_json.specs.Written.{comma_if, compact_text, members_text}
-use Rattle.rc_show.specs.Showing.{add, number_data}
+use Rattle.rc_show.specs.Showing.{add, number_data, tagged}
 use Rattle.rc_show.specs.inside.Plain.{are_small, fields_small}
 use Rattle.rc_show.specs.inside.Writing.{Writes, WritesFields, fields_text, has_members, key_text}
 
@@ -80,6 +80,13 @@ field_written name d fields old mid named new before key value =
       text ∙ append_assoc old _ _ ∙ ap (λ xs. old ++ xs) (sym (fields_text-add false name d fields)),
       fields_small-add name d fields before.1 value.1,
     )
+
+pub tag_written : (variant : List ℕ) (fields : Members) (old mid new : List ℕ) → WritesFields fields old mid
+    → new ≡ mid ++ (key_text (has_members fields) (codes "k") ++ compact_text (string variant))
+    → WritesFields (tagged variant fields) old new
+tag_written variant fields old mid new before tag =
+    field_written (codes "k") (string variant) fields old mid _ new before refl
+    (text_written variant _ new (tag ∙ sym (append_assoc mid _ _)))
 
 -- what comes behind a name and its colon
 behind_key : (later : Bool) (name rest : List ℕ)

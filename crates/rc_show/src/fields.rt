@@ -1,12 +1,16 @@
 //! Writing a printing form part by part: `Show` for types, and `Fields` for the fields of an object.
 
-ghost use Rattle.std.specs.Prelude.{◌≡◌, Option, OnOk, Some, codes, string_bytes, ⊤};
+ghost use Rattle.std.specs.Prelude.{◌≡◌, Option, OnOk, Some, codes, string_bytes, true, ⊤};
 ghost use Rattle.serde_json.specs.Data.{Data, Members, boolean, no_members, object, string};
 ghost use Rattle.rc_doc.specs.Reading.{flag_of, list_of, number_of, text_of};
 ghost use Rattle.rc_show.specs.Showing.{add, add_some, list_data, number_data, IsReadAgain, tagged, variant_data};
+ghost use Rattle.rc_show.specs.inside.Names.{stands_as_it_is};
 ghost use Rattle.rc_show.specs.inside.Writing.{Writes, WritesFields, has_members};
 
-use crate::text::{mark, write_comma, write_flag, write_key, write_number, write_quoted};
+use crate::name::Name;
+use crate::text::{
+    mark, write_comma, write_flag, write_key, write_number, write_quoted, write_tag,
+};
 use rc_names::{List, Text};
 use std::alloc::AllocError;
 
@@ -90,42 +94,49 @@ pub(crate) trait Fields: Sized + Drop {
         ensures again { OnOk result (again self) };
 
     /// Adds a field at the end.
+    #[inline(always)]
     final fn with<'a, T: Show>(self, name: &'a str, value: &'a T) -> With<'a, Self, T>
-        ensures { result ≡ record { before = self; name = name.entry; value = value.entry } }
+        requires { stands_as_it_is name.now ≡ true }
+        ensures { result ≡ record { before = self; name = name.now; value = value.entry } }
     {
         With {
             before: self,
-            name,
+            name: Name::new(name),
             value,
         }
     }
 
     /// Adds a field at the end, if it isn't `None`.
+    #[inline(always)]
     final fn with_some<'a, T: Show>(
         self,
         name: &'a str,
         value: &'a Option<T>,
     ) -> WithSome<'a, Self, T>
-        ensures { result ≡ record { before = self; name = name.entry; value = value.entry } }
+        requires { stands_as_it_is name.now ≡ true }
+        ensures { result ≡ record { before = self; name = name.now; value = value.entry } }
     {
         WithSome {
             before: self,
-            name,
+            name: Name::new(name),
             value,
         }
     }
 
     /// Adds the name of a variant at the end.
+    #[inline(always)]
     final fn tagged<'a>(self, variant: &'a str) -> Tagged<'a, Self>
-        ensures { result ≡ record { before = self; variant = variant.entry } }
+        requires { stands_as_it_is variant.now ≡ true }
+        ensures { result ≡ record { before = self; variant = variant.now } }
     {
         Tagged {
             before: self,
-            variant,
+            variant: Name::new(variant),
         }
     }
 
     /// Writes the object with these fields. Fails only when out of memory.
+    #[inline(always)]
     #[tactic(auto, using(crate::proofs::WritingLemmas::object_written))]
     final fn write(self, out: &mut String) -> Result<(), AllocError>
         ensures writes { OnOk result
@@ -147,10 +158,12 @@ impl Fields for NoFields {
 
     ghost again = { λ _. ⊤ };
 
+    #[inline(always)]
     fn has_fields(&self) -> bool {
         false
     }
 
+    #[inline(always)]
     #[tactic(auto, using(crate::proofs::WritingLemmas::no_fields_written))]
     fn write_fields(self, _out: &mut String) -> Result<(), AllocError> {
         Ok(())
@@ -161,21 +174,23 @@ impl Fields for NoFields {
 #[derive(Drop)]
 pub(crate) struct With<'a, F, T> {
     before: F,
-    name: &'a str,
+    name: Name<'a>,
     value: &'a T,
 }
 
 impl<F: Fields, T: Show> Fields for With<'_, F, T> {
-    ghost members = { λ fields. add fields.name.now (T.shows fields.value.now) (F.members fields.before) };
+    ghost members = { λ fields. add fields.name (T.shows fields.value.now) (F.members fields.before) };
 
     ghost again = { λ fields. F.again fields.before
         × (T.reads (T.shows fields.value.now) ≡ Some fields.value.now) };
 
+    #[inline(always)]
     #[tactic(auto, using(crate::proofs::WritingLemmas::added_is_member))]
     fn has_fields(&self) -> bool {
         true
     }
 
+    #[inline(always)]
     #[tactic(auto, using(crate::proofs::WritingLemmas::field_written))]
     fn write_fields(self, out: &mut String) -> Result<(), AllocError> {
         let With {
@@ -185,7 +200,7 @@ impl<F: Fields, T: Show> Fields for With<'_, F, T> {
         } = self;
         let later = before.has_fields();
         before.write_fields(out)?;
-        write_key(out, later, name)?;
+        write_key(out, later, name.as_str())?;
         value.write(out)
     }
 }
@@ -194,16 +209,17 @@ impl<F: Fields, T: Show> Fields for With<'_, F, T> {
 #[derive(Drop)]
 pub(crate) struct WithSome<'a, F, T> {
     before: F,
-    name: &'a str,
+    name: Name<'a>,
     value: &'a Option<T>,
 }
 
 impl<F: Fields, T: Show> Fields for WithSome<'_, F, T> {
     ghost members = { λ fields.
-        add_some T.shows fields.name.now fields.value.now (F.members fields.before) };
+        add_some T.shows fields.name fields.value.now (F.members fields.before) };
 
     ghost again = { λ fields. F.again fields.before × IsReadAgain T.reads T.shows fields.value.now };
 
+    #[inline(always)]
     #[tactic(auto, using(crate::proofs::WritingLemmas::added_is_member), unfolding(crate::specs::Showing::add_some))]
     fn has_fields(&self) -> bool {
         match self.value {
@@ -212,16 +228,22 @@ impl<F: Fields, T: Show> Fields for WithSome<'_, F, T> {
         }
     }
 
-    #[tactic(auto, unfolding(crate::specs::Showing::add_some))]
+    #[inline(always)]
+    #[tactic(auto, using(crate::proofs::WritingLemmas::field_written), unfolding(crate::specs::Showing::add_some))]
     fn write_fields(self, out: &mut String) -> Result<(), AllocError> {
         let WithSome {
             before,
             name,
             value,
         } = self;
+        let later = before.has_fields();
+        before.write_fields(out)?;
         match value {
-            Some(value) => before.with(name, value).write_fields(out),
-            None => before.write_fields(out),
+            Some(value) => {
+                write_key(out, later, name.as_str())?;
+                value.write(out)
+            }
+            None => Ok(()),
         }
     }
 }
@@ -230,35 +252,38 @@ impl<F: Fields, T: Show> Fields for WithSome<'_, F, T> {
 #[derive(Drop)]
 pub(crate) struct Tagged<'a, F> {
     before: F,
-    variant: &'a str,
+    variant: Name<'a>,
 }
 
 impl<F: Fields> Fields for Tagged<'_, F> {
-    ghost members = { λ fields. tagged fields.variant.now (F.members fields.before) };
+    ghost members = { λ fields. tagged fields.variant (F.members fields.before) };
 
     ghost again = { λ fields. F.again fields.before };
 
+    #[inline(always)]
     #[tactic(auto, using(crate::proofs::WritingLemmas::added_is_member))]
     fn has_fields(&self) -> bool {
         true
     }
 
-    #[tactic(auto, using(crate::proofs::WritingLemmas::field_written, crate::proofs::WritingLemmas::text_written))]
+    #[inline(always)]
+    #[tactic(auto, using(crate::proofs::WritingLemmas::tag_written))]
     fn write_fields(self, out: &mut String) -> Result<(), AllocError> {
         let Tagged { before, variant } = self;
         let later = before.has_fields();
         before.write_fields(out)?;
-        write_key(out, later, "k")?;
-        write_quoted(out, variant)
+        write_tag(out, later, variant.as_str())
     }
 }
 
 /// Writes a variant whose one field has no name of its own. Fails only when out of memory.
+#[inline(always)]
 pub(crate) fn write_variant<T: Show>(
     out: &mut String,
     name: &str,
     content: &T,
 ) -> Result<(), AllocError>
+    requires { stands_as_it_is name.now ≡ true }
     ensures writes { OnOk result
         (Writes (variant_data name.now (T.shows content.now)) (string_bytes out.old) (string_bytes out.new)) }
     ensures again { OnOk result (T.reads (T.shows content.now) ≡ Some content.now) }

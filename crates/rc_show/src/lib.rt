@@ -4,6 +4,7 @@
 
 mod fields;
 mod instruction;
+mod name;
 mod part;
 mod pattern;
 mod place;

@@ -5,7 +5,7 @@ ghost use Rattle.rc_show.specs.ShownParts.{binding_data, jsx_attribute_data, jsx
 ghost use Rattle.rc_show.specs.ShownParts.{primitive_value_data};
 
 use crate::fields::{Fields, NoFields, Show, write_variant};
-use crate::text::write_quoted;
+use crate::text::write_name;
 use rc_hir::{JsxAttribute, JsxTag, LoweredFunction, NonLocalBinding, PrimitiveValue};
 use std::alloc::AllocError;
 
@@ -17,8 +17,8 @@ impl Show for PrimitiveValue {
     #[tactic(auto, using(crate::proofs::PartsReadBack::primitive_value_again, crate::proofs::WritingLemmas::text_written), unfolding(crate::specs::ShownParts::primitive_value_data))]
     fn write(&self, out: &mut String) -> Result<(), AllocError> {
         match self {
-            PrimitiveValue::Null => write_quoted(out, "Null"),
-            PrimitiveValue::Undefined => write_quoted(out, "Undefined"),
+            PrimitiveValue::Null => write_name(out, "Null"),
+            PrimitiveValue::Undefined => write_name(out, "Undefined"),
             PrimitiveValue::Boolean(value) => write_variant(out, "Boolean", value),
             PrimitiveValue::Number(text) => write_variant(out, "Number", text),
             PrimitiveValue::String(text) => write_variant(out, "String", text),

@@ -1,6 +1,8 @@
 //! The printing form of patterns, and of the parts that they share with literals.
 
 ghost use Rattle.std.specs.Prelude.{◌≡◌};
+ghost use Rattle.serde_json.specs.Data.{string};
+ghost use Rattle.serde_json.specs.Written.{compact_text};
 ghost use Rattle.rc_doc.specs.Patterns.{element_of, kind_of, lvalue_of, lvalue_pattern_of, object_property_of};
 ghost use Rattle.rc_doc.specs.Patterns.{pattern_element_of, pattern_of, property_key_of, property_literal_of};
 ghost use Rattle.rc_doc.specs.Patterns.{property_of};
@@ -10,25 +12,27 @@ ghost use Rattle.rc_show.specs.ShownParts.Patterns.{pattern_element_data, proper
 ghost use Rattle.rc_show.specs.ShownParts.Patterns.{property_literal_data};
 
 use crate::fields::{Fields, NoFields, Show, write_variant};
-use crate::text::write_quoted;
+use crate::text::{push, write_name};
 use rc_hir::{
     ArrayElement, ArrayPatternElement, InstructionKind, LValue, LValuePattern, ObjectProperty,
     ObjectPropertyKey, ObjectPropertyOrSpread, Pattern, PropertyLiteral,
 };
 use std::alloc::AllocError;
 
-fn kind_name(kind: InstructionKind) -> &'static str
-    ensures { result.now ≡ kind_name kind }
+/// The name of a way of writing, in quotes.
+#[tactic(auto, unfolding(serde_json::proofs::OnLiterals::serde_json_on_literals))]
+fn quoted_kind(kind: InstructionKind) -> &'static str
+    ensures { result.now ≡ compact_text (string (kind_name kind)) }
 {
     match kind {
-        InstructionKind::Const => "Const",
-        InstructionKind::Let => "Let",
-        InstructionKind::Reassign => "Reassign",
-        InstructionKind::Catch => "Catch",
-        InstructionKind::Function => "Function",
-        InstructionKind::HoistedConst => "HoistedConst",
-        InstructionKind::HoistedLet => "HoistedLet",
-        InstructionKind::HoistedFunction => "HoistedFunction",
+        InstructionKind::Const => "\"Const\"",
+        InstructionKind::Let => "\"Let\"",
+        InstructionKind::Reassign => "\"Reassign\"",
+        InstructionKind::Catch => "\"Catch\"",
+        InstructionKind::Function => "\"Function\"",
+        InstructionKind::HoistedConst => "\"HoistedConst\"",
+        InstructionKind::HoistedLet => "\"HoistedLet\"",
+        InstructionKind::HoistedFunction => "\"HoistedFunction\"",
     }
 }
 
@@ -39,7 +43,7 @@ impl Show for InstructionKind {
 
     #[tactic(auto, using(crate::proofs::PartsReadBack::kind_again, crate::proofs::WritingLemmas::text_written))]
     fn write(&self, out: &mut String) -> Result<(), AllocError> {
-        write_quoted(out, kind_name(*self))
+        push(out, quoted_kind(*self))
     }
 }
 
@@ -125,7 +129,7 @@ impl Show for ArrayPatternElement {
         match self {
             ArrayPatternElement::Place(place) => write_variant(out, "Place", place),
             ArrayPatternElement::Spread(spread) => write_variant(out, "Spread", spread),
-            ArrayPatternElement::Hole => write_quoted(out, "Hole"),
+            ArrayPatternElement::Hole => write_name(out, "Hole"),
         }
     }
 }
@@ -140,7 +144,7 @@ impl Show for ArrayElement {
         match self {
             ArrayElement::Place(place) => write_variant(out, "Place", place),
             ArrayElement::Spread(spread) => write_variant(out, "Spread", spread),
-            ArrayElement::Hole => write_quoted(out, "Hole"),
+            ArrayElement::Hole => write_name(out, "Hole"),
         }
     }
 }

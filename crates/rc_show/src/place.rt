@@ -69,6 +69,7 @@ pub fn is_short(place: &Place) -> bool
 
 /// Writes a place as a list of its number, its effect, whether it is reactive, and its span where that is known. Fails
 /// only when out of memory.
+#[inline(never)]
 #[tactic(auto, using(crate::proofs::PlaceLemmas::long_small))]
 fn write_long_form(out: &mut String, place: &Place) -> Result<(), AllocError>
     ensures text { OnOk result

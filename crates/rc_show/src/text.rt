@@ -1,11 +1,12 @@
 //! The texts that a printing form is made of, each behind what was written before.
 
-ghost use Rattle.std.specs.Prelude.{◌≡◌, ◌<◌, [], ◌∷◌, ◌++◌, OnOk, decimal, length, string_bytes};
+ghost use Rattle.std.specs.Prelude.{◌≡◌, ◌<◌, [], ◌∷◌, ◌++◌, OnOk, codes, decimal, length, string_bytes, true};
 ghost use Rattle.std.specs.Bool.{OnTrue};
 ghost use Rattle.json.specs.Print.{escape};
 ghost use Rattle.json.specs.Written.{PlainBetween};
 ghost use Rattle.serde_json.specs.Data.{boolean, string};
 ghost use Rattle.serde_json.specs.Written.{comma_if, compact_text};
+ghost use Rattle.rc_show.specs.inside.Names.{stands_as_it_is};
 ghost use Rattle.rc_show.specs.inside.Writing.{key_text};
 
 use itoa::Buffer;
@@ -13,6 +14,7 @@ use serde_json::Value;
 use std::alloc::AllocError;
 
 /// Writes a piece of text. Fails only when out of memory.
+#[inline(always)]
 pub(crate) fn push(out: &mut String, piece: &str) -> Result<(), AllocError>
     ensures { OnOk result (string_bytes out.new ≡ string_bytes out.old ++ piece.now) }
 {
@@ -29,7 +31,21 @@ pub(crate) fn mark(out: &mut String, c: char) -> Result<(), AllocError>
 }
 
 /// Writes a number's digits. Fails only when out of memory.
+#[inline]
+#[tactic(auto, using(std::proofs::lemmas::Fmt::decimal_digit))]
 pub fn write_number(out: &mut String, n: u32) -> Result<(), AllocError>
+    ensures { OnOk result (string_bytes out.new ≡ string_bytes out.old ++ decimal n) }
+{
+    if n < 10 {
+        mark(out, (b'0' + n as u8) as char)
+    } else {
+        write_digits(out, n)
+    }
+}
+
+/// Writes a number's digits from a buffer, which a number of one digit needs none of.
+#[inline(never)]
+fn write_digits(out: &mut String, n: u32) -> Result<(), AllocError>
     ensures { OnOk result (string_bytes out.new ≡ string_bytes out.old ++ decimal n) }
 {
     let mut digits = Buffer::new();
@@ -85,16 +101,54 @@ fn write_escaped(out: &mut String, text: &str) -> Result<(), AllocError>
     push(out, quoted.as_str())
 }
 
+/// Writes a name in JSON's quotes. Fails only when out of memory.
+#[inline(always)]
+#[tactic(auto, using(crate::proofs::NameLemmas::name_written))]
+pub(crate) fn write_name(out: &mut String, name: &str) -> Result<(), AllocError>
+    requires { stands_as_it_is name.now ≡ true }
+    ensures { OnOk result (string_bytes out.new ≡ string_bytes out.old ++ compact_text (string name.now)) }
+{
+    mark(out, '"')?;
+    push(out, name)?;
+    mark(out, '"')
+}
+
 /// Writes the name of a field with its colon, behind a comma if other fields stand before it.
+#[inline(always)]
+#[tactic(auto, using(crate::proofs::NameLemmas::key_written))]
 pub(crate) fn write_key(out: &mut String, later: bool, name: &str) -> Result<(), AllocError>
+    requires { stands_as_it_is name.now ≡ true }
     ensures { OnOk result (string_bytes out.new ≡ string_bytes out.old ++ key_text later name.now) }
 {
+    push(out, opening(later))?;
+    push(out, name)?;
+    push(out, "\":")
+}
+
+/// The quote before the name of a field, behind a comma if other fields stand before it.
+#[inline(always)]
+fn opening(later: bool) -> &'static str
+    ensures { result.now ≡ comma_if later ++ codes "\"" }
+{
+    if later { ",\"" } else { "\"" }
+}
+
+/// Writes the field with the name of a variant, behind a comma if other fields stand before it.
+#[inline(always)]
+#[tactic(auto, using(crate::proofs::NameLemmas::tag_written))]
+pub(crate) fn write_tag(out: &mut String, later: bool, variant: &str) -> Result<(), AllocError>
+    requires { stands_as_it_is variant.now ≡ true }
+    ensures { OnOk result (string_bytes out.new
+        ≡ string_bytes out.old ++ (key_text later (codes "k") ++ compact_text (string variant.now))) }
+{
     write_comma(out, later)?;
-    write_quoted(out, name)?;
-    mark(out, ':')
+    push(out, "\"k\":\"")?;
+    push(out, variant)?;
+    mark(out, '"')
 }
 
 /// Writes a comma, if something stands before it.
+#[inline(always)]
 pub(crate) fn write_comma(out: &mut String, later: bool) -> Result<(), AllocError>
     ensures { OnOk result (string_bytes out.new ≡ string_bytes out.old ++ comma_if later) }
 {
