@@ -27,37 +27,34 @@ quoted_name name rest h =
     ap (λ xs. 34 ∷ (xs ++ (34 ∷ rest))) (sym (no_escape name h))
     ∙ ap (λ xs. 34 ∷ xs) (sym (append_assoc (escape name) (34 ∷ []) rest))
 
--- a text in three pieces
-pieces : (old first second third begun named new : List ℕ) → begun ≡ old ++ first → named ≡ begun ++ second
-    → new ≡ named ++ third → new ≡ old ++ (first ++ (second ++ third))
-pieces old first second third begun named new e f g =
-    g ∙ ap (λ xs. xs ++ third) f ∙ append_assoc begun second third ∙ ap (λ xs. xs ++ (second ++ third)) e
-    ∙ append_assoc old first _
+-- a name between what begins and what ends it
+between : (old comma first name last front named new : List ℕ) → front ≡ comma ++ first
+    → named ≡ old ++ (front ++ name) → new ≡ named ++ last → new ≡ old ++ (comma ++ (first ++ (name ++ last)))
+between old comma first name last front named new is e f =
+    f ∙ ap (λ xs. xs ++ last) e ∙ append_assoc old _ last
+    ∙ ap (λ xs. old ++ ((xs ++ name) ++ last)) is
+    ∙ ap (λ xs. old ++ xs) (append_assoc (comma ++ first) name last ∙ append_assoc comma first _)
 
-pub name_written : (name old begun named new : List ℕ) → stands_as_it_is name ≡ true → begun ≡ old ++ codes "\""
-    → named ≡ begun ++ name → new ≡ named ++ codes "\"" → new ≡ old ++ compact_text (string name)
-name_written name old begun named new h e f g =
-    pieces old (codes "\"") name (codes "\"") begun named new e f g
+pub name_written : (name old named new : List ℕ) → stands_as_it_is name ≡ true
+    → named ≡ old ++ (codes "\"" ++ name) → new ≡ named ++ codes "\"" → new ≡ old ++ compact_text (string name)
+name_written name old named new h e f =
+    between old [] (codes "\"") name (codes "\"") (codes "\"") named new refl e f
     ∙ ap (λ xs. old ++ (34 ∷ (xs ++ (34 ∷ [])))) (sym (no_escape name h))
 
-pub key_written : (later : Bool) (name first old begun named new : List ℕ) → stands_as_it_is name ≡ true
-    → first ≡ comma_if later ++ codes "\"" → begun ≡ old ++ first → named ≡ begun ++ name
-    → new ≡ named ++ codes "\":" → new ≡ old ++ key_text later name
-key_written later name first old begun named new h is e f g =
-    pieces old first name (codes "\":") begun named new e f g
-    ∙ ap (λ xs. old ++ (xs ++ (name ++ codes "\":"))) is
-    ∙ ap (λ xs. old ++ xs) (append_assoc (comma_if later) (codes "\"") _)
+pub key_written : (later : Bool) (name front old named new : List ℕ) → stands_as_it_is name ≡ true
+    → front ≡ comma_if later ++ codes "\"" → named ≡ old ++ (front ++ name) → new ≡ named ++ codes "\":"
+    → new ≡ old ++ key_text later name
+key_written later name front old named new h is e f =
+    between old (comma_if later) (codes "\"") name (codes "\":") front named new is e f
     ∙ ap (λ xs. old ++ (comma_if later ++ xs)) (quoted_name name (58 ∷ []) h)
 
-pub tag_written : (later : Bool) (variant old behind begun named new : List ℕ) → stands_as_it_is variant ≡ true
-    → behind ≡ old ++ comma_if later → begun ≡ behind ++ codes "\"k\":\"" → named ≡ begun ++ variant
-    → new ≡ named ++ codes "\"" → new ≡ old ++ (key_text later (codes "k") ++ compact_text (string variant))
-tag_written later variant old behind begun named new h comma e f g =
+pub tag_written : (later : Bool) (variant front old named new : List ℕ) → stands_as_it_is variant ≡ true
+    → front ≡ comma_if later ++ codes "\"k\":\"" → named ≡ old ++ (front ++ variant) → new ≡ named ++ codes "\""
+    → new ≡ old ++ (key_text later (codes "k") ++ compact_text (string variant))
+tag_written later variant front old named new h is e f =
     let key : codes "\"k\":" ≡ quoted (codes "k") ++ 58 ∷ [] = quoted_name (codes "k") (58 ∷ []) refl in
     let text : codes "\"k\":\"" ++ (variant ++ codes "\"") ≡ codes "\"k\":" ++ compact_text (string variant) =
     ap (λ xs. codes "\"k\":\"" ++ (xs ++ codes "\"")) (sym (no_escape variant h)) in
-    pieces behind (codes "\"k\":\"") variant (codes "\"") begun named new e f g
-    ∙ ap (λ xs. xs ++ (codes "\"k\":\"" ++ (variant ++ codes "\""))) comma
-    ∙ append_assoc old (comma_if later) _
+    between old (comma_if later) (codes "\"k\":\"") variant (codes "\"") front named new is e f
     ∙ ap (λ xs. old ++ (comma_if later ++ xs)) (text ∙ ap (λ xs. xs ++ compact_text (string variant)) key)
     ∙ ap (λ xs. old ++ xs) (sym (append_assoc (comma_if later) _ _))

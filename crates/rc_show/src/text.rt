@@ -43,7 +43,7 @@ pub fn write_number(out: &mut String, n: u32) -> Result<(), AllocError>
     }
 }
 
-/// Writes a number's digits from a buffer, which a number of one digit needs none of.
+/// Writes a number's digits by way of a buffer. Not inlined, so that a number of one digit takes few instructions.
 #[inline(never)]
 fn write_digits(out: &mut String, n: u32) -> Result<(), AllocError>
     ensures { OnOk result (string_bytes out.new ≡ string_bytes out.old ++ decimal n) }
@@ -108,8 +108,7 @@ pub(crate) fn write_name(out: &mut String, name: &str) -> Result<(), AllocError>
     requires { stands_as_it_is name.now ≡ true }
     ensures { OnOk result (string_bytes out.new ≡ string_bytes out.old ++ compact_text (string name.now)) }
 {
-    mark(out, '"')?;
-    push(out, name)?;
+    push_both(out, "\"", name)?;
     mark(out, '"')
 }
 
@@ -120,14 +119,13 @@ pub(crate) fn write_key(out: &mut String, later: bool, name: &str) -> Result<(),
     requires { stands_as_it_is name.now ≡ true }
     ensures { OnOk result (string_bytes out.new ≡ string_bytes out.old ++ key_text later name.now) }
 {
-    push(out, opening(later))?;
-    push(out, name)?;
+    push_both(out, begin_key(later), name)?;
     push(out, "\":")
 }
 
-/// The quote before the name of a field, behind a comma if other fields stand before it.
+/// What stands before the name of a field.
 #[inline(always)]
-fn opening(later: bool) -> &'static str
+fn begin_key(later: bool) -> &'static str
     ensures { result.now ≡ comma_if later ++ codes "\"" }
 {
     if later { ",\"" } else { "\"" }
@@ -141,10 +139,26 @@ pub(crate) fn write_tag(out: &mut String, later: bool, variant: &str) -> Result<
     ensures { OnOk result (string_bytes out.new
         ≡ string_bytes out.old ++ (key_text later (codes "k") ++ compact_text (string variant.now))) }
 {
-    write_comma(out, later)?;
-    push(out, "\"k\":\"")?;
-    push(out, variant)?;
+    push_both(out, begin_tag(later), variant)?;
     mark(out, '"')
+}
+
+/// What stands before the name of a variant.
+#[inline(always)]
+fn begin_tag(later: bool) -> &'static str
+    ensures { result.now ≡ comma_if later ++ codes "\"k\":\"" }
+{
+    if later { ",\"k\":\"" } else { "\"k\":\"" }
+}
+
+/// Writes two pieces of text. LLVM takes a call behind two others that may fail for rarely run, and doesn't inline it,
+/// so what writes a name makes two calls at most.
+#[inline(always)]
+fn push_both(out: &mut String, first: &str, second: &str) -> Result<(), AllocError>
+    ensures { OnOk result (string_bytes out.new ≡ string_bytes out.old ++ (first.now ++ second.now)) }
+{
+    push(out, first)?;
+    push(out, second)
 }
 
 /// Writes a comma, if something stands before it.
