@@ -7,6 +7,7 @@
 //! After oxc's build_reactive_function.
 #![tactic(auto)]
 
+mod answered_test;
 mod blocks;
 mod branches;
 mod builder;

@@ -1,18 +1,16 @@
 //! Values: value terminals as rows, and the block behind them whose last row is the value.
 //!
-//! Where each value stands in the fallthrough of the one before, a loop goes forward and another one back; only the parts
-//! of a value terminal are built by a nested call.
+//! Where each value stands in the fallthrough of the one before, a loop goes forward and another one back; only the
+//! parts of a value terminal are built by a nested call.
 //!
 //! After the value blocks of oxc's build_reactive_function.
 
-ghost use Rattle.std.specs.Prelude.{◌≡◌, ◌++◌, ◌∷◌, [], ◌&&◌, Bool, false, Option, Some, None, IfOk, OnOk};
-ghost use Rattle.std.specs.Prelude.{option_map, slice_get};
+ghost use Rattle.std.specs.Prelude.{◌≡◌, ◌++◌, ◌∷◌, [], ◌&&◌, Bool, false, IfOk, OnOk};
 ghost use Rattle.rc_names.specs.Numbers.{BlockId, same_id};
 ghost use Rattle.rc_hir.specs.Model.{HirFunction};
 ghost use Rattle.rc_hir.specs.declared.fault.Fault.TheVariants as faults;
-ghost use Rattle.rc_runs.specs.AnsweredTest as answered;
 ghost use Rattle.rc_runs.specs.ListContext.{ValueContext, value_context};
-ghost use Rattle.rc_runs.specs.PlainTree.{Base, Value};
+ghost use Rattle.rc_runs.specs.PlainTree.{Value};
 ghost use Rattle.rc_runs.specs.TreeOf.{value_of};
 ghost use Rattle.rc_runs.specs.ValueEnd.{GoesTo, ValueEnd};
 ghost use Rattle.rc_runs.specs.LoopValues.{SpellsGoing, SpellsTest};
@@ -24,11 +22,13 @@ ghost use Rattle.rc_build.specs.inside.Setting.{setting_of};
 ghost use Rattle.rc_build.specs.inside.Task.{progress_of};
 ghost use Rattle.rc_build.specs.inside.ValueSteps as steps;
 ghost use Rattle.rc_build.specs.inside.ShortArms.{CanBuildShort};
-ghost use Rattle.rc_build.specs.inside.StepRows.{CanBuildRow, CanBuildStep, CanBuildThrowing, IsRow, IsStep, IsThrowing, RowBuilt};
+ghost use Rattle.rc_build.specs.inside.StepRows.{CanBuildRow, CanBuildStep, CanBuildThrowing};
+ghost use Rattle.rc_build.specs.inside.StepRows.{IsRow, IsStep, IsThrowing, RowBuilt};
 ghost use Rattle.rc_build.specs.inside.ValueLoops as loops;
 ghost use Rattle.rc_build.specs.inside.ValueRows.{behind_rows};
 ghost use Rattle.rc_build.specs.inside.Values as spec;
 
+use crate::answered_test::{answers_test, same_declaration};
 use crate::blocks::{block_with_id, find_block};
 use crate::builder::{Builder, Site, malformed};
 use crate::flatten::flattened;
@@ -37,10 +37,8 @@ use crate::short_arms::ShortArm;
 use crate::unreachable::has_unreachable_successor;
 use crate::value_rows::{after_rows, sequence_rows};
 use crate::value_terminals::{NestedValue, ValueTerminal, value_terminal};
-use rc_hir::{
-    BasicBlock, Environment, Fault, HirFunction, InstructionValue, Place, Rule, Terminal,
-};
-use rc_names::{BlockId, Boxed, DeclarationId, EvaluationOrder, List, Span};
+use rc_hir::{BasicBlock, Environment, Fault, HirFunction, Place, Rule, Terminal};
+use rc_names::{BlockId, Boxed, EvaluationOrder, List, Span};
 use rc_tree::{ReactiveInstruction, ReactiveValue};
 use std::alloc::{AllocError, Global};
 
@@ -421,7 +419,8 @@ impl TestArms {
 }
 
 impl<'g> BuiltValue<'g> {
-    /// The value behind these rows, if there are any, with the arm that both leave open. The only error is out of memory.
+    /// The value behind these rows, if there are any, with the arm that both leave open. The only error is out of
+    /// memory.
     fn behind(
         self,
         alloc: Global,
@@ -529,27 +528,6 @@ fn row_answers(
     }
 }
 
-/// Whether a row that writes the place, before this value, answers for the whole sequence: the value only loads the
-/// place.
-fn answers_test(env: &Environment, place: Place, value: &ReactiveValue) -> bool
-    ensures { (plain : Value) → value.now ≡ value_of plain → result ≡ answered.answers_test env.now place plain }
-{
-    match value {
-        ReactiveValue::Instruction(value) => loads_alike(env, place, value),
-        _ => false,
-    }
-}
-
-/// Whether the instruction loads a place of the same declaration.
-fn loads_alike(env: &Environment, place: Place, value: &InstructionValue) -> bool
-    ensures { result ≡ answered.answers_test env.now place (Base value.now) }
-{
-    match value {
-        InstructionValue::LoadLocal { place: loaded, .. } => same_declaration(env, place, *loaded),
-        _ => false,
-    }
-}
-
 /// Whether the terminal goes to the block, by a `Goto` of any variant.
 pub fn goes_to(terminal: &Terminal, next: BlockId) -> bool
     ensures { result ≡ spec.goes_to terminal.now next }
@@ -578,26 +556,5 @@ fn arms_of(terminal: &Terminal) -> Option<TestArms>
             span: *span,
         }),
         _ => None,
-    }
-}
-
-/// Whether the identifiers of two places have one declaration.
-fn same_declaration(env: &Environment, a: Place, b: Place) -> bool
-    ensures { result ≡ answered.same_declaration env.now a b }
-{
-    match declaration_of(env, a) {
-        Some(declaration) => declaration_of(env, b) == Some(declaration),
-        None => false,
-    }
-}
-
-/// The declaration of a place's identifier, where that is in its table.
-fn declaration_of(env: &Environment, place: Place) -> Option<DeclarationId>
-    ensures { result ≡
-        option_map (λ identifier. identifier.declaration_id) (slice_get env.now.identifiers place.identifier.0) }
-{
-    match env.identifiers.get(place.identifier) {
-        Some(identifier) => Some(identifier.declaration_id),
-        None => None,
     }
 }

@@ -36,9 +36,10 @@ abbrev pub BuildsBefore : Builder → Builder → Site → LoopTerminal → Bool
     Result (Option ReactiveValue) Fault → Type 0
 BuildsBefore old new site t flat at result = Builds old new site
     (λ built. BuiltPart (option_map value_of)
-    (SpellsBefore old.hir.now old.env.now (shown_blocks flat t) (setting_of old site).context at) old.hir.now (option_to_list at) built
-    (progress_of old) (progress_of new))
-    (Refused old.hir.now (SpellsBefore old.hir.now old.env.now (shown_blocks flat t) (setting_of old site).context at) old.marks.used) result
+    (SpellsBefore old.hir.now old.env.now (shown_blocks flat t) (setting_of old site).context at) old.hir.now
+    (option_to_list at) built (progress_of old) (progress_of new))
+    (Refused old.hir.now (SpellsBefore old.hir.now old.env.now (shown_blocks flat t) (setting_of old site).context at)
+    old.marks.used) result
 
 -- the turns of a used block's loop can be built under the handler: their blocks are pending, and no jump can name where
 -- they begin or where they lead

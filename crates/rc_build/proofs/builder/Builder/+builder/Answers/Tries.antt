@@ -76,4 +76,5 @@ build_try-returns t c = λ span.
     (built_in (λ z. Spells (part_setting c.open_reachable-opened.result (frame_kinds.Statement c.args.fallthrough) z)
     (FromBlock c.args.handler)) same other.ok)
     (ap (terminal_statement (tree.Try (record { statements = c.in_ok-block.block }) c.args.binding.now
-    (record { statements = c.in_ok-other.other }) c.args.id)) c.label_at-label.ensures) c.in_ok-put_try.ensures) (other.frames ∙ same)
+    (record { statements = c.in_ok-other.other }) c.args.id)) c.label_at-label.ensures) c.in_ok-put_try.ensures)
+    (other.frames ∙ same)
