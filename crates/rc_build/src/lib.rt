@@ -33,4 +33,4 @@ mod value_terminals;
 mod values;
 
 pub use given_tree::{Broken, spells};
-pub use reactive_function::build_reactive_function;
+pub use reactive_function::{build_known_function, build_reactive_function};

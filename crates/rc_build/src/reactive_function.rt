@@ -1,6 +1,7 @@
 //! From a graph to the function that it spells.
 
-ghost use Rattle.std.specs.Prelude.{◌≡◌, ◌⊎◌, false, List as Items, IfOk, IfErr, IsOk, Err};
+ghost use Rattle.std.specs.Prelude.{◌≡◌, ◌⊎◌, ℕ, false, List as Items, IfOk, IfErr, IsOk, Err};
+ghost use Rattle.rc_hir.specs.Model.{TableName as Table};
 ghost use Rattle.rc_hir.specs.Names.{NamesInTables};
 ghost use Rattle.rc_tree.specs.TreeNames.{TreeInTables};
 ghost use Rattle.rc_tree.specs.Model.{ReactiveFunction};
@@ -52,6 +53,32 @@ pub fn build_reactive_function(
         → IsOk result ⊎ (result ≡ Err Fault.NoMemory) }
 {
     check_names(hir, env)?;
+    build_known_function(alloc, hir, env)
+}
+
+/// The same of a graph whose numbers are in their tables, which isn't looked at again: `BadName` doesn't come.
+pub fn build_known_function(
+    alloc: Global,
+    hir: &HirFunction,
+    env: &Environment,
+) -> Result<ReactiveFunction, Fault>
+    requires known { NamesInTables hir.now env.now }
+    ensures ok { IfOk result (Spells hir.now env.now) }
+    ensures one_tree { IfOk result (λ built.
+        (func : ReactiveFunction) → Spells hir.now env.now func → func ≡ built) }
+    ensures known { IfOk result (λ built. TreeInTables built env.now) }
+
+    // The runs are those that `build_reactive_function` keeps.
+    ensures graph_to_body { IfOk result (λ built. NoEarlyReturnSet env.now → (events : Items Event) (end : End)
+        → IsGraphRun hir.now env.now events end → IsBodyRun built env.now events end) }
+    ensures body_to_graph { IfOk result (λ built. NoEarlyReturnSet env.now → (events : Items Event) (end : End)
+        → has_throw events ≡ false → IsBodyRun built env.now events end → IsGraphRun hir.now env.now events end) }
+
+    ensures refused { IfErr result (IsBuildCause hir.now env.now) }
+    ensures sound { (table : Table) (index : ℕ) → result ≡ Err (Fault.BadName table index) → ⊥ }
+    ensures complete { (func : ReactiveFunction) → Spells hir.now env.now func
+        → IsOk result ⊎ (result ≡ Err Fault.NoMemory) }
+{
     let built = build(alloc, hir, env)?;
     Ok(built)
 }
