@@ -2,6 +2,6 @@ mod FaultNames
 mod NumbersStay
 mod BreakTargets
 mod LabelPruning
-mod MembershipCheck
-mod ScopeBlocks
+pub mod MembershipCheck
+pub mod ScopeBlocks
 mod UnusedScopes

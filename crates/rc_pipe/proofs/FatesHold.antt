@@ -12,6 +12,7 @@ use Rattle.rc_pipe.specs.declared.fates.Fate.TheVariants.{Kept, NotEscaping, Unu
 use Rattle.rc_pipe.specs.declared.fates.Fate.TheVariants.{AlwaysInvalidating}
 use Rattle.rc_pipe.specs.declared.fates.ScopeFate.{ScopeFate}
 use Rattle.rc_pipe.specs.Fates.{AreFates, AreKeptExactly, DoesInvalidate, IsFate, IsNotEscaping, IsUnused, IsUsed}
+use Rattle.rc_pipe.specs.Fates.{listed_scopes}
 use Rattle.rc_pipe.specs.inside.ListedFates.{AreListedFates, HasListedFate, IsListedFate, ScopeLists, left_scopes}
 use Rattle.rc_pipe.specs.inside.PrunedParts.{IsPrunedWith, as_passes}
 use Rattle.rc_pipe.specs.Passes.{PassState, IsPruned}
@@ -219,8 +220,14 @@ module _ {spelled pruned : PassState} {left : LeftScopes} (parts : IsPrunedWith 
   fate_by_rule scope (MergedInto head) there is = is
   fate_by_rule scope (DissolvedInto parent) there is = is
 
-  module _ (fates : List ScopeFate)
-      (listed : AreListedFates (scopes_in spelled.func.body) left pruned.func.body fates) where
+  module _ (fates : List ScopeFate) (listed : AreListedFates left pruned.func.body fates) where
+    -- the listed scopes are those of the spelled tree
+    among_spelled : (scope : ScopeId)
+        → Contains (listed_scopes fates) scope ↔ Contains (scopes_in spelled.func.body) scope
+    among_spelled =
+        subst (λ scopes. (scope : ScopeId) → Contains (listed_scopes fates) scope ↔ Contains scopes scope) parts.listed
+        listed.listed
+
     told : All (HasListedFate lists) fates
     told = subst (λ scopes. All (HasListedFate (record {
       escaping = scopes;
@@ -237,11 +244,11 @@ module _ {spelled pruned : PassState} {left : LeftScopes} (parts : IsPrunedWith 
     pub fates_hold : AreFates passes fates
     fates_hold = record {
       rising = listed.rising;
-      listed = listed.listed;
+      listed = among_spelled;
       told = λ place other below.
           let entry = get_or fates place other in
           fate_by_rule entry.scope entry.fate
-          ((listed.listed entry.scope).0
+          ((among_spelled entry.scope).0
           (into_map (λ (it : ScopeFate). it.scope) fates entry (Contains-get_or fates place other below)))
           (told place other below);
     }
@@ -266,7 +273,7 @@ module _ {spelled pruned : PassState} {left : LeftScopes} (parts : IsPrunedWith 
     none_needed = λ place other below is name needed.
         let entry = get_or fates place other in
         let gone = subst (IsListedFate lists entry.scope) is (told place other below) in
-        let there = (listed.listed entry.scope).0
+        let there = (among_spelled entry.scope).0
         (into_map (λ (it : ScopeFate). it.scope) fates entry (Contains-get_or fates place other below)) in
         let same = same_needed spelled.env spelled.func labeled.func (sym (ap (λ f. f.params) passes.labels.header))
         (events_stay spelled.env spelled.func.body labeled.func.body passes.labels.labels) entry.scope name needed in

@@ -92,13 +92,12 @@ fate_by_same one other same scope (MergedInto into) is = is
 fate_by_same one other same scope (DissolvedInto into) is = is
 
 -- the fates of sorted scopes, each by the scopes that are known, are the listed fates
-pub fates_told : (scopes : List ScopeId) (left : LeftScopes) (body : ReactiveBlock) (ordered : List ScopeId)
-    (known : ScopeLists)
-    → IsStrictlyIncreasing (map (λ scope. scope.0) ordered) → SameScopes ordered scopes
+pub fates_told : (left : LeftScopes) (body : ReactiveBlock) (ordered : List ScopeId) (known : ScopeLists)
+    → IsStrictlyIncreasing (map (λ scope. scope.0) ordered) → SameScopes ordered left.spelled
     → SameLists known (left_scopes left body)
     → (fates : List ScopeFate) → listed_scopes fates ≡ ordered → All (HasListedFate known) fates
-    → AreListedFates scopes left body fates
-fates_told scopes left body ordered known rising same lists fates listed told = record {
+    → AreListedFates left body fates
+fates_told left body ordered known rising same lists fates listed told = record {
   rising = rw listed rising;
   listed = λ scope. rw listed (same scope);
   told = λ place other below.
@@ -139,18 +138,17 @@ fates_more known fates entry scope rest keys same has given =
     alone (suc place) other below = absurd (let no : ⊥ = omega (arith, below) in no)
 
 -- the same for the result of a call, whatever the order in which the body's scopes were found
-pub fates_answered : (scopes : List ScopeId) (left : LeftScopes) (body : ReactiveBlock)
-    (found ordered : List ScopeId) (known : ScopeLists)
+pub fates_answered : (left : LeftScopes) (body : ReactiveBlock) (found ordered : List ScopeId) (known : ScopeLists)
     → found ≡ scopes_in body → IsStrictlyIncreasing (map (λ scope. scope.0) ordered)
-    → SameScopes ordered scopes → SameScopes known.escaping left.escaping → SameScopes known.used left.used
+    → SameScopes ordered left.spelled → SameScopes known.escaping left.escaping → SameScopes known.used left.used
     → SameScopes known.kept found
     → (result : Result (List ScopeFate) AllocError) → IfOk result (λ fates. listed_scopes fates ≡ ordered)
-    → IfOk result (All (HasListedFate known)) → IfOk result (AreListedFates scopes left body)
-fates_answered scopes left body found ordered known all rising same escaping used kept (Ok fates) listed told =
-    fates_told scopes left body ordered known rising same
+    → IfOk result (All (HasListedFate known)) → IfOk result (AreListedFates left body)
+fates_answered left body found ordered known all rising same escaping used kept (Ok fates) listed told =
+    fates_told left body ordered known rising same
     (record {
       escaping = escaping;
       used = used;
       kept = subst (λ list. SameScopes known.kept list) all kept;
     }) fates listed told
-fates_answered scopes left body found ordered known all rising same escaping used kept (Err error) listed told = tt
+fates_answered left body found ordered known all rising same escaping used kept (Err error) listed told = tt

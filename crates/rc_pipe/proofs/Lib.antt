@@ -1,6 +1,8 @@
 mod FatesLemmas
 mod ListedOnce
 mod EndedScopes
+mod ScopesLeft
+mod UnopenedScopes
 mod FatesHold
 mod OutsideLemmas
 mod CausesLemmas

@@ -2,15 +2,15 @@
 //!
 //! The numbers of the spelled tree's scopes are put into an ordered set, which has each once, and listed from there.
 
-ghost use Rattle.std.specs.Prelude.{◌≡◌, ◌↔◌, map, All, Contains, IfOk};
+ghost use Rattle.std.specs.Prelude.{◌≡◌, ◌↔◌, [], map, All, Contains, IfOk};
 ghost use Rattle.std.specs.BTreeSet.{IsFromIterResult};
 ghost use Rattle.std.specs.List.Sorted.{IsStrictlyIncreasing};
+ghost use Rattle.rc_checks.specs.ScopeBlocks.{scopes_in};
 ghost use Rattle.rc_names.specs.Numbers.{ScopeId as Scope};
 ghost use Rattle.rc_pipe.specs.Fates.{listed_scopes};
 ghost use Rattle.rc_pipe.specs.inside.ListedFates.{AreListedFates, HasListedFate, known_scopes, scopes_of};
 
-use crate::passes::LeftScopes;
-use rc_checks::scopes_in;
+use crate::passes::{LeftScopes, scopes_left};
 use rc_names::{List, ScopeId};
 use rc_tree::ReactiveBlock;
 use std::alloc::{AllocError, Global};
@@ -41,20 +41,20 @@ pub struct ScopeFate {
     pub fate: Fate,
 }
 
-/// The fates of these scopes, which are those of the spelled tree, by the scopes that escape, by those of them that are
-/// used, and by the scope blocks that remain in the body. Fails only when out of memory.
+/// The fates of the scopes of the spelled tree, by those that escape, by those of them that are used, and by the scope
+/// blocks that remain in the body. Fails only when out of memory.
 pub(crate) fn fates_of(
     alloc: Global,
-    scopes: &[ScopeId],
     left: &LeftScopes,
     body: &ReactiveBlock,
 ) -> Result<List<ScopeFate>, AllocError>
-    ensures { IfOk result (AreListedFates scopes.now left.now body.now) }
+    requires { left.now.used ≡ [] → scopes_in body.now ≡ [] }
+    ensures { IfOk result (AreListedFates left.now body.now) }
 {
-    let scopes = in_order(alloc, scopes)?;
+    let scopes = in_order(alloc, left.spelled.as_slice())?;
     let escaping = in_order(alloc, left.escaping.as_slice())?;
     let used = in_order(alloc, left.used.as_slice())?;
-    let kept = scopes_in(alloc, body)?;
+    let kept = scopes_left(alloc, body, &left.used)?;
     let kept = in_order(alloc, kept.as_slice())?;
     let known = KnownScopes {
         escaping,

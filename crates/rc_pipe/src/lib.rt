@@ -5,6 +5,7 @@ mod causes;
 mod fates;
 mod passes;
 mod pipeline;
+mod spelled_scopes;
 
 pub use fates::{Fate, ScopeFate};
 pub use pipeline::{Pruned, build_and_prune};

@@ -12,7 +12,6 @@ use crate::causes::{first_early_return, has_room};
 use crate::fates::{ScopeFate, fates_of};
 use crate::passes::prune;
 use rc_build::build_reactive_function;
-use rc_checks::scopes_in;
 use rc_hir::{Environment, Fault, HirFunction, check_names};
 use rc_names::List;
 use rc_tree::ReactiveFunction;
@@ -58,9 +57,8 @@ pub fn build_and_prune(
 {
     accept(hir, env)?;
     let mut func = build_reactive_function(alloc, hir, env)?;
-    let spelled = scopes_in(alloc, &func.body)?;
-    let left = prune(alloc, &mut func, env)?;
-    let fates = fates_of(alloc, spelled.as_slice(), &left, &func.body)?;
+    let left = prune(alloc, hir, &mut func, env)?;
+    let fates = fates_of(alloc, &left, &func.body)?;
     Ok(Pruned { func, fates })
 }
 

@@ -231,6 +231,11 @@ module _ (hir : HirFunction) (env : Environment) (s : ScopeId) where
     rest_times no_rest = omega arith
     rest_times (has_rest d) = list_times d
 
+  -- the scopes of a spelled block are opened by its used blocks
+  pub body_times : {key : BlockId} {context : ListContext} {statements : Statements} {used : List BlockId}
+      → SpellsList hir env key context statements used → times s (scopes_in (block_of statements)) ≤ used_times used
+  body_times {statements = statements} d = omega (arith, part_times s statements, list_times d)
+
 -- no scope number stands in two scope blocks of a spelled tree
 pub spelled_once : (hir : HirFunction) (env : Environment) (func : ReactiveFunction) → Spells hir env func
     → HasScopesOnce func.body
@@ -238,7 +243,6 @@ spelled_once hir env func spelled =
     differ (scopes_in func.body) (λ s. rw spelled.whole
     (omega (
       arith,
-      part_times s spelled.statements,
-      list_times hir env s spelled.body.list,
+      body_times hir env s spelled.body.list,
       at_most_once (filter_map (scope_at hir) spelled.body.used) spelled.body.sound.scopes_once s,
     )))

@@ -49,10 +49,9 @@ IsListedFate lists scope _ = ⊥
 abbrev pub HasListedFate : ScopeLists → ScopeFate → Type 0
 HasListedFate lists entry = IsListedFate lists entry.scope entry.fate
 
--- each of the scopes is listed once, in ascending order, with its fate by the scopes that the passes left and by the
--- scope blocks of the body
-pub record AreListedFates (scopes : List ScopeId) (left : LeftScopes) (body : ReactiveBlock)
-    (fates : List ScopeFate) : Type 0 where
+-- each scope of the spelled tree is listed once, in ascending order, with its fate by the scopes that the passes left
+-- and by the scope blocks of the body
+pub record AreListedFates (left : LeftScopes) (body : ReactiveBlock) (fates : List ScopeFate) : Type 0 where
   pub rising : IsStrictlyIncreasing (map (λ scope. scope.0) (listed_scopes fates))
-  pub listed : (scope : ScopeId) → Contains (listed_scopes fates) scope ↔ Contains scopes scope
+  pub listed : (scope : ScopeId) → Contains (listed_scopes fates) scope ↔ Contains left.spelled scope
   pub told : All (HasListedFate (left_scopes left body)) fates

@@ -35,10 +35,11 @@ pub record HasScopesPruned (escaping pruned : PassState) (left : List ScopeId) :
   pub staying : scopes_in used.func.body ≡ map (λ block. block.scope) (staying_blocks reactive.env reactive.func.body)
   pub others : LeavesOthers used.env used.func.body pruned.func.body
 
--- all parts
+-- all parts, with the scopes that have a block in the spelled function
 pub record IsPrunedWith (spelled pruned : PassState) (left : LeftScopes) : Type 0 where
   pub labeled : PassState
   pub checked : IsChecked spelled labeled
+  pub listed : left.spelled ≡ scopes_in spelled.func.body
   pub escaping : PassState
   pub escape : IsEscapePruned labeled escaping left.escaping
   pub scopes : HasScopesPruned escaping pruned left.used

@@ -12,13 +12,15 @@ returns c =
     let escaping = c.in_ok-escaping in
     let used = c.in_ok-used in
     let kept = c.in_ok-kept-2 in
-    let first : c.as_slice.result.now ≡ c.args.left.now.escaping = search rules in
-    let second : c.as_slice-2.result.now ≡ c.args.left.now.used = search rules in
-    let all : c.as_slice-3.result.now ≡ scopes_in c.args.body.now = search rules in
-    fates_answered c.args.scopes.now c.args.left.now c.args.body.now c.as_slice-3.result.now
-    (scopes_of ordered.scopes.keys)
+    let listed : c.as_slice.result.now ≡ c.args.left.now.spelled = search rules in
+    let first : c.as_slice-2.result.now ≡ c.args.left.now.escaping = search rules in
+    let second : c.as_slice-3.result.now ≡ c.args.left.now.used = search rules in
+    let all : c.as_slice-4.result.now ≡ scopes_in c.args.body.now = search rules in
+    fates_answered c.args.left.now c.args.body.now c.as_slice-4.result.now (scopes_of ordered.scopes.keys)
     (known_scopes (record { escaping = escaping.escaping; used = used.used; kept = kept.kept }))
-    all ordered.ensures.rising ordered.ensures.same
+    all ordered.ensures.rising
+    (subst (λ list. (scope : ScopeId) → Contains (scopes_of ordered.scopes.keys) scope ↔ Contains list scope) listed
+    ordered.ensures.same)
     (subst (λ list. (scope : ScopeId) → Contains (scopes_of escaping.escaping.keys) scope ↔ Contains list scope) first
     escaping.ensures.same)
     (subst (λ list. (scope : ScopeId) → Contains (scopes_of used.used.keys) scope ↔ Contains list scope) second

@@ -1,13 +1,13 @@
 -- Each fault of the call has its cause, and each success meets the headline.
-use Rattle.std.proofs.Common.{◌≡◌, rules, refl, subst, inr, ap, Err}
+use Rattle.std.proofs.Common.{◌∙◌, sym, inr, ap, Err}
 use Rattle.std.proofs.lemmas.Result.{err_from_is_err_and}
-use Rattle.rc_checks.specs.ScopeBlocks.{scopes_in}
-use Rattle.rc_pipe.specs.inside.ListedFates.{AreListedFates}
+use Rattle.rc_checks.proofs.ScopeBlocks.SpelledOnce.{spelled_once}
 use Rattle.rc_pipe.specs.inside.PrunedParts.{as_passes}
 use Rattle.rc_pipe.proofs.CausesLemmas.{build_cause, only_memory}
 use Rattle.rc_pipe.proofs.FatesHold.{escaping_staying, fates_hold, kept_exactly, none_needed, used_staying}
 use Rattle.rc_pipe.proofs.FatesHold.{whole_record}
 use Rattle.rc_pipe.proofs.PassesLemmas.{pass_cause}
+use Rattle.rc_pipe.proofs.ScopesLeft.{none_remains}
 use Rattle.rc_pipe.proofs.pipeline.build_and_prune.Goals as goal
 
 pub returns-clause-ok : goal.returns-clause-ok
@@ -16,12 +16,8 @@ returns-clause-ok c =
     let parts = c.in_ok-left.ensures.ok in
     let none = c.in_ok-accept.ensures.ok.no_early_return in
     let runs = c.in_ok-left.ensures.kept_runs none in
-    let body = c.in_ok-func.func.body in
-    let once = c.in_ok-spelled.ensures.once c.args.hir.now c.args.env.now c.in_ok-func.func built.ok refl in
-    let all : c.as_slice.result.now ≡ scopes_in body = search rules in
-    let listed : AreListedFates (scopes_in body) c.in_ok-left.left c.prune.new.func.body c.in_ok-fates.fates =
-    subst (λ scopes. AreListedFates scopes c.in_ok-left.left c.prune.new.func.body c.in_ok-fates.fates) all
-    c.in_ok-fates.ensures in
+    let once = spelled_once c.args.hir.now c.args.env.now c.in_ok-func.func built.ok in
+    let listed = c.in_ok-fates.ensures in
     record {
       accepted = c.in_ok-accept.ensures.ok;
       spelled = c.in_ok-func.func;
@@ -69,7 +65,7 @@ returns-in_err-left-clause-refused c =
     let built = c.in_ok-func.ensures in
     rw (p.1, p.2) (pass_cause c.args.hir.now c.args.env.now c.in_ok-accept.ensures.ok
     c.in_ok-func.func built.ok c.in_err-left.field-0.0
-    (c.in_err-left.ensures.refused c.args.hir.now built.ok))
+    c.in_err-left.ensures.refused)
 
 pub returns-in_err-left-clause-complete : goal.returns-in_err-left-clause-complete
 returns-in_err-left-clause-complete c =
@@ -77,17 +73,24 @@ returns-in_err-left-clause-complete c =
     let built = c.in_ok-func.ensures in
     let cause = pass_cause c.args.hir.now c.args.env.now c.in_ok-accept.ensures.ok
     c.in_ok-func.func built.ok c.in_err-left.field-0.0
-    (c.in_err-left.ensures.refused c.args.hir.now built.ok)
+    c.in_err-left.ensures.refused
     in
     rw (p.1, p.2) (λ func accepted answer. inr (ap Err (only_memory c.args.hir.now c.args.env.now accepted func answer
     c.in_err-left.field-0.0 cause)))
 
 -- the passes keep numbers in their tables, whatever comes
 pub returns-clause-known_names : goal.returns-clause-known_names
-returns-clause-known_names c = c.prune.ensures.known_names c.args.hir.now
+returns-clause-known_names c = c.prune.ensures.known_names
 
 pub returns-in_err-left-clause-known_names : goal.returns-in_err-left-clause-known_names
-returns-in_err-left-clause-known_names c = c.prune.ensures.known_names c.args.hir.now
+returns-in_err-left-clause-known_names c = c.prune.ensures.known_names
 
 pub returns-in_err-fates-clause-known_names : goal.returns-in_err-fates-clause-known_names
-returns-in_err-fates-clause-known_names c = c.prune.ensures.known_names c.args.hir.now
+returns-in_err-fates-clause-known_names c = c.prune.ensures.known_names
+
+-- where no scope is used, none has a block in the end
+pub fates_of-requires : goal.fates_of-requires
+fates_of-requires c = λ none.
+    let scopes = c.in_ok-left.ensures.ok.scopes in
+    none_remains scopes.used.env scopes.used.func.body c.prune.new.func.body scopes.others
+    (sym scopes.listed ∙ none)
