@@ -11,7 +11,7 @@ ghost use Rattle.rc_pipe.specs.Headline.{HasAnswer, IsAccepted, IsAnswer, IsCaus
 use crate::causes::{first_early_return, has_room};
 use crate::fates::{ScopeFate, fates_of};
 use crate::passes::prune;
-use rc_build::build_reactive_function;
+use rc_build::build_known_function;
 use rc_hir::{Environment, Fault, HirFunction, check_names};
 use rc_names::List;
 use rc_tree::ReactiveFunction;
@@ -56,7 +56,7 @@ pub fn build_and_prune(
         → IsOk result ⊎ (result ≡ Err Fault.NoMemory) }
 {
     accept(hir, env)?;
-    let mut func = build_reactive_function(alloc, hir, env)?;
+    let mut func = build_known_function(alloc, hir, env)?;
     let left = prune(alloc, hir, &mut func, env)?;
     let fates = fates_of(alloc, &left, &func.body)?;
     Ok(Pruned { func, fates })
