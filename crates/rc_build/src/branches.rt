@@ -14,7 +14,7 @@ ghost use Rattle.rc_build.specs.inside.Task.{FromTerminal, SpellsAlternate, Spel
 ghost use Rattle.rc_build.specs.inside.Built.{Builds, BuildsTask, BuiltAlternate, BuiltConsequent, Refused};
 ghost use Rattle.rc_build.specs.inside.Setting as settings;
 
-use crate::builder::{Builder, Site, falls_to, label_at, malformed, put_terminal};
+use crate::builder::{Builder, Site, falls_to, label_at, let_go, malformed, put_terminal};
 use rc_hir::{Fault, Place, Rule};
 use rc_names::{BlockId, EvaluationOrder, List};
 use rc_runs::Frame;
@@ -48,10 +48,17 @@ impl<'g> Builder<'g> {
         }
         let frame = Frame::Statement { block: fallthrough };
         let part = self.build_part(site, consequent, frame, opened)?;
-        let other = self.build_alternate(site, alternate, fallthrough, opened)?;
-        let label = label_at(opened);
-        put_if(self.alloc, &mut self.out, test, part, other, id, label)?;
-        Ok(opened)
+        match self.build_alternate(site, alternate, fallthrough, opened) {
+            Ok(other) => {
+                let label = label_at(opened);
+                put_if(self.alloc, &mut self.out, test, part, other, id, label)?;
+                Ok(opened)
+            }
+            Err(fault) => {
+                let_go(part);
+                Err(fault)
+            }
+        }
     }
 
     /// Builds a branch in a list, which is an if without a label whose arms stand where it stands; it ends the list.

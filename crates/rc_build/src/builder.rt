@@ -162,6 +162,11 @@ pub fn label_at(opened: Option<BlockId>) -> Option<ReactiveLabel>
     }
 }
 
+/// Lets a part go that was built before a fault.
+// It isn't inlined: the frames of nested calls then have no room for what is taken out of the part to let it go.
+#[inline(never)]
+pub fn let_go<T: Drop>(_part: T) {}
+
 /// Puts the statement of a terminal with a label behind others. The only error is out of memory.
 // It isn't inlined, nor are the functions that put one kind of statement: a statement takes no room in the frames of
 // nested calls.

@@ -7,7 +7,7 @@ ghost use Rattle.rc_build.specs.inside.Setting.{part_setting, setting_of};
 ghost use Rattle.rc_build.specs.inside.Task.{FromBlock, FromTerminal, Nothing, Spells, left, progress_of};
 ghost use Rattle.rc_build.specs.inside.Built.{Builds, BuildsList, BuildsTask, BuiltList, Refused};
 
-use crate::builder::{Builder, Site};
+use crate::builder::{Builder, Site, let_go};
 use crate::enclosures::Enclosure;
 use rc_hir::{Fault, Terminal};
 use rc_names::{BlockId, List};
@@ -169,7 +169,12 @@ impl<'g> Builder<'g> {
         ensures { BuildsList self.old self.new site site.block result }
     {
         let outer = self.out.take();
-        self.build_list(site)?;
-        Ok(mem::replace(&mut self.out, outer))
+        match self.build_list(site) {
+            Ok(()) => Ok(mem::replace(&mut self.out, outer)),
+            Err(fault) => {
+                let_go(outer);
+                Err(fault)
+            }
+        }
     }
 }

@@ -15,7 +15,7 @@ ghost use Rattle.rc_build.specs.inside.Task.{FromTerminal, left, progress_of};
 ghost use Rattle.rc_build.specs.inside.CanBuild.{CanBuildTerminal};
 ghost use Rattle.rc_build.specs.inside.Built.{Builds, BuildsTask, Refused};
 
-use crate::builder::{Builder, Site, label_at, malformed, put_terminal};
+use crate::builder::{Builder, Site, label_at, let_go, malformed, put_terminal};
 use crate::unreachable::ends_unreachable;
 use crate::values::Showing;
 use rc_hir::{Fault, Rule, Terminal};
@@ -160,7 +160,8 @@ impl<'g> Builder<'g> {
             × IsSome (kinds.loop_of terminal.now) }
         ensures { BuildsTask self.old self.new site (FromTerminal terminal.now) left result }
     {
-        self.build_loop(site, loop_of(terminal).unwrap())
+        let found = loop_of(terminal).unwrap();
+        self.build_loop(site, &found)
     }
 
     /// Builds a loop; returns where the list goes on.
@@ -169,28 +170,35 @@ impl<'g> Builder<'g> {
     ///   or it is a while whose fallthrough ends in `Unreachable`.
     /// - `Malformed`, `Todo`, `BadName`: as for its values and its body.
     #[cycle(builder)]
-    fn build_loop(&mut self, site: Site, terminal: LoopTerminal) -> Result<Option<BlockId>, Fault>
+    fn build_loop(&mut self, site: Site, terminal: &LoopTerminal) -> Result<Option<BlockId>, Fault>
         requires { CanBuildTerminal self.old.hir.now self.old.marks site.handler self.old.frames site.block
-            (kinds.terminal_of terminal) }
-        ensures { BuildsTask self.old self.new site (FromTerminal (kinds.terminal_of terminal)) left result }
+            (kinds.terminal_of terminal.now) }
+        ensures { BuildsTask self.old self.new site (FromTerminal (kinds.terminal_of terminal.now)) left result }
     {
         if self.is_live(terminal) {
             return Err(malformed(site.block, Rule::LoopLive));
         }
         let init = self.build_before(site, terminal, terminal.init(), true)?;
-        let turns = self.build_turns(site, terminal)?;
-        put_loop(self.alloc, &mut self.out, &terminal, init, turns)?;
-        Ok(Some(terminal.fallthrough))
+        match self.build_turns(site, terminal) {
+            Ok(turns) => {
+                put_loop(self.alloc, &mut self.out, terminal, init, turns)?;
+                Ok(Some(terminal.fallthrough))
+            }
+            Err(fault) => {
+                let_go(init);
+                Err(fault)
+            }
+        }
     }
 
     /// Builds the turns of a loop: its test, what stands before it, and then the body inside the loop's frame.
     #[cycle(builder)]
-    fn build_turns(&mut self, site: Site, terminal: LoopTerminal) -> Result<BuiltTurns, Fault>
-        requires { spec.CanBuildTurns self.old.hir.now self.old.marks site.handler self.old.frames terminal }
+    fn build_turns(&mut self, site: Site, terminal: &LoopTerminal) -> Result<BuiltTurns, Fault>
+        requires { spec.CanBuildTurns self.old.hir.now self.old.marks site.handler self.old.frames terminal.now }
         ensures { Builds self.old self.new site
-            (λ built. spec.TurnsBuilt (setting_of self.old site) terminal built (progress_of self.old)
+            (λ built. spec.TurnsBuilt (setting_of self.old site) terminal.now built (progress_of self.old)
             (progress_of self.new))
-            (Refused self.old.hir.now (spec.SpellsTurnsOf (setting_of self.old site) terminal) self.old.marks.used)
+            (Refused self.old.hir.now (spec.SpellsTurnsOf (setting_of self.old site) terminal.now) self.old.marks.used)
             result }
     {
         let showing = Showing {
@@ -204,22 +212,36 @@ impl<'g> Builder<'g> {
             terminal.fallthrough,
             showing,
         )?;
-        let before = self.build_before(site, terminal, terminal.before(), showing.flat)?;
+        let before = match self.build_before(site, terminal, terminal.before(), showing.flat) {
+            Ok(before) => before,
+            Err(fault) => {
+                let_go(test);
+                return Err(fault);
+            }
+        };
         let opened = Some(terminal.fallthrough);
-        let body = self.build_part(site, terminal.body, terminal.frame(), opened)?;
-        Ok(BuiltTurns { before, test, body })
+        match self.build_part(site, terminal.body, terminal.frame(), opened) {
+            Ok(body) => Ok(BuiltTurns { before, test, body }),
+            Err(fault) => {
+                let_go(before);
+                let_go(test);
+                Err(fault)
+            }
+        }
     }
 
     /// Builds the value that goes on at a loop's test, where there is one.
+    // Not inlined, so that the frames of nested loops have no room for the value.
+    #[inline(never)]
     fn build_before(
         &mut self,
         site: Site,
-        terminal: LoopTerminal,
+        terminal: &LoopTerminal,
         key: Option<BlockId>,
         flat: bool,
     ) -> Result<Option<Boxed<ReactiveValue>>, Fault>
         requires { spec.CanBuildBefore self.old.hir.now self.old.marks key }
-        ensures { spec.BuildsBefore self.old self.new site terminal flat key result }
+        ensures { spec.BuildsBefore self.old self.new site terminal.now flat key result }
     {
         let Some(key) = key else { return Ok(None) };
         let showing = Showing {
@@ -231,10 +253,11 @@ impl<'g> Builder<'g> {
 
     /// Whether a jump can name the fallthrough of a loop already, or the block with which its turns begin, or it is a
     /// while whose fallthrough ends in `Unreachable`.
-    fn is_live(&self, terminal: LoopTerminal) -> bool
-        ensures { result ≡ (is_jump_target self.now.frames terminal.fallthrough
-            || (is_jump_target self.now.frames (turn_start (kinds.blocks_of terminal))
-            || (kinds.is_while_kind terminal.kind && ends_unreachable self.now.hir.now terminal.fallthrough))) }
+    fn is_live(&self, terminal: &LoopTerminal) -> bool
+        ensures { result ≡ (is_jump_target self.now.frames terminal.now.fallthrough
+            || (is_jump_target self.now.frames (turn_start (kinds.blocks_of terminal.now))
+            || (kinds.is_while_kind terminal.now.kind
+            && ends_unreachable self.now.hir.now terminal.now.fallthrough))) }
     {
         self.frames.is_jump_target(terminal.fallthrough)
             || self.frames.is_jump_target(terminal.start())

@@ -83,7 +83,8 @@ impl<'g> Builder<'g> {
     ) -> Result<List<ReactiveSwitchCase>, Fault>
         requires { CanBuildCases self.old.hir.now self.old.marks site.handler
             (frames_inside opened frame self.old.frames) kept }
-        ensures { BuildsCases self.old self.new site (part_setting opened frame (setting_of self.old site)) kept result }
+        ensures { let inside = part_setting opened frame (setting_of self.old site) in
+            BuildsCases self.old self.new site inside kept result }
     {
         self.frames.enter(frame, opened)?;
         let parts = self.build_cases(site.inside(site.block, frame, opened), kept)?;
@@ -111,8 +112,9 @@ impl<'g> Builder<'g> {
                 handler: site.handler,
             };
             let statements = self.build_apart(here)?;
-            self.frames.push(Frame::Case { block: case.block })?;
+            // Before the frame is put, so that no statement is let go here after want of memory.
             put_case(&mut parts, &case.test, statements)?;
+            self.frames.push(Frame::Case { block: case.block })?;
             next = Some(case.block);
         }
         self.frames.pop_many(parts.len());
@@ -135,7 +137,8 @@ fn leaves_elsewhere(
     opened: Option<BlockId>,
     next: Option<BlockId>,
 ) -> bool
-    ensures { result ≡ not (list_any successors.is_default kept.now || fallthroughs.falls_to (is_some opened) fallthrough next) }
+    ensures { result ≡ not (list_any successors.is_default kept.now
+        || fallthroughs.falls_to (is_some opened) fallthrough next) }
 {
     !(has_default(kept) || falls_to(opened, fallthrough, next))
 }

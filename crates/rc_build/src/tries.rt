@@ -10,7 +10,7 @@ ghost use Rattle.rc_build.specs.inside.Setting as settings;
 ghost use Rattle.rc_build.specs.inside.Task.{FromTerminal, left};
 ghost use Rattle.rc_build.specs.inside.Built.{BuildsTask};
 
-use crate::builder::{Builder, Site, is_next, label_at, malformed, put_terminal};
+use crate::builder::{Builder, Site, is_next, label_at, let_go, malformed, put_terminal};
 use crate::handlers::is_current;
 use rc_hir::{Fault, Place, Rule};
 use rc_names::{BlockId, EvaluationOrder, List};
@@ -40,10 +40,17 @@ impl<'g> Builder<'g> {
         let opened = self.open_reachable(fallthrough);
         let frame = Frame::Statement { block: fallthrough };
         let block = self.build_part(site.protected_by(handler), part, frame, opened)?;
-        let other = self.build_part(site, handler, frame, opened)?;
-        let label = label_at(opened);
-        put_try(self.alloc, &mut self.out, block, binding, other, id, label)?;
-        Ok(opened)
+        match self.build_part(site, handler, frame, opened) {
+            Ok(other) => {
+                let label = label_at(opened);
+                put_try(self.alloc, &mut self.out, block, binding, other, id, label)?;
+                Ok(opened)
+            }
+            Err(fault) => {
+                let_go(block);
+                Err(fault)
+            }
+        }
     }
 
     /// Builds nothing of a block that may throw; returns where the list goes on, unless falling off reaches that.

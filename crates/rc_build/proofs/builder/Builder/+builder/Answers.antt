@@ -196,13 +196,12 @@ build_part-returns t c =
 pub build_apart-build_list-requires : goal.build_apart-build_list-requires
 build_apart-build_list-requires t c = (omega arith, c.requires)
 
-pub build_apart-returns-in_err-build_list : goal.build_apart-returns-in_err-build_list
-build_apart-returns-in_err-build_list t c =
-    passes_on c.from_residual.ensures.1 refl c.in_err-build_list.ensures (λ none. none)
+pub build_apart-returns-in-Err : goal.build_apart-returns-in-Err
+build_apart-returns-in-Err t c = passes_on refl refl c.in-Err.ensures (λ none. none)
 
-pub build_apart-returns : goal.build_apart-returns
-build_apart-returns t c =
-    let list = c.in_ok-build_list.ensures in
+pub build_apart-returns-in-Ok : goal.build_apart-returns-in-Ok
+build_apart-returns-in-Ok t c =
+    let list = c.in-Ok.ensures in
     is_built c.replace.result
     (whole_list list.ok c.take-outer.ensures.left c.replace.ensures.value
     (c.replace.ensures.after ∙ c.take-outer.ensures.list)) list.frames
@@ -259,14 +258,14 @@ build_loop-returns-in_err-init = loops.build_loop-returns-in_err-init
 pub build_loop-build_turns-requires : goal.build_loop-build_turns-requires
 build_loop-build_turns-requires = loops.build_loop-build_turns-requires
 
-pub build_loop-returns-in_err-turns : goal.build_loop-returns-in_err-turns
-build_loop-returns-in_err-turns = loops.build_loop-returns-in_err-turns
+pub build_loop-returns-in-Err : goal.build_loop-returns-in-Err
+build_loop-returns-in-Err = loops.build_loop-returns-in-Err
 
 pub build_loop-put_loop-requires : goal.build_loop-put_loop-requires
 build_loop-put_loop-requires = loops.build_loop-put_loop-requires
 
-pub build_loop-returns : goal.build_loop-returns
-build_loop-returns = loops.build_loop-returns
+pub build_loop-returns-in_ok-put_loop-in-Ok : goal.build_loop-returns-in_ok-put_loop-in-Ok
+build_loop-returns-in_ok-put_loop-in-Ok = loops.build_loop-returns-in_ok-put_loop-in-Ok
 
 pub build_turns-build_test-requires : goal.build_turns-build_test-requires
 build_turns-build_test-requires = loops.build_turns-build_test-requires
@@ -277,17 +276,17 @@ build_turns-returns-in_err-test = loops.build_turns-returns-in_err-test
 pub build_turns-build_before-requires : goal.build_turns-build_before-requires
 build_turns-build_before-requires = loops.build_turns-build_before-requires
 
-pub build_turns-returns-in_err-before : goal.build_turns-returns-in_err-before
-build_turns-returns-in_err-before = loops.build_turns-returns-in_err-before
+pub build_turns-returns-in-Err : goal.build_turns-returns-in-Err
+build_turns-returns-in-Err = loops.build_turns-returns-in-Err
 
 pub build_turns-build_part-requires : goal.build_turns-build_part-requires
 build_turns-build_part-requires = loops.build_turns-build_part-requires
 
-pub build_turns-returns-in_err-body : goal.build_turns-returns-in_err-body
-build_turns-returns-in_err-body = loops.build_turns-returns-in_err-body
+pub build_turns-returns-in-Err-build_part : goal.build_turns-returns-in-Err-build_part
+build_turns-returns-in-Err-build_part = loops.build_turns-returns-in-Err-build_part
 
-pub build_turns-returns : goal.build_turns-returns
-build_turns-returns = loops.build_turns-returns
+pub build_turns-returns-in-Ok-build_part : goal.build_turns-returns-in-Ok-build_part
+build_turns-returns-in-Ok-build_part = loops.build_turns-returns-in-Ok-build_part
 
 -- the answers of a switch's functions
 
@@ -377,11 +376,11 @@ build_if-returns-in_err-part = ifs.build_if-returns-in_err-part
 pub build_if-build_alternate-requires : goal.build_if-build_alternate-requires
 build_if-build_alternate-requires = ifs.build_if-build_alternate-requires
 
-pub build_if-returns-in_err-other : goal.build_if-returns-in_err-other
-build_if-returns-in_err-other = ifs.build_if-returns-in_err-other
+pub build_if-returns-in-Err : goal.build_if-returns-in-Err
+build_if-returns-in-Err = ifs.build_if-returns-in-Err
 
-pub build_if-returns : goal.build_if-returns
-build_if-returns = ifs.build_if-returns
+pub build_if-returns-in_ok-put_if-in-Ok : goal.build_if-returns-in_ok-put_if-in-Ok
+build_if-returns-in_ok-put_if-in-Ok = ifs.build_if-returns-in_ok-put_if-in-Ok
 
 pub build_alternate-returns-then-eq : goal.build_alternate-returns-then-eq
 build_alternate-returns-then-eq = ifs.build_alternate-returns-then-eq
@@ -403,8 +402,8 @@ build_try-returns-in_err-block = tries.build_try-returns-in_err-block
 pub build_try-build_part-requires-2 : goal.build_try-build_part-requires-2
 build_try-build_part-requires-2 = tries.build_try-build_part-requires-2
 
-pub build_try-returns-in_err-other : goal.build_try-returns-in_err-other
-build_try-returns-in_err-other = tries.build_try-returns-in_err-other
+pub build_try-returns-in-Err : goal.build_try-returns-in-Err
+build_try-returns-in-Err = tries.build_try-returns-in-Err
 
-pub build_try-returns : goal.build_try-returns
-build_try-returns = tries.build_try-returns
+pub build_try-returns-in_ok-put_try-in-Ok : goal.build_try-returns-in_ok-put_try-in-Ok
+build_try-returns-in_ok-put_try-in-Ok = tries.build_try-returns-in_ok-put_try-in-Ok

@@ -150,25 +150,25 @@ build_if-build_alternate-requires t c =
           c.requires.1 refl (none_used mid.marks) (marking_beside old.hir.now part.ok.marking)),
     )
 
-pub build_if-returns-in_err-other : goal.build_if-returns-in_err-other
-build_if-returns-in_err-other t c = λ span.
+pub build_if-returns-in-Err : goal.build_if-returns-in-Err
+build_if-returns-in-Err t c = λ span.
     let part = c.in_ok-part.ensures in
-    passes_on c.from_residual-in_err-other.ensures.1 (same_graph part.frames) c.in_err-other.ensures
+    passes_on refl (same_graph part.frames) c.in-Err.ensures
     (λ none. if_refused_later c.open_reachable-opened.ensures part.ok
     (refused_in (λ z. SpellsAlternate (part_setting c.open_reachable-opened.result
     (frame_kinds.Statement c.args.fallthrough) z) c.args.alternate c.args.fallthrough) c.build_part.new.self.marks.used
     part.frames none))
 
-pub build_if-returns : goal.build_if-returns
-build_if-returns t c = λ span.
+pub build_if-returns-in_ok-put_if-in-Ok : goal.build_if-returns-in_ok-put_if-in-Ok
+build_if-returns-in_ok-put_if-in-Ok t c = λ span.
     let part = c.in_ok-part.ensures in
-    let other = c.in_ok-other.ensures in
+    let other = c.in-Ok.ensures in
     is_built c.open_reachable-opened.result
     (if_built c.open_reachable-opened.ensures (sym c.falls_elsewhere.ensures ∙ c.if-falls_elsewhere.false) part.ok
     (built_in (λ z. SpellsAlternate (part_setting c.open_reachable-opened.result
     (frame_kinds.Statement c.args.fallthrough) z) c.args.alternate c.args.fallthrough) part.frames other.ok)
-    (ap (terminal_statement (tree.If c.args.test.now (record { statements = c.in_ok-part.part }) c.in_ok-other.other
-    c.args.id)) c.label_at-label.ensures) c.in_ok-put_if.ensures)
+    (ap (terminal_statement (tree.If c.args.test.now (record { statements = c.in_ok-part.part }) c.in-Ok.other
+    c.args.id)) c.label_at-label.ensures) c.in_ok-put_if-in-Ok.ensures)
     (other.frames ∙ part.frames)
 
 -- an alternate

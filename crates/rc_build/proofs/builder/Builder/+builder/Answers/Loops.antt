@@ -26,12 +26,13 @@ build_loop_of-build_loop-requires t c =
     let old = c.args.self.now in (
       omega arith,
       subst (CanBuildTerminal old.hir.now old.marks c.args.site.handler old.frames c.args.site.block)
-          (loop_same c.args.terminal.now c.unwrap.result (sym c.loop_of.ensures ∙ c.unwrap.ensures)) c.requires.0,
+          (loop_same c.args.terminal.now c.unwrap-found.result (sym c.loop_of.ensures ∙ c.unwrap-found.ensures))
+          c.requires.0,
     )
 
 pub build_loop_of-returns : goal.build_loop_of-returns
 build_loop_of-returns t c =
-    let same = loop_same c.args.terminal.now c.unwrap.result (sym c.loop_of.ensures ∙ c.unwrap.ensures) in
+    let same = loop_same c.args.terminal.now c.unwrap-found.result (sym c.loop_of.ensures ∙ c.unwrap-found.ensures) in
     subst (λ z. BuildsTask c.args.self.now c.build_loop.new.self c.args.site (FromTerminal z) left c.build_loop.result)
     (sym same) c.build_loop.ensures
 
@@ -42,102 +43,102 @@ build_loop-returns-then-is_live t c =
     let old = c.args.self.now in
     let live = sym c.is_live.ensures ∙ c.if-is_live.true in
     breaks_rule c.args.site.block LoopLive c.malformed.ensures
-    (live_refused (setting_of old c.args.site) c.args.terminal old.marks.used live)
-    (live_fact c.args.terminal c.requires live)
+    (live_refused (setting_of old c.args.site) c.args.terminal.now old.marks.used live)
+    (live_fact c.args.terminal.now c.requires live)
 
 pub build_loop-build_before-requires : goal.build_loop-build_before-requires
 build_loop-build_before-requires t c =
     let old = c.args.self.now in
-    subst (CanBuildBefore old.hir.now old.marks) (sym c.init.ensures) (init_can c.args.terminal c.requires)
+    subst (CanBuildBefore old.hir.now old.marks) (sym c.init.ensures) (init_can c.args.terminal.now c.requires)
 
 pub build_loop-returns-in_err-init : goal.build_loop-returns-in_err-init
 build_loop-returns-in_err-init t c =
     let s = setting_of c.args.self.now c.args.site in
     passes_on c.from_residual.ensures.1 refl
-    (before_at c.args.terminal c.init.ensures refl c.in_err-init.ensures)
-    (init_refused s c.args.terminal c.args.self.now.marks.used)
+    (before_at c.args.terminal.now c.init.ensures refl c.in_err-init.ensures)
+    (init_refused s c.args.terminal.now c.args.self.now.marks.used)
 
 pub build_loop-build_turns-requires : goal.build_loop-build_turns-requires
 build_loop-build_turns-requires t c =
     let old = c.args.self.now in
     let mid = c.build_before.new.self in
     let s = setting_of old c.args.site in
-    let init = before_at c.args.terminal c.init.ensures refl c.in_ok-init.ensures in
-    let free = not_live s c.args.terminal (sym c.is_live.ensures ∙ c.if-is_live.false) in (
+    let init = before_at c.args.terminal.now c.init.ensures refl c.in_ok-init.ensures in
+    let free = not_live s c.args.terminal.now (sym c.is_live.ensures ∙ c.if-is_live.false) in (
       omega (arith, as_few_left init init.ok.marking),
-      subst (λ (z : Setting). CanBuildTurns z.hir mid.marks c.args.site.handler z.context.frames c.args.terminal)
+      subst (λ (z : Setting). CanBuildTurns z.hir mid.marks c.args.site.handler z.context.frames c.args.terminal.now)
           (sym init.frames)
-          (turns_can c.args.terminal c.requires init.ok.marking free.0 free.1),
+          (turns_can c.args.terminal.now c.requires init.ok.marking free.0 free.1),
     )
 
-pub build_loop-returns-in_err-turns : goal.build_loop-returns-in_err-turns
-build_loop-returns-in_err-turns t c =
+pub build_loop-returns-in-Err : goal.build_loop-returns-in-Err
+build_loop-returns-in-Err t c =
     let old = c.args.self.now in
     let s = setting_of old c.args.site in
-    let init = before_at c.args.terminal c.init.ensures refl c.in_ok-init.ensures in
-    passes_on c.from_residual-in_err-turns.ensures.1 (same_graph init.frames) c.in_err-turns.ensures
-    (λ none. loop_refused s c.args.terminal init.ok
-    (refused_in (λ z. SpellsTurnsOf z c.args.terminal) c.build_before.new.self.marks.used init.frames none))
+    let init = before_at c.args.terminal.now c.init.ensures refl c.in_ok-init.ensures in
+    passes_on refl (same_graph init.frames) c.in-Err.ensures
+    (λ none. loop_refused s c.args.terminal.now init.ok
+    (refused_in (λ z. SpellsTurnsOf z c.args.terminal.now) c.build_before.new.self.marks.used init.frames none))
 
 pub build_loop-put_loop-requires : goal.build_loop-put_loop-requires
 build_loop-put_loop-requires t c =
     let s = setting_of c.args.self.now c.args.site in
-    let init = before_at c.args.terminal c.init.ensures refl c.in_ok-init.ensures in
-    let free = not_live s c.args.terminal (sym c.is_live.ensures ∙ c.if-is_live.false) in
-    tree_there s c.args.terminal init.ok (subst (λ (z : Setting). TurnsBuilt z c.args.terminal c.in_ok-turns.turns
-    (progress_of c.build_before.new.self) (progress_of c.build_turns.new.self)) init.frames c.in_ok-turns.ensures.ok)
+    let init = before_at c.args.terminal.now c.init.ensures refl c.in_ok-init.ensures in
+    let free = not_live s c.args.terminal.now (sym c.is_live.ensures ∙ c.if-is_live.false) in
+    tree_there s c.args.terminal.now init.ok (subst (λ (z : Setting). TurnsBuilt z c.args.terminal.now c.in-Ok.turns
+    (progress_of c.build_before.new.self) (progress_of c.build_turns.new.self)) init.frames c.in-Ok.ensures.ok)
     free.2
 
-pub build_loop-returns : goal.build_loop-returns
-build_loop-returns t c =
+pub build_loop-returns-in_ok-put_loop-in-Ok : goal.build_loop-returns-in_ok-put_loop-in-Ok
+build_loop-returns-in_ok-put_loop-in-Ok t c =
     let s = setting_of c.args.self.now c.args.site in
-    let init = before_at c.args.terminal c.init.ensures refl c.in_ok-init.ensures in
-    let free = not_live s c.args.terminal (sym c.is_live.ensures ∙ c.if-is_live.false) in
-    let turns = c.in_ok-turns.ensures in
-    let put = c.in_ok-put_loop.ensures in
-    is_built (Some c.args.terminal.fallthrough)
-    (loop_built s c.args.terminal init.ok (subst (λ (z : Setting). TurnsBuilt z c.args.terminal c.in_ok-turns.turns
+    let init = before_at c.args.terminal.now c.init.ensures refl c.in_ok-init.ensures in
+    let free = not_live s c.args.terminal.now (sym c.is_live.ensures ∙ c.if-is_live.false) in
+    let turns = c.in-Ok.ensures in
+    let put = c.in_ok-put_loop-in-Ok.ensures in
+    is_built (Some c.args.terminal.now.fallthrough)
+    (loop_built s c.args.terminal.now init.ok (subst (λ (z : Setting). TurnsBuilt z c.args.terminal.now c.in-Ok.turns
     (progress_of c.build_before.new.self) (progress_of c.build_turns.new.self)) init.frames turns.ok) free.2
     put.1 refl put.2) (turns.frames ∙ init.frames)
 
 -- its turns
 
 pub build_turns-build_test-requires : goal.build_turns-build_test-requires
-build_turns-build_test-requires t c = test_can c.args.terminal c.requires
+build_turns-build_test-requires t c = test_can c.args.terminal.now c.requires
 
 pub build_turns-returns-in_err-test : goal.build_turns-returns-in_err-test
 build_turns-returns-in_err-test t c =
     let s = setting_of c.args.self.now c.args.site in
     passes_on c.from_residual.ensures.1 refl
-    (test_at c.args.terminal c.is_flat.ensures c.in_err-test.ensures)
-    (turns_refused_test s c.args.terminal c.args.self.now.marks.used)
+    (test_at c.args.terminal.now c.is_flat.ensures c.in_err-test.ensures)
+    (turns_refused_test s c.args.terminal.now c.args.self.now.marks.used)
 
 pub build_turns-build_before-requires : goal.build_turns-build_before-requires
 build_turns-build_before-requires t c =
     let mid = c.build_test.new.self in
     let s = setting_of c.args.self.now c.args.site in
-    let test = test_at c.args.terminal c.is_flat.ensures c.in_ok-test.ensures in
+    let test = test_at c.args.terminal.now c.is_flat.ensures c.in_ok-test.ensures in
     subst (CanBuildBefore mid.hir.now mid.marks) (sym c.before-2.ensures)
-    (subst (λ (z : Setting). CanBuildBefore z.hir mid.marks (before_of c.args.terminal.kind)) (sym test.frames)
-    (before_can c.args.terminal c.requires test.ok.marking))
+    (subst (λ (z : Setting). CanBuildBefore z.hir mid.marks (before_of c.args.terminal.now.kind)) (sym test.frames)
+    (before_can c.args.terminal.now c.requires test.ok.marking))
 
-pub build_turns-returns-in_err-before : goal.build_turns-returns-in_err-before
-build_turns-returns-in_err-before t c =
+pub build_turns-returns-in-Err : goal.build_turns-returns-in-Err
+build_turns-returns-in-Err t c =
     let mid = c.build_test.new.self in
     let s = setting_of c.args.self.now c.args.site in
-    let test = test_at c.args.terminal c.is_flat.ensures c.in_ok-test.ensures in
-    passes_on c.from_residual-in_err-before.ensures.1 (same_graph test.frames)
-    (before_at c.args.terminal c.before-2.ensures c.is_flat.ensures c.in_err-before.ensures)
-    (λ none. turns_refused_before s c.args.terminal test.ok
-    (refused_in (λ z. SpellsLoopBefore z c.args.terminal) mid.marks.used test.frames none))
+    let test = test_at c.args.terminal.now c.is_flat.ensures c.in_ok-test.ensures in
+    passes_on refl (same_graph test.frames)
+    (before_at c.args.terminal.now c.before-2.ensures c.is_flat.ensures c.in-Err.ensures)
+    (λ none. turns_refused_before s c.args.terminal.now test.ok
+    (refused_in (λ z. SpellsLoopBefore z c.args.terminal.now) mid.marks.used test.frames none))
 
 pub build_turns-build_part-requires : goal.build_turns-build_part-requires
 build_turns-build_part-requires t c =
     let old = c.args.self.now in
     let late = c.build_before.new.self in
-    let loop = c.args.terminal in
+    let loop = c.args.terminal.now in
     let values = values_built loop c.args.site c.is_flat.ensures c.before-2.ensures c.in_ok-test.ensures
-    c.in_ok-before.ensures in (
+    c.in-Ok.ensures in (
       omega (
         arith,
         same_blocks old late c.args.site values.same,
@@ -153,25 +154,25 @@ build_turns-build_part-requires t c =
           (start_marked (setting_of old c.args.site) loop values.tested values.begun))),
     )
 
-pub build_turns-returns-in_err-body : goal.build_turns-returns-in_err-body
-build_turns-returns-in_err-body t c =
+pub build_turns-returns-in-Err-build_part : goal.build_turns-returns-in-Err-build_part
+build_turns-returns-in-Err-build_part t c =
     let late = c.build_before.new.self in
-    let loop = c.args.terminal in
+    let loop = c.args.terminal.now in
     let values = values_built loop c.args.site c.is_flat.ensures c.before-2.ensures c.in_ok-test.ensures
-    c.in_ok-before.ensures in
-    passes_on c.from_residual-in_err-body.ensures.1 (same_graph values.same) c.in_err-body.ensures
+    c.in-Ok.ensures in
+    passes_on refl (same_graph values.same) c.in-Err-build_part.ensures
     (λ none. turns_refused_body (setting_of c.args.self.now c.args.site) loop values.tested values.begun
     (in_frame (λ z. Refused z.hir (Spells z (FromBlock loop.body)) late.marks.used) loop c.frame.ensures values.same
     none))
 
-pub build_turns-returns : goal.build_turns-returns
-build_turns-returns t c =
+pub build_turns-returns-in-Ok-build_part : goal.build_turns-returns-in-Ok-build_part
+build_turns-returns-in-Ok-build_part t c =
     let late = c.build_before.new.self in
-    let loop = c.args.terminal in
+    let loop = c.args.terminal.now in
     let values = values_built loop c.args.site c.is_flat.ensures c.before-2.ensures c.in_ok-test.ensures
-    c.in_ok-before.ensures in
-    let body = c.in_ok-body.ensures in
+    c.in-Ok.ensures in
+    let body = c.in-Ok-build_part.ensures in
     is_built _
     (turns_built (setting_of c.args.self.now c.args.site) loop values.tested values.begun c.requires.falls_apart
-    c.requires.starts_apart (in_frame (λ z. BuiltList z loop.body c.in_ok-body.body (progress_of late)
+    c.requires.starts_apart (in_frame (λ z. BuiltList z loop.body c.in-Ok-build_part.body (progress_of late)
     (progress_of c.build_part.new.self)) loop c.frame.ensures values.same body.ok)) (body.frames ∙ values.same)

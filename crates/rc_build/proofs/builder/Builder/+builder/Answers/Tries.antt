@@ -51,30 +51,30 @@ build_try-build_part-requires-2 t c =
           (marking_beside old.hir.now block.ok.marking)),
     )
 
-pub build_try-returns-in_err-other : goal.build_try-returns-in_err-other
-build_try-returns-in_err-other t c = λ span.
+pub build_try-returns-in-Err : goal.build_try-returns-in-Err
+build_try-returns-in-Err t c = λ span.
     let old = c.args.self.now in
     let mid = c.build_part.new.self in
     let block = part_there c.open_reachable-opened.result (frame_kinds.Statement c.args.fallthrough)
     c.protected_by.ensures c.in_ok-block.ensures in
     let same = same_elsewhere old mid c.args.site (site_protected c.args.handler c.args.site) block.frames in
-    passes_on c.from_residual-in_err-other.ensures.1 (same_graph same) c.in_err-other.ensures
+    passes_on refl (same_graph same) c.in-Err.ensures
     (λ none. try_refused_later {s = setting_of old c.args.site} c.open_reachable-opened.ensures block.ok
     (refused_in (λ z. Spells (part_setting c.open_reachable-opened.result
     (frame_kinds.Statement c.args.fallthrough) z) (FromBlock c.args.handler)) mid.marks.used same none))
 
-pub build_try-returns : goal.build_try-returns
-build_try-returns t c = λ span.
+pub build_try-returns-in_ok-put_try-in-Ok : goal.build_try-returns-in_ok-put_try-in-Ok
+build_try-returns-in_ok-put_try-in-Ok t c = λ span.
     let old = c.args.self.now in
     let mid = c.build_part.new.self in
     let block = part_there c.open_reachable-opened.result (frame_kinds.Statement c.args.fallthrough)
     c.protected_by.ensures c.in_ok-block.ensures in
-    let other = c.in_ok-other.ensures in
+    let other = c.in-Ok.ensures in
     let same = same_elsewhere old mid c.args.site (site_protected c.args.handler c.args.site) block.frames in
     is_built c.open_reachable-opened.result
     (try_built {s = setting_of old c.args.site} c.open_reachable-opened.ensures block.ok
     (built_in (λ z. Spells (part_setting c.open_reachable-opened.result (frame_kinds.Statement c.args.fallthrough) z)
     (FromBlock c.args.handler)) same other.ok)
     (ap (terminal_statement (tree.Try (record { statements = c.in_ok-block.block }) c.args.binding.now
-    (record { statements = c.in_ok-other.other }) c.args.id)) c.label_at-label.ensures) c.in_ok-put_try.ensures)
+    (record { statements = c.in-Ok.other }) c.args.id)) c.label_at-label.ensures) c.in_ok-put_try-in-Ok.ensures)
     (other.frames ∙ same)
