@@ -8,4 +8,5 @@ pub mod TreeEvents
 pub mod Facts
 pub mod Events
 pub mod Record
+pub mod RowRecord
 pub mod inside
