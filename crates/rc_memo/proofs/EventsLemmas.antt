@@ -44,9 +44,9 @@ with_loads_told loads (load ∷ more) =
     ap (λ w. with_loads w more) (sym (definitions_push loads load.0 load.1))
     ∙ with_loads_told (loads ++ load ∷ []) more ∙ ap definitions_told (append_assoc loads (load ∷ []) more)
 
-onward : {A : Type 0} {P Q : Type 0} (r : Result A Fault) → (P → Q) → OnOk r P → OnOk r Q
+pub onward : {A E P Q : Type 0} (r : Result A E) → (P → Q) → OnOk r P → OnOk r Q
 onward (Ok a) f p = f p
-onward (Err fault) f p = p
+onward (Err e) f p = p
 
 module _ {S : Type 0} (Holds : List Fact → S → Type 0) where
   -- one event

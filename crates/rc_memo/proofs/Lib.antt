@@ -5,6 +5,8 @@ pub mod EntryLemmas
 pub mod AddingLemmas
 pub mod HeldNodesLemmas
 pub mod HeldNamesLemmas
+pub mod TargetLemmas
+pub mod HeldRowsLemmas
 pub mod LoadsLemmas
 pub mod EventsLemmas
 pub mod HeldEventsLemmas
@@ -12,3 +14,4 @@ pub mod RowPartsLemmas
 pub mod RowEventsLemmas
 pub mod TreeEventsLemmas
 pub mod GrowingLemmas
+pub mod RecordLemmas

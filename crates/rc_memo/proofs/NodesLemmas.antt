@@ -66,7 +66,7 @@ one_more : {Y : Type 0} (h : Fact → Option Y) (fs : List Fact) (f : Fact) (y :
     → filter_map h (fs ++ f ∷ []) ≡ filter_map h fs ++ y ∷ []
 one_more h fs f y some = filter_map-append h fs (f ∷ []) ∙ ap (λ w. filter_map h fs ++ cons_option w []) some
 
-node_same : {a b : MemoizationLevel} {d e : List DeclarationId} {s t : List ScopeId} → a ≡ b → d ≡ e → s ≡ t
+pub node_same : {a b : MemoizationLevel} {d e : List DeclarationId} {s t : List ScopeId} → a ≡ b → d ≡ e → s ≡ t
     → ◌≡◌ {A = MemoNode} record { level = a; dependencies = d; scopes = s } record
     { level = b; dependencies = e; scopes = t }
 node_same p q r i = record { level = p i; dependencies = q i; scopes = r i }

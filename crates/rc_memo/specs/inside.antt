@@ -3,3 +3,5 @@ pub mod HeldEvents
 pub mod Gathering
 pub mod RowsAdded
 pub mod Growing
+pub mod GatheringRows
+pub mod RecordParts

@@ -6,20 +6,31 @@ ghost use Rattle.rc_names.specs.Numbers.{same_id};
 ghost use Rattle.rc_memo.specs.Events.{escaping_in, facts_told, listed, mention_scopes, scopes_in, target_scopes};
 ghost use Rattle.rc_memo.specs.Facts.{distinct, first_missing};
 ghost use Rattle.rc_memo.specs.Record.{dependency_name, dependency_names, IsRecordOf, IsUninitialised, param_name, recorded_scopes};
+ghost use Rattle.rc_memo.specs.RowRecord.{record_of_rows};
 ghost use Rattle.rc_memo.specs.TreeEvents.{events_in};
 ghost use Rattle.rc_memo.specs.inside.Growing.{AddsScopes, insert_all};
 ghost use Rattle.rc_memo.specs.inside.HeldEvents.{as_event};
+ghost use Rattle.rc_memo.specs.inside.RecordParts.{HasRecordParts};
 
 use crate::event::{Mention, Target};
 use crate::events::{EventParts, Events};
-use crate::nodes::{Gathered, gather};
+use crate::nodes::held::HoldsFacts;
+use crate::nodes::{Gathered, HeldRows, gather};
 use crate::reader::RowReader;
 use crate::tree::events_of;
-use crate::{DeclSet, MemoNode, MemoRecord};
+use crate::{DeclSet, MemoNode, MemoRecord, RowRecord};
 use rc_hir::{Environment, Fault, ParamPattern, ReactiveScopeDependency};
 use rc_names::{DeclarationId, KeySet, Keyed, List, ScopeId};
 use rc_tree::ReactiveFunction;
 use std::alloc::{AllocError, Global};
+
+/// The parts of a memo record, with its nodes as they are held.
+#[derive(Drop)]
+struct RecordParts<H> {
+    found: Gathered<H>,
+    scopes: Scopes,
+    escaping: DeclSet,
+}
 
 /// Returns the memo record of a function.
 ///
@@ -28,6 +39,7 @@ use std::alloc::{AllocError, Global};
 /// a fault: an identifier without an entry is in no scope and stands for the declaration of its own number.
 ///
 /// After oxc's prune_non_escaping_scopes.
+#[tactic(auto, using(crate::proofs::RecordLemmas::record_is))]
 pub fn collect(
     alloc: Global,
     func: &ReactiveFunction,
@@ -38,16 +50,71 @@ pub fn collect(
     ensures uninitialised { IfErr result (λ fault. (fault ≡ Fault.NoMemory) ⊎ IsUninitialised
         (map (param_name env.now) func.now.params) (events_in env.now func.now.body) fault) }
 {
+    let parts: RecordParts<Keyed<DeclarationId, MemoNode>> = parts_of(alloc, func, env)?;
+    let found = parts.found;
+    Ok(MemoRecord {
+        nodes: found.held,
+        scopes: parts.scopes,
+        definitions: found.definitions,
+        escaping: parts.escaping,
+    })
+}
+
+/// Returns the memo record of a function, with the operands of a row once for all its targets.
+///
+/// It stands for the record that `collect` returns, in which each target has an entry for each operand of its row. A
+/// call whose arguments it may change has them all as operands and as targets: there, that is as many entries as the
+/// square of their number, and here, as twice their number.
+///
+/// Fails as `collect` does: with `Uninitialised` exactly if a name of which the record needs a node has none yet, and
+/// names the first such name; with `NoMemory` when out of memory; and with no other fault. Numbers outside their tables
+/// are no cause of a fault: an identifier without an entry is in no scope and stands for the declaration of its own
+/// number.
+///
+/// After oxc's prune_non_escaping_scopes, whose nodes hold their dependencies.
+#[tactic(auto, using(crate::proofs::RecordLemmas::row_record_is))]
+pub fn collect_rows(
+    alloc: Global,
+    func: &ReactiveFunction,
+    env: &Environment,
+) -> Result<RowRecord, Fault>
+    ensures ok { IfOk result (λ rows. IsRecordOf func.now env.now (record_of_rows rows)) }
+
+    ensures uninitialised { IfErr result (λ fault. (fault ≡ Fault.NoMemory) ⊎ IsUninitialised
+        (map (param_name env.now) func.now.params) (events_in env.now func.now.body) fault) }
+{
+    let parts: RecordParts<HeldRows> = parts_of(alloc, func, env)?;
+    let found = parts.found;
+    let rows = found.held;
+    Ok(RowRecord {
+        nodes: rows.nodes,
+        operands: rows.operands,
+        scopes: parts.scopes,
+        definitions: found.definitions,
+        escaping: parts.escaping,
+    })
+}
+
+/// Returns the parts of a function's memo record. Fails as `collect` does.
+fn parts_of<H: HoldsFacts>(
+    alloc: Global,
+    func: &ReactiveFunction,
+    env: &Environment,
+) -> Result<RecordParts<H>, Fault>
+    ensures ok { IfOk result (λ parts. HasRecordParts H.holds func.now env.now parts) }
+
+    ensures uninitialised { IfErr result (λ fault. (fault ≡ Fault.NoMemory) ⊎ IsUninitialised
+        (map (param_name env.now) func.now.params) (events_in env.now func.now.body) fault) }
+{
     let reader = RowReader { alloc, env };
     let params = params_of(&reader, &func.params)?;
     let events = events_of(&reader, &func.body)?;
     let escaping = escaping_of(alloc, &events)?;
     let scopes = scopes_of(&reader, &events)?;
-    let found: Gathered<Keyed<DeclarationId, MemoNode>> = gather(alloc, &params, &events)?;
-    Ok(MemoRecord {
-        nodes: found.held,
+    let found: Gathered<H> = gather(alloc, &params, &events)?;
+    Ok(RecordParts {
+        found,
         scopes,
-        definitions: found.definitions,
         escaping,
     })
 }

@@ -19,7 +19,7 @@ mod rows;
 mod table;
 mod tree;
 
-pub use collecting::{check_nodes, collect};
+pub use collecting::{check_nodes, collect, collect_rows};
 pub use level::{MemoizationLevel, join_aliases};
 pub use record::{DeclSet, MemoNode, MemoRecord};
 pub use row_record::{RowNode, RowRecord};

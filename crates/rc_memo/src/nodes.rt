@@ -7,8 +7,8 @@ ghost use Rattle.std.specs.Prelude.{◌≡◌, [], ◌∷◌, ◌++◌, ◌⊎�
 ghost use Rattle.std.specs.List.{flat_map};
 ghost use Rattle.indexmap.specs.IndexMap.{insert_entry};
 ghost use Rattle.rc_names.specs.Numbers.{same_id};
-ghost use Rattle.rc_memo.specs.Events.{event_facts, loads_in, mention_facts, operand_facts, params_facts};
-ghost use Rattle.rc_memo.specs.Events.{row_facts, scope_facts, scopes_facts, target_facts};
+ghost use Rattle.rc_memo.specs.Events.{event_facts, loads_in, mention_facts, params_facts, row_facts};
+ghost use Rattle.rc_memo.specs.Events.{scope_facts, scopes_facts};
 ghost use Rattle.rc_memo.specs.Facts.{NeedsNode};
 ghost use Rattle.rc_memo.specs.Record.{IsUninitialised};
 ghost use Rattle.rc_memo.specs.inside.Gathering.{Adds, AddsEvents, HasGathered, resolved as spec_resolved};
@@ -16,8 +16,9 @@ ghost use Rattle.rc_memo.specs.inside.Gathering.{with_loads};
 ghost use Rattle.rc_memo.specs.inside.HeldEvents.{as_event};
 
 mod facts;
-mod held;
+pub mod held;
 mod names;
+mod rows;
 
 use crate::MemoizationLevel;
 use crate::event::{Mention, Target};
@@ -25,6 +26,7 @@ use crate::events::{EventParts, Events};
 use crate::nodes::held::HoldsFacts;
 use rc_hir::Fault;
 use rc_names::{DeclarationId, Keyed, List, ScopeId};
+pub use rows::HeldRows;
 use std::alloc::{AllocError, Global};
 
 /// What is held of the facts so far, and the names that loads define.
@@ -107,101 +109,6 @@ fn add_mentions<H: HoldsFacts>(
     Ok(())
 }
 
-/// Adds that a name depends on an operand, unless it is the operand.
-#[tactic(auto, using(crate::proofs::AddingLemmas::adds_nothing), unfolding(crate::specs::Events::operand_facts))]
-fn add_operand<H: HoldsFacts>(
-    definitions: &Keyed<DeclarationId, DeclarationId>,
-    held: &mut H,
-    name: DeclarationId,
-    operand: Mention,
-) -> Result<(), Fault>
-    ensures { Adds H.holds (operand_facts (spec_resolved definitions.now) name operand) held.old result held.new }
-{
-    let other = resolved(definitions, operand.name);
-    if name == other {
-        Ok(())
-    } else {
-        held.add_dependency(name, other)
-    }
-}
-
-/// Adds that a name depends on each operand but itself.
-#[tactic(auto, using(crate::proofs::AddingLemmas::adds_nothing, crate::proofs::AddingLemmas::adds_all))]
-fn add_operands<H: HoldsFacts>(
-    definitions: &Keyed<DeclarationId, DeclarationId>,
-    held: &mut H,
-    name: DeclarationId,
-    operands: &[Mention],
-) -> Result<(), Fault>
-    ensures { Adds H.holds (flat_map (operand_facts (spec_resolved definitions.now) name) operands.now) held.old result
-        held.new }
-{
-    for operand in operands {
-        match add_operand(definitions, held, name, *operand) {
-            Ok(()) => {}
-            Err(fault) => return Err(fault),
-        }
-    }
-    Ok(())
-}
-
-/// Adds what a target has besides its level: its dependencies and its active scope.
-#[tactic(auto, using(crate::proofs::AddingLemmas::adds_next, crate::proofs::AddingLemmas::adds_stop))]
-fn add_parts<H: HoldsFacts>(
-    definitions: &Keyed<DeclarationId, DeclarationId>,
-    held: &mut H,
-    name: DeclarationId,
-    operands: &[Mention],
-    mention: Mention,
-) -> Result<(), Fault>
-    ensures { Adds H.holds (flat_map (operand_facts (spec_resolved definitions.now) name) operands.now
-        ++ mention_facts (spec_resolved definitions.now) mention) held.old result held.new }
-{
-    match add_operands(definitions, held, name, operands) {
-        Ok(()) => add_mention(definitions, held, mention),
-        Err(fault) => Err(fault),
-    }
-}
-
-/// Adds a target: its level, its dependencies and its active scope.
-#[tactic(auto, using(crate::proofs::AddingLemmas::adds_next, crate::proofs::AddingLemmas::adds_stop), unfolding(crate::specs::Events::target_facts))]
-fn add_target<H: HoldsFacts>(
-    alloc: Global,
-    definitions: &Keyed<DeclarationId, DeclarationId>,
-    held: &mut H,
-    operands: &[Mention],
-    target: Target,
-) -> Result<(), Fault>
-    ensures { Adds H.holds (target_facts (spec_resolved definitions.now) operands.now target) held.old result held.new }
-{
-    let name = resolved(definitions, target.mention.name);
-    match held.add_level(alloc, name, target.level) {
-        Ok(()) => add_parts(definitions, held, name, operands, target.mention),
-        Err(fault) => Err(fault),
-    }
-}
-
-/// Adds each target of a row.
-#[tactic(auto, using(crate::proofs::AddingLemmas::adds_nothing, crate::proofs::AddingLemmas::adds_all))]
-fn add_targets<H: HoldsFacts>(
-    alloc: Global,
-    definitions: &Keyed<DeclarationId, DeclarationId>,
-    held: &mut H,
-    operands: &[Mention],
-    targets: &[Target],
-) -> Result<(), Fault>
-    ensures { Adds H.holds (flat_map (target_facts (spec_resolved definitions.now) operands.now) targets.now) held.old result
-        held.new }
-{
-    for target in targets {
-        match add_target(alloc, definitions, held, operands, *target) {
-            Ok(()) => {}
-            Err(fault) => return Err(fault),
-        }
-    }
-    Ok(())
-}
-
 /// Adds a row: its operands, and then its targets.
 #[tactic(auto, using(crate::proofs::AddingLemmas::adds_next, crate::proofs::AddingLemmas::adds_stop))]
 fn add_row<H: HoldsFacts>(
@@ -214,7 +121,7 @@ fn add_row<H: HoldsFacts>(
     ensures { Adds H.holds (row_facts (spec_resolved definitions.now) operands.now targets.now) held.old result held.new }
 {
     match add_mentions(definitions, held, operands) {
-        Ok(()) => add_targets(alloc, definitions, held, operands, targets),
+        Ok(()) => held.add_targets(alloc, definitions, operands, targets),
         Err(fault) => Err(fault),
     }
 }

@@ -1,6 +1,6 @@
 -- Facts that are added to what is held of them, one after the other: to nodes, or to the names that have one.
 use Rattle.std.specs.Prelude.{◌≡◌, ◌⊎◌, false, List, [], ◌∷◌, ◌++◌, None, Some, Result, Ok, Err, OnOk}
-use Rattle.std.specs.Prelude.{unwrap_or, if◌then◌else◌}
+use Rattle.std.specs.Prelude.{map, unwrap_or, if◌then◌else◌}
 use Rattle.std.specs.List.{flat_map}
 use Rattle.std.specs.Map.{lookup}
 use Rattle.indexmap.specs.IndexMap.{insert_entry}
@@ -12,6 +12,8 @@ use Rattle.rc_memo.specs.Events.{Loaded, definitions_told, facts_behind, facts_t
 use Rattle.rc_memo.specs.Facts.{Fact, first_missing, names_told, node_told, nodes_told}
 use Rattle.rc_memo.specs.Level.{stronger}
 use Rattle.rc_memo.specs.declared.event.MemoEvent.{MemoEvent}
+use Rattle.rc_memo.specs.declared.event.Mention.{Mention}
+use Rattle.rc_memo.specs.declared.event.Target.{Target}
 use Rattle.rc_memo.specs.declared.level.MemoizationLevel.{MemoizationLevel}
 use Rattle.rc_memo.specs.declared.level.MemoizationLevel.TheVariants.{Never}
 use Rattle.rc_memo.specs.declared.nodes.Gathered.{Gathered}
@@ -63,6 +65,13 @@ module _ {S : Type 0} (Holds : List Fact → S → Type 0) where
 -- a name as the definitions resolve it
 abbrev pub resolved : List (DeclarationId × DeclarationId) → DeclarationId → DeclarationId
 resolved definitions name = unwrap_or (lookup (same_id name) definitions) name
+
+-- the names for which operands, and targets, stand
+abbrev pub operand_names : (DeclarationId → DeclarationId) → List Mention → List DeclarationId
+operand_names resolve operands = map (λ operand. resolve operand.name) operands
+
+abbrev pub target_names : (DeclarationId → DeclarationId) → List Target → List DeclarationId
+target_names resolve targets = map (λ target. resolve target.mention.name) targets
 
 -- the definitions with some more loads
 abbrev pub with_loads : List Loaded → List Loaded → List Loaded

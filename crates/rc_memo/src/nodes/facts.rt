@@ -1,12 +1,18 @@
-//! Adding one fact to the nodes.
+//! Adding facts to the nodes, one by one.
 
-ghost use Rattle.std.specs.Prelude.{◌≡◌, IfOk, OnOk};
+ghost use Rattle.std.specs.Prelude.{◌≡◌, [], ◌∷◌, ◌++◌, IfOk, OnOk};
+ghost use Rattle.std.specs.List.{flat_map};
 ghost use Rattle.std.specs.Map.{keys_of};
 ghost use Rattle.indexmap.specs.IndexMap.{insert_entry};
 ghost use Rattle.rc_names.specs.Numbers.{is_among, same_id};
-ghost use Rattle.rc_memo.specs.inside.Gathering.{HoldsNodes, at_name, with_dependency, with_level, with_scope};
+ghost use Rattle.rc_memo.specs.Events.{operand_facts, scope_facts, target_facts};
+ghost use Rattle.rc_memo.specs.Facts.{DependsOn};
+ghost use Rattle.rc_memo.specs.inside.Gathering.{Adds, HoldsNodes, at_name, resolved as spec_resolved};
+ghost use Rattle.rc_memo.specs.inside.Gathering.{with_dependency, with_level, with_scope};
 
+use crate::event::{Mention, Target};
 use crate::nodes::held::HoldsFacts;
+use crate::nodes::resolved;
 use crate::{MemoNode, MemoizationLevel, join_aliases};
 use rc_hir::Fault;
 use rc_names::{DeclarationId, KeySet, Keyed, ScopeId};
@@ -68,6 +74,125 @@ fn put_node(nodes: &mut Nodes, name: DeclarationId, node: MemoNode) -> Result<()
     Ok(())
 }
 
+/// Adds that a name depends on another.
+#[tactic(auto, using(crate::proofs::AddingLemmas::adds_memory, crate::proofs::HeldNodesLemmas::adds_dependency, crate::proofs::HeldNodesLemmas::adds_dependency_missing))]
+fn add_dependency(nodes: &mut Nodes, name: DeclarationId, other: DeclarationId) -> Result<(), Fault>
+    ensures { Adds HoldsNodes (DependsOn name other ∷ []) nodes.old result nodes.new }
+{
+    match put_dependency(nodes, name, other) {
+        Ok(true) => Ok(()),
+        Ok(false) => Err(Fault::Uninitialised { declaration: name }),
+        Err(_) => Err(Fault::NoMemory),
+    }
+}
+
+/// Adds the scope of a name, where it has one.
+#[tactic(auto, using(crate::proofs::AddingLemmas::adds_nothing))]
+fn add_scope_if(nodes: &mut Nodes, name: DeclarationId, scope: Option<ScopeId>) -> Result<(), Fault>
+    ensures { Adds HoldsNodes (scope_facts name scope) nodes.old result nodes.new }
+{
+    match scope {
+        Some(scope) => nodes.add_scope(name, scope),
+        None => Ok(()),
+    }
+}
+
+/// Adds that a name depends on an operand, unless it is the operand.
+#[tactic(auto, using(crate::proofs::AddingLemmas::adds_nothing), unfolding(crate::specs::Events::operand_facts))]
+fn add_operand(
+    definitions: &Keyed<DeclarationId, DeclarationId>,
+    nodes: &mut Nodes,
+    name: DeclarationId,
+    operand: Mention,
+) -> Result<(), Fault>
+    ensures { Adds HoldsNodes (operand_facts (spec_resolved definitions.now) name operand) nodes.old result nodes.new }
+{
+    let other = resolved(definitions, operand.name);
+    if name == other {
+        Ok(())
+    } else {
+        add_dependency(nodes, name, other)
+    }
+}
+
+/// Adds that a name depends on each operand but itself.
+#[tactic(auto, using(crate::proofs::AddingLemmas::adds_nothing, crate::proofs::AddingLemmas::adds_all))]
+fn add_operands(
+    definitions: &Keyed<DeclarationId, DeclarationId>,
+    nodes: &mut Nodes,
+    name: DeclarationId,
+    operands: &[Mention],
+) -> Result<(), Fault>
+    ensures { Adds HoldsNodes (flat_map (operand_facts (spec_resolved definitions.now) name) operands.now) nodes.old
+        result nodes.new }
+{
+    for operand in operands {
+        match add_operand(definitions, nodes, name, *operand) {
+            Ok(()) => {}
+            Err(fault) => return Err(fault),
+        }
+    }
+    Ok(())
+}
+
+/// Adds what a target has besides its level: its dependencies and its active scope.
+#[tactic(auto, using(crate::proofs::AddingLemmas::adds_next, crate::proofs::AddingLemmas::adds_stop))]
+fn add_parts(
+    definitions: &Keyed<DeclarationId, DeclarationId>,
+    nodes: &mut Nodes,
+    name: DeclarationId,
+    operands: &[Mention],
+    scope: Option<ScopeId>,
+) -> Result<(), Fault>
+    ensures { Adds HoldsNodes (flat_map (operand_facts (spec_resolved definitions.now) name) operands.now
+        ++ scope_facts name scope) nodes.old result nodes.new }
+{
+    match add_operands(definitions, nodes, name, operands) {
+        Ok(()) => add_scope_if(nodes, name, scope),
+        Err(fault) => Err(fault),
+    }
+}
+
+/// Adds a target: its level, its dependencies and its active scope.
+#[tactic(auto, using(crate::proofs::AddingLemmas::adds_next, crate::proofs::AddingLemmas::adds_stop), unfolding(crate::specs::Events::target_facts))]
+fn add_target(
+    alloc: Global,
+    definitions: &Keyed<DeclarationId, DeclarationId>,
+    nodes: &mut Nodes,
+    operands: &[Mention],
+    target: Target,
+) -> Result<(), Fault>
+    ensures { Adds HoldsNodes (target_facts (spec_resolved definitions.now) operands.now target) nodes.old result
+        nodes.new }
+{
+    let name = resolved(definitions, target.mention.name);
+    match nodes.add_level(alloc, name, target.level) {
+        Ok(()) => add_parts(definitions, nodes, name, operands, target.mention.scope),
+        Err(fault) => Err(fault),
+    }
+}
+
+/// Adds each target of a row.
+#[tactic(auto, using(crate::proofs::AddingLemmas::adds_nothing, crate::proofs::AddingLemmas::adds_all))]
+fn add_targets(
+    alloc: Global,
+    definitions: &Keyed<DeclarationId, DeclarationId>,
+    nodes: &mut Nodes,
+    operands: &[Mention],
+    targets: &[Target],
+) -> Result<(), Fault>
+    ensures { Adds HoldsNodes (flat_map (target_facts (spec_resolved definitions.now) operands.now) targets.now)
+        nodes.old result nodes.new }
+{
+    for target in targets {
+        match add_target(alloc, definitions, nodes, operands, *target) {
+            Ok(()) => {}
+            Err(fault) => return Err(fault),
+        }
+    }
+    Ok(())
+}
+
 impl HoldsFacts for Nodes {
     ghost holds = { HoldsNodes };
 
@@ -97,15 +222,6 @@ impl HoldsFacts for Nodes {
         }
     }
 
-    #[tactic(auto, using(crate::proofs::AddingLemmas::adds_memory, crate::proofs::HeldNodesLemmas::adds_dependency, crate::proofs::HeldNodesLemmas::adds_dependency_missing))]
-    fn add_dependency(&mut self, name: DeclarationId, other: DeclarationId) -> Result<(), Fault> {
-        match put_dependency(self, name, other) {
-            Ok(true) => Ok(()),
-            Ok(false) => Err(Fault::Uninitialised { declaration: name }),
-            Err(_) => Err(Fault::NoMemory),
-        }
-    }
-
     #[tactic(auto, using(crate::proofs::AddingLemmas::adds_memory, crate::proofs::HeldNodesLemmas::adds_scope, crate::proofs::HeldNodesLemmas::adds_scope_missing))]
     fn add_scope(&mut self, name: DeclarationId, scope: ScopeId) -> Result<(), Fault> {
         match put_scope(self, name, scope) {
@@ -121,5 +237,15 @@ impl HoldsFacts for Nodes {
             Some(_) => Ok(()),
             None => Err(Fault::Uninitialised { declaration: name }),
         }
+    }
+
+    fn add_targets(
+        &mut self,
+        alloc: Global,
+        definitions: &Keyed<DeclarationId, DeclarationId>,
+        operands: &[Mention],
+        targets: &[Target],
+    ) -> Result<(), Fault> {
+        add_targets(alloc, definitions, self, operands, targets)
     }
 }

@@ -1,12 +1,16 @@
-//! What holds facts: the nodes, or only which names have one.
+//! What holds facts: the nodes, each with its dependencies or with the rows of which it is a target, or only which
+//! names have one.
 
 ghost use Rattle.std.specs.Prelude.{[], ◌∷◌};
-ghost use Rattle.rc_memo.specs.Facts.{DependsOn, GivesLevel, HasScope, NeedsNode};
-ghost use Rattle.rc_memo.specs.inside.Gathering.{Adds};
+ghost use Rattle.std.specs.List.{flat_map};
+ghost use Rattle.rc_memo.specs.Events.{target_facts};
+ghost use Rattle.rc_memo.specs.Facts.{GivesLevel, HasScope, NeedsNode};
+ghost use Rattle.rc_memo.specs.inside.Gathering.{Adds, resolved};
 
 use crate::MemoizationLevel;
+use crate::event::{Mention, Target};
 use rc_hir::Fault;
-use rc_names::{DeclarationId, ScopeId};
+use rc_names::{DeclarationId, Keyed, ScopeId};
 use std::alloc::Global;
 
 /// What facts of names are added to. A fact that needs a node of a name which has none is refused with `Uninitialised`;
@@ -31,10 +35,6 @@ pub trait HoldsFacts: Sized + Drop {
     ) -> Result<(), Fault>
         ensures { Adds holds (GivesLevel name level ∷ []) self.old result self.new };
 
-    /// Adds that a name depends on another.
-    fn add_dependency(&mut self, name: DeclarationId, other: DeclarationId) -> Result<(), Fault>
-        ensures { Adds holds (DependsOn name other ∷ []) self.old result self.new };
-
     /// Adds that a name has a scope.
     fn add_scope(&mut self, name: DeclarationId, scope: ScopeId) -> Result<(), Fault>
         ensures { Adds holds (HasScope name scope ∷ []) self.old result self.new };
@@ -42,4 +42,16 @@ pub trait HoldsFacts: Sized + Drop {
     /// Adds that a name needs a node.
     fn add_need(&mut self, name: DeclarationId) -> Result<(), Fault>
         ensures { Adds holds (NeedsNode name ∷ []) self.old result self.new };
+
+    /// Adds the targets of a row: each has its level, depends on each operand but itself, and has its active scope. The
+    /// names of operands and targets stand for those that the definitions give.
+    fn add_targets(
+        &mut self,
+        alloc: Global,
+        definitions: &Keyed<DeclarationId, DeclarationId>,
+        operands: &[Mention],
+        targets: &[Target],
+    ) -> Result<(), Fault>
+        ensures { Adds holds (flat_map (target_facts (resolved definitions.now) operands.now) targets.now) self.old
+            result self.new };
 }

@@ -1,14 +1,17 @@
 //! Adding one fact to the names that have a node, where nothing else is asked of the facts.
 
-ghost use Rattle.std.specs.Prelude.{◌≡◌, ◌∷◌, [], None, Some};
+ghost use Rattle.std.specs.Prelude.{◌≡◌, ◌∷◌, [], None, Some, OnOk};
 ghost use Rattle.rc_memo.specs.Facts.{Fact, needed_by, target_told};
-ghost use Rattle.rc_memo.specs.inside.Gathering.{Adds, HoldsNames};
+ghost use Rattle.rc_memo.specs.inside.Gathering.{Adds, HoldsNames, resolved as spec_resolved, target_names};
+ghost use Rattle.rc_memo.specs.inside.Growing.{insert_all};
 
+use crate::event::{Mention, Target};
 use crate::nodes::held::HoldsFacts;
+use crate::nodes::resolved;
 use crate::{DeclSet, MemoizationLevel};
 use rc_hir::Fault;
-use rc_names::{DeclarationId, KeySet, ScopeId};
-use std::alloc::Global;
+use rc_names::{DeclarationId, KeySet, Keyed, ScopeId};
+use std::alloc::{AllocError, Global};
 
 /// Refuses a fact that needs a node of the name, if the name has none.
 #[tactic(auto, using(crate::proofs::HeldNamesLemmas::names_needed, crate::proofs::HeldNamesLemmas::names_missing))]
@@ -21,6 +24,21 @@ fn need(names: &DeclSet, name: DeclarationId) -> Result<(), Fault>
     } else {
         Err(Fault::Uninitialised { declaration: name })
     }
+}
+
+/// Puts the names of targets. Fails only when out of memory.
+fn put_targets(
+    names: &mut DeclSet,
+    definitions: &Keyed<DeclarationId, DeclarationId>,
+    targets: &[Target],
+) -> Result<(), AllocError>
+    ensures { OnOk result (names.new
+        ≡ insert_all names.old (target_names (spec_resolved definitions.now) targets.now)) }
+{
+    for target in targets {
+        names.insert(resolved(definitions, target.mention.name))?;
+    }
+    Ok(())
 }
 
 impl HoldsFacts for KeySet<DeclarationId> {
@@ -44,15 +62,25 @@ impl HoldsFacts for KeySet<DeclarationId> {
         }
     }
 
-    fn add_dependency(&mut self, name: DeclarationId, _other: DeclarationId) -> Result<(), Fault> {
-        need(self, name)
-    }
-
     fn add_scope(&mut self, name: DeclarationId, _scope: ScopeId) -> Result<(), Fault> {
         need(self, name)
     }
 
     fn add_need(&mut self, name: DeclarationId) -> Result<(), Fault> {
         need(self, name)
+    }
+
+    #[tactic(auto, using(crate::proofs::HeldNamesLemmas::names_targets, crate::proofs::AddingLemmas::adds_memory))]
+    fn add_targets(
+        &mut self,
+        _alloc: Global,
+        definitions: &Keyed<DeclarationId, DeclarationId>,
+        _operands: &[Mention],
+        targets: &[Target],
+    ) -> Result<(), Fault> {
+        match put_targets(self, definitions, targets) {
+            Ok(()) => Ok(()),
+            Err(_) => Err(Fault::NoMemory),
+        }
     }
 }

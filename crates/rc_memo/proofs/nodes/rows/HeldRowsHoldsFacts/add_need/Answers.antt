@@ -1,0 +1,13 @@
+use Rattle.rc_memo.proofs.EntryLemmas.{found_none, found_some}
+use Rattle.rc_memo.proofs.HeldRowsLemmas.{adds_row_need, adds_row_need_missing}
+use Rattle.rc_memo.proofs.nodes.rows.HeldRowsHoldsFacts.add_need.Goals as goal
+
+pub returns-in-Some : goal.returns-in-Some
+returns-in-Some c =
+    adds_row_need c.args.name c.args.self.now
+    (found_some c.args.name c.args.self.now.nodes c.in-Some.field-0.now c.in-Some.ensures)
+
+pub returns-in-None : goal.returns-in-None
+returns-in-None c =
+    adds_row_need_missing c.args.name c.args.self.now
+    (found_none c.args.name c.args.self.now.nodes c.in-None.ensures)
