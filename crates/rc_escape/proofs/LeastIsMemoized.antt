@@ -8,65 +8,14 @@ use Rattle.rc_memo.specs.declared.level.MemoizationLevel.{MemoizationLevel}
 use Rattle.rc_memo.specs.declared.level.MemoizationLevel.TheVariants.{Memoized}
 use Rattle.rc_memo.specs.declared.record.MemoNode.{MemoNode}
 use Rattle.rc_memo.specs.declared.record.MemoRecord.{MemoRecord}
-use Rattle.rc_escape.specs.MemoWalk.{memoizes, node_of, nothing_met, Progress, with_seen, with_memoized, with_taken}
+use Rattle.rc_escape.specs.MemoWalk.{memoizes, node_of, nothing_met, Progress, with_seen, with_taken}
 use Rattle.rc_escape.specs.MemoWalk.{VisitsName, absent, again, first_time, VisitsNames, no_names, next_name}
 use Rattle.rc_escape.specs.MemoWalk.{DecidesNode, passes, memoizes_it}
 use Rattle.rc_escape.specs.MemoWalk.{TakesScopes, no_scopes, without_record, taken_before, takes_it}
 use Rattle.rc_escape.specs.MemoBounds.{IsNeeded, escapes, by_dependency, IsInLeastSet}
+use Rattle.rc_escape.specs.inside.WalkFrames.{IsMet}
 use Rattle.rc_escape.proofs.ListLemmas.{Contains-cases, one_value}
-
--- what is met only grows
-record Grows (s s1 : Progress) : Type 0 where
-  seen : (d : DeclarationId) → s.seen d ≡ true → s1.seen d ≡ true
-  memoized : (d : DeclarationId) → s.memoized d ≡ true → s1.memoized d ≡ true
-
-grows_not : (s : Progress) → Grows s s
-grows_not s = record { seen = λ d h. h; memoized = λ d h. h }
-
-grows_then : {s s1 s2 : Progress} → Grows s s1 → Grows s1 s2 → Grows s s2
-grows_then a b = record { seen = λ d h. b.seen d (a.seen d h); memoized = λ d h. b.memoized d (a.memoized d h) }
-
-or_right : (a b : Bool) → b ≡ true → (a || b) ≡ true
-or_right true b h = refl
-or_right false b h = h
-
-grows_seen : (s : Progress) (d : DeclarationId) → Grows s (with_seen s d)
-grows_seen s d = record { seen = λ e h. or_right (same_id e d) (s.seen e) h; memoized = λ e h. h }
-
-grows_memoized : (s : Progress) (d : DeclarationId) → Grows s (with_memoized s d)
-grows_memoized s d = record { seen = λ e h. h; memoized = λ e h. or_right (same_id e d) (s.memoized e) h }
-
-grows_taken : (s : Progress) (c : ScopeId) → Grows s (with_taken s c)
-grows_taken s c = record { seen = λ e h. h; memoized = λ e h. h }
-
-mutual
-  grows_name : {r : MemoRecord} {d : DeclarationId} {f a : Bool} {s s1 : Progress} → VisitsName r d f s s1 a
-      → Grows s s1
-  grows_name {s = s} (absent none) = grows_not s
-  grows_name {s = s} (again at seen is) = grows_not s
-  grows_name {d = d} {s = s} (first_time at seen visits is decides) =
-      grows_then (grows_seen s d) (grows_then (grows_names visits) (grows_decides decides))
-
-  grows_names : {r : MemoRecord} {ds : List DeclarationId} {f a : Bool} {s s1 : Progress} → VisitsNames r ds f s s1 a
-      → Grows s s1
-  grows_names {s = s} no_names = grows_not s
-  grows_names (next_name visit visits is) = grows_then (grows_name visit) (grows_names visits)
-
-  grows_decides : {r : MemoRecord} {d : DeclarationId} {n : MemoNode} {a : Bool} {s s1 : Progress}
-      → DecidesNode r d n a s s1 → Grows s s1
-  grows_decides {s = s} passes = grows_not s
-  grows_decides {d = d} {s = s} (memoizes_it takes) = grows_then (grows_memoized s d) (grows_takes takes)
-
-  grows_takes : {r : MemoRecord} {cs : List ScopeId} {s s1 : Progress} → TakesScopes r cs s s1 → Grows s s1
-  grows_takes {s = s} no_scopes = grows_not s
-  grows_takes (without_record none rest) = grows_takes rest
-  grows_takes (taken_before at taken rest) = grows_takes rest
-  grows_takes {s = s} (takes_it {scope = c} at untaken visits rest) =
-      grows_then (grows_taken s c) (grows_then (grows_names visits) (grows_takes rest))
-
--- a name that has a node is visited
-abbrev IsMet : MemoRecord → Progress → DeclarationId → Type 0
-IsMet r s d = (n : MemoNode) → node_of r d ≡ Some n → s.seen d ≡ true
+use Rattle.rc_escape.proofs.MetGrows.{Grows, grows_decides, grows_names, grows_takes, grows_then}
 
 -- the walk has left a node: its dependencies are visited, and at level Memoized it is memoized
 record IsLeft (r : MemoRecord) (s : Progress) (d : DeclarationId) (n : MemoNode) : Type 0 where

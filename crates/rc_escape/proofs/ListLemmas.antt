@@ -1,6 +1,6 @@
 -- The rest of a list from a place on, a list that is pushed to, names of a list, and two lists that make none.
 use Rattle.std.proofs.Common.{◌≡◌, ◌⊎◌, ◌∙◌, ◌++◌, ◌+◌, inl, inr, ℕ, zero, suc, List, [], ◌∷◌, Option, Some, None}
-use Rattle.std.proofs.Common.{Contains, add-one, ap, arith, drop, refl, reverse, subst, sym}
+use Rattle.std.proofs.Common.{◌≤◌, Contains, add-one, ap, arith, drop, length, refl, reverse, subst, sym, take}
 use Rattle.std.specs.Prelude.{slice_get}
 use Rattle.std.proofs.lemmas.List.{reverse-append}
 use Rattle.std.proofs.lemmas.List.Elements.{Contains-append_cases, Contains-append_right, Contains-push_cases}
@@ -25,6 +25,22 @@ drop-past [] zero h = refl
 drop-past [] (suc i) h = refl
 drop-past (x ∷ xs) zero h = cc
 drop-past (x ∷ xs) (suc i) h = drop-past xs i h
+
+-- the first entries and the next one, and all entries
+pub take_next : {X : Type 0} (xs : List X) (i : ℕ) (x : X) → slice_get xs i ≡ Some x
+    → take i xs ++ x ∷ [] ≡ take (i + 1) xs
+take_next {X} xs i x at = go xs i at ∙ ap (λ w. take w xs) (sym (add-one i))
+  where
+    go : (ys : List X) (k : ℕ) → slice_get ys k ≡ Some x → take k ys ++ x ∷ [] ≡ take (suc k) ys
+    go [] k at = cc
+    go (y ∷ ys) zero at = let same : y ≡ x = cc in ap (λ w. w ∷ []) (sym same)
+    go (y ∷ ys) (suc k) at = ap (λ w. y ∷ w) (go ys k at)
+
+pub take_all : {X : Type 0} (xs : List X) (i : ℕ) → length xs ≤ i → take i xs ≡ xs
+take_all [] zero le = refl
+take_all [] (suc i) le = refl
+take_all (x ∷ xs) zero le = absurd (omega (arith, le))
+take_all (x ∷ xs) (suc i) le = ap (λ w. x ∷ w) (take_all xs i (omega (arith, le)))
 
 -- one option has one value
 pub one_value : {X : Type 0} {o : Option X} {a b : X} → o ≡ Some a → o ≡ Some b → b ≡ a

@@ -5,8 +5,9 @@ use Rattle.std.specs.Prelude.{filter, flat_map, nat_lt, slice_get, MatchOption}
 use Rattle.std.proofs.lemmas.Option.{slice_get_cases, slice_get_past}
 use borrow.Author.Tests.{ltb-true, ltb-false}
 use Rattle.rc_names.specs.Numbers.{DeclarationId, ScopeId}
-use Rattle.rc_memo.specs.declared.record.MemoNode.{MemoNode}
-use Rattle.rc_memo.specs.declared.record.MemoRecord.{MemoRecord}
+use Rattle.rc_memo.specs.RowRecord.{node_of_rows, nodes_of_rows, record_of_rows}
+use Rattle.rc_memo.specs.declared.row_record.RowNode.{RowNode}
+use Rattle.rc_memo.specs.declared.row_record.RowRecord.{RowRecord}
 use Rattle.rc_escape.specs.inside.LowestScope.{lacks, lower, lowest_of}
 use Rattle.rc_escape.specs.MemoSet.{IsLowest, scopes_without_record}
 use Rattle.rc_escape.proofs.ListLemmas.{Contains-cases, Contains-first, Contains-later, drop-at, drop-past}
@@ -16,10 +17,10 @@ lowest_of-append b [] ys = refl
 lowest_of-append b (x ∷ xs) ys = lowest_of-append (lower b x) xs ys
 
 -- the lowest so far, and the lowest of the scopes that are left
-abbrev pub IsLowestSoFar : MemoRecord → Option ScopeId → List ScopeId → ℕ → Option ScopeId → Type 0
+abbrev pub IsLowestSoFar : RowRecord → Option ScopeId → List ScopeId → ℕ → Option ScopeId → Type 0
 IsLowestSoFar r first cs i now = lowest_of now (filter (lacks r) (drop i cs)) ≡ lowest_of first (filter (lacks r) cs)
 
-pub lowest_so_far_next : (r : MemoRecord) (first now next : Option ScopeId) (cs : List ScopeId) (i : ℕ) → i < length cs
+pub lowest_so_far_next : (r : RowRecord) (first now next : Option ScopeId) (cs : List ScopeId) (i : ℕ) → i < length cs
     → ((c : ScopeId) → slice_get cs i ≡ Some c → next ≡ (if lacks r c then lower now c else now))
     → IsLowestSoFar r first cs i now → IsLowestSoFar r first cs (i + 1) next
 lowest_so_far_next r first now next cs i lt step left = elim (slice_get_cases cs i).1 [
@@ -40,23 +41,36 @@ lowest_so_far_next r first now next cs i lt step left = elim (slice_get_cases cs
         ≡ lowest_of first (filter (lacks r) cs) → IsLowestSoFar r first cs (i + 1) next
     go c b e = both c (lacks r c)
 
-pub lowest_so_far_end : (r : MemoRecord) (first now : Option ScopeId) (cs : List ScopeId) (i : ℕ) → length cs ≤ i
+pub lowest_so_far_end : (r : RowRecord) (first now : Option ScopeId) (cs : List ScopeId) (i : ℕ) → length cs ≤ i
     → IsLowestSoFar r first cs i now
     → now ≡ lowest_of first (filter (lacks r) cs)
 lowest_so_far_end r first now cs i le left =
     sym (ap (λ v. lowest_of now (filter (lacks r) v)) (drop-past cs i (slice_get_past cs i le))) ∙ left
 
 -- the scopes of a node without a record
-abbrev missing_of : MemoRecord → DeclarationId × MemoNode → List ScopeId
+abbrev missing_of : RowRecord → DeclarationId × RowNode → List ScopeId
 missing_of r entry = filter (lacks r) entry.1.scopes
 
--- the same over the nodes
-abbrev pub IsLowestOfNodesSoFar : MemoRecord → ℕ → Option ScopeId → Type 0
-IsLowestOfNodesSoFar r i now = lowest_of now (flat_map (missing_of r) (drop i r.nodes))
-    ≡ lowest_of None (scopes_without_record r)
+-- the scopes of the nodes without a record
+unfoldable pub missing_scopes : RowRecord → List ScopeId
+missing_scopes r = flat_map (missing_of r) r.nodes
 
-pub lowest_of_nodes_next : (r : MemoRecord) (now next : Option ScopeId) (i : ℕ) → i < length r.nodes
-    → ((e : DeclarationId × MemoNode) → slice_get r.nodes i ≡ Some e
+pub missing_scopes_are : (r : RowRecord) → missing_scopes r ≡ scopes_without_record (record_of_rows r)
+unfolding missing_scopes record_of_rows node_of_rows
+missing_scopes_are r = go r.nodes
+  where
+    go : (es : List (DeclarationId × RowNode)) → flat_map (missing_of r) es
+        ≡ flat_map (λ entry. filter (lacks r) entry.1.scopes) (nodes_of_rows r.operands es)
+    go [] = refl
+    go (e ∷ es) = ap (λ w. missing_of r e ++ w) (go es)
+
+-- the same over the nodes
+abbrev pub IsLowestOfNodesSoFar : RowRecord → ℕ → Option ScopeId → Type 0
+IsLowestOfNodesSoFar r i now = lowest_of now (flat_map (missing_of r) (drop i r.nodes))
+    ≡ lowest_of None (missing_scopes r)
+
+pub lowest_of_nodes_next : (r : RowRecord) (now next : Option ScopeId) (i : ℕ) → i < length r.nodes
+    → ((e : DeclarationId × RowNode) → slice_get r.nodes i ≡ Some e
     → next ≡ lowest_of now (filter (lacks r) e.1.scopes))
     → IsLowestOfNodesSoFar r i now → IsLowestOfNodesSoFar r (i + 1) next
 lowest_of_nodes_next r now next i lt step left = elim (slice_get_cases r.nodes i).1 [
@@ -66,11 +80,16 @@ lowest_of_nodes_next r now next i lt step left = elim (slice_get_cases r.nodes i
   | inr w ↦ absurd (omega arith)
 ]
 
-pub lowest_of_nodes_end : (r : MemoRecord) (now : Option ScopeId) (i : ℕ) → length r.nodes ≤ i
+pub lowest_of_nodes_start : (r : RowRecord) → IsLowestOfNodesSoFar r 0 None
+unfolding missing_scopes
+lowest_of_nodes_start r = refl
+
+pub lowest_of_nodes_end : (r : RowRecord) (now : Option ScopeId) (i : ℕ) → length r.nodes ≤ i
     → IsLowestOfNodesSoFar r i now
-    → now ≡ lowest_of None (scopes_without_record r)
+    → now ≡ lowest_of None (scopes_without_record (record_of_rows r))
 lowest_of_nodes_end r now i le left =
     sym (ap (λ v. lowest_of now (flat_map (missing_of r) v)) (drop-past r.nodes i (slice_get_past r.nodes i le))) ∙ left
+    ∙ ap (lowest_of None) (missing_scopes_are r)
 
 -- the scope is the first or in the list, and none of them is lower
 record IsLowestOf (b c : ScopeId) (cs : List ScopeId) : Type 0 where
@@ -129,6 +148,8 @@ lowest_of_list (x ∷ xs) result e =
       lowest = lowest_among x l.0 xs l.2.first l.2.rest;
     }
 
-pub lowest_is : (r : MemoRecord) (result : Option ScopeId) → result ≡ lowest_of None (scopes_without_record r)
-    → MatchOption result (scopes_without_record r ≡ []) (λ scope. IsLowest (scopes_without_record r) scope)
-lowest_is r result e = lowest_of_list (scopes_without_record r) result e
+pub lowest_is : (r : RowRecord) (result : Option ScopeId)
+    → result ≡ lowest_of None (scopes_without_record (record_of_rows r))
+    → MatchOption result (scopes_without_record (record_of_rows r) ≡ [])
+    (λ scope. IsLowest (scopes_without_record (record_of_rows r)) scope)
+lowest_is r result e = lowest_of_list (scopes_without_record (record_of_rows r)) result e

@@ -1,7 +1,7 @@
--- From the rows of the walk to the set of memoized names.
-use Rattle.std.proofs.Common.{◌≡◌, ◌∙◌, ◌+◌, ◌<◌, ◌≤◌, ◌++◌, inl, inr, ℕ, zero, suc}
-use Rattle.std.proofs.Common.{Bool, true, false, List, [], ◌∷◌, Option, Some, None, Contains}
-use Rattle.std.proofs.Common.{ap, arith, cond, ◌≢◌, length, refl, replicate, reverse, subst, sym, if◌then◌else◌}
+-- From the marks of the walk to the set of memoized names.
+use Rattle.std.proofs.Common.{◌≡◌, ◌∙◌, ◌+◌, ◌<◌, ◌≤◌, ◌++◌, inl, inr, ℕ}
+use Rattle.std.proofs.Common.{Bool, true, false, List, [], ◌∷◌, Option, Some, None}
+use Rattle.std.proofs.Common.{ap, arith, cond, ◌≢◌, length, refl, reverse, subst, sym, if◌then◌else◌}
 use Rattle.std.specs.Prelude.{◌&&◌, ◌||◌, nat_lt, option_map, slice_get}
 use Rattle.std.specs.List.{IsDistinct, list_any}
 use Rattle.std.specs.Map.{keys_of}
@@ -11,53 +11,45 @@ use Rattle.std.proofs.lemmas.Option.{slice_get-map, slice_get_cases}
 use Rattle.indexmap.specs.IndexSet.{insert_key}
 use Rattle.rc_names.specs.Numbers.{DeclarationId, is_among, same_id}
 use Rattle.rc_names.proofs.NumbersLemmas.{ids_equivalence, same_id-eq}
-use Rattle.rc_memo.specs.declared.record.MemoNode.{MemoNode}
+use Rattle.rc_memo.specs.RowRecord.{record_of_rows}
 use Rattle.rc_memo.specs.declared.record.MemoRecord.{MemoRecord}
+use Rattle.rc_memo.specs.declared.row_record.RowNode.{RowNode}
+use Rattle.rc_memo.specs.declared.row_record.RowRecord.{RowRecord}
+use Rattle.rc_escape.specs.declared.walk_state.NodeMark.{NodeMark}
+use Rattle.rc_escape.specs.declared.walk_state.NodeMark.TheVariants.{Unseen}
 use Rattle.rc_escape.specs.declared.walk_state.WalkState.{WalkState}
 use Rattle.rc_escape.specs.declared.walk_state.VisitFrame.{VisitFrame}
 use Rattle.rc_escape.specs.declared.walk_state.VisitFrame.TheVariants.{Escaping}
-use Rattle.rc_escape.specs.MemoBounds.{IsInGreatestSet, IsInLeastSet}
+use Rattle.rc_escape.specs.MemoBounds.{HasLeastSet, IsWithinGreatestSet}
 use Rattle.rc_escape.specs.MemoSet.{HasMemoized, IsMemoSet, IsWalked}
 use Rattle.rc_escape.specs.MemoWalk.{nothing_met, Progress, VisitsNames}
-use Rattle.rc_escape.specs.inside.WalkFrames.{Finishes, FinishesFrame, escaping, is_set, is_set_at}
-use Rattle.rc_escape.specs.inside.WalkFrames.{node_place, progress, scope_place}
+use Rattle.rc_escape.specs.inside.WalkFrames.{Finishes, FinishesFrame, escaping}
+use Rattle.rc_escape.specs.inside.WalkPlaces.{entry_at, is_memoized, node_place, progress, says_memoized}
 use Rattle.rc_escape.proofs.LeastIsMemoized.{least_is_memoized}
 use Rattle.rc_escape.proofs.MemoizedIsInGreatest.{memoized_is_in_greatest}
 use Rattle.rc_escape.proofs.PlaceLemmas.{name_at_place, place_of_distinct, place_within}
 
--- rows without a place that is set mean that nothing is met
-not_set : (n p : ℕ) → is_set (replicate n false) p ≡ false
-unfolding is_set
-not_set zero p = refl
-not_set (suc n) zero = refl
-not_set (suc n) (suc p) = not_set n p
-
-not_set_at : (n : ℕ) (place : Option ℕ) → is_set_at (replicate n false) place ≡ false
-not_set_at n None = refl
-not_set_at n (Some p) = not_set n p
-
-pub nothing_is_met : (r : MemoRecord) (s : WalkState) (n m k : ℕ) → s.seen ≡ replicate n false
-    → s.memoized ≡ replicate m false → s.taken ≡ replicate k false → progress r s ≡ nothing_met
-unfolding progress
-nothing_is_met r s n m k seen memoized taken = λ i. record {
-  seen = λ d. (ap (λ row. is_set_at row (node_place r d)) seen ∙ not_set_at n (node_place r d)) i;
-  memoized = λ d. (ap (λ row. is_set_at row (node_place r d)) memoized ∙ not_set_at m (node_place r d)) i;
-  taken = λ c. (ap (λ row. is_set_at row (scope_place r c)) taken ∙ not_set_at k (scope_place r c)) i;
-}
-
 -- the frame of the escaping names alone is the whole walk
-only_frame : (r : MemoRecord) (met visited end : Progress) (next : Bool) → FinishesFrame r (Escaping 0) met visited next
-    → visited ≡ end → (answer : Bool) × VisitsNames r r.escaping false met end answer
-only_frame r met visited end next (escaping {answer = a} visits) e =
-    (a, subst (λ w. VisitsNames r r.escaping false met w a) e visits)
+only_frame : (r : RowRecord) (met visited end : Progress) → FinishesFrame r (Escaping 0) met visited → visited ≡ end
+    → (answer : Bool) × VisitsNames (record_of_rows r) r.escaping false met end answer
+only_frame r met visited end (escaping {answer = a} visits) e =
+    (a, subst (λ w. VisitsNames (record_of_rows r) r.escaping false met w a) e visits)
 
-pub walked : (r : MemoRecord) (frames : List VisitFrame) (met end : Progress) → met ≡ nothing_met
-    → frames ≡ [] ++ Escaping 0 ∷ [] → Finishes r (reverse frames) met false end → IsWalked r end
+-- the names that escape are those of the rows
+escaping_is : (r : RowRecord) → r.escaping ≡ (record_of_rows r).escaping
+unfolding record_of_rows
+escaping_is r = refl
+
+pub walked : (r : RowRecord) (frames : List VisitFrame) (met end : Progress) → met ≡ nothing_met
+    → frames ≡ [] ++ Escaping 0 ∷ [] → Finishes r (reverse frames) met end → IsWalked (record_of_rows r) end
 unfolding Finishes
 walked r frames met end e f finishes =
-    let k = subst (λ w. Finishes r (reverse w) met false end) f finishes in
-    let v = only_frame r met k.0 end k.1 k.2 k.3 in
-    record { answer = v.0; visits = subst (λ w. VisitsNames r r.escaping false w end v.0) e v.1 }
+    let k = subst (λ w. Finishes r (reverse w) met end) f finishes in
+    let v = only_frame r met k.0 end k.1 k.2 in
+    let visits = subst (λ w. VisitsNames (record_of_rows r) w false met end v.0) (escaping_is r) v.1 in record {
+      answer = v.0;
+      visits = subst (λ w. VisitsNames (record_of_rows r) (record_of_rows r).escaping false w end v.0) e visits;
+    }
 
 any_append : (t : DeclarationId → Bool) (xs : List DeclarationId) (k : DeclarationId)
     → list_any t (xs ++ k ∷ []) ≡ (t k || list_any t xs)
@@ -87,22 +79,22 @@ insert_among d k xs = go (is_among xs k) refl
     go true e = among_again d k xs e
     go false e = any_append (same_id d) xs k
 
--- a place before i that is set
-abbrev is_set_before : List Bool → ℕ → Option ℕ → Bool
-is_set_before row i None = false
-is_set_before row i (Some p) = nat_lt p i && is_set row p
+-- a place before i that is marked as memoized
+abbrev is_memoized_before : List NodeMark → ℕ → Option ℕ → Bool
+is_memoized_before marks i None = false
+is_memoized_before marks i (Some p) = nat_lt p i && is_memoized marks p
 
--- the set has the names whose places are before i and are set
-unfoldable pub HasMemoizedBefore : MemoRecord → WalkState → ℕ → List DeclarationId → Type 0
-HasMemoizedBefore r s i set = (d : DeclarationId) → is_among set d ≡ is_set_before s.memoized i (node_place r d)
+-- the set has the names whose places are before i and are marked so
+unfoldable pub HasMemoizedBefore : RowRecord → WalkState → ℕ → List DeclarationId → Type 0
+HasMemoizedBefore r s i set = (d : DeclarationId) → is_among set d ≡ is_memoized_before s.marks i (node_place r d)
 
-pub collected_none : (r : MemoRecord) (s : WalkState) → HasMemoizedBefore r s 0 []
+pub collected_none : (r : RowRecord) (s : WalkState) → HasMemoizedBefore r s 0 []
 unfolding HasMemoizedBefore
 collected_none r s d = go (node_place r d)
   where
-    go : (o : Option ℕ) → false ≡ is_set_before s.memoized 0 o
+    go : (o : Option ℕ) → false ≡ is_memoized_before s.marks 0 o
     go None = refl
-    go (Some p) = ap (λ b. b && is_set s.memoized p) (sym (le-ltb p 0 (omega arith)))
+    go (Some p) = ap (λ b. b && is_memoized s.marks p) (sym (le-ltb p 0 (omega arith)))
 
 takes : (set same before after : Bool) → same ≡ true → before ≡ false → after ≡ true
     → ((if set then same else false) || (before && set)) ≡ (after && set)
@@ -124,12 +116,12 @@ before_next p i other = go (nat_lt p i) refl
         let apart : p ≢ i = other in
         sym (le-ltb p (i + 1) (omega (arith, ltb-false p i e, apart)))
 
--- the name at place i is added where that place is set
-added : (r : MemoRecord) (s : WalkState) (i : ℕ) (entry : DeclarationId × MemoNode) (d : DeclarationId)
+-- the name at place i is added where that place is marked so
+added : (r : RowRecord) (s : WalkState) (i : ℕ) (entry : DeclarationId × RowNode) (d : DeclarationId)
     → IsDistinct same_id (keys_of r.nodes) → slice_get r.nodes i ≡ Some entry
     → (o : Option ℕ) → node_place r d ≡ o
-    → ((if is_set s.memoized i then same_id d entry.0 else false) || is_set_before s.memoized i o)
-    ≡ is_set_before s.memoized (i + 1) o
+    → ((if is_memoized s.marks i then same_id d entry.0 else false) || is_memoized_before s.marks i o)
+    ≡ is_memoized_before s.marks (i + 1) o
 added r s i entry d distinct at o is = by o is
   where
     here : node_place r entry.0 ≡ Some i
@@ -143,9 +135,9 @@ added r s i entry d distinct at o is = by o is
         go true e = absurd (apart (ap (λ w. node_place r w) (same_id-eq d entry.0 e) ∙ here))
 
     by : (o : Option ℕ) → node_place r d ≡ o
-        → ((if is_set s.memoized i then same_id d entry.0 else false) || is_set_before s.memoized i o)
-        ≡ is_set_before s.memoized (i + 1) o
-    by None e = passes_by false (is_set s.memoized i) (same_id d entry.0) false false (other (λ f. cc)) refl
+        → ((if is_memoized s.marks i then same_id d entry.0 else false) || is_memoized_before s.marks i o)
+        ≡ is_memoized_before s.marks (i + 1) o
+    by None e = passes_by false (is_memoized s.marks i) (same_id d entry.0) false false (other (λ f. cc)) refl
     by (Some p) e = elim (cases_eq p i) [
       | inl same ↦
           let name = name_at_place r.nodes d p e in
@@ -154,48 +146,47 @@ added r s i entry d distinct at o is = by o is
           let equal : d ≡ entry.0 = cc in
           let test : same_id d entry.0 ≡ true = subst (λ w. same_id d w ≡ true) equal (ids_equivalence.refl d) in
           subst (λ q.
-          ((if is_set s.memoized q then same_id d entry.0 else false) || (nat_lt p q && is_set s.memoized p))
-          ≡ (nat_lt p (q + 1) && is_set s.memoized p)) same
-          (takes (is_set s.memoized p) (same_id d entry.0) (nat_lt p p) (nat_lt p (p + 1)) test
+          ((if is_memoized s.marks q then same_id d entry.0 else false) || (nat_lt p q && is_memoized s.marks p))
+          ≡ (nat_lt p (q + 1) && is_memoized s.marks p)) same
+          (takes (is_memoized s.marks p) (same_id d entry.0) (nat_lt p p) (nat_lt p (p + 1)) test
           (le-ltb p p (omega arith)) (lt-ltb p (p + 1) (omega arith)))
       | inr apart ↦
-          passes_by (is_set s.memoized p) (is_set s.memoized i) (same_id d entry.0) (nat_lt p i) (nat_lt p (i + 1))
+          passes_by (is_memoized s.marks p) (is_memoized s.marks i) (same_id d entry.0) (nat_lt p i) (nat_lt p (i + 1))
           (other (λ f. apart cc)) (before_next p i apart)
     ]
 
-pub collected_more : (r : MemoRecord) (s : WalkState) (i : ℕ) (old new : List DeclarationId)
+pub collected_more : (r : RowRecord) (s : WalkState) (i : ℕ) (old new : List DeclarationId)
     → IsDistinct same_id (keys_of r.nodes) → i < length r.nodes
-    → ((entry : DeclarationId × MemoNode) → slice_get r.nodes i ≡ Some entry → (d : DeclarationId)
-    → is_among new d ≡ ((if is_set s.memoized i then same_id d entry.0 else false) || is_among old d))
+    → ((entry : DeclarationId × RowNode) → slice_get r.nodes i ≡ Some entry → (d : DeclarationId)
+    → is_among new d ≡ ((if is_memoized s.marks i then same_id d entry.0 else false) || is_among old d))
     → HasMemoizedBefore r s i old → HasMemoizedBefore r s (i + 1) new
 unfolding HasMemoizedBefore
 collected_more r s i old new distinct lt put before d = elim (slice_get_cases r.nodes i).1 [
-  | inl w ↦ put w.0 w.2 d ∙ ap (λ b. (if is_set s.memoized i then same_id d w.0.0 else false) || b) (before d)
+  | inl w ↦ put w.0 w.2 d ∙ ap (λ b. (if is_memoized s.marks i then same_id d w.0.0 else false) || b) (before d)
       ∙ added r s i w.0 d distinct w.2 (node_place r d) refl
   | inr w ↦ absurd (omega arith)
 ]
 
-pub collected_all : (r : MemoRecord) (s : WalkState) (i : ℕ) (set : List DeclarationId) → length r.nodes ≤ i
+pub collected_all : (r : RowRecord) (s : WalkState) (i : ℕ) (set : List DeclarationId) → length r.nodes ≤ i
     → HasMemoizedBefore r s i set → HasMemoized set (progress r s)
 unfolding HasMemoizedBefore progress
 collected_all r s i set le before d = before d ∙ go (node_place r d) refl
   where
-    go : (o : Option ℕ) → node_place r d ≡ o → is_set_before s.memoized i o ≡ is_set_at s.memoized o
+    go : (o : Option ℕ) → node_place r d ≡ o
+        → is_memoized_before s.marks i o ≡ says_memoized (entry_at Unseen s.marks o)
     go None e = refl
-    go (Some p) e = ap (λ b. b && is_set s.memoized p) (lt-ltb p i (omega (arith, place_within r.nodes d p e)))
+    go (Some p) e = ap (λ b. b && is_memoized s.marks p) (lt-ltb p i (omega (arith, place_within r.nodes d p e)))
 
 pub memo_set : (r : MemoRecord) (met : Progress) (set : List DeclarationId) → IsWalked r met → HasMemoized set met
     → IsMemoSet r set
 memo_set r met set walk names = record { end = met; walked = walk; names = names }
 
-pub least_in : (r : MemoRecord) (met : Progress) (set : List DeclarationId) → IsWalked r met → HasMemoized set met
-    → (d : DeclarationId) → IsInLeastSet r d → Contains set d
-least_in r met set walk names d least =
-    Contains-from_any same_id-eq d set (names d ∙ least_is_memoized walk.visits d least)
+pub least_in : (r : MemoRecord) (set : List DeclarationId) → IsMemoSet r set → HasLeastSet r set
+least_in r set is d least =
+    Contains-from_any same_id-eq d set (is.names d ∙ least_is_memoized is.walked.visits d least)
 
-pub in_greatest : (r : MemoRecord) (met : Progress) (set : List DeclarationId) → IsWalked r met → HasMemoized set met
-    → (d : DeclarationId) → Contains set d → IsInGreatestSet r d
-in_greatest r met set walk names d among =
-    memoized_is_in_greatest walk.visits d (sym (names d) ∙ list_any-from_Contains ids_equivalence d set among)
+pub in_greatest : (r : MemoRecord) (set : List DeclarationId) → IsMemoSet r set → IsWithinGreatestSet r set
+in_greatest r set is d among =
+    memoized_is_in_greatest is.walked.visits d (sym (is.names d) ∙ list_any-from_Contains ids_equivalence d set among)
 
 pub ruleset collecting = (collected_none, collected_more, collected_all)

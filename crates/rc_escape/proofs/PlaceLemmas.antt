@@ -1,9 +1,11 @@
--- Rows of truth values, and the positions of names in a record.
-use Rattle.std.proofs.Common.{◌≡◌, ◌⊎◌, ◌∙◌, ◌<◌, inl, inr, ℕ, zero, suc, List, [], ◌∷◌, Option, Some, None, Bool, true}
-use Rattle.std.proofs.Common.{false, cond, refl, sym, ap, subst, length, arith, get_or, lt-ltb}
-use Rattle.std.specs.Prelude.{◌||◌, nat_lt, option_map, slice_get, slice_set, position}
+-- Entries of lists by place, and the positions of names in a record.
+use Rattle.std.proofs.Common.{◌≡◌, ◌∙◌, ◌<◌, ◌≤◌, inl, inr, ℕ, zero, suc, List, [], ◌∷◌, Option, Some, None, Bool, true}
+use Rattle.std.proofs.Common.{false, cond, eqb-true, refl, sym, ap, subst, length, arith, get_or, lt-ltb, replicate}
+use Rattle.std.specs.Prelude.{nat_eq, nat_lt, option_map, slice_get, slice_set, position}
 use Rattle.std.specs.List.{IsDistinct, position_or_len}
 use Rattle.std.specs.Map.{keys_of, lookup, lookup_key}
+use Rattle.std.specs.Option.{option_map_or}
+use Rattle.std.proofs.lemmas.Cmp.{nat_eq_equiv}
 use Rattle.std.proofs.lemmas.List.Sums.{position_or_len_is}
 use Rattle.std.proofs.lemmas.Map.Entries.{length-keys_of}
 use Rattle.std.proofs.lemmas.Map.Keys.{apart_from_distinct}
@@ -13,32 +15,56 @@ use Rattle.indexmap.proofs.MapLemmas.{Found-position, Missing-position}
 use Rattle.rc_names.proofs.NumbersLemmas.{ids_equivalence, same_id-eq}
 use Rattle.rc_names.specs.Numbers.{same_id}
 use Rattle.rc_names.specs.declared.numbers.Id.{Id}
-use Rattle.rc_escape.specs.inside.WalkFrames.{is_set, is_set_at}
+use Rattle.rc_escape.specs.inside.WalkPlaces.{entry_at, entry_or}
 
--- a place that was set stays so
-pub set_stays : (row : List Bool) (p q : ℕ) → is_set row q ≡ true → is_set (slice_set row p true) q ≡ true
-unfolding is_set
-set_stays [] p q h = h
-set_stays (b ∷ bs) zero zero h = refl
-set_stays (b ∷ bs) zero (suc q) h = h
-set_stays (b ∷ bs) (suc p) zero h = h
-set_stays (b ∷ bs) (suc p) (suc q) h = set_stays bs p q h
+-- an entry that is put at a place stands there, and any other place is as it was
+pub set-here : {X : Type 0} (d v : X) (xs : List X) (p : ℕ) → p < length xs → entry_or d (slice_set xs p v) p ≡ v
+set-here d v [] p lt = absurd (omega (arith, lt))
+set-here d v (x ∷ xs) zero lt = refl
+set-here d v (x ∷ xs) (suc p) lt = set-here d v xs p (omega (arith, lt))
 
--- a place of the row is set
-pub set_there : (row : List Bool) (p : ℕ) → p < length row → is_set (slice_set row p true) p ≡ true
-unfolding is_set
-set_there [] p h = absurd (omega arith)
-set_there (b ∷ bs) zero h = refl
-set_there (b ∷ bs) (suc p) h = set_there bs p (omega arith)
+pub set-other : {X : Type 0} (d v : X) (xs : List X) (p q : ℕ) → (p ≡ q → ⊥)
+    → entry_or d (slice_set xs p v) q ≡ entry_or d xs q
+set-other d v [] p q apart = refl
+set-other d v (x ∷ xs) zero zero apart = absurd (apart refl)
+set-other d v (x ∷ xs) zero (suc q) apart = refl
+set-other d v (x ∷ xs) (suc p) zero apart = refl
+set-other d v (x ∷ xs) (suc p) (suc q) apart = set-other d v xs p q (λ e. apart (ap suc e))
 
--- or another place is as it was
-pub set_or_same : (row : List Bool) (p q : ℕ) → (q ≡ p) ⊎ (is_set (slice_set row p true) q ≡ is_set row q)
-unfolding is_set
-set_or_same [] p q = inr refl
-set_or_same (b ∷ bs) zero zero = inl refl
-set_or_same (b ∷ bs) zero (suc q) = inr refl
-set_or_same (b ∷ bs) (suc p) zero = inr refl
-set_or_same (b ∷ bs) (suc p) (suc q) = elim (set_or_same bs p q) [ inl e ↦ inl (ap suc e) | inr k ↦ inr k ]
+pub entry_or-set : {X : Type 0} (d v : X) (xs : List X) (p q : ℕ) → p < length xs
+    → entry_or d (slice_set xs p v) q ≡ cond (nat_eq p q) v (entry_or d xs q)
+entry_or-set d v xs p q lt = go (nat_eq p q) refl
+  where
+    go : (b : Bool) → nat_eq p q ≡ b → entry_or d (slice_set xs p v) q ≡ cond b v (entry_or d xs q)
+    go true e = ap (entry_or d (slice_set xs p v)) (sym (eqb-true p q e)) ∙ set-here d v xs p lt
+    go false e = set-other d v xs p q (λ same. let itself = ap (nat_eq p) (sym same) ∙ nat_eq_equiv.refl p in cc)
+
+pub entry_at-set : {X : Type 0} (d v : X) (xs : List X) (p : ℕ) → p < length xs → (place : Option ℕ)
+    → entry_at d (slice_set xs p v) place
+    ≡ cond (option_map_or (nat_eq p) place false) v (entry_at d xs place)
+entry_at-set d v xs p lt None = refl
+entry_at-set d v xs p lt (Some q) = entry_or-set d v xs p q lt
+
+-- past the end there is no entry
+pub entry_or-past : {X : Type 0} (d : X) (xs : List X) (p : ℕ) → length xs ≤ p → entry_or d xs p ≡ d
+entry_or-past d [] p le = refl
+entry_or-past d (x ∷ xs) zero le = absurd (omega (arith, le))
+entry_or-past d (x ∷ xs) (suc p) le = entry_or-past d xs p (omega (arith, le))
+
+-- each place of equal entries has that entry
+pub entry_or-replicate : {X : Type 0} (d : X) (n p : ℕ) → entry_or d (replicate n d) p ≡ d
+entry_or-replicate d zero p = refl
+entry_or-replicate d (suc n) zero = refl
+entry_or-replicate d (suc n) (suc p) = entry_or-replicate d n p
+
+pub entry_at-replicate : {X : Type 0} (d : X) (n : ℕ) (place : Option ℕ) → entry_at d (replicate n d) place ≡ d
+entry_at-replicate d n None = refl
+entry_at-replicate d n (Some p) = entry_or-replicate d n p
+
+pub length-set : {X : Type 0} (xs : List X) (p : ℕ) (v : X) → length (slice_set xs p v) ≡ length xs
+length-set [] p v = refl
+length-set (x ∷ xs) zero v = refl
+length-set (x ∷ xs) (suc p) v = ap suc (length-set xs p v)
 
 module _ {K X : Type 0} where
   -- the position of a name has that name
@@ -54,7 +80,7 @@ module _ {K X : Type 0} where
       ]
 
   -- two names with one position are one
-  same_place : (es : List (Id K × X)) (p : ℕ) (d e : Id K) → position (same_id d) (keys_of es) ≡ Some p
+  pub same_place : (es : List (Id K × X)) (p : ℕ) (d e : Id K) → position (same_id d) (keys_of es) ≡ Some p
       → position (same_id e) (keys_of es) ≡ Some p → e ≡ d
   same_place es p d e f g = let a = name_at_place es d p f in let b = name_at_place es e p g in cc
 
@@ -108,31 +134,34 @@ module _ {K X : Type 0} where
           ids_equivalence.symm x.0 (get_or (keys_of es) j x.0) ∙ ap (same_id (get_or (keys_of es) j x.0)) (sym read)
           ∙ apart_from_distinct same_id (keys_of es) j p x.0 distinct below lt
 
-  -- setting the place of a name is putting that name in
-  pub set_puts : (es : List (Id K × X)) (row : List Bool) (d : Id K) (p : ℕ)
-      → position (same_id d) (keys_of es) ≡ Some p → p < length row
-      → (e : Id K)
-      → is_set_at (slice_set row p true) (position (same_id e) (keys_of es))
-      ≡ (same_id e d || is_set_at row (position (same_id e) (keys_of es)))
-  set_puts es row d p at lt e = by (same_id e d) refl
+  -- a name has the position of another exactly if it is that one
+  pub place_of_same : (es : List (Id K × X)) (d : Id K) (p : ℕ) → position (same_id d) (keys_of es) ≡ Some p
+      → (e : Id K) → option_map_or (nat_eq p) (position (same_id e) (keys_of es)) false ≡ same_id e d
+  place_of_same es d p at e = by (same_id e d) refl
     where
       other : same_id e d ≡ false → (o : Option ℕ) → position (same_id e) (keys_of es) ≡ o
-          → is_set_at (slice_set row p true) o ≡ is_set_at row o
+          → option_map_or (nat_eq p) o false ≡ false
       other apart None f = refl
-      other apart (Some q) f = elim (set_or_same row p q) [
-        | inl same ↦
-            let equal : e ≡ d = same_place es p d e at (f ∙ ap Some same) in
-            let again : same_id e d ≡ true = subst (λ w. same_id e w ≡ true) equal (ids_equivalence.refl e) in cc
-        | inr is ↦ is
-      ]
+      other apart (Some q) f = go (nat_eq p q) refl
+        where
+          go : (b : Bool) → nat_eq p q ≡ b → b ≡ false
+          go false h = refl
+          go true h =
+              let equal : e ≡ d = same_place es p d e at (f ∙ ap Some (sym (eqb-true p q h))) in
+              let again : same_id e d ≡ true = subst (λ w. same_id e w ≡ true) equal (ids_equivalence.refl e) in cc
 
-      by : (b : Bool) → same_id e d ≡ b
-          → is_set_at (slice_set row p true) (position (same_id e) (keys_of es))
-          ≡ (same_id e d || is_set_at row (position (same_id e) (keys_of es)))
+      by : (b : Bool) → same_id e d ≡ b → option_map_or (nat_eq p) (position (same_id e) (keys_of es)) false ≡ b
       by true f =
           let place : position (same_id e) (keys_of es) ≡ Some p =
           ap (λ w. position (same_id w) (keys_of es)) (same_id-eq e d f) ∙ at in
-          ap (is_set_at (slice_set row p true)) place ∙ set_there row p lt
-          ∙ sym (ap (λ w. w || is_set_at row (position (same_id e) (keys_of es))) f)
+          ap (λ o. option_map_or (nat_eq p) o false) place ∙ nat_eq_equiv.refl p
       by false f = other f (position (same_id e) (keys_of es)) refl
-          ∙ sym (ap (λ w. w || is_set_at row (position (same_id e) (keys_of es))) f)
+
+  -- putting an entry at the place of a name puts it at that name
+  pub entry_puts : {Y : Type 0} (d0 v : Y) (es : List (Id K × X)) (ys : List Y) (d : Id K) (p : ℕ)
+      → position (same_id d) (keys_of es) ≡ Some p → p < length ys
+      → (e : Id K) → entry_at d0 (slice_set ys p v) (position (same_id e) (keys_of es))
+      ≡ cond (same_id e d) v (entry_at d0 ys (position (same_id e) (keys_of es)))
+  entry_puts d0 v es ys d p at lt e =
+      entry_at-set d0 v ys p lt (position (same_id e) (keys_of es))
+      ∙ ap (λ b. cond b v (entry_at d0 ys (position (same_id e) (keys_of es)))) (place_of_same es d p at e)

@@ -7,11 +7,13 @@
 //! After oxc's prune_non_escaping_scopes.
 #![tactic(auto)]
 
-mod bit_row;
+mod fixed_list;
 mod memo_walk;
 mod memoized_names;
 mod missing_scopes;
 mod not_escaping;
+mod one_row_each;
+mod row_users;
 mod walk_state;
 
 pub use memoized_names::memoized;

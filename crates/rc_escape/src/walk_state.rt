@@ -1,32 +1,48 @@
 //! What a walk over a record keeps.
 
-use crate::bit_row::BitRow;
+use crate::fixed_list::FixedList;
+use rc_names::List;
 
-/// What a walk has met so far: a truth value for each node, or for each scope, by its position in the record.
+/// What a walk has made of a node so far. A node is seen before it is memoized.
+#[derive(Clone, Copy, Debug, PartialEq, Eq)]
+pub(crate) enum NodeMark {
+    /// The walk hasn't visited the node.
+    Unseen,
+    /// The walk has visited the node, and it isn't memoized, or not yet.
+    Seen,
+    /// The walk has memoized the node.
+    Memoized,
+}
+
+/// What a walk has met so far, by positions in the record: of nodes, of rows and of scopes.
 #[derive(Drop)]
 pub(crate) struct WalkState {
-    /// The nodes that the walk has visited.
-    pub seen: BitRow,
-    /// The nodes that the walk has memoized.
-    pub memoized: BitRow,
+    /// What the walk has made of each node.
+    pub marks: FixedList<NodeMark>,
     /// The scopes that the walk has taken.
-    pub taken: BitRow,
+    pub taken: FixedList<bool>,
+    /// How many operands of each row the walk has visited through the row. All names that depend on the row share this,
+    /// so an operand is visited once through its row.
+    pub passed: FixedList<usize>,
+    /// The rows that have a memoized operand.
+    pub answered: FixedList<bool>,
+    /// For each node, the rows that its name is an operand of.
+    pub users: List<List<usize>>,
 }
 
 /// A part of the walk that isn't done. Nodes and scopes stand by their positions in the record, and `next` is the place
-/// of the first name or scope that is left.
+/// of the first name, row or scope that is left.
 #[derive(Clone, Copy, Debug, PartialEq, Eq)]
 pub(crate) enum VisitFrame {
     /// The escaping names are visited.
     Escaping {
         next: usize,
     },
-    /// The dependencies of a node are visited; `answered` says that one of them is memoized.
+    /// The operands of a node's rows are visited.
     Dependencies {
         node: usize,
         forced: bool,
         next: usize,
-        answered: bool,
     },
     /// The scopes of a memoized node are taken.
     Scopes {

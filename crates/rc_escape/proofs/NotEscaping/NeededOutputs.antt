@@ -30,8 +30,7 @@ module _ (env : Environment) (func : ReactiveFunction) (set : List DeclarationId
     needed_memoized scope name needed =
         let same = one_record func env needed.rec memoized.rec needed.recorded memoized.recorded in
         list_any-from_Contains ids_equivalence name set
-        (least_in memoized.rec memoized.memoized.end set memoized.memoized.walked memoized.memoized.names name
-        (subst (λ r. IsInLeastSet r name) same needed.least))
+        (least_in memoized.rec set memoized.memoized name (subst (λ r. IsInLeastSet r name) same needed.least))
 
     -- so its scope doesn't give way
     needed_stays : (scope : ScopeId) (name : DeclarationId) → IsNeededOutput env func scope name

@@ -1,12 +1,12 @@
 -- The lowest of some scopes, found one by one.
 use Rattle.std.specs.Prelude.{List, [], ◌∷◌, Option, None, Some, Bool, nat_lt, is_none, if◌then◌else◌}
-use Rattle.rc_names.specs.Numbers.{ScopeId}
-use Rattle.rc_memo.specs.declared.record.MemoRecord.{MemoRecord}
-use Rattle.rc_escape.specs.MemoWalk.{dependencies_of}
+use Rattle.std.specs.Map.{lookup}
+use Rattle.rc_names.specs.Numbers.{ScopeId, same_id}
+use Rattle.rc_memo.specs.declared.row_record.RowRecord.{RowRecord}
 
 -- whether a scope has no record
-abbrev pub lacks : MemoRecord → ScopeId → Bool
-lacks r scope = is_none (dependencies_of r scope)
+abbrev pub lacks : RowRecord → ScopeId → Bool
+lacks rows scope = is_none (lookup (same_id scope) rows.scopes)
 
 -- the lower of the scope so far and one more
 abbrev pub lower : Option ScopeId → ScopeId → Option ScopeId

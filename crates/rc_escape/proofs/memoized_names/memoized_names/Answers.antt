@@ -4,7 +4,7 @@ use Rattle.rc_escape.proofs.memoized_names.memoized_names.Goals as goal
 
 pub loop-place-preserved : goal.loop-place-preserved
 loop-place-preserved c =
-    let within : c.loop-place.place < length c.args.rec.now.nodes = omega (arith, c.len-place-end.ensures.value) in
-    collected_more c.args.rec.now c.args.state.now c.loop-place.place c.loop-place.set c.put_memoized.new.set
+    let within : c.loop-place.place < length c.args.rows.now.nodes = omega (arith, c.len-place-end.ensures.value) in
+    collected_more c.args.rows.now c.args.state.now c.loop-place.place c.loop-place.set c.put_memoized.new.set
     c.len-place-end.ensures.distinct within c.in_ok-put_memoized.ensures
     c.loop-place.invariant
