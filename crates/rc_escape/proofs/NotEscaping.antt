@@ -4,3 +4,4 @@ pub mod KeptParts
 pub mod LeftScopes
 pub mod ScopelessBodies
 pub mod NeededOutputs
+pub mod EscapeFaults

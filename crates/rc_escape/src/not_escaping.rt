@@ -17,12 +17,13 @@ mod outputs;
 mod rows;
 mod transform;
 
+use crate::DeclSet;
+use crate::memoized_names::memoized_rows;
 use crate::not_escaping::met::Met;
 use crate::not_escaping::transform::NotEscaping;
-use crate::{DeclSet, memoized};
 use rc_checks::scopes_in;
 use rc_hir::{Environment, Fault};
-use rc_memo::{check_nodes, collect};
+use rc_memo::{check_nodes, collect_rows};
 use rc_names::KeySet;
 use rc_tree::ReactiveFunction;
 use rc_walk::rewrite::transform_reactive_function;
@@ -64,8 +65,8 @@ pub fn prune_non_escaping_scopes(
     transform_reactive_function(alloc, func, &mut transform, &mut met)
 }
 
-/// Returns the memoized names of a function. Where no scope has a block they make no difference: then no record is made,
-/// and none of them is returned.
+/// Returns the memoized names of a function. Where no scope has a block they make no difference: then no record is
+/// made, and none of them is returned.
 ///
 /// Fails as `prune_non_escaping_scopes` does.
 fn deciding_names(
@@ -80,7 +81,7 @@ fn deciding_names(
         check_nodes(alloc, func, env)?;
         return Ok(KeySet::new(alloc));
     }
-    let rec = collect(alloc, func, env)?;
-    let set = memoized(alloc, &rec)?;
+    let rows = collect_rows(alloc, func, env)?;
+    let set = memoized_rows(alloc, &rows)?;
     Ok(set)
 }
