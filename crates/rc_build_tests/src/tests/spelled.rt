@@ -2,9 +2,9 @@
 
 use super::graph::{environment, graph};
 use super::tree::{CHANGES, Change, tree};
-use rc_build::{Broken, build_reactive_function, spells};
+use rc_build::{Broken, build_known_function, build_reactive_function, spells};
 use rc_equality::Equals;
-use rc_hir::{Fault, Rule};
+use rc_hir::{Fault, Rule, check_names};
 use rc_names::BlockId;
 use std::alloc::Global;
 use std::test::Fail;
@@ -41,5 +41,20 @@ fn is_built(alloc: Global) -> Result<bool, Fault> {
 #[test]
 fn the_spelled_tree_is_built(rt: HostRuntime) -> Result<(), Fail> {
     assert!(rt; is_built(rt.alloc())?);
+    Ok(())
+}
+
+/// Whether the tree of the graph is built where its numbers are checked before.
+fn is_built_of_known(alloc: Global) -> Result<bool, Fault> {
+    let hir = graph(alloc)?;
+    let env = environment(alloc)?;
+    check_names(&hir, &env)?;
+    let built = build_known_function(alloc, &hir, &env)?;
+    Ok(built.equals(&tree(alloc, Change::Nothing)?))
+}
+
+#[test]
+fn the_spelled_tree_is_built_of_known_numbers(rt: HostRuntime) -> Result<(), Fail> {
+    assert!(rt; is_built_of_known(rt.alloc())?);
     Ok(())
 }
