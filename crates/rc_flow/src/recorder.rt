@@ -1,7 +1,8 @@
 //! The read walk that lists what marks names as reactive.
 
-ghost use Rattle.std.specs.Prelude.{◌≡◌, ◌++◌, IfOk, OnOk};
+ghost use Rattle.std.specs.Prelude.{◌≡◌, ◌++◌, List as Entries, IfOk, OnOk};
 ghost use Rattle.rc_flow.specs.Collected as spec;
+ghost use Rattle.rc_flow.specs.declared.step.Step.{Step};
 
 use crate::step::Step;
 use crate::types::{is_primitive, is_ref, type_of};
@@ -80,6 +81,10 @@ fn add_declarations(
 
 impl<'a> ReactiveFunctionVisitor for Recorder<'a> {
     type State = List<Step>;
+
+    ghost Value = { Entries Step };
+
+    ghost view = { λ it steps. steps };
 
     ghost steps = { λ it. spec.recording it.env.now };
 

@@ -1,2 +1,3 @@
 pub mod LastStatements
 pub mod FrontWalked
+pub mod HeldContexts

@@ -1,2 +1,3 @@
 -- What private functions, and lemmas, say of each other.
 pub mod FrontWalk
+pub mod HeldContext

@@ -3,6 +3,7 @@
 //! After oxc's visitors.rs.
 
 pub(crate) mod function;
+mod held;
 mod statement;
 mod value;
 

@@ -93,7 +93,13 @@ fn is_in_range(id: EvaluationOrder, range: MutableRange) -> bool
 }
 
 impl<'a> ReactiveFunctionVisitor for Membership<'a> {
+    ghost use Rattle.rc_checks.specs.declared.membership.visitor.Seen.{Seen};
+
     type State = Seen;
+
+    ghost Value = { Seen };
+
+    ghost view = { λ it seen. seen };
 
     ghost steps = { λ it. membership_steps it.env.now it.blocks.now };
 

@@ -1,9 +1,10 @@
 //! A visitor that writes its visits down, and the visits of a walk by it.
 
-ghost use Rattle.std.specs.Prelude.{◌≡◌, [], ◌∷◌, ◌++◌, Ok, IfOk};
+ghost use Rattle.std.specs.Prelude.{◌≡◌, [], ◌∷◌, ◌++◌, List as Entries, Ok, IfOk};
 ghost use Rattle.rc_tree.specs.Read.{read_block};
 ghost use Rattle.rc_tree.specs.declared.hooks.Enter.TheVariants as enter;
 ghost use Rattle.rc_tree_tests.specs.declared.tests.recorder.Part.TheVariants as part;
+ghost use Rattle.rc_tree_tests.specs.declared.tests.recorder.Visit.{Visit};
 ghost use Rattle.rc_tree_tests.specs.declared.tests.recorder.Visit.TheVariants as visit;
 
 use rc_hir::{Environment, Fault, Place};
@@ -45,6 +46,10 @@ pub struct Recorder {
 
 impl ReactiveFunctionVisitor for Recorder {
     type State = List<Visit>;
+
+    ghost Value = { Entries Visit };
+
+    ghost view = { λ it visits. visits };
 
     ghost steps = { λ it. record {
       visit_id = λ id s. Ok (tt, s ++ visit.Id id.0 ∷ []);

@@ -13,15 +13,16 @@ ghost use Rattle.rc_hir.specs.Terminal.{evaluation_order};
 ghost use Rattle.rc_hir.specs.TerminalOperands.{terminal_operands};
 ghost use Rattle.rc_names.specs.Numbers.{FunctionId as Number};
 ghost use Rattle.rc_tree.specs.Nested.{IsCycleAt, HasHookFault, HasNoCycle};
-ghost use Rattle.rc_tree.specs.ReadFunction.{as_row, basic_block_at, function_at, held_function, numbered_at};
+ghost use Rattle.rc_tree.specs.ReadFunction.{as_row, basic_block_at, function_at, numbered_at};
 ghost use Rattle.rc_tree.specs.ReadFunction.{param_place, read_function, row_at};
 
+use crate::read::held::function_held;
 use crate::read::statement::walk_block;
-use crate::read::value::{visit_places, walk_instruction};
+use crate::read::value::{visit_each_place, walk_instruction};
 use crate::visitor::ReactiveFunctionVisitor;
 use rc_hir::{
-    BasicBlock, Fault, HirFunction, Instruction, InstructionValue, ParamPattern, Place, TableName,
-    Terminal, each_terminal_operand,
+    BasicBlock, Fault, HirFunction, Instruction, ParamPattern, Place, TableName, Terminal,
+    each_terminal_operand,
 };
 use rc_names::{BlockId, CloneIn, FunctionId, InstructionId, Keyed, List, Name};
 use rc_tree::{ReactiveFunction, ReactiveInstruction, ReactiveValue};
@@ -35,8 +36,8 @@ pub fn visit_reactive_function<V: ReactiveFunctionVisitor>(
     visitor: &V,
     state: &mut V::State,
 ) -> Result<(), Fault>
-    ensures { IsStep (read_block (V.steps visitor.now) (V.functions visitor.now) func.now.body state.old) result
-        state.new }
+    ensures { IsStep (read_block (V.steps visitor.now) (V.functions visitor.now) func.now.body
+        (V.view visitor.now state.old)) result (V.view visitor.now state.new) }
 {
     walk_block(alloc, visitor, &func.body, state)
 }
@@ -52,8 +53,8 @@ pub fn visit_hir_function<V: ReactiveFunctionVisitor>(
     func: FunctionId,
     state: &mut V::State,
 ) -> Result<(), Fault>
-    ensures walk { IsStep (read_function (V.steps visitor.now) (V.functions visitor.now) func state.old) result
-        state.new }
+    ensures walk { IsStep (read_function (V.steps visitor.now) (V.functions visitor.now) func
+        (V.view visitor.now state.old)) result (V.view visitor.now state.new) }
     ensures no_cycle { OnOk result (HasNoCycle (V.functions visitor.now) func) }
     ensures cycle { (g : Number) → result ≡ Err (Fault.FunctionCycle g)
         → HasHookFault (V.steps visitor.now) (Fault.FunctionCycle g)
@@ -72,9 +73,8 @@ fn walk_function<V: ReactiveFunctionVisitor>(
     func: FunctionId,
     state: &mut V::State,
 ) -> Result<(), Fault>
-    ensures walk { IsStep (function_at (V.steps visitor.now)
-        (V.functions visitor.now) entered.old func state.old) result
-        state.new }
+    ensures walk { IsStep (function_at (V.steps visitor.now) (V.functions visitor.now) entered.old func
+        (V.view visitor.now state.old)) result (V.view visitor.now state.new) }
     ensures kept { OnOk result (entered.new ≡ entered.old) }
 {
     match entered.get(func.index()).copied() {
@@ -98,9 +98,8 @@ fn walk_numbered<V: ReactiveFunctionVisitor>(
     func: FunctionId,
     state: &mut V::State,
 ) -> Result<(), Fault>
-    ensures walk { IsStep (numbered_at (V.steps visitor.now)
-        (V.functions visitor.now) entered.old func state.old) result
-        state.new }
+    ensures walk { IsStep (numbered_at (V.steps visitor.now) (V.functions visitor.now) entered.old func
+        (V.view visitor.now state.old)) result (V.view visitor.now state.new) }
     ensures kept { OnOk result (entered.new ≡ entered.old) }
 {
     match visitor.env().functions.get(func) {
@@ -130,7 +129,7 @@ fn walk_blocks<V: ReactiveFunctionVisitor>(
     state: &mut V::State,
 ) -> Result<(), Fault>
     ensures walk { IsStep (each (basic_block_at (V.steps visitor.now) (V.functions visitor.now) entered.old rows.now)
-        blocks.now state.old) result state.new }
+        blocks.now (V.view visitor.now state.old)) result (V.view visitor.now state.new) }
     ensures kept { OnOk result (entered.new ≡ entered.old) }
 {
     for i in 0..blocks.len() {
@@ -151,7 +150,7 @@ fn walk_basic_block<V: ReactiveFunctionVisitor>(
     state: &mut V::State,
 ) -> Result<(), Fault>
     ensures walk { IsStep (perhaps (basic_block_at (V.steps visitor.now) (V.functions visitor.now) entered.old rows.now)
-        (slice_get blocks.now place) state.old) result state.new }
+        (slice_get blocks.now place) (V.view visitor.now state.old)) result (V.view visitor.now state.new) }
     ensures kept { OnOk result (entered.new ≡ entered.old) }
 {
     match blocks.at(place) {
@@ -174,7 +173,7 @@ fn walk_rows<V: ReactiveFunctionVisitor>(
     state: &mut V::State,
 ) -> Result<(), Fault>
     ensures walk { IsStep (each (row_at (V.steps visitor.now) (V.functions visitor.now) entered.old rows.now) ids.now
-        state.old) result state.new }
+        (V.view visitor.now state.old)) result (V.view visitor.now state.new) }
     ensures kept { OnOk result (entered.new ≡ entered.old) }
 {
     for id in ids.as_slice() {
@@ -193,8 +192,8 @@ fn walk_row<V: ReactiveFunctionVisitor>(
     id: InstructionId,
     state: &mut V::State,
 ) -> Result<(), Fault>
-    ensures walk { IsStep (row_at (V.steps visitor.now) (V.functions visitor.now) entered.old rows.now id state.old)
-        result state.new }
+    ensures walk { IsStep (row_at (V.steps visitor.now) (V.functions visitor.now) entered.old rows.now id
+        (V.view visitor.now state.old)) result (V.view visitor.now state.new) }
     ensures kept { OnOk result (entered.new ≡ entered.old) }
 {
     match rows.get(id.index()) {
@@ -217,7 +216,7 @@ fn walk_held<V: ReactiveFunctionVisitor>(
     state: &mut V::State,
 ) -> Result<(), Fault>
     ensures walk { IsStep (perhaps (function_at (V.steps visitor.now) (V.functions visitor.now) entered.old) held
-        state.old) result state.new }
+        (V.view visitor.now state.old)) result (V.view visitor.now state.new) }
     ensures kept { OnOk result (entered.new ≡ entered.old) }
 {
     match held {
@@ -232,8 +231,8 @@ fn visit_params<V: ReactiveFunctionVisitor>(
     params: &List<ParamPattern>,
     state: &mut V::State,
 ) -> Result<(), Fault>
-    ensures { IsStep (each (λ p. (V.steps visitor.now).visit_param (param_place p)) params.now state.old) result
-        state.new }
+    ensures { IsStep (each (λ p. (V.steps visitor.now).visit_param (param_place p)) params.now
+        (V.view visitor.now state.old)) result (V.view visitor.now state.new) }
 {
     for param in params.as_slice() {
         visitor.visit_param(&place_of(param), state)?;
@@ -248,12 +247,16 @@ fn visit_terminal_operands<V: ReactiveFunctionVisitor>(
     terminal: &Terminal,
     state: &mut V::State,
 ) -> Result<(), Fault>
-    ensures { IsStep
-        (each ((V.steps visitor.now).visit_place (evaluation_order terminal.now)) (terminal_operands terminal.now)
-        state.old) result state.new }
+    ensures { IsStep (each ((V.steps visitor.now).visit_place (evaluation_order terminal.now)) (terminal_operands
+        terminal.now) (V.view visitor.now state.old)) result (V.view visitor.now state.new) }
 {
     let places = each_terminal_operand(alloc, terminal)?;
-    visit_places(visitor, terminal.evaluation_order(), &places, state)
+    visit_each_place(
+        visitor,
+        terminal.evaluation_order(),
+        places.as_slice(),
+        state,
+    )
 }
 
 /// A row of a graph as a row of the tree, with a copy of its value.
@@ -266,56 +269,6 @@ fn row_of_tree(alloc: Global, row: &Instruction) -> Result<ReactiveInstruction, 
         value: ReactiveValue::Instruction(row.value.clone_in(alloc)?),
         span: row.span,
     })
-}
-
-/// The nested function that a value is, if it is one.
-fn function_held(value: &InstructionValue) -> Option<FunctionId>
-    ensures { result ≡ held_function value.now }
-{
-    match value {
-        InstructionValue::ObjectMethod { lowered_func, .. }
-        | InstructionValue::FunctionExpression { lowered_func, .. } => Some(lowered_func.func),
-        InstructionValue::LoadLocal { .. }
-        | InstructionValue::LoadContext { .. }
-        | InstructionValue::DeclareLocal { .. }
-        | InstructionValue::DeclareContext { .. }
-        | InstructionValue::StoreLocal { .. }
-        | InstructionValue::StoreContext { .. }
-        | InstructionValue::Destructure { .. }
-        | InstructionValue::Primitive { .. }
-        | InstructionValue::JSXText { .. }
-        | InstructionValue::BinaryExpression { .. }
-        | InstructionValue::UnaryExpression { .. }
-        | InstructionValue::TypeCastExpression { .. }
-        | InstructionValue::Await { .. }
-        | InstructionValue::NewExpression { .. }
-        | InstructionValue::CallExpression { .. }
-        | InstructionValue::MethodCall { .. }
-        | InstructionValue::ObjectExpression { .. }
-        | InstructionValue::ArrayExpression { .. }
-        | InstructionValue::JsxExpression { .. }
-        | InstructionValue::JsxFragment { .. }
-        | InstructionValue::RegExpLiteral { .. }
-        | InstructionValue::MetaProperty { .. }
-        | InstructionValue::PropertyLoad { .. }
-        | InstructionValue::PropertyDelete { .. }
-        | InstructionValue::PropertyStore { .. }
-        | InstructionValue::ComputedLoad { .. }
-        | InstructionValue::ComputedDelete { .. }
-        | InstructionValue::ComputedStore { .. }
-        | InstructionValue::LoadGlobal { .. }
-        | InstructionValue::StoreGlobal { .. }
-        | InstructionValue::TaggedTemplateExpression { .. }
-        | InstructionValue::TemplateLiteral { .. }
-        | InstructionValue::GetIterator { .. }
-        | InstructionValue::IteratorNext { .. }
-        | InstructionValue::NextPropertyOf { .. }
-        | InstructionValue::PrefixUpdate { .. }
-        | InstructionValue::PostfixUpdate { .. }
-        | InstructionValue::Debugger { .. }
-        | InstructionValue::StartMemoize { .. }
-        | InstructionValue::FinishMemoize { .. } => None,
-    }
 }
 
 /// The place of a parameter.

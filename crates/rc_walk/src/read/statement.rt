@@ -25,8 +25,8 @@ pub fn traverse_terminal<V: ReactiveFunctionVisitor>(
     stmt: &ReactiveTerminalStatement,
     state: &mut V::State,
 ) -> Result<(), Fault>
-    ensures { IsStep (inside_terminal (V.steps visitor.now) (V.functions visitor.now) stmt.now state.old) result
-        state.new }
+    ensures { IsStep (inside_terminal (V.steps visitor.now) (V.functions visitor.now) stmt.now
+        (V.view visitor.now state.old)) result (V.view visitor.now state.new) }
 {
     walk_parts(alloc, visitor, &stmt.terminal, state)
 }
@@ -39,8 +39,8 @@ pub fn traverse_scope<V: ReactiveFunctionVisitor>(
     scope: &ReactiveScopeBlock,
     state: &mut V::State,
 ) -> Result<(), Fault>
-    ensures { IsStep (inside_scope (V.steps visitor.now) (V.functions visitor.now) scope.now state.old) result
-        state.new }
+    ensures { IsStep (inside_scope (V.steps visitor.now) (V.functions visitor.now) scope.now
+        (V.view visitor.now state.old)) result (V.view visitor.now state.new) }
 {
     walk_block(alloc, visitor, &scope.instructions, state)
 }
@@ -53,8 +53,8 @@ pub fn traverse_pruned_scope<V: ReactiveFunctionVisitor>(
     scope: &PrunedReactiveScopeBlock,
     state: &mut V::State,
 ) -> Result<(), Fault>
-    ensures { IsStep (inside_pruned_scope (V.steps visitor.now) (V.functions visitor.now) scope.now state.old) result
-        state.new }
+    ensures { IsStep (inside_pruned_scope (V.steps visitor.now) (V.functions visitor.now) scope.now
+        (V.view visitor.now state.old)) result (V.view visitor.now state.new) }
 {
     walk_block(alloc, visitor, &scope.instructions, state)
 }
@@ -68,8 +68,8 @@ pub fn traverse_block<V: ReactiveFunctionVisitor>(
     block: &ReactiveBlock,
     state: &mut V::State,
 ) -> Result<(), Fault>
-    ensures { IsStep (inside_block (V.steps visitor.now) (V.functions visitor.now) block.now state.old) result
-        state.new }
+    ensures { IsStep (inside_block (V.steps visitor.now) (V.functions visitor.now) block.now
+        (V.view visitor.now state.old)) result (V.view visitor.now state.new) }
 {
     for statement in block.statements.as_slice() {
         walk_statement(alloc, visitor, statement, state)?;
@@ -85,7 +85,8 @@ pub(crate) fn walk_block<V: ReactiveFunctionVisitor>(
     block: &ReactiveBlock,
     state: &mut V::State,
 ) -> Result<(), Fault>
-    ensures { IsStep (read_block (V.steps visitor.now) (V.functions visitor.now) block.now state.old) result state.new }
+    ensures { IsStep (read_block (V.steps visitor.now) (V.functions visitor.now) block.now
+        (V.view visitor.now state.old)) result (V.view visitor.now state.new) }
 {
     match visitor.enter_block(block, state)? {
         Enter::Inside => {
@@ -104,8 +105,8 @@ fn walk_statement<V: ReactiveFunctionVisitor>(
     statement: &ReactiveStatement,
     state: &mut V::State,
 ) -> Result<(), Fault>
-    ensures { IsStep (read_statement (V.steps visitor.now) (V.functions visitor.now) statement.now state.old) result
-        state.new }
+    ensures { IsStep (read_statement (V.steps visitor.now) (V.functions visitor.now) statement.now
+        (V.view visitor.now state.old)) result (V.view visitor.now state.new) }
 {
     match statement {
         ReactiveStatement::Instruction(row) => walk_instruction(alloc, visitor, row, state),
@@ -123,7 +124,8 @@ fn walk_scope<V: ReactiveFunctionVisitor>(
     scope: &ReactiveScopeBlock,
     state: &mut V::State,
 ) -> Result<(), Fault>
-    ensures { IsStep (read_scope (V.steps visitor.now) (V.functions visitor.now) scope.now state.old) result state.new }
+    ensures { IsStep (read_scope (V.steps visitor.now) (V.functions visitor.now) scope.now
+        (V.view visitor.now state.old)) result (V.view visitor.now state.new) }
 {
     match visitor.enter_scope(scope, state)? {
         Enter::Inside => {
@@ -142,8 +144,8 @@ fn walk_pruned_scope<V: ReactiveFunctionVisitor>(
     scope: &PrunedReactiveScopeBlock,
     state: &mut V::State,
 ) -> Result<(), Fault>
-    ensures { IsStep (read_pruned_scope (V.steps visitor.now) (V.functions visitor.now) scope.now state.old) result
-        state.new }
+    ensures { IsStep (read_pruned_scope (V.steps visitor.now) (V.functions visitor.now) scope.now
+        (V.view visitor.now state.old)) result (V.view visitor.now state.new) }
 {
     match visitor.enter_pruned_scope(scope, state)? {
         Enter::Inside => {
@@ -162,8 +164,8 @@ fn walk_terminal<V: ReactiveFunctionVisitor>(
     stmt: &ReactiveTerminalStatement,
     state: &mut V::State,
 ) -> Result<(), Fault>
-    ensures { IsStep (read_terminal (V.steps visitor.now) (V.functions visitor.now) stmt.now state.old) result
-        state.new }
+    ensures { IsStep (read_terminal (V.steps visitor.now) (V.functions visitor.now) stmt.now
+        (V.view visitor.now state.old)) result (V.view visitor.now state.new) }
 {
     match visitor.enter_terminal(stmt, state)? {
         Enter::Inside => {
@@ -182,8 +184,8 @@ fn walk_parts<V: ReactiveFunctionVisitor>(
     terminal: &ReactiveTerminal,
     state: &mut V::State,
 ) -> Result<(), Fault>
-    ensures { IsStep (read_parts (V.steps visitor.now) (V.functions visitor.now) terminal.now state.old) result
-        state.new }
+    ensures { IsStep (read_parts (V.steps visitor.now) (V.functions visitor.now) terminal.now
+        (V.view visitor.now state.old)) result (V.view visitor.now state.new) }
 {
     match terminal {
         ReactiveTerminal::Break { id, .. } | ReactiveTerminal::Continue { id, .. } => {
@@ -289,8 +291,8 @@ fn walk_cases<V: ReactiveFunctionVisitor>(
     cases: &List<ReactiveSwitchCase>,
     state: &mut V::State,
 ) -> Result<(), Fault>
-    ensures { IsStep (each (λ c. read_case (V.steps visitor.now) (V.functions visitor.now) c id) cases.now state.old)
-        result state.new }
+    ensures { IsStep (each (λ c. read_case (V.steps visitor.now) (V.functions visitor.now) c id) cases.now
+        (V.view visitor.now state.old)) result (V.view visitor.now state.new) }
 {
     for case in cases.as_slice() {
         walk_case(alloc, visitor, id, case, state)?;
@@ -307,7 +309,8 @@ fn walk_case<V: ReactiveFunctionVisitor>(
     case: &ReactiveSwitchCase,
     state: &mut V::State,
 ) -> Result<(), Fault>
-    ensures { IsStep (read_case (V.steps visitor.now) (V.functions visitor.now) case.now id state.old) result state.new }
+    ensures { IsStep (read_case (V.steps visitor.now) (V.functions visitor.now) case.now id
+        (V.view visitor.now state.old)) result (V.view visitor.now state.new) }
 {
     visit_place_if(visitor, id, &case.test, state)?;
     walk_block_if(alloc, visitor, &case.block, state)
@@ -321,8 +324,8 @@ fn walk_block_if<V: ReactiveFunctionVisitor>(
     block: &Option<ReactiveBlock>,
     state: &mut V::State,
 ) -> Result<(), Fault>
-    ensures { IsStep (perhaps (read_block (V.steps visitor.now) (V.functions visitor.now)) block.now state.old) result
-        state.new }
+    ensures { IsStep (perhaps (read_block (V.steps visitor.now) (V.functions visitor.now)) block.now
+        (V.view visitor.now state.old)) result (V.view visitor.now state.new) }
 {
     match block {
         Some(block) => walk_block(alloc, visitor, block, state),
@@ -338,8 +341,8 @@ fn walk_loop_value<V: ReactiveFunctionVisitor>(
     value: &Boxed<ReactiveValue>,
     state: &mut V::State,
 ) -> Result<(), Fault>
-    ensures { IsStep (read_value (V.steps visitor.now) (V.functions visitor.now) value.now id state.old) result
-        state.new }
+    ensures { IsStep (read_value (V.steps visitor.now) (V.functions visitor.now) value.now id
+        (V.view visitor.now state.old)) result (V.view visitor.now state.new) }
 {
     walk_value(alloc, visitor, id, value.get(), state)
 }
@@ -352,9 +355,8 @@ fn walk_value_if<V: ReactiveFunctionVisitor>(
     value: &Option<Boxed<ReactiveValue>>,
     state: &mut V::State,
 ) -> Result<(), Fault>
-    ensures { IsStep (perhaps (λ x. read_value (V.steps visitor.now)
-        (V.functions visitor.now) x id) value.now state.old)
-        result state.new }
+    ensures { IsStep (perhaps (λ x. read_value (V.steps visitor.now) (V.functions visitor.now) x id) value.now
+        (V.view visitor.now state.old)) result (V.view visitor.now state.new) }
 {
     match value {
         Some(value) => walk_loop_value(alloc, visitor, id, value, state),
@@ -369,7 +371,8 @@ fn visit_place_if<V: ReactiveFunctionVisitor>(
     place: &Option<Place>,
     state: &mut V::State,
 ) -> Result<(), Fault>
-    ensures { IsStep (perhaps ((V.steps visitor.now).visit_place id) place.now state.old) result state.new }
+    ensures { IsStep (perhaps ((V.steps visitor.now).visit_place id) place.now (V.view visitor.now state.old))
+        result (V.view visitor.now state.new) }
 {
     match place {
         Some(place) => visitor.visit_place(id, place, state),

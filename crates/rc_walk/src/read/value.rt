@@ -5,13 +5,15 @@ ghost use Rattle.rc_tree.specs.Step.{IsStep, each, perhaps};
 ghost use Rattle.rc_tree.specs.Read.Values.{inside_base, inside_instruction, inside_value, read_instruction};
 ghost use Rattle.rc_tree.specs.Read.Values.{read_value};
 ghost use Rattle.rc_tree.specs.ReadSteps.{targets_of};
+ghost use Rattle.rc_walk.specs.inside.HeldContext.{inside_held};
 
+use crate::read::held::function_held;
 use crate::visitor::ReactiveFunctionVisitor;
 use rc_hir::{
-    Fault, InstructionValue, Place, Places, each_instruction_value_lvalue,
+    Fault, InstructionValue, Place, Places, TableName, each_instruction_value_lvalue,
     each_instruction_value_operand,
 };
-use rc_names::{EvaluationOrder, List};
+use rc_names::{EvaluationOrder, FunctionId, List};
 use rc_tree::{Enter, ReactiveInstruction, ReactiveValue};
 use std::alloc::Global;
 
@@ -25,8 +27,8 @@ pub fn traverse_value<V: ReactiveFunctionVisitor>(
     value: &ReactiveValue,
     state: &mut V::State,
 ) -> Result<(), Fault>
-    ensures { IsStep (inside_value (V.steps visitor.now) (V.functions visitor.now) value.now id state.old) result
-        state.new }
+    ensures { IsStep (inside_value (V.steps visitor.now) (V.functions visitor.now) value.now id
+        (V.view visitor.now state.old)) result (V.view visitor.now state.new) }
 {
     match value {
         ReactiveValue::Instruction(value) => visit_operands(alloc, visitor, id, value, state),
@@ -70,8 +72,8 @@ pub fn traverse_instruction<V: ReactiveFunctionVisitor>(
     instruction: &ReactiveInstruction,
     state: &mut V::State,
 ) -> Result<(), Fault>
-    ensures { IsStep (inside_instruction (V.steps visitor.now) (V.functions visitor.now) instruction.now state.old)
-        result state.new }
+    ensures { IsStep (inside_instruction (V.steps visitor.now) (V.functions visitor.now) instruction.now
+        (V.view visitor.now state.old)) result (V.view visitor.now state.new) }
 {
     visitor.visit_id(instruction.id, state)?;
     visit_target(visitor, instruction.id, &instruction.lvalue, state)?;
@@ -88,8 +90,8 @@ pub(crate) fn walk_value<V: ReactiveFunctionVisitor>(
     value: &ReactiveValue,
     state: &mut V::State,
 ) -> Result<(), Fault>
-    ensures { IsStep (read_value (V.steps visitor.now) (V.functions visitor.now) value.now id state.old) result
-        state.new }
+    ensures { IsStep (read_value (V.steps visitor.now) (V.functions visitor.now) value.now id
+        (V.view visitor.now state.old)) result (V.view visitor.now state.new) }
 {
     match visitor.enter_value(id, value, state)? {
         Enter::Inside => {
@@ -108,8 +110,8 @@ pub(crate) fn walk_instruction<V: ReactiveFunctionVisitor>(
     instruction: &ReactiveInstruction,
     state: &mut V::State,
 ) -> Result<(), Fault>
-    ensures { IsStep (read_instruction (V.steps visitor.now) (V.functions visitor.now) instruction.now state.old) result
-        state.new }
+    ensures { IsStep (read_instruction (V.steps visitor.now) (V.functions visitor.now) instruction.now
+        (V.view visitor.now state.old)) result (V.view visitor.now state.new) }
 {
     match visitor.enter_instruction(instruction, state)? {
         Enter::Inside => {
@@ -128,8 +130,8 @@ fn walk_rows<V: ReactiveFunctionVisitor>(
     rows: &List<ReactiveInstruction>,
     state: &mut V::State,
 ) -> Result<(), Fault>
-    ensures { IsStep (each (read_instruction (V.steps visitor.now) (V.functions visitor.now)) rows.now state.old) result
-        state.new }
+    ensures { IsStep (each (read_instruction (V.steps visitor.now) (V.functions visitor.now)) rows.now
+        (V.view visitor.now state.old)) result (V.view visitor.now state.new) }
 {
     for row in rows.as_slice() {
         walk_instruction(alloc, visitor, row, state)?;
@@ -137,7 +139,8 @@ fn walk_rows<V: ReactiveFunctionVisitor>(
     Ok(())
 }
 
-/// Visits the operands of an instruction.
+/// Visits the operands of an instruction; those of a nested function are its context.
+#[tactic(auto, using(rc_tree::proofs::ReadLemmas::reading, crate::proofs::HeldContexts::operands_of_held))]
 fn visit_operands<V: ReactiveFunctionVisitor>(
     alloc: Global,
     visitor: &V,
@@ -145,11 +148,35 @@ fn visit_operands<V: ReactiveFunctionVisitor>(
     value: &InstructionValue,
     state: &mut V::State,
 ) -> Result<(), Fault>
-    ensures { IsStep (inside_base (V.steps visitor.now) (V.functions visitor.now) value.now id state.old) result
-        state.new }
+    ensures { IsStep (inside_base (V.steps visitor.now) (V.functions visitor.now) value.now id
+        (V.view visitor.now state.old)) result (V.view visitor.now state.new) }
 {
-    let places = each_instruction_value_operand(alloc, value, visitor.env())?;
-    visit_places(visitor, id, &places, state)
+    match function_held(value) {
+        Some(function) => visit_held(visitor, id, function, state),
+        None => {
+            let places = each_instruction_value_operand(alloc, value, visitor.env())?;
+            visit_each_place(visitor, id, places.as_slice(), state)
+        }
+    }
+}
+
+/// Visits the context of a nested function.
+fn visit_held<V: ReactiveFunctionVisitor>(
+    visitor: &V,
+    id: EvaluationOrder,
+    function: FunctionId,
+    state: &mut V::State,
+) -> Result<(), Fault>
+    ensures { IsStep (inside_held (V.steps visitor.now) (V.functions visitor.now) function id
+        (V.view visitor.now state.old)) result (V.view visitor.now state.new) }
+{
+    match visitor.env().functions.get(function) {
+        Some(found) => visitor.visit_context(id, function, found.context.as_slice(), state),
+        None => Err(Fault::BadName {
+            table: TableName::Functions,
+            index: function.0,
+        }),
+    }
 }
 
 /// Visits a row's target, if it has one.
@@ -159,7 +186,8 @@ fn visit_target<V: ReactiveFunctionVisitor>(
     target: &Option<Place>,
     state: &mut V::State,
 ) -> Result<(), Fault>
-    ensures { IsStep (perhaps ((V.steps visitor.now).visit_lvalue id) target.now state.old) result state.new }
+    ensures { IsStep (perhaps ((V.steps visitor.now).visit_lvalue id) target.now (V.view visitor.now state.old))
+        result (V.view visitor.now state.new) }
 {
     match target {
         Some(target) => visitor.visit_lvalue(id, target, state),
@@ -175,7 +203,8 @@ fn visit_value_targets<V: ReactiveFunctionVisitor>(
     value: &ReactiveValue,
     state: &mut V::State,
 ) -> Result<(), Fault>
-    ensures { IsStep (each ((V.steps visitor.now).visit_lvalue id) (targets_of value.now) state.old) result state.new }
+    ensures { IsStep (each ((V.steps visitor.now).visit_lvalue id) (targets_of value.now)
+        (V.view visitor.now state.old)) result (V.view visitor.now state.new) }
 {
     match value {
         ReactiveValue::Instruction(value) => {
@@ -190,15 +219,16 @@ fn visit_value_targets<V: ReactiveFunctionVisitor>(
 }
 
 /// Visits places as operands, in order.
-pub(crate) fn visit_places<V: ReactiveFunctionVisitor>(
+pub(crate) fn visit_each_place<V: ReactiveFunctionVisitor>(
     visitor: &V,
     id: EvaluationOrder,
-    places: &Places<'_>,
+    places: &[Place],
     state: &mut V::State,
 ) -> Result<(), Fault>
-    ensures { IsStep (each ((V.steps visitor.now).visit_place id) places.now state.old) result state.new }
+    ensures { IsStep (each ((V.steps visitor.now).visit_place id) places.now (V.view visitor.now state.old))
+        result (V.view visitor.now state.new) }
 {
-    for place in places.as_slice() {
+    for place in places {
         visitor.visit_place(id, place, state)?;
     }
     Ok(())
@@ -211,7 +241,8 @@ fn visit_lvalues<V: ReactiveFunctionVisitor>(
     places: &Places<'_>,
     state: &mut V::State,
 ) -> Result<(), Fault>
-    ensures { IsStep (each ((V.steps visitor.now).visit_lvalue id) places.now state.old) result state.new }
+    ensures { IsStep (each ((V.steps visitor.now).visit_lvalue id) places.now (V.view visitor.now state.old))
+        result (V.view visitor.now state.new) }
 {
     for place in places.as_slice() {
         visitor.visit_lvalue(id, place, state)?;

@@ -30,16 +30,18 @@ abbrev pub invariant-walk_blocks-loop-i : goal.invariant-walk_blocks-loop-i
 invariant-walk_blocks-loop-i g l =
     let step = basic_block_at (g.V.ReactiveFunctionVisitor.steps l.visitor)
     (g.V.ReactiveFunctionVisitor.functions l.visitor) l.initial.entered l.rows in
+    let view = g.V.ReactiveFunctionVisitor.view l.visitor in
     record {
       kept : l.entered ≡ l.initial.entered;
-      walk : each step l.blocks l.initial.state ≡ each step (drop l.i l.blocks) l.state;
+      walk : each step l.blocks (view l.initial.state) ≡ each step (drop l.i l.blocks) (view l.state);
     }
 
 abbrev pub invariant-walk_rows-loop-id : goal.invariant-walk_rows-loop-id
 invariant-walk_rows-loop-id g l =
     let step = row_at (g.V.ReactiveFunctionVisitor.steps l.visitor) (g.V.ReactiveFunctionVisitor.functions l.visitor)
     l.initial.entered l.rows in
+    let view = g.V.ReactiveFunctionVisitor.view l.visitor in
     record {
       kept : l.entered ≡ l.initial.entered;
-      walk : each step l.id-items l.initial.state ≡ each step (drop l.id-index l.id-items) l.state;
+      walk : each step l.id-items (view l.initial.state) ≡ each step (drop l.id-index l.id-items) (view l.state);
     }

@@ -7,4 +7,5 @@ abbrev pub invariant-walk_rows-loop-row : goal.invariant-walk_rows-loop-row
 invariant-walk_rows-loop-row g l =
     let step = read_instruction (g.V.ReactiveFunctionVisitor.steps l.visitor)
     (g.V.ReactiveFunctionVisitor.functions l.visitor) in
-    each step l.row-items l.initial.state ≡ each step (drop l.row-index l.row-items) l.state
+    let view = g.V.ReactiveFunctionVisitor.view l.visitor in
+    each step l.row-items (view l.initial.state) ≡ each step (drop l.row-index l.row-items) (view l.state)
