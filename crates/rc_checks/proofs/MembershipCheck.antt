@@ -5,3 +5,4 @@ pub mod CheckLemmas
 pub mod UnknownOperands
 pub mod UnknownVisits
 pub mod WithoutBlocks
+pub mod ContextLemmas

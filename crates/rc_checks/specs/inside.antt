@@ -2,5 +2,6 @@
 pub mod TargetSteps
 pub mod OpenScopes
 pub mod MembershipSteps
+pub mod ContextVisits
 pub mod LabelPruning
 pub mod UnusedScopesSteps

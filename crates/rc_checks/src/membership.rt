@@ -1,8 +1,11 @@
 //! The check that the operands of a scope stand inside its scope blocks.
 //!
-//! One pass collects the scopes that have a scope block. A read walk then looks up the scope of each operand, and
-//! whether a block of it is open. Only the last operand outside is kept.
+//! One pass collects the scopes that have a scope block, and another the places of each function's context whose scope
+//! is one of them. A read walk then looks up the scope of each operand, and whether a block of it is open. Only the last
+//! operand outside is kept.
 
+mod contexts;
+mod look_ups;
 mod open_scopes;
 mod visitor;
 
@@ -14,6 +17,7 @@ ghost use Rattle.rc_hir.specs.Model.{TableName as Table};
 ghost use Rattle.rc_names.specs.Numbers.{EvaluationOrder as Order, ScopeId as Scope, is_among};
 ghost use Rattle.rc_tree.specs.TreeNames.{TreeInTables, TreeNamesOutside};
 
+use crate::membership::contexts::contexts_to_visit;
 use crate::membership::open_scopes::OpenScopes;
 use crate::membership::visitor::{Membership, Seen};
 use crate::scope_blocks::scopes_in;
@@ -50,9 +54,11 @@ pub fn assert_scope_instructions_within_scopes(
         ⊎ ((table : Table) × (index : ℕ) × (fault ≡ Fault.BadName table index)))) }
 {
     let blocks = scope_blocks(alloc, &func.body)?;
+    let contexts = contexts_to_visit(alloc, env, &blocks)?;
     let check = Membership {
         env,
         blocks: &blocks,
+        contexts,
     };
     let mut seen = Seen {
         around: OpenScopes::new(alloc),

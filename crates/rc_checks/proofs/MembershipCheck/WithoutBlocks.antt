@@ -16,7 +16,7 @@ use Rattle.rc_checks.proofs.MembershipCheck.CheckLemmas.{unknown_behind, unknown
 use Rattle.rc_checks.proofs.MembershipCheck.UnknownVisits.{first_unknown_outside}
 
 -- the scope of an operand has no block, whether its range has the operand or not
-never : (b : Bool) → (b && false) ≡ false
+pub never : (b : Bool) → (b && false) ≡ false
 never true = refl
 never false = refl
 

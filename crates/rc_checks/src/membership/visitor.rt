@@ -2,11 +2,14 @@
 
 ghost use Rattle.std.specs.Prelude.{◌≡◌};
 ghost use Rattle.rc_checks.specs.Membership as spec;
+ghost use Rattle.rc_checks.specs.inside.ContextVisits.{contexts_to_visit};
 ghost use Rattle.rc_checks.specs.inside.MembershipSteps.{membership_steps};
+ghost use Rattle.rc_tree.specs.Step.{IsStep, each};
 
+use crate::membership::look_ups::{range_of, scope_of};
 use crate::membership::open_scopes::OpenScopes;
-use rc_hir::{Environment, Fault, MutableRange, Place, TableName};
-use rc_names::{EvaluationOrder, IdentifierId, KeySet, ScopeId};
+use rc_hir::{Environment, Fault, MutableRange, Place};
+use rc_names::{EvaluationOrder, FunctionId, KeySet, List, Name, ScopeId};
 use rc_tree::{
     Enter, PrunedReactiveScopeBlock, ReactiveBlock, ReactiveInstruction, ReactiveScopeBlock,
     ReactiveTerminalStatement, ReactiveValue,
@@ -27,11 +30,13 @@ pub struct Seen {
     pub outside: Option<Outside>,
 }
 
-/// The check's hooks, with the scopes that have a scope block.
+/// The check's hooks, with the scopes that have a scope block, and the places to visit of each function's context.
 #[derive(Drop)]
 pub struct Membership<'a> {
     pub env: &'a Environment,
     pub blocks: &'a KeySet<ScopeId>,
+    pub contexts: List<List<Place>>,
+    ghost listed: { contexts ≡ contexts_to_visit env.now blocks.now },
 }
 
 impl<'a> Membership<'a> {
@@ -57,31 +62,38 @@ impl<'a> Membership<'a> {
             Ok(None)
         }
     }
-}
 
-/// The scope of an identifier; `BadName` comes where the identifier is outside its table.
-fn scope_of(env: &Environment, number: IdentifierId) -> Result<Option<ScopeId>, Fault>
-    ensures { result ≡ spec.scope_of env.now number }
-{
-    match env.identifiers.get(number) {
-        Some(identifier) => Ok(identifier.scope),
-        None => Err(Fault::BadName {
-            table: TableName::Identifiers,
-            index: number.0,
-        }),
+    /// Visits an operand.
+    fn visit_operand(
+        &self,
+        id: EvaluationOrder,
+        place: &Place,
+        state: &mut Seen,
+    ) -> Result<(), Fault>
+        ensures { IsStep ((membership_steps self.now.env.now self.now.blocks.now).visit_place id place.now state.old)
+            result state.new }
+    {
+        if let Some(scope) = self.outside(id, place, &state.around)? {
+            state.outside = Some(Outside { id, scope });
+        }
+        Ok(())
     }
-}
 
-/// The range of a scope; `BadName` comes where the scope is outside its table.
-fn range_of(env: &Environment, number: ScopeId) -> Result<MutableRange, Fault>
-    ensures { result ≡ spec.range_of env.now number }
-{
-    match env.scopes.get(number) {
-        Some(scope) => Ok(scope.range),
-        None => Err(Fault::BadName {
-            table: TableName::Scopes,
-            index: number.0,
-        }),
+    /// Visits operands, in order.
+    #[tactic(auto, using(rc_tree::proofs::ReadLemmas::reading))]
+    fn visit_operands(
+        &self,
+        id: EvaluationOrder,
+        places: &[Place],
+        state: &mut Seen,
+    ) -> Result<(), Fault>
+        ensures { IsStep (each ((membership_steps self.now.env.now self.now.blocks.now).visit_place id) places.now
+            state.old) result state.new }
+    {
+        for place in places {
+            self.visit_operand(id, place, state)?;
+        }
+        Ok(())
     }
 }
 
@@ -119,10 +131,21 @@ impl<'a> ReactiveFunctionVisitor for Membership<'a> {
         place: &Place,
         state: &mut Seen,
     ) -> Result<(), Fault> {
-        if let Some(scope) = self.outside(id, place, &state.around)? {
-            state.outside = Some(Outside { id, scope });
+        self.visit_operand(id, place, state)
+    }
+
+    #[tactic(auto, using(crate::proofs::MembershipCheck::ContextLemmas::context_by_rest))]
+    fn visit_context(
+        &self,
+        id: EvaluationOrder,
+        function: FunctionId,
+        places: &[Place],
+        state: &mut Seen,
+    ) -> Result<(), Fault> {
+        match self.contexts.get(function.index()) {
+            Some(left) => self.visit_operands(id, left.as_slice(), state),
+            None => self.visit_operands(id, places, state),
         }
-        Ok(())
     }
 
     fn visit_lvalue(
