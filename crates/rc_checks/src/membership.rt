@@ -1,8 +1,8 @@
 //! The check that the operands of a scope stand inside its scope blocks.
 //!
 //! One pass collects the scopes that have a scope block, and another the places of each function's context whose scope
-//! is one of them. A read walk then looks up the scope of each operand, and whether a block of it is open. Only the last
-//! operand outside is kept.
+//! is one of them. A read walk then looks up the scope of each operand, and whether a block of it is open. Only the
+//! last operand outside is kept.
 
 mod contexts;
 mod look_ups;

@@ -4,6 +4,8 @@ mod SetLemmas
 mod SpreadSteps
 mod ReachedLemmas
 mod SpreadLemmas
+mod ToldLemmas
+mod TakenLemmas
 mod PositionLemmas
 mod FlowsLemmas
 mod ValuesLemmas

@@ -5,6 +5,7 @@ use Rattle.std.specs.List.{list_any}
 use Rattle.std.proofs.lemmas.Bool.{or_cases, or_left, or_right}
 use Rattle.std.proofs.lemmas.List.Folds.{list_any-append}
 use Rattle.indexmap.specs.IndexSet.{insert_key}
+use Rattle.rc_names.specs.declared.numbers.Id.{Id}
 use Rattle.rc_names.specs.Numbers.{IdentifierId, is_among, same_id}
 use Rattle.rc_names.proofs.NumbersLemmas.{ids_equivalence, same_id-eq}
 use Rattle.rc_flow.specs.inside.Spread.{with_all}
@@ -18,25 +19,27 @@ In name names = is_among names name ≡ true
 pub in_itself : (name : IdentifierId) → same_id name name ≡ true
 in_itself name = ids_equivalence.refl name
 
+-- one number more, of any kind
+pub insert_cases : {K : Type 0} (set : List (Id K)) (name n : Id K) → is_among (insert_key same_id set name) n ≡ true
+    → (is_among set n ≡ true) ⊎ (n ≡ name)
+insert_cases set name n = by (is_among set name)
+  where
+    by : (b : Bool) → is_among (if b then set else set ++ name ∷ []) n ≡ true → (is_among set n ≡ true) ⊎ (n ≡ name)
+    by true h = inl h
+    by false h =
+        elim (or_cases (is_among set n) (same_id n name || false)
+        (sym (list_any-append (same_id n) set (name ∷ [])) ∙ h)) [
+          | inl k ↦ inl k
+          | inr k ↦ elim (or_cases (same_id n name) false k) [
+            | inl e ↦ inr (same_id-eq n name e)
+            | inr e ↦ absurd (true≢false (sym e))
+          ]
+        ]
+
 -- one name more
 module _ (set : Names) (name : IdentifierId) where
   abbrev more_if : Bool → Names
   more_if known = if known then set else set ++ name ∷ []
-
-  pub insert_cases : (n : IdentifierId) → In n (insert_key same_id set name) → In n set ⊎ (n ≡ name)
-  insert_cases n = by (is_among set name)
-    where
-      by : (b : Bool) → In n (more_if b) → In n set ⊎ (n ≡ name)
-      by true h = inl h
-      by false h =
-          elim (or_cases (is_among set n) (same_id n name || false)
-          (sym (list_any-append (same_id n) set (name ∷ [])) ∙ h)) [
-            | inl k ↦ inl k
-            | inr k ↦ elim (or_cases (same_id n name) false k) [
-              | inl e ↦ inr (same_id-eq n name e)
-              | inr e ↦ absurd (true≢false (sym e))
-            ]
-          ]
 
   pub insert_old : (n : IdentifierId) → In n set → In n (insert_key same_id set name)
   insert_old n h = by (is_among set name)

@@ -7,12 +7,14 @@ ghost use Rattle.rc_hir.specs.Fault.{IsExpected};
 ghost use Rattle.rc_flow.specs.Collected.{recorded_steps};
 ghost use Rattle.rc_flow.specs.ReactiveNames.{AreCollected};
 ghost use Rattle.rc_flow.specs.inside.Gathered.{spread_over};
+ghost use Rattle.rc_flow.specs.inside.Told.{IsTold};
 ghost use Rattle.rc_hir.specs.declared.fault.Fault.TheVariants as faults;
 ghost use Rattle.rc_tree.specs.TreeNames.{TreeInTables, TreeNamesOutside};
 
 use crate::recorder::Recorder;
 use crate::spread::Spread;
-use crate::step::Step;
+use crate::taking::take_told;
+use crate::told::Told;
 use rc_hir::{Environment, Fault};
 use rc_names::{IdentifierId, KeySet, List};
 use rc_tree::ReactiveFunction;
@@ -48,17 +50,17 @@ pub(crate) fn collected(
 ) -> Result<Spread, Fault>
     ensures { IsExpected (spread_over func.now.body env.now) result }
 {
-    let steps = recorded(alloc, func, env)?;
+    let told = recorded(alloc, func, env)?;
     let mut spread = Spread::new(alloc);
-    spread.take(env, steps.as_slice())?;
+    take_told(alloc, env, told.as_slice(), &mut spread)?;
     Ok(spread)
 }
 
-/// The steps by which names are collected.
-fn recorded(alloc: Global, func: &ReactiveFunction, env: &Environment) -> Result<List<Step>, Fault>
-    ensures { IsExpected (recorded_steps env.now func.now.body) result }
+/// What the collecting walk tells.
+fn recorded(alloc: Global, func: &ReactiveFunction, env: &Environment) -> Result<List<Told>, Fault>
+    ensures { IsTold env.now.functions (recorded_steps env.now func.now.body) result }
 {
-    let mut steps = List::new(alloc);
-    visit_reactive_function(alloc, func, &Recorder { alloc, env }, &mut steps)?;
-    Ok(steps)
+    let mut told = List::new(alloc);
+    visit_reactive_function(alloc, func, &Recorder { alloc, env }, &mut told)?;
+    Ok(told)
 }

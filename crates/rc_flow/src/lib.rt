@@ -11,6 +11,8 @@ mod pass;
 mod recorder;
 mod spread;
 mod step;
+mod taking;
+mod told;
 mod types;
 mod value_step;
 

@@ -1,13 +1,15 @@
 //! The read walk that lists what marks names as reactive.
 
-ghost use Rattle.std.specs.Prelude.{◌≡◌, ◌++◌, List as Entries, IfOk, OnOk};
+ghost use Rattle.std.specs.Prelude.{◌≡◌, [], ◌∷◌, ◌++◌, List as Entries, IfOk, OnOk};
 ghost use Rattle.rc_flow.specs.Collected as spec;
 ghost use Rattle.rc_flow.specs.declared.step.Step.{Step};
+ghost use Rattle.rc_flow.specs.inside.Told.{steps_told};
 
 use crate::step::Step;
+use crate::told::Told;
 use crate::types::{is_primitive, is_ref, type_of};
 use rc_hir::{DeclarationEntry, Environment, Fault, Place};
-use rc_names::{EvaluationOrder, List, ScopeId};
+use rc_names::{EvaluationOrder, FunctionId, List, ScopeId};
 use rc_tree::{
     Enter, PrunedReactiveScopeBlock, ReactiveBlock, ReactiveInstruction, ReactiveScopeBlock,
     ReactiveTerminalStatement, ReactiveValue,
@@ -15,21 +17,11 @@ use rc_tree::{
 use rc_walk::ReactiveFunctionVisitor;
 use std::alloc::{AllocError, Global};
 
-/// The hooks of the walk, whose state is the list.
+/// The hooks of the walk, whose state is what was told so far, and stands for the steps that this means.
 #[derive(Clone, Copy)]
 pub struct Recorder<'a> {
     pub alloc: Global,
     pub env: &'a Environment,
-}
-
-/// Adds a place that is marked reactive.
-fn add_place(steps: &mut List<Step>, place: &Place) -> Result<(), AllocError>
-    ensures { OnOk result (steps.new ≡ steps.old ++ spec.place_steps place.now) }
-{
-    if place.reactive {
-        steps.push(Step::Marks(place.identifier))?;
-    }
-    Ok(())
 }
 
 /// The key of a declaration is reactive where its identifier is so by then.
@@ -41,50 +33,68 @@ fn key_follows(alloc: Global, entry: &DeclarationEntry) -> Result<Step, AllocErr
     Ok(Step::Carries { from, to })
 }
 
-/// Adds the key of a declaration, unless its value never changes.
-fn add_declaration(
-    alloc: Global,
-    env: &Environment,
-    steps: &mut List<Step>,
-    entry: &DeclarationEntry,
-) -> Result<(), AllocError>
-    ensures { OnOk result (steps.new ≡ steps.old ++ spec.declaration_steps env.now entry.now) }
-{
-    let Some(type_) = type_of(env, entry.value.identifier) else {
-        return steps.push(Step::Marks(entry.key));
-    };
-    if is_primitive(type_) {
-        return Ok(());
+impl<'a> Recorder<'a> {
+    /// Adds a step.
+    #[tactic(auto, using(crate::proofs::ToldLemmas::told_step))]
+    fn add_step(&self, told: &mut List<Told>, step: Step) -> Result<(), AllocError>
+        ensures { OnOk result (steps_told self.now.env.now.functions told.new
+            ≡ steps_told self.now.env.now.functions told.old ++ step ∷ []) }
+    {
+        told.push(Told::Step(step))
     }
-    if is_ref(type_) {
-        return steps.push(key_follows(alloc, entry)?);
-    }
-    steps.push(Step::Marks(entry.key))
-}
 
-/// Adds the declarations of a scope whose pruned block ends.
-fn add_declarations(
-    alloc: Global,
-    env: &Environment,
-    steps: &mut List<Step>,
-    scope: ScopeId,
-) -> Result<(), AllocError>
-    ensures { OnOk result (steps.new ≡ steps.old ++ spec.pruned_scope_steps env.now scope) }
-{
-    if let Some(known) = env.scopes.get(scope) {
-        for entry in known.declarations.as_slice() {
-            add_declaration(alloc, env, steps, entry)?;
+    /// Adds a place that is marked reactive.
+    fn add_place(&self, told: &mut List<Told>, place: &Place) -> Result<(), AllocError>
+        ensures { OnOk result (steps_told self.now.env.now.functions told.new
+            ≡ steps_told self.now.env.now.functions told.old ++ spec.place_steps place.now) }
+    {
+        if place.reactive {
+            self.add_step(told, Step::Marks(place.identifier))?;
         }
+        Ok(())
     }
-    Ok(())
+
+    /// Adds the key of a declaration, unless its value never changes.
+    fn add_declaration(
+        &self,
+        told: &mut List<Told>,
+        entry: &DeclarationEntry,
+    ) -> Result<(), AllocError>
+        ensures { OnOk result (steps_told self.now.env.now.functions told.new
+            ≡ steps_told self.now.env.now.functions told.old ++ spec.declaration_steps self.now.env.now entry.now) }
+    {
+        let Some(type_) = type_of(self.env, entry.value.identifier) else {
+            return self.add_step(told, Step::Marks(entry.key));
+        };
+        if is_primitive(type_) {
+            return Ok(());
+        }
+        if is_ref(type_) {
+            return self.add_step(told, key_follows(self.alloc, entry)?);
+        }
+        self.add_step(told, Step::Marks(entry.key))
+    }
+
+    /// Adds the declarations of a scope whose pruned block ends.
+    fn add_declarations(&self, told: &mut List<Told>, scope: ScopeId) -> Result<(), AllocError>
+        ensures { OnOk result (steps_told self.now.env.now.functions told.new
+            ≡ steps_told self.now.env.now.functions told.old ++ spec.pruned_scope_steps self.now.env.now scope) }
+    {
+        if let Some(known) = self.env.scopes.get(scope) {
+            for entry in known.declarations.as_slice() {
+                self.add_declaration(told, entry)?;
+            }
+        }
+        Ok(())
+    }
 }
 
 impl<'a> ReactiveFunctionVisitor for Recorder<'a> {
-    type State = List<Step>;
+    type State = List<Told>;
 
     ghost Value = { Entries Step };
 
-    ghost view = { λ it steps. steps };
+    ghost view = { λ it told. steps_told it.env.now.functions told };
 
     ghost steps = { λ it. spec.recording it.env.now };
 
@@ -94,7 +104,7 @@ impl<'a> ReactiveFunctionVisitor for Recorder<'a> {
         self.env
     }
 
-    fn visit_id(&self, _id: EvaluationOrder, _steps: &mut List<Step>) -> Result<(), Fault> {
+    fn visit_id(&self, _id: EvaluationOrder, _told: &mut List<Told>) -> Result<(), Fault> {
         Ok(())
     }
 
@@ -102,9 +112,20 @@ impl<'a> ReactiveFunctionVisitor for Recorder<'a> {
         &self,
         _id: EvaluationOrder,
         place: &Place,
-        steps: &mut List<Step>,
+        told: &mut List<Told>,
     ) -> Result<(), Fault> {
-        add_place(steps, place)?;
+        self.add_place(told, place)?;
+        Ok(())
+    }
+
+    fn visit_context(
+        &self,
+        _id: EvaluationOrder,
+        function: FunctionId,
+        _places: &[Place],
+        told: &mut List<Told>,
+    ) -> Result<(), Fault> {
+        told.push(Told::Context(function))?;
         Ok(())
     }
 
@@ -112,21 +133,21 @@ impl<'a> ReactiveFunctionVisitor for Recorder<'a> {
         &self,
         _id: EvaluationOrder,
         place: &Place,
-        steps: &mut List<Step>,
+        told: &mut List<Told>,
     ) -> Result<(), Fault> {
         // A target that is marked is reactive, as the result of a hook is.
-        add_place(steps, place)?;
+        self.add_place(told, place)?;
         Ok(())
     }
 
-    fn visit_param(&self, _place: &Place, _steps: &mut List<Step>) -> Result<(), Fault> {
+    fn visit_param(&self, _place: &Place, _told: &mut List<Told>) -> Result<(), Fault> {
         Ok(())
     }
 
     fn enter_instruction(
         &self,
         _instruction: &ReactiveInstruction,
-        _steps: &mut List<Step>,
+        _told: &mut List<Told>,
     ) -> Result<Enter, Fault> {
         Ok(Enter::Inside)
     }
@@ -134,7 +155,7 @@ impl<'a> ReactiveFunctionVisitor for Recorder<'a> {
     fn leave_instruction(
         &self,
         _instruction: &ReactiveInstruction,
-        _steps: &mut List<Step>,
+        _told: &mut List<Told>,
     ) -> Result<(), Fault> {
         Ok(())
     }
@@ -143,7 +164,7 @@ impl<'a> ReactiveFunctionVisitor for Recorder<'a> {
         &self,
         _id: EvaluationOrder,
         _value: &ReactiveValue,
-        _steps: &mut List<Step>,
+        _told: &mut List<Told>,
     ) -> Result<Enter, Fault> {
         Ok(Enter::Inside)
     }
@@ -152,7 +173,7 @@ impl<'a> ReactiveFunctionVisitor for Recorder<'a> {
         &self,
         _id: EvaluationOrder,
         _value: &ReactiveValue,
-        _steps: &mut List<Step>,
+        _told: &mut List<Told>,
     ) -> Result<(), Fault> {
         Ok(())
     }
@@ -160,7 +181,7 @@ impl<'a> ReactiveFunctionVisitor for Recorder<'a> {
     fn enter_terminal(
         &self,
         _stmt: &ReactiveTerminalStatement,
-        _steps: &mut List<Step>,
+        _told: &mut List<Told>,
     ) -> Result<Enter, Fault> {
         Ok(Enter::Inside)
     }
@@ -168,7 +189,7 @@ impl<'a> ReactiveFunctionVisitor for Recorder<'a> {
     fn leave_terminal(
         &self,
         _stmt: &ReactiveTerminalStatement,
-        _steps: &mut List<Step>,
+        _told: &mut List<Told>,
     ) -> Result<(), Fault> {
         Ok(())
     }
@@ -176,7 +197,7 @@ impl<'a> ReactiveFunctionVisitor for Recorder<'a> {
     fn enter_scope(
         &self,
         _scope: &ReactiveScopeBlock,
-        _steps: &mut List<Step>,
+        _told: &mut List<Told>,
     ) -> Result<Enter, Fault> {
         Ok(Enter::Inside)
     }
@@ -184,7 +205,7 @@ impl<'a> ReactiveFunctionVisitor for Recorder<'a> {
     fn leave_scope(
         &self,
         _scope: &ReactiveScopeBlock,
-        _steps: &mut List<Step>,
+        _told: &mut List<Told>,
     ) -> Result<(), Fault> {
         Ok(())
     }
@@ -192,7 +213,7 @@ impl<'a> ReactiveFunctionVisitor for Recorder<'a> {
     fn enter_pruned_scope(
         &self,
         _scope: &PrunedReactiveScopeBlock,
-        _steps: &mut List<Step>,
+        _told: &mut List<Told>,
     ) -> Result<Enter, Fault> {
         Ok(Enter::Inside)
     }
@@ -200,17 +221,17 @@ impl<'a> ReactiveFunctionVisitor for Recorder<'a> {
     fn leave_pruned_scope(
         &self,
         scope: &PrunedReactiveScopeBlock,
-        steps: &mut List<Step>,
+        told: &mut List<Told>,
     ) -> Result<(), Fault> {
-        add_declarations(self.alloc, self.env, steps, scope.scope)?;
+        self.add_declarations(told, scope.scope)?;
         Ok(())
     }
 
-    fn enter_block(&self, _block: &ReactiveBlock, _steps: &mut List<Step>) -> Result<Enter, Fault> {
+    fn enter_block(&self, _block: &ReactiveBlock, _told: &mut List<Told>) -> Result<Enter, Fault> {
         Ok(Enter::Inside)
     }
 
-    fn leave_block(&self, _block: &ReactiveBlock, _steps: &mut List<Step>) -> Result<(), Fault> {
+    fn leave_block(&self, _block: &ReactiveBlock, _told: &mut List<Told>) -> Result<(), Fault> {
         Ok(())
     }
 }

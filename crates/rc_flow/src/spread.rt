@@ -42,7 +42,7 @@ impl Spread {
     }
 
     /// Takes one step.
-    fn take_step(&mut self, env: &Environment, step: &Step) -> Result<(), AllocError>
+    pub fn take_step(&mut self, env: &Environment, step: &Step) -> Result<(), AllocError>
         ensures { OnOk result (self.new ≡ spec.after_step env.now step.now self.old) }
     {
         match step {

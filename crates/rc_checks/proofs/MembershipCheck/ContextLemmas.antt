@@ -1,5 +1,6 @@
 -- A context is visited by its places that may be outside: a visit of another place changes nothing.
-use Rattle.std.proofs.Common.{◌≡◌, ◌∙◌, Bool, true, false, ◌&&◌, ◌||◌, not, List, [], ◌∷◌, Option, None, Some, Result, Ok, Err}
+use Rattle.std.proofs.Common.{◌≡◌, ◌∙◌, Bool, true, false, ◌&&◌, ◌||◌, not, List, [], ◌∷◌, Option}
+use Rattle.std.proofs.Common.{None, Some, Result, Ok, Err}
 use Rattle.std.proofs.Common.{refl, sym, ap, if◌then◌else◌, option_map, slice_get, true≢false}
 use Rattle.std.specs.List.{filter}
 use Rattle.std.specs.Result.{is_err}
@@ -61,7 +62,8 @@ module _ (env : Environment) (blocks : List ScopeId) where
   still id place none s =
       let operand : PlacedOperand = record { id = id; place = place; enclosing = s.around } in
       ap (λ (r : Result (Option ScopeId) Fault). told env blocks s.around
-      (bind r (λ scope. Ok (latest_outside id scope s.outside)))) (of_scope operand (scope_of env place.identifier) none)
+      (bind r (λ scope. Ok (latest_outside id scope s.outside))))
+      (of_scope operand (scope_of env place.identifier) none)
 
   -- a context, visited by what is left of it
   pub context_by_rest : (id : EvaluationOrder) (function : FunctionId) (places left : List Place)
