@@ -1,6 +1,7 @@
 -- Facts that are added one by one, and one after the other, to what is held of them.
 use Rattle.std.proofs.Common.{◌≡◌, ◌∙◌, ◌++◌, ◌+◌, ◌<◌, ◌≤◌, inl, inr, ℕ, zero, suc, List, [], ◌∷◌}
-use Rattle.std.proofs.Common.{Option, None, Some, Result, Ok, Err, ap, append-nil, append_assoc, arith, drop}
+use Rattle.std.proofs.Common.{Option, None, Some, Result, Ok, Err, IfOk, OnOk, ap, append-nil, append_assoc, arith}
+use Rattle.std.proofs.Common.{drop}
 use Rattle.std.proofs.Common.{get_or, length, refl, subst, sym, take}
 use Rattle.std.specs.List.{flat_map}
 use Rattle.std.proofs.lemmas.List.{take_more}
@@ -8,7 +9,7 @@ use Rattle.rc_hir.specs.Model.{Fault}
 use Rattle.rc_hir.specs.declared.fault.Fault.TheVariants.{NoMemory}
 use Rattle.rc_names.specs.Numbers.{DeclarationId}
 use Rattle.rc_memo.specs.Facts.{Fact, first_missing, missing_now, needed_by, or_else}
-use Rattle.rc_memo.specs.inside.Gathering.{Adds, Gathers}
+use Rattle.rc_memo.specs.inside.Gathering.{Adds, AddsAt, Gathers, PutsOperands, RowOperands}
 
 -- what is missing among some facts and more
 pub missing_next : (before facts more : List Fact) → first_missing before facts ≡ None
@@ -44,6 +45,12 @@ flat_append f [] ys = refl
 flat_append f (x ∷ xs) ys =
     ap (λ w. f x ++ w) (flat_append f xs ys) ∙ sym (append_assoc (f x) (flat_map f xs) (flat_map f ys))
 
+-- some facts, and then those of two lists
+pub in_two_lists : {X : Type 0} (f : X → List Fact) (facts : List Fact) (xs ys : List X)
+    → facts ++ flat_map f (xs ++ ys) ≡ (facts ++ flat_map f xs) ++ flat_map f ys
+in_two_lists f facts xs ys =
+    ap (λ w. facts ++ w) (flat_append f xs ys) ∙ sym (append_assoc facts (flat_map f xs) (flat_map f ys))
+
 front : {X : Type 0} (f : X → List Fact) (xs : List X) (i : ℕ) (d : X) → i < length xs → flat_map f (take (i + 1) xs)
     ≡ flat_map f (take i xs) ++ f (get_or xs i d)
 front f xs i d lt = ap (flat_map f) (take_more xs i d lt) ∙ flat_append f (take i xs) (get_or xs i d ∷ [])
@@ -61,21 +68,22 @@ whole [] (suc i) = refl
 whole (x ∷ xs) zero = refl
 whole (x ∷ xs) (suc i) = ap (λ w. x ∷ w) (whole xs i)
 
-module _ {S : Type 0} (Holds : List Fact → S → Type 0) where
+module _ {S : Type 0} (Holds : RowOperands → List Fact → S → Type 0) where
   pub adds_memory : (gs : List Fact) (old new : S) → Adds Holds gs old (Err NoMemory) new
   unfolding Adds Gathers
-  adds_memory gs old new fs holds = inl refl
+  adds_memory gs old new rows fs holds = inl refl
 
   pub adds_nothing : (old : S) → Adds Holds [] old (Ok tt) old
   unfolding Adds Gathers
-  adds_nothing old fs holds = (refl, subst (λ w. Holds w old) (sym (append-nil fs)) holds)
+  adds_nothing old rows fs holds = (refl, subst (λ w. Holds rows w old) (sym (append-nil fs)) holds)
 
-  pub next_by : (fs gs hs : List Fact) (r : Result (Unit {0}) Fault) (new : S)
-      → first_missing fs gs ≡ None → Gathers Holds (fs ++ gs) hs r new → Gathers Holds fs (gs ++ hs) r new
+  next_by : (rows : RowOperands) (fs gs hs : List Fact) (r : Result (Unit {0}) Fault) (new : S)
+      → first_missing fs gs ≡ None → Gathers (Holds rows) (fs ++ gs) hs r new
+      → Gathers (Holds rows) fs (gs ++ hs) r new
   unfolding Gathers
-  next_by fs gs hs (Ok u) new none g =
-      (missing_next fs gs hs none ∙ g.0, subst (λ w. Holds w new) (append_assoc fs gs hs) g.1)
-  next_by fs gs hs (Err fault) new none g = elim g [
+  next_by rows fs gs hs (Ok u) new none g =
+      (missing_next fs gs hs none ∙ g.0, subst (λ w. Holds rows w new) (append_assoc fs gs hs) g.1)
+  next_by rows fs gs hs (Err fault) new none g = elim g [
     | inl memory ↦ inl memory
     | inr missing ↦ inr (missing.0, missing.1, missing_next fs gs hs none ∙ missing.2)
   ]
@@ -84,14 +92,14 @@ module _ {S : Type 0} (Holds : List Fact → S → Type 0) where
   pub adds_next : (gs hs : List Fact) (r : Result (Unit {0}) Fault) (old mid new : S)
       → Adds Holds gs old (Ok tt) mid → Adds Holds hs mid r new → Adds Holds (gs ++ hs) old r new
   unfolding Adds Gathers
-  adds_next gs hs r old mid new first next fs holds = let a =
-      first fs holds in next_by fs gs hs r new a.0 (next (fs ++ gs) a.1)
+  adds_next gs hs r old mid new first next rows fs holds = let a =
+      first rows fs holds in next_by rows fs gs hs r new a.0 (next rows (fs ++ gs) a.1)
 
   -- a part that stops stops the whole
   pub adds_stop : (gs hs : List Fact) (fault : Fault) (old new last : S)
       → Adds Holds gs old (Err fault) new → Adds Holds (gs ++ hs) old (Err fault) last
   unfolding Adds Gathers
-  adds_stop gs hs fault old new last first fs holds = elim (first fs holds) [
+  adds_stop gs hs fault old new last first rows fs holds = elim (first rows fs holds) [
     | inl memory ↦ inl memory
     | inr missing ↦ inr (missing.0, missing.1, missing_kept fs gs hs missing.0 missing.2)
   ]
@@ -129,3 +137,46 @@ module _ {S : Type 0} (Holds : List Fact → S → Type 0) where
       subst (λ w. Adds Holds w old (Err fault) new) (sym (flat_append f (take (i + 1) xs) (drop (i + 1) xs))
       ∙ ap (flat_map f) (whole xs (i + 1) ∙ same))
       (adds_stop (flat_map f (take (i + 1) xs)) (flat_map f (drop (i + 1) xs)) fault old new new so_far)
+
+  -- facts of a row, wherever its operands stand
+  pub adds_at : (row : Option ℕ) (names : List DeclarationId) (gs : List Fact) (old new : S)
+      (r : Result (Unit {0}) Fault) → Adds Holds gs old r new → AddsAt Holds row names gs old r new
+  unfolding Adds AddsAt
+  adds_at row names gs old new r adds rows fs there holds = adds rows fs holds
+
+  pub adds_at_memory : (row : Option ℕ) (names : List DeclarationId) (gs : List Fact) (old new : S)
+      → AddsAt Holds row names gs old (Err NoMemory) new
+  unfolding AddsAt Gathers
+  adds_at_memory row names gs old new rows fs there holds = inl refl
+
+  pub adds_at_none : (names : List DeclarationId) (gs : List Fact) (old new : S) (r : Result (Unit {0}) Fault)
+      → AddsAt Holds None names gs old r new → Adds Holds gs old r new
+  unfolding Adds AddsAt
+  adds_at_none names gs old new r adds rows fs holds = adds rows fs tt holds
+
+  pub puts_nothing : (names : List DeclarationId) (old : S) → PutsOperands Holds names None old old
+  unfolding PutsOperands
+  puts_nothing names old rows facts holds =
+      ([], subst (λ w. Holds w facts old) (sym (append-nil rows)) holds, tt)
+
+  pub adds_at_next : (row : Option ℕ) (names : List DeclarationId) (gs hs : List Fact) (r : Result (Unit {0}) Fault)
+      (old mid new : S) → Adds Holds gs old (Ok tt) mid → AddsAt Holds row names hs mid r new
+      → AddsAt Holds row names (gs ++ hs) old r new
+  unfolding Adds AddsAt Gathers
+  adds_at_next row names gs hs r old mid new first next rows fs there holds = let a = first rows fs holds in
+      next_by rows fs gs hs r new a.0 (next rows (fs ++ gs) there a.1)
+
+  pub adds_at_stop : (row : Option ℕ) (names : List DeclarationId) (gs hs : List Fact) (fault : Fault)
+      (old new last : S) → Adds Holds gs old (Err fault) new → AddsAt Holds row names (gs ++ hs) old (Err fault) last
+  adds_at_stop row names gs hs fault old new last first =
+      adds_at row names (gs ++ hs) old last (Err fault) (adds_stop gs hs fault old new last first)
+
+-- what follows from a result's value
+
+pub onward : {A E P Q : Type 0} (r : Result A E) → (P → Q) → OnOk r P → OnOk r Q
+onward (Ok a) f p = f p
+onward (Err e) f p = p
+
+pub onward_with : {A E : Type 0} {P Q : A → Type 0} (r : Result A E) → ((a : A) → P a → Q a) → IfOk r P → IfOk r Q
+onward_with (Ok a) f p = f a p
+onward_with (Err e) f p = p

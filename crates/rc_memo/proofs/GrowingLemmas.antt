@@ -1,11 +1,13 @@
 -- Sets and maps that grow as events come.
-use Rattle.std.proofs.Common.{◌≡◌, ◌∙◌, ◌++◌, ◌+◌, ◌<◌, ◌≤◌, ℕ, Bool, true, false, List, [], ◌∷◌, Option, None, Some, ap}
-use Rattle.std.proofs.Common.{append-nil, append_assoc, cond, get_or, length, refl, subst, sym, take}
+use Rattle.std.proofs.Common.{◌≡◌, ◌∙◌, ◌++◌, ◌+◌, ◌<◌, ◌≤◌, ℕ, Bool, true, false, List, [], ◌∷◌, Option, None, Some}
+use Rattle.std.proofs.Common.{ap}
+use Rattle.std.proofs.Common.{append-nil, append_assoc, cond, get_or, length, map, refl, subst, sym, take}
 use Rattle.std.specs.Prelude.{◌||◌}
 use Rattle.std.specs.List.{flat_map, list_any}
 use Rattle.std.specs.Map.{keys_of, lookup}
 use Rattle.std.proofs.lemmas.List.{map-append, take_more}
 use Rattle.indexmap.specs.IndexMap.{insert_entry}
+use Rattle.indexmap.specs.IndexSet.{insert_key}
 use Rattle.rc_hir.specs.Model.{Environment}
 use Rattle.rc_names.proofs.NumbersLemmas.{same_id-eq}
 use Rattle.rc_names.specs.Numbers.{DeclarationId, ScopeId, same_id}
@@ -26,9 +28,30 @@ module _ {K : Type 0} where
       ap (distinct same_id) (sym (append_assoc keys (key ∷ []) more)) ∙ distinct-all (keys ++ key ∷ []) more
       ∙ ap (λ w. insert_all w more) (distinct_push same_id same_id-eq itself keys key)
 
+insert_all-push : {K : Type 0} (keys more : List (Id K)) (key : Id K) → insert_all keys (more ++ key ∷ [])
+    ≡ insert_key same_id (insert_all keys more) key
+insert_all-push keys [] key = refl
+insert_all-push keys (first ∷ more) key = insert_all-push (insert_key same_id keys first) more key
+
+-- a set that takes one key of each entry, one after the other
+pub inserted_more : {X K : Type 0} (f : X → Id K) (xs : List X) (i : ℕ) (default : X) (key : Id K)
+    (old mid new : List (Id K)) → i < length xs → mid ≡ insert_all old (map f (take i xs))
+    → key ≡ f (get_or xs i default) → new ≡ insert_key same_id mid key
+    → new ≡ insert_all old (map f (take (i + 1) xs))
+inserted_more f xs i default key old mid new below so_far is put =
+    put ∙ ap (insert_key same_id mid) is ∙ ap (λ w. insert_key same_id w (f (get_or xs i default))) so_far
+    ∙ sym (ap (λ w. insert_all old (map f w)) (take_more xs i default below)
+    ∙ ap (insert_all old) (map-append f (take i xs) (get_or xs i default ∷ []))
+    ∙ insert_all-push old (map f (take i xs)) (f (get_or xs i default)))
+
 flat-push : {X Y : Type 0} (f : X → List Y) (ys : List X) (x : X) → flat_map f (ys ++ x ∷ []) ≡ flat_map f ys ++ f x
 flat-push f [] x = append-nil (f x)
 flat-push f (y ∷ ys) x = ap (λ w. f y ++ w) (flat-push f ys x) ∙ sym (append_assoc (f y) (flat_map f ys) (f x))
+
+flat-both : {X Y : Type 0} (f : X → List Y) (xs ys : List X) → flat_map f (xs ++ ys) ≡ flat_map f xs ++ flat_map f ys
+flat-both f [] ys = refl
+flat-both f (x ∷ xs) ys =
+    ap (λ w. f x ++ w) (flat-both f xs ys) ∙ sym (append_assoc (f x) (flat_map f xs) (flat_map f ys))
 
 flat-front_or : {X Y : Type 0} (f : X → List Y) (xs : List X) (i : ℕ) (d : X) → i < length xs
     → flat_map f (take (i + 1) xs) ≡ flat_map f (take i xs) ++ f (get_or xs i d)
@@ -138,6 +161,15 @@ module _ (env : Environment) where
   adds_scopes_next first second old mid new one two before is =
       two (before ++ first) (one before is)
       ∙ ap (λ w. recorded_scopes env (distinct same_id w)) (append_assoc before first second)
+
+  -- scopes of more entries behind those of some
+  pub adds_scopes_behind : {X : Type 0} (f : X → List ScopeId) (first : List ScopeId) (xs ys : List X)
+      (old mid new : List (ScopeId × List DeclarationId)) → AddsScopes env (first ++ flat_map f xs) old mid
+      → AddsScopes env (flat_map f ys) mid new → AddsScopes env (first ++ flat_map f (xs ++ ys)) old new
+  adds_scopes_behind f first xs ys old mid new one two =
+      subst (λ w. AddsScopes env w old new) (append_assoc first (flat_map f xs) (flat_map f ys)
+      ∙ ap (λ w. first ++ w) (sym (flat-both f xs ys)))
+      (adds_scopes_next (first ++ flat_map f xs) (flat_map f ys) old mid new one two)
 
   -- a loop over entries with scopes
   pub adds_more_scopes : {X : Type 0} (f : X → List ScopeId) (xs : List X) (i : ℕ) (x : X)

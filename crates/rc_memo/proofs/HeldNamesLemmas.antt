@@ -1,28 +1,27 @@
 -- Facts that are added one by one to the names that have a node.
-use Rattle.std.proofs.Common.{◌≡◌, ◌∙◌, ◌++◌, ◌+◌, ◌<◌, inr, ℕ, Bool, true, false, List, [], ◌∷◌, Option, None, Some}
-use Rattle.std.proofs.Common.{Ok, Err, ap, cond, get_or, length, refl, subst, sym, take}
+use Rattle.std.proofs.Common.{◌≡◌, ◌∙◌, ◌++◌, inr, ℕ, Bool, true, false, List, [], ◌∷◌, Option, None, Some}
+use Rattle.std.proofs.Common.{Ok, Err, ap, cond, refl, subst, sym}
 use Rattle.std.specs.Prelude.{◌||◌}
 use Rattle.std.specs.List.{flat_map, list_any}
-use Rattle.std.proofs.lemmas.List.{map-append, take_more}
 use Rattle.indexmap.specs.IndexSet.{insert_key}
 use Rattle.rc_hir.specs.declared.fault.Fault.TheVariants.{Uninitialised}
 use Rattle.rc_names.specs.Numbers.{DeclarationId, ScopeId, same_id}
-use Rattle.rc_memo.proofs.AddingLemmas.{adds_next, adds_nothing}
+use Rattle.rc_memo.proofs.AddingLemmas.{adds_at, adds_next, adds_nothing}
 use Rattle.rc_memo.proofs.NodesLemmas.{itself, names_more, names_same}
 use Rattle.rc_memo.specs.Events.{dependency_facts, operand_facts, scope_facts, target_facts}
-use Rattle.rc_memo.specs.Facts.{Fact, DependsOn, GivesLevel, HasScope, missing_now, needed_by, or_else}
+use Rattle.rc_memo.specs.Facts.{Fact, DependsOn, GivesLevel, HasScope, missing_now, names_told, needed_by, or_else}
 use Rattle.rc_memo.specs.Facts.{target_told}
 use Rattle.rc_memo.specs.declared.event.Mention.{Mention}
 use Rattle.rc_memo.specs.declared.event.Target.{Target}
 use Rattle.rc_memo.specs.declared.level.MemoizationLevel.{MemoizationLevel}
-use Rattle.rc_memo.specs.inside.Gathering.{Adds, Gathers, HoldsNames, target_names}
+use Rattle.rc_memo.specs.inside.Gathering.{Adds, AddsAt, Gathers, HoldsNames, NamesHold, target_names}
 use Rattle.rc_memo.specs.inside.Growing.{insert_all}
 
 -- a target gets a node
 pub names_level : (d : DeclarationId) (l : MemoizationLevel) (old new : List DeclarationId)
-    → new ≡ insert_key same_id old d → Adds HoldsNames (GivesLevel d l ∷ []) old (Ok tt) new
+    → new ≡ insert_key same_id old d → Adds NamesHold (GivesLevel d l ∷ []) old (Ok tt) new
 unfolding Adds Gathers
-names_level d l old new put fs held =
+names_level d l old new put rows fs held =
     (refl, put ∙ ap (λ names. insert_key same_id names d) held ∙ sym (names_more fs d l))
 
 module _ (fact : Fact) (d : DeclarationId) (needs : needed_by fact ≡ Some d) where
@@ -34,38 +33,19 @@ module _ (fact : Fact) (d : DeclarationId) (needs : needed_by fact ≡ Some d) w
 
   -- a name that is needed and has a node
   pub names_needed : (old : List DeclarationId) → target_told fact ≡ None → list_any (same_id d) old ≡ true
-      → Adds HoldsNames (fact ∷ []) old (Ok tt) old
+      → Adds NamesHold (fact ∷ []) old (Ok tt) old
   unfolding Adds Gathers
-  names_needed old no_target found fs held = (
+  names_needed old no_target found rows fs held = (
     ap (λ now. or_else now None) (asked fs old held ∙ ap (λ b. cond b None (Some d)) found),
     held ∙ sym (names_same fs fact no_target),
   )
 
   -- one that has none
   pub names_missing : (old new : List DeclarationId) → list_any (same_id d) old ≡ false
-      → Adds HoldsNames (fact ∷ []) old (Err (Uninitialised d)) new
+      → Adds NamesHold (fact ∷ []) old (Err (Uninitialised d)) new
   unfolding Adds Gathers
-  names_missing old new found fs held =
+  names_missing old new found rows fs held =
       inr (d, refl, ap (λ now. or_else now None) (asked fs old held ∙ ap (λ b. cond b None (Some d)) found))
-
--- a loop over targets
-insert_all-push : (names more : List DeclarationId) (name : DeclarationId) → insert_all names (more ++ name ∷ [])
-    ≡ insert_key same_id (insert_all names more) name
-insert_all-push names [] name = refl
-insert_all-push names (first ∷ more) name = insert_all-push (insert_key same_id names first) more name
-
-pub targets_more : (resolve : DeclarationId → DeclarationId) (targets : List Target) (i : ℕ) (default : Target)
-    (name : DeclarationId) (old mid new : List DeclarationId) → i < length targets
-    → mid ≡ insert_all old (target_names resolve (take i targets))
-    → name ≡ resolve (get_or targets i default).mention.name → new ≡ insert_key same_id mid name
-    → new ≡ insert_all old (target_names resolve (take (i + 1) targets))
-targets_more resolve targets i default name old mid new below so_far named put =
-    let target = get_or targets i default in
-    put ∙ ap (insert_key same_id mid) named
-    ∙ ap (λ w. insert_key same_id w (resolve target.mention.name)) so_far
-    ∙ sym (ap (λ w. insert_all old (target_names resolve w)) (take_more targets i default below)
-    ∙ ap (insert_all old) (map-append (λ (t : Target). resolve t.mention.name) (take i targets) (target ∷ []))
-    ∙ insert_all-push old (target_names resolve (take i targets)) (resolve target.mention.name))
 
 -- the targets of a row
 
@@ -77,7 +57,7 @@ any_last d (name ∷ names) = go (same_id d name) (any_last d names) where
   go true r = refl
   go false r = r
 
-any_inserted : (d : DeclarationId) (names : List DeclarationId)
+pub any_inserted : (d : DeclarationId) (names : List DeclarationId)
     → list_any (same_id d) (insert_key same_id names d) ≡ true
 any_inserted d names = go (list_any (same_id d) names) refl where
   go : (b : Bool) → list_any (same_id d) names ≡ b → list_any (same_id d) (cond b names (names ++ d ∷ [])) ≡ true
@@ -87,24 +67,24 @@ any_inserted d names = go (list_any (same_id d) names) refl where
 module _ (resolve : DeclarationId → DeclarationId) (d : DeclarationId) where
   -- the facts of a name that has a node add nothing
   names_operands : (operands : List Mention) (names : List DeclarationId) → list_any (same_id d) names ≡ true
-      → Adds HoldsNames (flat_map (operand_facts resolve d) operands) names (Ok tt) names
+      → Adds NamesHold (flat_map (operand_facts resolve d) operands) names (Ok tt) names
   unfolding operand_facts
-  names_operands [] names there = adds_nothing HoldsNames names
+  names_operands [] names there = adds_nothing NamesHold names
   names_operands (operand ∷ operands) names there =
-      adds_next HoldsNames (dependency_facts d (resolve operand.name)) (flat_map (operand_facts resolve d) operands)
+      adds_next NamesHold (dependency_facts d (resolve operand.name)) (flat_map (operand_facts resolve d) operands)
       (Ok tt) names names names (go (same_id d (resolve operand.name))) (names_operands operands names there)
     where
-      go : (b : Bool) → Adds HoldsNames (cond b [] (DependsOn d (resolve operand.name) ∷ [])) names (Ok tt) names
-      go true = adds_nothing HoldsNames names
+      go : (b : Bool) → Adds NamesHold (cond b [] (DependsOn d (resolve operand.name) ∷ [])) names (Ok tt) names
+      go true = adds_nothing NamesHold names
       go false = names_needed (DependsOn d (resolve operand.name)) d refl names refl there
 
   names_scope : (scope : Option ScopeId) (names : List DeclarationId) → list_any (same_id d) names ≡ true
-      → Adds HoldsNames (scope_facts d scope) names (Ok tt) names
-  names_scope None names there = adds_nothing HoldsNames names
+      → Adds NamesHold (scope_facts d scope) names (Ok tt) names
+  names_scope None names there = adds_nothing NamesHold names
   names_scope (Some scope) names there = names_needed (HasScope d scope) d refl names refl there
 
 names_target : (resolve : DeclarationId → DeclarationId) (operands : List Mention) (target : Target)
-    (names : List DeclarationId) → Adds HoldsNames (target_facts resolve operands target) names (Ok tt)
+    (names : List DeclarationId) → Adds NamesHold (target_facts resolve operands target) names (Ok tt)
     (insert_key same_id names (resolve target.mention.name))
 unfolding target_facts
 names_target resolve operands target names =
@@ -113,24 +93,37 @@ names_target resolve operands target names =
     let more = scope_facts d target.mention.scope in
     let after = insert_key same_id names d in
     let there = any_inserted d names in
-    adds_next HoldsNames (GivesLevel d target.level ∷ []) (facts ++ more) (Ok tt) names after after
+    adds_next NamesHold (GivesLevel d target.level ∷ []) (facts ++ more) (Ok tt) names after after
     (names_level d target.level names after refl)
-    (adds_next HoldsNames facts more (Ok tt) after after after (names_operands resolve d operands after there)
+    (adds_next NamesHold facts more (Ok tt) after after after (names_operands resolve d operands after there)
     (names_scope resolve d target.mention.scope after there))
 
 names_all : (resolve : DeclarationId → DeclarationId) (operands : List Mention) (targets : List Target)
-    (names : List DeclarationId) → Adds HoldsNames (flat_map (target_facts resolve operands) targets) names (Ok tt)
+    (names : List DeclarationId) → Adds NamesHold (flat_map (target_facts resolve operands) targets) names (Ok tt)
     (insert_all names (target_names resolve targets))
-names_all resolve operands [] names = adds_nothing HoldsNames names
+names_all resolve operands [] names = adds_nothing NamesHold names
 names_all resolve operands (target ∷ targets) names =
     let after = insert_key same_id names (resolve target.mention.name) in
-    adds_next HoldsNames (target_facts resolve operands target) (flat_map (target_facts resolve operands) targets)
+    adds_next NamesHold (target_facts resolve operands target) (flat_map (target_facts resolve operands) targets)
     (Ok tt) names after (insert_all after (target_names resolve targets)) (names_target resolve operands target names)
     (names_all resolve operands targets after)
 
-pub names_targets : (resolve : DeclarationId → DeclarationId) (operands : List Mention) (targets : List Target)
+names_targets : (resolve : DeclarationId → DeclarationId) (operands : List Mention) (targets : List Target)
     (old new : List DeclarationId) → new ≡ insert_all old (target_names resolve targets)
-    → Adds HoldsNames (flat_map (target_facts resolve operands) targets) old (Ok tt) new
+    → Adds NamesHold (flat_map (target_facts resolve operands) targets) old (Ok tt) new
 names_targets resolve operands targets old new put =
-    subst (λ w. Adds HoldsNames (flat_map (target_facts resolve operands) targets) old (Ok tt) w) (sym put)
+    subst (λ w. Adds NamesHold (flat_map (target_facts resolve operands) targets) old (Ok tt) w) (sym put)
     (names_all resolve operands targets old)
+
+pub names_targets_at : (resolve : DeclarationId → DeclarationId) (row : Option ℕ) (others : List DeclarationId)
+    (operands : List Mention) (targets : List Target) (old new : List DeclarationId)
+    → new ≡ insert_all old (target_names resolve targets)
+    → AddsAt NamesHold row others (flat_map (target_facts resolve operands) targets) old (Ok tt) new
+names_targets_at resolve row others operands targets old new put =
+    adds_at NamesHold row others (flat_map (target_facts resolve operands) targets) old new (Ok tt)
+    (names_targets resolve operands targets old new put)
+
+-- before the first fact no name has a node
+pub no_names : (names : List DeclarationId) → names ≡ [] → HoldsNames [] names
+unfolding names_told
+no_names names empty = empty

@@ -13,7 +13,8 @@ use Rattle.rc_memo.specs.Facts.{Fact, GivesLevel, DependsOn, HasScope, NeedsNode
 use Rattle.rc_memo.specs.Facts.{or_else}
 use Rattle.rc_memo.specs.declared.level.MemoizationLevel.{MemoizationLevel}
 use Rattle.rc_memo.specs.declared.record.MemoNode.{MemoNode}
-use Rattle.rc_memo.specs.inside.Gathering.{Adds, Gathers, HoldsNodes, at_name, empty_node, with_dependency, with_level}
+use Rattle.rc_memo.specs.inside.Gathering.{Adds, Gathers, Held, HoldsNodes, NodesHold, at_name, empty_node}
+use Rattle.rc_memo.specs.inside.Gathering.{with_dependency, with_level}
 use Rattle.rc_memo.specs.inside.Gathering.{with_scope}
 
 pub keys_each : {V : Type 0} (g : DeclarationId → V) (ks : List DeclarationId) → keys_of (at_each g ks) ≡ ks
@@ -31,41 +32,41 @@ there fs nodes d b holds e = ap (list_any (same_id d)) (sym (keys_are fs nodes h
 
 pub adds_dependency : (d e : DeclarationId) (old new : List (DeclarationId × MemoNode)) → new
     ≡ at_name d (with_dependency e) old → list_any (same_id d) (keys_of old) ≡ true
-    → Adds HoldsNodes (DependsOn d e ∷ []) old (Ok tt) new
+    → Adds NodesHold (DependsOn d e ∷ []) old (Ok tt) new
 unfolding Adds Gathers
-adds_dependency d e old new is found fs holds = let t = there fs old d true holds found in (
+adds_dependency d e old new is found rows fs holds = let t = there fs old d true holds found in (
   ap (λ w. or_else (cond w None (Some d)) None) t,
   subst (HoldsNodes (fs ++ DependsOn d e ∷ [])) (sym is)
       (told_need fs d e old holds t),
 )
 
 pub adds_dependency_missing : (d e : DeclarationId) (old new : List (DeclarationId × MemoNode))
-    → list_any (same_id d) (keys_of old) ≡ false → Adds HoldsNodes (DependsOn d e ∷ []) old (Err (Uninitialised d)) new
+    → list_any (same_id d) (keys_of old) ≡ false → Adds NodesHold (DependsOn d e ∷ []) old (Err (Uninitialised d)) new
 unfolding Adds Gathers
-adds_dependency_missing d e old new found fs holds =
+adds_dependency_missing d e old new found rows fs holds =
     inr (d, refl, ap (λ w. or_else (cond w None (Some d)) None) (there fs old d false holds found))
 
 pub adds_scope : (d : DeclarationId) (c : ScopeId) (old new : List (DeclarationId × MemoNode)) → new
     ≡ at_name d (with_scope c) old → list_any (same_id d) (keys_of old) ≡ true
-    → Adds HoldsNodes (HasScope d c ∷ []) old (Ok tt) new
+    → Adds NodesHold (HasScope d c ∷ []) old (Ok tt) new
 unfolding Adds Gathers
-adds_scope d c old new is found fs holds = let t = there fs old d true holds found in (
+adds_scope d c old new is found rows fs holds = let t = there fs old d true holds found in (
   ap (λ w. or_else (cond w None (Some d)) None) t,
   subst (HoldsNodes (fs ++ HasScope d c ∷ [])) (sym is)
       (told_scope fs d c old holds t),
 )
 
 pub adds_scope_missing : (d : DeclarationId) (c : ScopeId) (old new : List (DeclarationId × MemoNode))
-    → list_any (same_id d) (keys_of old) ≡ false → Adds HoldsNodes (HasScope d c ∷ []) old (Err (Uninitialised d)) new
+    → list_any (same_id d) (keys_of old) ≡ false → Adds NodesHold (HasScope d c ∷ []) old (Err (Uninitialised d)) new
 unfolding Adds Gathers
-adds_scope_missing d c old new found fs holds =
+adds_scope_missing d c old new found rows fs holds =
     inr (d, refl, ap (λ w. or_else (cond w None (Some d)) None) (there fs old d false holds found))
 
 pub adds_level : (d : DeclarationId) (l : MemoizationLevel) (old new : List (DeclarationId × MemoNode)) → new
     ≡ at_name d (with_level l) old → list_any (same_id d) (keys_of old) ≡ true
-    → Adds HoldsNodes (GivesLevel d l ∷ []) old (Ok tt) new
+    → Adds NodesHold (GivesLevel d l ∷ []) old (Ok tt) new
 unfolding Adds Gathers
-adds_level d l old new is found fs holds = (
+adds_level d l old new is found rows fs holds = (
   refl,
   subst (HoldsNodes (fs ++ GivesLevel d l ∷ [])) (sym is)
       (told_level fs d l old holds (there fs old d true holds found)),
@@ -75,9 +76,9 @@ adds_level d l old new is found fs holds = (
 pub adds_first : (d : DeclarationId) (l : MemoizationLevel) (old between new : List (DeclarationId × MemoNode))
     (node : MemoNode) → between ≡ at_name d (with_level l) old → list_any (same_id d) (keys_of old) ≡ false → node
     ≡ with_level l empty_node →
-    new ≡ insert_entry same_id between d node → Adds HoldsNodes (GivesLevel d l ∷ []) old (Ok tt) new
+    new ≡ insert_entry same_id between d node → Adds NodesHold (GivesLevel d l ∷ []) old (Ok tt) new
 unfolding Adds Gathers
-adds_first d l old between new node is found node_is put fs holds =
+adds_first d l old between new node is found node_is put rows fs holds =
     let same = is ∙ at_absent d (with_level l) old found in
     let whole = put ∙ ap (λ w. insert_entry same_id w d node) same ∙ insert_absent d node old found
     ∙ ap (λ w. old ++ (d, w) ∷ []) node_is in (
@@ -87,14 +88,20 @@ adds_first d l old between new node is found node_is put fs holds =
     )
 
 pub adds_asked : (d : DeclarationId) (nodes : List (DeclarationId × MemoNode)) → list_any (same_id d) (keys_of nodes)
-    ≡ true → Adds HoldsNodes (NeedsNode d ∷ []) nodes (Ok tt) nodes
+    ≡ true → Adds NodesHold (NeedsNode d ∷ []) nodes (Ok tt) nodes
 unfolding Adds Gathers
-adds_asked d nodes found fs holds =
+adds_asked d nodes found rows fs holds =
     (ap (λ w. or_else (cond w None (Some d)) None) (there fs nodes d true holds found), told_asked fs d nodes holds)
 
 pub adds_asked_missing : (d : DeclarationId) (nodes : List (DeclarationId × MemoNode))
-    → list_any (same_id d) (keys_of nodes) ≡ false → Adds HoldsNodes (NeedsNode d ∷ []) nodes (Err (Uninitialised d))
+    → list_any (same_id d) (keys_of nodes) ≡ false → Adds NodesHold (NeedsNode d ∷ []) nodes (Err (Uninitialised d))
     nodes
 unfolding Adds Gathers
-adds_asked_missing d nodes found fs holds =
+adds_asked_missing d nodes found rows fs holds =
     inr (d, refl, ap (λ w. or_else (cond w None (Some d)) None) (there fs nodes d false holds found))
+
+-- before the first fact there is no node
+pub no_nodes : (nodes : Held) → nodes ≡ [] → HoldsNodes [] nodes
+unfolding node_told names_told
+no_nodes nodes empty =
+    subst (HoldsNodes []) (sym empty) (record { nodes_are = refl; grounded = λ name gone. refl })

@@ -1,23 +1,24 @@
 -- Facts that are added to nodes which name the rows of which they are targets.
 use Rattle.std.proofs.Common.{◌≡◌, ◌∙◌, ◌++◌, ◌<◌, ◌+◌, ℕ, Bool, true, false, List, [], ◌∷◌, Option, None, Some, Ok}
-use Rattle.std.proofs.Common.{Err, ap, append-nil, arith, cond, get_or, length, nat_eq, not, refl, subst, sym, take}
+use Rattle.std.proofs.Common.{Err, ap, append-nil, append_assoc, arith, cond, get_or, length, nat_eq, not, refl, subst}
+use Rattle.std.proofs.Common.{sym, take}
 use Rattle.std.proofs.Common.{true≢false}
 use Rattle.std.specs.List.{AllByRecursion, flat_map, list_any}
 use Rattle.std.specs.Map.{keys_of}
 use Rattle.std.specs.Option.{option_to_list}
 use Rattle.std.proofs.lemmas.Grind.{flat_map-append}
-use Rattle.std.proofs.lemmas.List.{get_or_append_left, length-append, take_more}
+use Rattle.std.proofs.lemmas.List.{length-append, take_more}
 use Rattle.std.proofs.lemmas.List.Elements.{filter-append}
-use Rattle.std.proofs.lemmas.Option.{unwrap_or-slice_get}
 use Rattle.rc_hir.specs.declared.fault.Fault.TheVariants.{Uninitialised}
 use Rattle.rc_names.specs.Numbers.{DeclarationId, ScopeId, same_id}
-use Rattle.rc_memo.proofs.AddingLemmas.{adds_next, adds_nothing}
+use Rattle.rc_memo.proofs.AddingLemmas.{adds_at, adds_next, adds_nothing}
 use Rattle.rc_memo.proofs.EntryLemmas.{keys_seen, seen_at, seen_or}
-use Rattle.rc_memo.proofs.EventsLemmas.{no_nodes}
 use Rattle.rc_memo.proofs.GrowingLemmas.{distinct-all}
-use Rattle.rc_memo.proofs.HeldNodesLemmas.{adds_asked, adds_asked_missing, adds_scope, adds_scope_missing}
+use Rattle.rc_memo.proofs.HeldNodesLemmas.{adds_asked, adds_asked_missing, adds_scope, adds_scope_missing, no_nodes}
 use Rattle.rc_memo.proofs.NodesLemmas.{node_same}
+use Rattle.rc_memo.proofs.RepeatedLemmas.{at_before}
 use Rattle.rc_memo.proofs.TargetLemmas.{adds_level_or, adds_target, with_parts}
+use Rattle.rc_memo.proofs.ToldLemmas.{nodes_again}
 use Rattle.rc_memo.specs.Events.{target_facts}
 use Rattle.rc_memo.specs.Facts.{Fact, GivesLevel, HasScope, NeedsNode, distinct}
 use Rattle.rc_memo.specs.RowRecord.{names_but, node_of_rows, nodes_of_rows, operands_at, operands_of}
@@ -27,9 +28,11 @@ use Rattle.rc_memo.specs.declared.level.MemoizationLevel.{MemoizationLevel}
 use Rattle.rc_memo.specs.declared.nodes.rows.HeldRows.{HeldRows}
 use Rattle.rc_memo.specs.declared.nodes.rows.RowTarget.{RowTarget}
 use Rattle.rc_memo.specs.declared.row_record.RowNode.{RowNode}
-use Rattle.rc_memo.specs.inside.Gathering.{Adds, Gathers, HoldsNodes, at_name, empty_node, operand_names, with_level}
+use Rattle.rc_memo.specs.inside.Gathering.{Adds, AddsAt, Gathers, HoldsAgain, HoldsNodes, IsRow, NodesHold}
+use Rattle.rc_memo.specs.inside.Gathering.{PutsOperands, RowOperands, at_name, empty_node, operand_names, with_level}
 use Rattle.rc_memo.specs.inside.Gathering.{with_scope}
-use Rattle.rc_memo.specs.inside.GatheringRows.{HeldRowNodes, HoldsRows, PutsRow, RowsBelow, at_name_or, empty_row_node}
+use Rattle.rc_memo.specs.inside.GatheringRows.{FindsRow, HeldRowNodes, HoldsRows, PutsRow, RowsBelow, at_name_or}
+use Rattle.rc_memo.specs.inside.GatheringRows.{empty_row_node}
 use Rattle.rc_memo.specs.inside.GatheringRows.{row_target, with_row_scope, with_target, with_target_at, with_targets}
 
 -- the rows of nodes are among those that are there
@@ -80,11 +83,13 @@ empty_is ops d = refl
 adds_seen : (facts : List Fact) (old : HeldRows) (nodes : HeldRowNodes)
     → (AllByRecursion (RowsBelow (length old.operands)) old.nodes
     → AllByRecursion (RowsBelow (length old.operands)) nodes)
-    → Adds HoldsNodes facts (nodes_of_rows old.operands old.nodes) (Ok tt) (nodes_of_rows old.operands nodes)
+    → Adds NodesHold facts (nodes_of_rows old.operands old.nodes) (Ok tt) (nodes_of_rows old.operands nodes)
     → Adds HoldsRows facts old (Ok tt) (record { nodes = nodes; operands = old.operands })
 unfolding Adds Gathers
-adds_seen facts old nodes keeps adds before holds = let a = adds before holds.nodes in
-    (a.0, record { rows_below = keeps holds.rows_below; nodes = a.1 })
+adds_seen facts old nodes keeps adds rows before holds = let a = adds rows before holds.nodes in (
+  a.0,
+  record { more = holds.more; kept = holds.kept; rows_below = keeps holds.rows_below; nodes = a.1 },
+)
 
 -- a level
 pub adds_row_level : (d : DeclarationId) (level : MemoizationLevel) (old : HeldRows) (nodes : HeldRowNodes)
@@ -96,7 +101,7 @@ adds_row_level d level old nodes is =
     (λ h. subst (AllByRecursion (RowsBelow (length old.operands))) (sym is)
     (below_or (length old.operands) d (with_target told)
     (λ node g. all_both (λ row. row < length old.operands) node.rows [] g tt) old.nodes h))
-    (subst (λ w. Adds HoldsNodes (GivesLevel d level ∷ []) (nodes_of_rows old.operands old.nodes) (Ok tt) w)
+    (subst (λ w. Adds NodesHold (GivesLevel d level ∷ []) (nodes_of_rows old.operands old.nodes) (Ok tt) w)
     (sym (ap (nodes_of_rows old.operands) is
     ∙ seen_or (node_of_rows old.operands) d (with_target told) (with_level level)
     (grown old.operands d told [] refl) empty_row_node empty_node (empty_is old.operands d) old.nodes))
@@ -125,10 +130,10 @@ adds_row_scope d scope old nodes is found =
 
 -- facts of a name without a node
 stopped : (facts : List Fact) (d : DeclarationId) (old new : HeldRows)
-    → Adds HoldsNodes facts (nodes_of_rows old.operands old.nodes) (Err (Uninitialised d))
+    → Adds NodesHold facts (nodes_of_rows old.operands old.nodes) (Err (Uninitialised d))
     (nodes_of_rows old.operands old.nodes) → Adds HoldsRows facts old (Err (Uninitialised d)) new
 unfolding Adds Gathers
-stopped facts d old new adds before holds = adds before holds.nodes
+stopped facts d old new adds rows before holds = adds rows before holds.nodes
 
 pub adds_row_scope_missing : (d : DeclarationId) (scope : ScopeId) (old new : HeldRows)
     → list_any (same_id d) (keys_of old.nodes) ≡ false
@@ -162,7 +167,7 @@ module _ (resolve : DeclarationId → DeclarationId) (mentions : List Mention) (
       (with_target_at resolve row target nodes)
       (λ h. below_or (length ops) d (with_target told)
       (λ node g. all_both (λ row. row < length ops) node.rows (option_to_list row) g there) nodes h)
-      (subst (λ w. Adds HoldsNodes (target_facts resolve mentions target) (nodes_of_rows ops nodes) (Ok tt) w)
+      (subst (λ w. Adds NodesHold (target_facts resolve mentions target) (nodes_of_rows ops nodes) (Ok tt) w)
       (sym (seen_or (node_of_rows ops) d (with_target told)
       (with_parts target.level (names_but d (operand_names resolve mentions)) target.mention.scope)
       (grown ops d told (operand_names resolve mentions) those) empty_row_node empty_node (empty_is ops d) nodes))
@@ -202,12 +207,6 @@ targets_more resolve row targets i default name old mid new below so_far named p
 
 -- the operands of one more row change no node
 
-at_before : (ops more : List (List DeclarationId)) (row : ℕ) → row < length ops
-    → operands_at (ops ++ more) row ≡ operands_at ops row
-at_before ops more row below =
-    unwrap_or-slice_get (ops ++ more) row [] ∙ get_or_append_left ops more [] row below
-    ∙ sym (unwrap_or-slice_get ops row [])
-
 of_before : (ops more : List (List DeclarationId)) (rows : List ℕ) → AllByRecursion (λ row. row < length ops) rows
     → operands_of (ops ++ more) rows ≡ operands_of ops rows
 of_before ops more [] h = refl
@@ -234,12 +233,14 @@ below_more : (ops more : List (List DeclarationId)) (nodes : HeldRowNodes)
 below_more ops more [] h = tt
 below_more ops more (e ∷ es) h = (all_more ops more e.1.rows h.0, below_more ops more es h.1)
 
-holds_more : (ops more : List (List DeclarationId)) (facts : List Fact) (nodes : HeldRowNodes)
-    → HoldsRows facts (record { nodes = nodes; operands = ops })
-    → HoldsRows facts (record { nodes = nodes; operands = ops ++ more })
-holds_more ops more facts nodes holds = record {
-  rows_below = below_more ops more nodes holds.rows_below;
-  nodes = subst (HoldsNodes facts) (sym (nodes_before ops more nodes holds.rows_below)) holds.nodes;
+holds_more : (rows ops names : RowOperands) (facts : List Fact) (nodes : HeldRowNodes)
+    → HoldsRows rows facts (record { nodes = nodes; operands = ops })
+    → HoldsRows rows facts (record { nodes = nodes; operands = ops ++ names })
+holds_more rows ops names facts nodes holds = record {
+  more = holds.more ++ names;
+  kept = ap (λ w. w ++ names) holds.kept ∙ append_assoc rows holds.more names;
+  rows_below = below_more ops names nodes holds.rows_below;
+  nodes = subst (HoldsNodes facts) (sym (nodes_before ops names nodes holds.rows_below)) holds.nodes;
 }
 
 -- the row's own operands
@@ -248,45 +249,110 @@ last_at : (ops : List (List DeclarationId)) (names : List DeclarationId)
 last_at [] names = refl
 last_at (x ∷ ops) names = last_at ops names
 
+-- the operands of a row are at the position that was found, and nodes are held beside them
+record Found (rows : RowOperands) (facts : List Fact) (nodes : HeldRowNodes) (found : Option ℕ)
+    (names : List DeclarationId) (ops : RowOperands) : Type 0 where
+  below : AllByRecursion (λ row. row < length ops) (option_to_list found)
+  those : operands_of ops (option_to_list found) ≡ names
+  holds : HoldsRows rows facts (record { nodes = nodes; operands = ops })
+
+put_last : (ops : RowOperands) (names : List DeclarationId) (row : ℕ) → row ≡ length ops
+    → (row < length (ops ++ names ∷ [])) × (operands_at (ops ++ names ∷ []) row ≡ names)
+put_last ops names row is = (
+  omega (arith, is, length-append ops (names ∷ [])),
+  ap (operands_at (ops ++ names ∷ [])) is ∙ last_at ops names,
+)
+
+found_at : (rows : RowOperands) (facts : List Fact) (old : HeldRows) (row : Option ℕ) (names : List DeclarationId)
+    (found : Option ℕ) (ops : RowOperands) → IsRow rows row names → HoldsRows rows facts old
+    → FindsRow row old.operands names found ops → Found rows facts old.nodes found names ops
+found_at rows facts old (Some row) names found ops there holds finds =
+    subst (λ w. Found rows facts old.nodes w names ops) (sym finds.0)
+    (subst (λ w. Found rows facts old.nodes (Some row) names w) (sym finds.1) (record {
+      below = (omega (arith, there.0, length-append rows holds.more, ap length holds.kept), tt);
+      those = append-nil (operands_at old.operands row) ∙ ap (λ w. operands_at w row) holds.kept
+          ∙ at_before rows holds.more row there.0 ∙ there.1;
+      holds = holds;
+    }))
+found_at rows facts old None names None ops there holds finds = record {
+  below = tt;
+  those = sym finds.0;
+  holds = subst (λ w. HoldsRows rows facts (record { nodes = old.nodes; operands = w })) (sym finds.1) holds;
+}
+found_at rows facts old None names (Some row) ops there holds finds =
+    let last = put_last old.operands names row finds.0 in
+    subst (λ w. Found rows facts old.nodes (Some row) names w) (sym finds.1) (record {
+      below = (last.0, tt);
+      those = append-nil (operands_at (old.operands ++ names ∷ []) row) ∙ last.1;
+      holds = holds_more rows old.operands (names ∷ []) facts old.nodes holds;
+    })
+
 -- a row: its operands, and then its targets
 pub adds_row_targets : (resolve : DeclarationId → DeclarationId) (mentions : List Mention) (targets : List Target)
-    (row : Option ℕ) (old : HeldRows) (nodes : HeldRowNodes) (ops : List (List DeclarationId))
-    → PutsRow old.operands (operand_names resolve mentions) row ops
-    → nodes ≡ with_targets resolve row targets old.nodes
-    → Adds HoldsRows (flat_map (target_facts resolve mentions) targets) old (Ok tt)
+    (row found : Option ℕ) (old : HeldRows) (nodes : HeldRowNodes) (ops : RowOperands)
+    → FindsRow row old.operands (operand_names resolve mentions) found ops
+    → nodes ≡ with_targets resolve found targets old.nodes
+    → AddsAt HoldsRows row (operand_names resolve mentions) (flat_map (target_facts resolve mentions) targets) old
+    (Ok tt)
     (record { nodes = nodes; operands = ops })
-unfolding Adds Gathers
-adds_row_targets resolve mentions targets None old nodes ops puts is before holds =
-    let g = with_all resolve mentions None old.operands tt (sym puts.0) targets old.nodes before holds in (
+unfolding Adds AddsAt Gathers
+adds_row_targets resolve mentions targets row found old nodes ops finds is rows before there holds =
+    let f = found_at rows before old row (operand_names resolve mentions) found ops there holds finds in
+    let g = with_all resolve mentions found ops f.below f.those targets old.nodes rows before f.holds in (
       g.0,
-      subst (HoldsRows (before ++ flat_map (target_facts resolve mentions) targets))
-          (λ i. record { nodes = sym is i; operands = sym puts.1 i }) g.1,
+      subst (λ w. HoldsRows rows (before ++ flat_map (target_facts resolve mentions) targets)
+          (record { nodes = w; operands = ops })) (sym is) g.1,
     )
-adds_row_targets resolve mentions targets (Some row) old nodes ops puts is before holds =
-    let names = operand_names resolve mentions in
-    let more = old.operands ++ names ∷ [] in
-    let below : row < length more = omega (arith, puts.0, length-append old.operands (names ∷ [])) in
-    let those : operands_of more (row ∷ []) ≡ names =
-    ap (λ w. operands_at more w ++ []) puts.0 ∙ append-nil (operands_at more (length old.operands))
-    ∙ last_at old.operands names in
-    let g = with_all resolve mentions (Some row) more (below, tt) those targets old.nodes before
-    (holds_more old.operands (names ∷ []) before old.nodes holds) in (
-      g.0,
-      subst (HoldsRows (before ++ flat_map (target_facts resolve mentions) targets))
-          (λ i. record { nodes = sym is i; operands = sym puts.1 i }) g.1,
+
+-- the operands alone
+pub puts_row_operands : (names : List DeclarationId) (row : Option ℕ) (old : HeldRows) (ops : RowOperands)
+    → PutsRow old.operands names row ops
+    → PutsOperands HoldsRows names row old (record { nodes = old.nodes; operands = ops })
+unfolding PutsOperands
+puts_row_operands names None old ops puts rows facts holds = (
+  [],
+  subst (λ w. HoldsRows w facts (record { nodes = old.nodes; operands = ops })) (sym (append-nil rows))
+      (subst (λ w. HoldsRows rows facts (record { nodes = old.nodes; operands = w })) (sym puts.1) holds),
+  tt,
+)
+puts_row_operands names (Some row) old ops puts rows facts holds =
+    let put = holds_more rows old.operands (names ∷ []) facts old.nodes holds in
+    let whole : ops ≡ rows ++ put.more = puts.1 ∙ put.kept in
+    let last = put_last old.operands names row puts.0 in (
+      put.more,
+      record {
+        more = [];
+        kept = whole ∙ sym (append-nil (rows ++ put.more));
+        rows_below = subst (λ w. AllByRecursion (RowsBelow (length w)) old.nodes) (sym puts.1) put.rows_below;
+        nodes = subst (λ w. HoldsNodes facts (nodes_of_rows w old.nodes)) (sym puts.1) put.nodes;
+      },
+      subst (λ w. (row < length w) × (operands_at w row ≡ names)) (sym puts.1 ∙ whole) last,
     )
 
 -- a row without targets tells nothing of them
 pub adds_no_targets : (resolve : DeclarationId → DeclarationId) (mentions : List Mention) (targets : List Target)
-    (held : HeldRows) → true ≡ nat_eq (length targets) 0
-    → Adds HoldsRows (flat_map (target_facts resolve mentions) targets) held (Ok tt) held
-adds_no_targets resolve mentions [] held empty = adds_nothing HoldsRows held
-adds_no_targets resolve mentions (target ∷ targets) held empty =
+    (row : Option ℕ) (names : List DeclarationId) (held : HeldRows) → true ≡ nat_eq (length targets) 0
+    → AddsAt HoldsRows row names (flat_map (target_facts resolve mentions) targets) held (Ok tt) held
+adds_no_targets resolve mentions [] row names held empty =
+    adds_at HoldsRows row names [] held held (Ok tt) (adds_nothing HoldsRows held)
+adds_no_targets resolve mentions (target ∷ targets) row names held empty =
     let some : nat_eq (length (target ∷ targets)) 0 ≡ false = grind arith in absurd (true≢false (empty ∙ some))
 
+-- facts that are told again
+pub rows_hold_again : (held : HeldRows) → HoldsAgain HoldsRows held
+unfolding HoldsAgain
+rows_hold_again held rows facts more told holds = record {
+  more = holds.more;
+  kept = holds.kept;
+  rows_below = holds.rows_below;
+  nodes = nodes_again facts more (nodes_of_rows held.operands held.nodes) told holds.nodes;
+}
+
 -- before the first fact there is no node
-pub no_rows : (held : HeldRows) → held.nodes ≡ [] → HoldsRows [] held
+pub no_rows : (held : HeldRows) → held.nodes ≡ [] → HoldsRows [] [] held
 no_rows held none = record {
+  more = held.operands;
+  kept = refl;
   rows_below = subst (AllByRecursion (RowsBelow (length held.operands))) (sym none) tt;
   nodes = no_nodes (nodes_of_rows held.operands held.nodes) (ap (nodes_of_rows held.operands) none);
 }

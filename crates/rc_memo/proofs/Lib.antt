@@ -6,11 +6,16 @@ pub mod AddingLemmas
 pub mod HeldNodesLemmas
 pub mod HeldNamesLemmas
 pub mod TargetLemmas
-pub mod HeldRowsLemmas
 pub mod LoadsLemmas
+pub mod ToldLemmas
+pub mod RepeatedLemmas
+pub mod HeldRowsLemmas
 pub mod EventsLemmas
+pub mod GrownEventsLemmas
 pub mod HeldEventsLemmas
 pub mod RowPartsLemmas
+pub mod WindowLemmas
+pub mod KnownRowsLemmas
 pub mod RowEventsLemmas
 pub mod TreeEventsLemmas
 pub mod GrowingLemmas

@@ -41,7 +41,7 @@ after_here : (loads : List (DeclarationId × DeclarationId)) (t n : DeclarationI
 after_here loads t n =
     ap (λ w. unwrap_or w t) (last_push t loads t n ∙ ap (λ w. cond w (Some n) (last_load t loads)) (itself t))
 
-after_off : (loads : List (DeclarationId × DeclarationId)) (t n k : DeclarationId) → same_id t k ≡ false
+pub after_off : (loads : List (DeclarationId × DeclarationId)) (t n k : DeclarationId) → same_id t k ≡ false
     → resolved_after (loads ++ (t, n) ∷ []) k ≡ resolved_after loads k
 after_off loads t n k off =
     ap (λ w. unwrap_or w k) (last_push k loads t n

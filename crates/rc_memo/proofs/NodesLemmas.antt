@@ -57,12 +57,12 @@ module _ {V : Type 0} (g h : DeclarationId → V) (d : DeclarationId) (f : V →
     go false e n r = let u = off k e in let v = r n in cc
 
 -- the facts of one kind, one more fact
-one_less : {Y : Type 0} (h : Fact → Option Y) (fs : List Fact) (f : Fact) → h f ≡ None → filter_map h (fs ++ f ∷ [])
+pub one_less : {Y : Type 0} (h : Fact → Option Y) (fs : List Fact) (f : Fact) → h f ≡ None → filter_map h (fs ++ f ∷ [])
     ≡ filter_map h fs
 one_less h fs f none = filter_map-append h fs (f ∷ []) ∙ ap (λ w. filter_map h fs ++ cons_option w []) none
     ∙ append-nil (filter_map h fs)
 
-one_more : {Y : Type 0} (h : Fact → Option Y) (fs : List Fact) (f : Fact) (y : Y) → h f ≡ Some y
+pub one_more : {Y : Type 0} (h : Fact → Option Y) (fs : List Fact) (f : Fact) (y : Y) → h f ≡ Some y
     → filter_map h (fs ++ f ∷ []) ≡ filter_map h fs ++ y ∷ []
 one_more h fs f y some = filter_map-append h fs (f ∷ []) ∙ ap (λ w. filter_map h fs ++ cons_option w []) some
 
@@ -89,7 +89,7 @@ other d k y off = go (same_id k d) refl where
   go false e = refl
   go true e = cc (same_id-eq k d e, off, itself k)
 
-strongest-push : (ls : List MemoizationLevel) (l : MemoizationLevel) → strongest (ls ++ l ∷ [])
+pub strongest-push : (ls : List MemoizationLevel) (l : MemoizationLevel) → strongest (ls ++ l ∷ [])
     ≡ stronger (strongest ls) l
 strongest-push [] l = stronger_commutes l Never
 strongest-push (x ∷ xs) l = ap (stronger x) (strongest-push xs l) ∙ sym (stronger_associates x (strongest xs) l)
@@ -218,7 +218,7 @@ told_first fs d l nodes holds none =
         go false f = f
         go true f = cc (same_id-eq d k f, e, itself d)
 
-each_off : (g h : DeclarationId → MemoNode) → ((k : DeclarationId) → h k ≡ g k) → (ks : List DeclarationId)
+pub each_off : (g h : DeclarationId → MemoNode) → ((k : DeclarationId) → h k ≡ g k) → (ks : List DeclarationId)
     → at_each h ks ≡ at_each g ks
 each_off g h off [] = refl
 each_off g h off (k ∷ ks) = let u = off k in let v = each_off g h off ks in cc

@@ -5,12 +5,12 @@ use Rattle.rc_memo.specs.Record.{IsRecordOf}
 use Rattle.rc_memo.specs.RowRecord.{record_of_rows}
 use Rattle.rc_memo.specs.declared.collecting.RecordParts.{RecordParts}
 use Rattle.rc_memo.specs.declared.nodes.rows.HeldRows.{HeldRows}
-use Rattle.rc_memo.specs.inside.Gathering.{Held, HoldsNodes}
+use Rattle.rc_memo.specs.inside.Gathering.{Held, NodesHold}
 use Rattle.rc_memo.specs.inside.GatheringRows.{HoldsRows}
 use Rattle.rc_memo.specs.inside.RecordParts.{HasRecordParts}
 
 module _ (func : ReactiveFunction) (env : Environment) where
-  pub record_is : (parts : RecordParts Held) → HasRecordParts HoldsNodes func env parts → IsRecordOf func env (record {
+  pub record_is : (parts : RecordParts Held) → HasRecordParts NodesHold func env parts → IsRecordOf func env (record {
     nodes = parts.found.held;
     scopes = parts.scopes;
     definitions = parts.found.definitions;

@@ -1,8 +1,10 @@
 -- What each form of value brings, and the steps in which its parts are added.
-use Rattle.std.proofs.Common.{◌≡◌, ◌∙◌, Bool, List, [], ◌∷◌, ◌++◌, ap, append-nil, append_assoc, map, refl, subst, sym}
+use Rattle.std.proofs.Common.{◌≡◌, ◌∙◌, Bool, List, [], ◌∷◌, ◌++◌, Option, None, Some, ap, append_assoc}
+use Rattle.std.proofs.Common.{map, refl, subst, sym}
+use Rattle.std.proofs.lemmas.List.{map-append}
 use Rattle.std.specs.List.{flat_map}
-use Rattle.rc_hir.specs.Model.{Environment, InstructionValue, LogicalOperator}
-use Rattle.rc_names.specs.Numbers.{EvaluationOrder}
+use Rattle.rc_hir.specs.Model.{Environment, InstructionValue, LogicalOperator, Place}
+use Rattle.rc_names.specs.Numbers.{EvaluationOrder, FunctionId}
 use Rattle.rc_tree.specs.Model.{ReactiveInstruction}
 use Rattle.rc_tree.specs.declared.value.ReactiveValue.{ReactiveValue, map-ReactiveValue, roll-ReactiveValue}
 use Rattle.rc_tree.specs.declared.value.ReactiveValue.TheFolds.{para-roll-ReactiveInstruction, para-roll-ReactiveValue}
@@ -11,8 +13,15 @@ use Rattle.rc_tree.specs.declared.value.ReactiveValue.TheVariants as reactive_va
 use Rattle.rc_memo.specs.RowEvents.{ValueParts, both_parts, instruction_of, own_events, parts_of, recorded_operands}
 use Rattle.rc_memo.specs.RowEvents.{row_events, row_step, value_step}
 use Rattle.rc_memo.specs.declared.event.MemoEvent.{MemoEvent}
-use Rattle.rc_memo.specs.inside.RowsAdded.{AddsOperands, AddsRows, AddsWalked, with_mentions}
-use Rattle.rc_memo.proofs.RowPartsLemmas.{mentions_joined}
+use Rattle.rc_memo.proofs.KnownRowsLemmas.{tells_joined, tells_nothing, tells_same}
+use Rattle.rc_memo.specs.declared.known_rows.Told.{Told}
+use Rattle.rc_memo.specs.Mentions.{mention_of, target_of}
+use Rattle.rc_memo.specs.RowEvents.{escape_events, load_events, places_read, row_event}
+use Rattle.rc_memo.specs.Table.{if_mutable, levels_of, own, recorded_of}
+use Rattle.rc_memo.specs.declared.event.MemoEvent.TheVariants as events
+use Rattle.rc_memo.specs.declared.level.MemoizationLevel.TheVariants.{Memoized}
+use Rattle.rc_memo.specs.inside.KnownRows.{NamesFunction, Tells, context_of, expression, function_row, method}
+use Rattle.rc_memo.specs.inside.RowsAdded.{AddsOperands, AddsRows, AddsWalked}
 
 module _ (env : Environment) where
   -- a value brings the step of its form
@@ -77,146 +86,168 @@ module _ (env : Environment) where
   joined old mid new a b whole first second is =
       second ∙ ap (λ w. w ++ b) first ∙ append_assoc old a b ∙ ap (λ w. old ++ w) (sym is)
 
-  pub as_inside : {x y : ReactiveValue} {old new : List MemoEvent} → x ≡ y → AddsRows env x old new
+  pub as_inside : {x y : ReactiveValue} {old new : Told} → x ≡ y → AddsRows env x old new
       → AddsRows env y old new
   as_inside {old = old} {new = new} is added = subst (λ w. AddsRows env w old new) is added
 
-  pub as_operands : {x y : ReactiveValue} {id : EvaluationOrder} {old new : List MemoEvent} → x ≡ y
-      → AddsOperands env x id old new → AddsOperands env y id old new
-  as_operands {id = id} {old = old} {new = new} is added = subst (λ w. AddsOperands env w id old new) is added
+  pub as_operands : {x y : ReactiveValue} {old new : List Place} → x ≡ y → AddsOperands env x old new
+      → AddsOperands env y old new
+  as_operands {old = old} {new = new} is added = subst (λ w. AddsOperands env w old new) is added
 
-  pub as_walked : {x y : ReactiveValue} {old new : List MemoEvent} → x ≡ y → AddsWalked env x old new
+  pub as_walked : {x y : ReactiveValue} {old new : Told} → x ≡ y → AddsWalked env x old new
       → AddsWalked env y old new
   as_walked {old = old} {new = new} is added = subst (λ w. AddsWalked env w old new) is added
 
   -- the rows inside each form
 
-  pub inside-Instruction : (value' : ReactiveValue) (x : InstructionValue) (events : List MemoEvent)
-      → value' ≡ reactive_values.Instruction x → AddsRows env value' events events
-  inside-Instruction value' x events is = record {
-    events = sym (append-nil events) ∙ ap (λ w. events ++ w.rows) (sym (ap (parts_of env) is ∙ parts-Instruction x));
+  pub inside-Instruction : (value' : ReactiveValue) (x : InstructionValue) (told : Told)
+      → value' ≡ reactive_values.Instruction x → AddsRows env value' told told
+  inside-Instruction value' x told is = record {
+    events = tells_same env [] _ told told (ap (λ w. w.rows) (ap (parts_of env) is ∙ parts-Instruction x))
+        (tells_nothing env told);
   }
 
   pub inside-Logical : (value' : ReactiveValue) (operator : LogicalOperator) (x y : ReactiveValue)
-      (old mid new : List MemoEvent) → value' ≡ reactive_values.LogicalExpression operator x y
+      (old mid new : Told) → value' ≡ reactive_values.LogicalExpression operator x y
       → AddsRows env x old mid → AddsRows env y mid new → AddsRows env value' old new
   inside-Logical value' operator x y old mid new is first second = record {
-    events = joined old mid new _ _ _ first.events second.events
-        (ap (λ w. w.rows) (ap (parts_of env) is ∙ parts-Logical operator x y));
+    events = tells_joined env old mid new _ _ _
+        (ap (λ w. w.rows) (ap (parts_of env) is ∙ parts-Logical operator x y))
+        first.events second.events;
   }
 
-  pub inside-Conditional : (value' test x y : ReactiveValue) (old mid new : List MemoEvent)
+  pub inside-Conditional : (value' test x y : ReactiveValue) (old mid new : Told)
       → value' ≡ reactive_values.ConditionalExpression test x y → AddsRows env x old mid → AddsRows env y mid new
       → AddsRows env value' old new
   inside-Conditional value' test x y old mid new is first second = record {
-    events = joined old mid new _ _ _ first.events second.events
-        (ap (λ w. w.rows) (ap (parts_of env) is ∙ parts-Conditional test x y));
+    events = tells_joined env old mid new _ _ _
+        (ap (λ w. w.rows) (ap (parts_of env) is ∙ parts-Conditional test x y))
+        first.events second.events;
   }
 
   pub inside-Sequence : (value' : ReactiveValue) (rows : List ReactiveInstruction) (id : EvaluationOrder)
-      (x : ReactiveValue) (old mid new : List MemoEvent)
-      → value' ≡ reactive_values.SequenceExpression rows id x → mid ≡ old ++ flat_map (row_events env) rows
+      (x : ReactiveValue) (old mid new : Told)
+      → value' ≡ reactive_values.SequenceExpression rows id x → Tells env (flat_map (row_events env) rows) old mid
       → AddsRows env x mid new → AddsRows env value' old new
   inside-Sequence value' rows id x old mid new is first second = record {
-    events = joined old mid new _ _ _ first second.events
-        (ap (λ w. w.rows) (ap (parts_of env) is ∙ parts-Sequence rows id x));
+    events = tells_joined env old mid new _ _ _
+        (ap (λ w. w.rows) (ap (parts_of env) is ∙ parts-Sequence rows id x)) first second.events;
   }
 
-  pub inside-Optional : (value' x : ReactiveValue) (optional : Bool) (old new : List MemoEvent)
+  pub inside-Optional : (value' x : ReactiveValue) (optional : Bool) (old new : Told)
       → value' ≡ reactive_values.OptionalExpression x optional → AddsRows env x old new
       → AddsRows env value' old new
   inside-Optional value' x optional old new is added = record {
-    events = added.events ∙ ap (λ w. old ++ w.rows) (sym (ap (parts_of env) is ∙ parts-Optional x optional));
+    events = tells_same env _ _ old new (ap (λ w. w.rows) (ap (parts_of env) is ∙ parts-Optional x optional))
+        added.events;
   }
 
   -- the operands of each form
 
-  pub operands-Instruction : (value' : ReactiveValue) (x : InstructionValue) (id : EvaluationOrder)
-      (old new : List MemoEvent) → value' ≡ reactive_values.Instruction x
-      → new ≡ with_mentions env id (recorded_operands env x) old → AddsOperands env value' id old new
-  operands-Instruction value' x id old new is added = record {
-    events = added ∙ ap (λ w. with_mentions env id w.places old)
-        (sym (ap (parts_of env) is ∙ parts-Instruction x));
+  pub operands-Instruction : (value' : ReactiveValue) (x : InstructionValue) (old new : List Place)
+      → value' ≡ reactive_values.Instruction x → new ≡ old ++ recorded_operands env x
+      → AddsOperands env value' old new
+  operands-Instruction value' x old new is added = record {
+    places = added ∙ ap (λ w. old ++ w.places) (sym (ap (parts_of env) is ∙ parts-Instruction x));
   }
 
   pub operands-Logical : (value' : ReactiveValue) (operator : LogicalOperator) (x y : ReactiveValue)
-      (id : EvaluationOrder) (old mid new : List MemoEvent)
-      → value' ≡ reactive_values.LogicalExpression operator x y → AddsOperands env x id old mid
-      → AddsOperands env y id mid new → AddsOperands env value' id old new
-  operands-Logical value' operator x y id old mid new is first second = record {
-    events = mentions_joined env id _ _ old mid new first.events second.events
-        ∙ ap (λ w. with_mentions env id w.places old) (sym (ap (parts_of env) is ∙ parts-Logical operator x y));
+      (old mid new : List Place) → value' ≡ reactive_values.LogicalExpression operator x y
+      → AddsOperands env x old mid → AddsOperands env y mid new → AddsOperands env value' old new
+  operands-Logical value' operator x y old mid new is first second = record {
+    places = joined old mid new _ _ _ first.places second.places
+        (ap (λ w. w.places) (ap (parts_of env) is ∙ parts-Logical operator x y));
   }
 
-  pub operands-Conditional : (value' test x y : ReactiveValue) (id : EvaluationOrder) (old mid new : List MemoEvent)
-      → value' ≡ reactive_values.ConditionalExpression test x y → AddsOperands env x id old mid
-      → AddsOperands env y id mid new → AddsOperands env value' id old new
-  operands-Conditional value' test x y id old mid new is first second = record {
-    events = mentions_joined env id _ _ old mid new first.events second.events
-        ∙ ap (λ w. with_mentions env id w.places old) (sym (ap (parts_of env) is ∙ parts-Conditional test x y));
+  pub operands-Conditional : (value' test x y : ReactiveValue) (old mid new : List Place)
+      → value' ≡ reactive_values.ConditionalExpression test x y → AddsOperands env x old mid
+      → AddsOperands env y mid new → AddsOperands env value' old new
+  operands-Conditional value' test x y old mid new is first second = record {
+    places = joined old mid new _ _ _ first.places second.places
+        (ap (λ w. w.places) (ap (parts_of env) is ∙ parts-Conditional test x y));
   }
 
   pub operands-Sequence : (value' : ReactiveValue) (rows : List ReactiveInstruction) (order : EvaluationOrder)
-      (x : ReactiveValue) (id : EvaluationOrder) (old new : List MemoEvent)
-      → value' ≡ reactive_values.SequenceExpression rows order x → AddsOperands env x id old new
-      → AddsOperands env value' id old new
-  operands-Sequence value' rows order x id old new is added = record {
-    events = added.events
-        ∙ ap (λ w. with_mentions env id w.places old) (sym (ap (parts_of env) is ∙ parts-Sequence rows order x));
+      (x : ReactiveValue) (old new : List Place) → value' ≡ reactive_values.SequenceExpression rows order x
+      → AddsOperands env x old new → AddsOperands env value' old new
+  operands-Sequence value' rows order x old new is added = record {
+    places = added.places ∙ ap (λ w. old ++ w.places) (sym (ap (parts_of env) is ∙ parts-Sequence rows order x));
   }
 
-  pub operands-Optional : (value' x : ReactiveValue) (optional : Bool) (id : EvaluationOrder)
-      (old new : List MemoEvent) → value' ≡ reactive_values.OptionalExpression x optional
-      → AddsOperands env x id old new → AddsOperands env value' id old new
-  operands-Optional value' x optional id old new is added = record {
-    events = added.events
-        ∙ ap (λ w. with_mentions env id w.places old) (sym (ap (parts_of env) is ∙ parts-Optional x optional));
+  pub operands-Optional : (value' x : ReactiveValue) (optional : Bool) (old new : List Place)
+      → value' ≡ reactive_values.OptionalExpression x optional → AddsOperands env x old new
+      → AddsOperands env value' old new
+  operands-Optional value' x optional old new is added = record {
+    places = added.places ∙ ap (λ w. old ++ w.places) (sym (ap (parts_of env) is ∙ parts-Optional x optional));
   }
 
-  pub adds_row : (x : ReactiveInstruction) (old mid new : List MemoEvent) → AddsRows env x.value old mid
-      → new ≡ mid ++ own_events env x.id x.lvalue (instruction_of x.value) (parts_of env x.value).places
-      → new ≡ old ++ row_events env x
-  adds_row x old mid new first second =
-      joined old mid new (parts_of env x.value).rows _ (row_events env x) first.events second (row_events-parts x)
+  pub adds_row : (x : ReactiveInstruction) (old mid new : Told) → AddsRows env x.value old mid
+      → Tells env (own_events env x.id x.lvalue (instruction_of x.value) (parts_of env x.value).places) mid new
+      → Tells env (row_events env x) old new
+  adds_row x old mid new first second = tells_joined env old mid new (parts_of env x.value).rows _ (row_events env x)
+      (row_events-parts x) first.events second
+
+  function_told : (id : EvaluationOrder) (target : Option Place) {named function : FunctionId} → named ≡ function
+      → row_event env id (context_of env named) (flat_map if_mutable (context_of env named) ++ own target Memoized) ∷ []
+      ≡ function_row env id function (map (target_of env id) (own target Memoized)) ∷ []
+  function_told id target {named = named} is =
+      ap (λ w. events.Row (map (mention_of env id) (context_of env named)) w ∷ [])
+      (map-append (target_of env id) (flat_map if_mutable (context_of env named)) (own target Memoized))
+      ∙ ap (λ w. function_row env id w (map (target_of env id) (own target Memoized)) ∷ []) is
+
+  -- the row of an instruction that names a function
+  pub own_events-function : (id : EvaluationOrder) (target : Option Place) (value' : InstructionValue)
+      (function : FunctionId) → NamesFunction function value'
+      → own_events env id target (Some value') (recorded_operands env value')
+      ≡ function_row env id function (map (target_of env id) (own target Memoized)) ∷ []
+  unfolding own_events recorded_operands places_read levels_of recorded_of load_events escape_events
+  own_events-function id None _ function (expression is) = function_told id None is
+  own_events-function id (Some target) _ function (expression is) = function_told id (Some target) is
+  own_events-function id None _ function (method is) = function_told id None is
+  own_events-function id (Some target) _ function (method is) = function_told id (Some target) is
 
   -- the same in a terminal
 
-  pub walks-Instruction : (value' : ReactiveValue) (x : InstructionValue) (events : List MemoEvent)
-      → value' ≡ reactive_values.Instruction x → AddsWalked env value' events events
-  walks-Instruction value' x events is = record {
-    events = sym (append-nil events) ∙ ap (λ w. events ++ w.walked) (sym (ap (parts_of env) is ∙ parts-Instruction x));
+  pub walks-Instruction : (value' : ReactiveValue) (x : InstructionValue) (told : Told)
+      → value' ≡ reactive_values.Instruction x → AddsWalked env value' told told
+  walks-Instruction value' x told is = record {
+    events = tells_same env [] _ told told (ap (λ w. w.walked) (ap (parts_of env) is ∙ parts-Instruction x))
+        (tells_nothing env told);
   }
 
   pub walks-Logical : (value' : ReactiveValue) (operator : LogicalOperator) (x y : ReactiveValue)
-      (old mid new : List MemoEvent) → value' ≡ reactive_values.LogicalExpression operator x y
+      (old mid new : Told) → value' ≡ reactive_values.LogicalExpression operator x y
       → AddsWalked env x old mid → AddsWalked env y mid new → AddsWalked env value' old new
   walks-Logical value' operator x y old mid new is first second = record {
-    events = joined old mid new _ _ _ first.events second.events
-        (ap (λ w. w.walked) (ap (parts_of env) is ∙ parts-Logical operator x y));
+    events = tells_joined env old mid new _ _ _
+        (ap (λ w. w.walked) (ap (parts_of env) is ∙ parts-Logical operator x y))
+        first.events second.events;
   }
 
-  pub walks-Conditional : (value' test x y : ReactiveValue) (old one two new : List MemoEvent)
+  pub walks-Conditional : (value' test x y : ReactiveValue) (old one two new : Told)
       → value' ≡ reactive_values.ConditionalExpression test x y → AddsWalked env test old one
       → AddsWalked env x one two → AddsWalked env y two new → AddsWalked env value' old new
   walks-Conditional value' test x y old one two new is first second third = record {
-    events = joined old one new _ _ _ first.events (joined one two new _ _ _ second.events third.events refl)
-        (ap (λ w. w.walked) (ap (parts_of env) is ∙ parts-Conditional test x y));
+    events = tells_joined env old one new _ _ _
+        (ap (λ w. w.walked) (ap (parts_of env) is ∙ parts-Conditional test x y)) first.events
+        (tells_joined env one two new _ _ _ refl second.events third.events);
   }
 
   pub walks-Sequence : (value' : ReactiveValue) (rows : List ReactiveInstruction) (id : EvaluationOrder)
-      (x : ReactiveValue) (old mid new : List MemoEvent)
-      → value' ≡ reactive_values.SequenceExpression rows id x → mid ≡ old ++ flat_map (row_events env) rows
+      (x : ReactiveValue) (old mid new : Told)
+      → value' ≡ reactive_values.SequenceExpression rows id x → Tells env (flat_map (row_events env) rows) old mid
       → AddsWalked env x mid new → AddsWalked env value' old new
   walks-Sequence value' rows id x old mid new is first second = record {
-    events = joined old mid new _ _ _ first second.events
-        (ap (λ w. w.walked) (ap (parts_of env) is ∙ parts-Sequence rows id x));
+    events = tells_joined env old mid new _ _ _
+        (ap (λ w. w.walked) (ap (parts_of env) is ∙ parts-Sequence rows id x)) first second.events;
   }
 
-  pub walks-Optional : (value' x : ReactiveValue) (optional : Bool) (old new : List MemoEvent)
+  pub walks-Optional : (value' x : ReactiveValue) (optional : Bool) (old new : Told)
       → value' ≡ reactive_values.OptionalExpression x optional → AddsWalked env x old new
       → AddsWalked env value' old new
   walks-Optional value' x optional old new is added = record {
-    events = added.events ∙ ap (λ w. old ++ w.walked) (sym (ap (parts_of env) is ∙ parts-Optional x optional));
+    events = tells_same env _ _ old new (ap (λ w. w.walked) (ap (parts_of env) is ∙ parts-Optional x optional))
+        added.events;
   }
 
 pub ruleset quiet_values = walks-Instruction

@@ -3,5 +3,9 @@ pub mod HeldEvents
 pub mod Gathering
 pub mod RowsAdded
 pub mod Growing
+pub mod KnownRows
+pub mod ToldFacts
 pub mod GatheringRows
+pub mod RepeatedRows
+pub mod GatheringEvents
 pub mod RecordParts

@@ -1,6 +1,6 @@
 //! The memo record of a whole tree, and whether there is one.
 
-ghost use Rattle.std.specs.Prelude.{◌≡◌, ◌⊎◌, [], ◌∷◌, None, map, IfErr, IfOk, OnOk};
+ghost use Rattle.std.specs.Prelude.{◌≡◌, ◌⊎◌, [], ◌∷◌, ◌++◌, None, map, IfErr, IfOk, OnOk};
 ghost use Rattle.std.specs.List.{flat_map};
 ghost use Rattle.rc_names.specs.Numbers.{same_id};
 ghost use Rattle.rc_memo.specs.Events.{escaping_in, facts_told, listed, mention_scopes, scopes_in, target_scopes};
@@ -171,7 +171,10 @@ fn put_escaping(set: &mut DeclSet, event: EventParts<'_>) -> Result<(), AllocErr
         EventParts::Escape { name } => {
             set.insert(name)?;
         }
-        EventParts::Row { .. } | EventParts::Load { .. } | EventParts::Within { .. } => {}
+        EventParts::Row { .. }
+        | EventParts::Repeats { .. }
+        | EventParts::Load { .. }
+        | EventParts::Within { .. } => {}
     }
     Ok(())
 }
@@ -277,8 +280,23 @@ fn add_targets(
     Ok(())
 }
 
+/// Records the active scopes of a row. Fails only when out of memory.
+#[tactic(auto, using(crate::proofs::GrowingLemmas::adds_scopes_next))]
+fn add_row(
+    reader: &RowReader<'_>,
+    scopes: &mut Scopes,
+    operands: &[Mention],
+    targets: &[Target],
+) -> Result<(), AllocError>
+    ensures { OnOk result (AddsScopes reader.now.env.now (mention_scopes operands.now ++ target_scopes targets.now)
+        scopes.old scopes.new) }
+{
+    add_operands(reader, scopes, operands)?;
+    add_targets(reader, scopes, targets)
+}
+
 /// Records the active scopes of an event. Fails only when out of memory.
-#[tactic(auto, using(crate::proofs::GrowingLemmas::adds_no_scopes, crate::proofs::GrowingLemmas::adds_scopes_next))]
+#[tactic(auto, using(crate::proofs::GrowingLemmas::adds_no_scopes, crate::proofs::GrowingLemmas::adds_scopes_behind))]
 fn add_event(
     reader: &RowReader<'_>,
     scopes: &mut Scopes,
@@ -287,8 +305,14 @@ fn add_event(
     ensures { OnOk result (AddsScopes reader.now.env.now (scopes_in (as_event event.entry)) scopes.old scopes.new) }
 {
     match event {
-        EventParts::Row { operands, targets } => {
-            add_operands(reader, scopes, operands)?;
+        EventParts::Row { operands, targets } => add_row(reader, scopes, operands, targets)?,
+        EventParts::Repeats {
+            operands,
+            shared,
+            targets,
+            ..
+        } => {
+            add_row(reader, scopes, operands, shared)?;
             add_targets(reader, scopes, targets)?;
         }
         EventParts::Load { .. } | EventParts::Within { .. } | EventParts::Escape { .. } => {}

@@ -2,15 +2,23 @@
 //!
 //! All operands stand in one list, all targets in another, and all scopes of returned and reassigned names in a third.
 //! An event knows where its parts begin; they end where those of the next event begin, so only the last event grows.
+//! A row may have the operands of an earlier row, and that row's first targets before its own: then it names that row,
+//! and none of them stands twice.
 
-ghost use Rattle.std.specs.Prelude.{◌≡◌, ◌+◌, ◌<◌, ◌≤◌, [], ◌∷◌, ◌++◌, Some, length, slice_get, slice_index_or, OnOk};
+ghost use Rattle.std.specs.Prelude.{◌≡◌, ◌+◌, ◌<◌, ◌≤◌, [], ◌∷◌, ◌++◌, Some, length, map, slice_get, slice_index_or};
+ghost use Rattle.std.specs.Prelude.{true, take, IfOk, OnOk, if◌then◌else◌};
 ghost use Rattle.std.specs.List.{slice_range};
+ghost use Rattle.rc_memo.specs.Mentions.{mention_of};
 ghost use Rattle.rc_memo.specs.declared.event.MemoEvent.TheVariants as kinds;
-ghost use Rattle.rc_memo.specs.inside.HeldEvents.{IsInside, as_event, begun, ends, event_between, last_grown};
-ghost use Rattle.rc_memo.specs.inside.HeldEvents.{start_at};
+ghost use Rattle.rc_memo.specs.declared.events.EventKind.TheVariants as forms;
+ghost use Rattle.rc_memo.specs.inside.HeldEvents.{AreSound, HasNoRow, IsInside, RefersToRow, RepeatsRow, as_event};
+ghost use Rattle.rc_memo.specs.inside.HeldEvents.{begun, ends, event_between, events_held, kind_at, last_grown};
+ghost use Rattle.rc_memo.specs.inside.HeldEvents.{repeated, start_at};
 
 use crate::event::{Mention, Target};
-use rc_names::{DeclarationId, List, ScopeId};
+use crate::reader::RowReader;
+use rc_hir::Place;
+use rc_names::{DeclarationId, EvaluationOrder, List, ScopeId};
 use std::alloc::{AllocError, Global};
 use std::marker::Model;
 
@@ -18,6 +26,11 @@ use std::marker::Model;
 #[derive(Clone, Copy)]
 enum EventKind {
     Row,
+    /// A row with the operands of the row at an index, and so many of its targets before its own.
+    Repeats {
+        row: usize,
+        shared: usize,
+    },
     Load {
         target: DeclarationId,
         loaded: DeclarationId,
@@ -51,6 +64,13 @@ pub enum EventParts<'e> {
         operands: &'e [Mention],
         targets: &'e [Target],
     },
+    /// A row that has its operands and its first targets from the row at an index.
+    Repeats {
+        row: usize,
+        operands: &'e [Mention],
+        shared: &'e [Target],
+        targets: &'e [Target],
+    },
     Load {
         target: DeclarationId,
         loaded: DeclarationId,
@@ -76,16 +96,15 @@ pub struct Events {
 
 impl Model for Events {
     ghost use Rattle.std.specs.Prelude.{List as Entries};
-    ghost use Rattle.std.specs.List.{All};
     ghost use Rattle.rc_memo.specs.declared.event.MemoEvent.{MemoEvent};
 
     ghost Value = { Entries MemoEvent };
 
-    ghost use Rattle.rc_memo.specs.inside.HeldEvents.{BeginsInside, events_held};
+    ghost use Rattle.rc_memo.specs.inside.HeldEvents.{AreSound, events_held};
 
     ghost view = { λ it. events_held it.operands it.targets it.scopes it.heads };
 
-    ghost invariant = { λ it. All (BeginsInside it.operands it.targets it.scopes) it.heads };
+    ghost invariant = { λ it. AreSound it.operands it.targets it.scopes it.heads };
 }
 
 impl Events {
@@ -111,22 +130,23 @@ impl Events {
     /// Returns the event at an index.
     pub fn at(&self, i: usize) -> EventParts<'_>
         requires { i < length self.now }
-        ensures { slice_get self.now i ≡ Some (as_event result) }
+        ensures event { slice_get self.now i ≡ Some (as_event result) }
+        ensures repeats { RepeatsRow self.now result }
     {
-        let head = head_at(self.heads.as_slice(), i);
-        let last = ends_of(&self.operands, &self.targets, &self.scopes);
-        let end = start_after(self.heads.as_slice(), i, last);
-        parts_between(
-            head,
-            end,
-            self.operands.as_slice(),
-            self.targets.as_slice(),
-            self.scopes.as_slice(),
-        )
+        let lists = FlatLists {
+            heads: self.heads.as_slice(),
+            operands: self.operands.as_slice(),
+            targets: self.targets.as_slice(),
+            scopes: self.scopes.as_slice(),
+        };
+        let head = head_at(lists.heads, i);
+        let end = lists.start_after(i);
+        lists.parts_of(head, end)
     }
 
     /// Adds an event without parts.
     fn push_head(&mut self, kind: EventKind) -> Result<(), AllocError>
+        requires { HasNoRow kind }
         ensures { OnOk result (self.new ≡ self.old ++ begun kind ∷ []) }
     {
         let start = ends_of(&self.operands, &self.targets, &self.scopes);
@@ -134,11 +154,40 @@ impl Events {
         Ok(())
     }
 
-    /// Adds a row, which has no parts yet.
-    pub fn push_row(&mut self) -> Result<(), AllocError>
-        ensures { OnOk result (self.new ≡ self.old ++ kinds.Row [] [] ∷ []) }
+    /// Adds a row of that id with these operands, which has no targets yet.
+    pub fn push_row(
+        &mut self,
+        reader: &RowReader<'_>,
+        id: EvaluationOrder,
+        operands: &[Place],
+    ) -> Result<(), AllocError>
+        ensures { OnOk result (self.new
+            ≡ self.old ++ kinds.Row (map (mention_of reader.now.env.now id) operands.now) [] ∷ []) }
     {
-        self.push_head(EventKind::Row)
+        let start = ends_of(&self.operands, &self.targets, &self.scopes);
+        reader.push_mentions(&mut self.operands, id, operands)?;
+        self.heads.push(EventHead {
+            kind: EventKind::Row,
+            start,
+        })?;
+        Ok(())
+    }
+
+    /// Adds a row with the operands of the row at an index and so many of its targets. Adds nothing and returns false
+    /// if no row stands there that has its own operands.
+    pub fn push_repeated(&mut self, row: usize, shared: usize) -> Result<bool, AllocError>
+        ensures { IfOk result (λ added. self.new
+            ≡ self.old ++ (if added then repeated shared (slice_get self.old row) else [])) }
+    {
+        if !is_row(self.heads.as_slice(), row) {
+            return Ok(false);
+        }
+        let start = ends_of(&self.operands, &self.targets, &self.scopes);
+        self.heads.push(EventHead {
+            kind: EventKind::Repeats { row, shared },
+            start,
+        })?;
+        Ok(true)
     }
 
     /// Adds a row that loads a name into another.
@@ -170,17 +219,9 @@ impl Events {
         Ok(())
     }
 
-    /// Adds an operand to the row that was added last.
-    pub fn push_operand(&mut self, operand: Mention) -> Result<(), AllocError>
-        ensures { OnOk result (self.new ≡ last_grown (operand ∷ []) [] [] self.old) }
-    {
-        self.operands.push(operand)?;
-        Ok(())
-    }
-
     /// Adds a target to the row that was added last.
     pub fn push_target(&mut self, target: Target) -> Result<(), AllocError>
-        ensures { OnOk result (self.new ≡ last_grown [] (target ∷ []) [] self.old) }
+        ensures { OnOk result (self.new ≡ last_grown (target ∷ []) [] self.old) }
     {
         self.targets.push(target)?;
         Ok(())
@@ -188,7 +229,7 @@ impl Events {
 
     /// Adds a scope to the name that was added last with its scopes.
     fn push_scope(&mut self, scope: ScopeId) -> Result<(), AllocError>
-        ensures { OnOk result (self.new ≡ last_grown [] [] (scope ∷ []) self.old) }
+        ensures { OnOk result (self.new ≡ last_grown [] (scope ∷ []) self.old) }
     {
         self.scopes.push(scope)?;
         Ok(())
@@ -214,39 +255,95 @@ fn head_at(heads: &[EventHead], i: usize) -> EventHead
     heads[i]
 }
 
-/// Returns where the parts of the event behind an index begin; `last` where there is none.
-fn start_after(heads: &[EventHead], i: usize, last: Start) -> Start
-    requires { i < length heads.now }
-    ensures { result ≡ start_at heads.now last (i + 1) }
+/// Returns whether a row with its own operands stands at an index.
+fn is_row(heads: &[EventHead], i: usize) -> bool
+    ensures { result ≡ true → kind_at heads.now i ≡ Some forms.Row }
 {
-    match heads.get(i + 1) {
-        Some(head) => head.start,
-        None => last,
+    match heads.get(i) {
+        Some(head) => has_own_operands(head.kind),
+        None => false,
     }
 }
 
-/// Returns an event whose parts end at this place.
-fn parts_between<'e>(
-    head: EventHead,
-    end: Start,
+fn has_own_operands(kind: EventKind) -> bool
+    ensures { result ≡ true → kind ≡ forms.Row }
+{
+    match kind {
+        EventKind::Row => true,
+        EventKind::Repeats { .. }
+        | EventKind::Load { .. }
+        | EventKind::Within { .. }
+        | EventKind::Escape { .. } => false,
+    }
+}
+
+/// The flat lists of events, as they are read.
+#[derive(Clone, Copy)]
+struct FlatLists<'e> {
+    heads: &'e [EventHead],
     operands: &'e [Mention],
     targets: &'e [Target],
     scopes: &'e [ScopeId],
-) -> EventParts<'e>
-    requires { IsInside operands.now targets.now scopes.now end }
-    ensures { as_event result ≡ event_between operands.now targets.now scopes.now head.kind head.start end }
-{
-    match head.kind {
-        EventKind::Row => EventParts::Row {
-            operands: part(operands, head.start.operands, end.operands),
-            targets: part(targets, head.start.targets, end.targets),
-        },
-        EventKind::Load { target, loaded } => EventParts::Load { target, loaded },
-        EventKind::Within { name } => EventParts::Within {
-            name,
-            scopes: part(scopes, head.start.scopes, end.scopes),
-        },
-        EventKind::Escape { name } => EventParts::Escape { name },
+}
+
+impl<'e> FlatLists<'e> {
+    /// Returns where the parts of the event at an index begin; past the events, where all parts end.
+    fn start_of(&self, i: usize) -> Start
+        ensures { result ≡ start_at self.now.heads.now (ends self.now.operands.now self.now.targets.now
+            self.now.scopes.now) i }
+    {
+        match self.heads.get(i) {
+            Some(head) => head.start,
+            None => Start {
+                operands: self.operands.len(),
+                targets: self.targets.len(),
+                scopes: self.scopes.len(),
+            },
+        }
+    }
+
+    /// Returns where the parts of the event behind an index begin; behind the last one, where all parts end.
+    fn start_after(&self, i: usize) -> Start
+        requires { i < length self.now.heads.now }
+        ensures { result ≡ start_at self.now.heads.now (ends self.now.operands.now self.now.targets.now
+            self.now.scopes.now) (i + 1) }
+    {
+        self.start_of(i + 1)
+    }
+
+    /// Returns an event whose parts end at this place.
+    fn parts_of(&self, head: EventHead, end: Start) -> EventParts<'e>
+        requires heads { AreSound self.now.operands.now self.now.targets.now self.now.scopes.now self.now.heads.now }
+        requires end { IsInside self.now.operands.now self.now.targets.now self.now.scopes.now end }
+        requires row { RefersToRow self.now.heads.now head.kind }
+        ensures event { as_event result ≡ event_between self.now.operands.now self.now.targets.now self.now.scopes.now
+            self.now.heads.now head.kind head.start end }
+        ensures repeats { RepeatsRow (events_held self.now.operands.now self.now.targets.now self.now.scopes.now
+            self.now.heads.now) result }
+    {
+        match head.kind {
+            EventKind::Row => EventParts::Row {
+                operands: part(self.operands, head.start.operands, end.operands),
+                targets: part(self.targets, head.start.targets, end.targets),
+            },
+            EventKind::Repeats { row, shared } => {
+                let begin = self.start_of(row);
+                let stop = self.start_of(row + 1);
+                let others = part(self.targets, begin.targets, stop.targets);
+                EventParts::Repeats {
+                    row,
+                    operands: part(self.operands, begin.operands, stop.operands),
+                    shared: first(others, shared),
+                    targets: part(self.targets, head.start.targets, end.targets),
+                }
+            }
+            EventKind::Load { target, loaded } => EventParts::Load { target, loaded },
+            EventKind::Within { name } => EventParts::Within {
+                name,
+                scopes: part(self.scopes, head.start.scopes, end.scopes),
+            },
+            EventKind::Escape { name } => EventParts::Escape { name },
+        }
     }
 }
 
@@ -258,5 +355,15 @@ fn part<T>(items: &[T], from: usize, to: usize) -> &[T]
     match items.get(from..to) {
         Some(part) => part,
         None => &[],
+    }
+}
+
+/// Returns so many of the first items; all where there are fewer.
+fn first<T>(items: &[T], n: usize) -> &[T]
+    ensures { result.now ≡ take n items.now }
+{
+    match items.get(..n) {
+        Some(part) => part,
+        None => items,
     }
 }

@@ -10,6 +10,8 @@
 mod collecting;
 mod event;
 mod events;
+mod function_rows;
+mod known_rows;
 mod level;
 mod nodes;
 mod reader;

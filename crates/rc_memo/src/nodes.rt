@@ -3,37 +3,41 @@
 //! Each function has one clause: which facts it adds to what holds the facts before. A fault names the first name of
 //! which a node is needed and which has none yet.
 
-ghost use Rattle.std.specs.Prelude.{◌≡◌, [], ◌∷◌, ◌++◌, ◌⊎◌, IfErr, IfOk, OnOk};
+ghost use Rattle.std.specs.Prelude.{◌≡◌, List as Entries, [], ◌∷◌, ◌++◌, ◌⊎◌, IfErr, IfOk, OnOk};
 ghost use Rattle.std.specs.List.{flat_map};
 ghost use Rattle.indexmap.specs.IndexMap.{insert_entry};
 ghost use Rattle.rc_names.specs.Numbers.{same_id};
-ghost use Rattle.rc_memo.specs.Events.{event_facts, loads_in, mention_facts, params_facts, row_facts};
-ghost use Rattle.rc_memo.specs.Events.{scope_facts, scopes_facts};
+ghost use Rattle.rc_memo.specs.Events.{mention_facts, params_facts, row_facts, scope_facts, scopes_facts};
 ghost use Rattle.rc_memo.specs.Facts.{NeedsNode};
 ghost use Rattle.rc_memo.specs.Record.{IsUninitialised};
-ghost use Rattle.rc_memo.specs.inside.Gathering.{Adds, AddsEvents, HasGathered, resolved as spec_resolved};
-ghost use Rattle.rc_memo.specs.inside.Gathering.{with_loads};
-ghost use Rattle.rc_memo.specs.inside.HeldEvents.{as_event};
+ghost use Rattle.rc_memo.specs.declared.event.MemoEvent.{MemoEvent};
+ghost use Rattle.rc_memo.specs.declared.event.MemoEvent.TheVariants as kinds;
+ghost use Rattle.rc_memo.specs.inside.Gathering.{Adds, AddsAt, operand_names, resolved as spec_resolved};
+ghost use Rattle.rc_memo.specs.inside.GatheringEvents.{AddsEvents, AddsShared, HasGathered, IsShared};
+ghost use Rattle.rc_memo.specs.inside.HeldEvents.{RepeatsRow, as_event};
 
 mod facts;
 pub mod held;
 mod names;
+mod repeated;
 mod rows;
 
 use crate::MemoizationLevel;
 use crate::event::{Mention, Target};
 use crate::events::{EventParts, Events};
 use crate::nodes::held::HoldsFacts;
+use crate::nodes::repeated::{GatheredRow, RepeatedRows};
 use rc_hir::Fault;
 use rc_names::{DeclarationId, Keyed, List, ScopeId};
 pub use rows::HeldRows;
 use std::alloc::{AllocError, Global};
 
-/// What is held of the facts so far, and the names that loads define.
+/// What is held of the facts so far, the names that loads define, and the rows that others repeat.
 #[derive(Drop)]
 pub struct Gathered<H> {
     pub held: H,
     pub definitions: Keyed<DeclarationId, DeclarationId>,
+    repeated: RepeatedRows,
 }
 
 /// Returns the name that a name stands for.
@@ -98,7 +102,8 @@ fn add_mentions<H: HoldsFacts>(
     held: &mut H,
     mentions: &[Mention],
 ) -> Result<(), Fault>
-    ensures { Adds H.holds (flat_map (mention_facts (spec_resolved definitions.now)) mentions.now) held.old result held.new }
+    ensures { Adds H.holds (flat_map (mention_facts (spec_resolved definitions.now)) mentions.now) held.old result
+        held.new }
 {
     for mention in mentions {
         match add_mention(definitions, held, *mention) {
@@ -109,19 +114,21 @@ fn add_mentions<H: HoldsFacts>(
     Ok(())
 }
 
-/// Adds a row: its operands, and then its targets.
-#[tactic(auto, using(crate::proofs::AddingLemmas::adds_next, crate::proofs::AddingLemmas::adds_stop))]
+/// Adds a row whose operands stand at a position, where one is given.
+#[tactic(auto, using(crate::proofs::AddingLemmas::adds_at_next, crate::proofs::AddingLemmas::adds_at_stop))]
 fn add_row<H: HoldsFacts>(
     alloc: Global,
     definitions: &Keyed<DeclarationId, DeclarationId>,
     held: &mut H,
+    position: Option<usize>,
     operands: &[Mention],
     targets: &[Target],
 ) -> Result<(), Fault>
-    ensures { Adds H.holds (row_facts (spec_resolved definitions.now) operands.now targets.now) held.old result held.new }
+    ensures { AddsAt H.holds position (operand_names (spec_resolved definitions.now) operands.now)
+        (row_facts (spec_resolved definitions.now) operands.now targets.now) held.old result held.new }
 {
     match add_mentions(definitions, held, operands) {
-        Ok(()) => held.add_targets(alloc, definitions, operands, targets),
+        Ok(()) => held.add_targets(alloc, definitions, position, operands, targets),
         Err(fault) => Err(fault),
     }
 }
@@ -155,48 +162,157 @@ fn define(
 
 impl<H: HoldsFacts> Gathered<H> {
     /// Adds an event.
-    #[tactic(auto, using(crate::proofs::AddingLemmas::adds_nothing, crate::proofs::AddingLemmas::adds_memory))]
     fn add_event(&mut self, alloc: Global, event: EventParts<'_>) -> Result<(), Fault>
-        ensures facts { Adds H.holds (event_facts (spec_resolved self.old.definitions) (as_event event.entry)) self.old.held
-            result self.new.held }
-        ensures definitions { OnOk result
-            (self.new.definitions ≡ with_loads self.old.definitions (loads_in (as_event event.entry))) }
+        ensures { (all : Entries MemoEvent) → RepeatsRow all event.entry
+            → AddsEvents H.holds all (as_event event.entry ∷ []) self.old result self.new }
     {
         match event {
-            EventParts::Row { operands, targets } => {
-                add_row(alloc, &self.definitions, &mut self.held, operands, targets)
-            }
-            EventParts::Load { target, loaded } => {
-                match define(&mut self.definitions, target, loaded) {
-                    Ok(()) => Ok(()),
-                    Err(_) => Err(Fault::NoMemory),
-                }
-            }
-            EventParts::Within { name, scopes } => add_within(&mut self.held, name, scopes),
+            EventParts::Row { operands, targets } => self.add_row(alloc, operands, targets),
+            EventParts::Repeats {
+                row,
+                operands,
+                shared,
+                targets,
+            } => self.add_repeated(alloc, row, operands, shared, targets),
+            EventParts::Load { target, loaded } => self.add_load(alloc, target, loaded),
+            EventParts::Within { name, scopes } => self.add_within(name, scopes),
             EventParts::Escape { .. } => Ok(()),
+        }
+    }
+
+    /// Adds a row that has its own operands.
+    fn add_row(
+        &mut self,
+        alloc: Global,
+        operands: &[Mention],
+        targets: &[Target],
+    ) -> Result<(), Fault>
+        ensures { (all : Entries MemoEvent) → AddsEvents H.holds all (kinds.Row operands.now targets.now ∷ []) self.old
+            result self.new }
+    {
+        add_row(
+            alloc,
+            &self.definitions,
+            &mut self.held,
+            None,
+            operands,
+            targets,
+        )
+    }
+
+    /// Adds that a name has these scopes.
+    fn add_within(&mut self, name: DeclarationId, scopes: &[ScopeId]) -> Result<(), Fault>
+        ensures { (all : Entries MemoEvent) → AddsEvents H.holds all (kinds.Within name scopes.now ∷ []) self.old result
+            self.new }
+    {
+        add_within(&mut self.held, name, scopes)
+    }
+
+    /// Adds a load. Rows that mention the name which it defines are no longer known.
+    fn add_load(
+        &mut self,
+        alloc: Global,
+        target: DeclarationId,
+        loaded: DeclarationId,
+    ) -> Result<(), Fault>
+        ensures { (all : Entries MemoEvent) → AddsEvents H.holds all (kinds.Load target loaded ∷ []) self.old result
+            self.new }
+    {
+        self.repeated.forget(alloc, target);
+        match define(&mut self.definitions, target, loaded) {
+            Ok(()) => Ok(()),
+            Err(_) => Err(Fault::NoMemory),
+        }
+    }
+
+    /// Adds a row that has its operands and first targets from another one, and then its own targets.
+    fn add_repeated(
+        &mut self,
+        alloc: Global,
+        row: usize,
+        operands: &[Mention],
+        shared: &[Target],
+        targets: &[Target],
+    ) -> Result<(), Fault>
+        ensures { (all : Entries MemoEvent) → IsShared all row operands.now shared.now
+            → AddsEvents H.holds all (kinds.Row operands.now (shared.now ++ targets.now) ∷ []) self.old result
+            self.new }
+    {
+        match self.add_shared(alloc, row, operands, shared) {
+            Ok(position) => self
+                .held
+                .add_targets(alloc, &self.definitions, position, operands, targets),
+            Err(fault) => Err(fault),
+        }
+    }
+
+    /// Adds what rows share, unless it was added before. Returns the position of the operands, where they have one.
+    fn add_shared(
+        &mut self,
+        alloc: Global,
+        row: usize,
+        operands: &[Mention],
+        shared: &[Target],
+    ) -> Result<Option<usize>, Fault>
+        ensures { (all : Entries MemoEvent) → AddsShared H.holds all row operands.now shared.now self.old result
+            self.new }
+    {
+        match self.repeated.find(row, shared.len()) {
+            Some(known) => {
+                self.held.holds_again();
+                Ok(known.position)
+            }
+            None => self.add_first(alloc, row, operands, shared),
+        }
+    }
+
+    /// Adds what rows share, and keeps that it was added. Returns the position of the operands, where they have one.
+    fn add_first(
+        &mut self,
+        alloc: Global,
+        row: usize,
+        operands: &[Mention],
+        shared: &[Target],
+    ) -> Result<Option<usize>, Fault>
+        ensures { (all : Entries MemoEvent) → AddsShared H.holds all row operands.now shared.now self.old result
+            self.new }
+    {
+        let Ok(position) = self.held.put_operands(alloc, &self.definitions, operands) else {
+            return Err(Fault::NoMemory);
+        };
+        match add_row(
+            alloc,
+            &self.definitions,
+            &mut self.held,
+            position,
+            operands,
+            shared,
+        ) {
+            Ok(()) => {}
+            Err(fault) => return Err(fault),
+        }
+        let gathered = GatheredRow {
+            position,
+            targets: shared.len(),
+        };
+        match self.repeated.put(row, gathered, operands, shared) {
+            Ok(()) => Ok(position),
+            Err(_) => Err(Fault::NoMemory),
         }
     }
 
     /// Adds events, one after the other.
     #[tactic(auto, using(crate::proofs::EventsLemmas::adds_no_events, crate::proofs::EventsLemmas::adds_all_events))]
     fn add_events(&mut self, alloc: Global, events: &Events) -> Result<(), Fault>
-        ensures { AddsEvents H.holds events.now self.old result self.new }
+        ensures { AddsEvents H.holds events.now events.now self.old result self.new }
     {
         for i in 0..events.len() {
-            match self.add_one(alloc, events.at(i)) {
+            match self.add_event(alloc, events.at(i)) {
                 Ok(()) => {}
                 Err(fault) => return Err(fault),
             }
         }
         Ok(())
-    }
-
-    /// Adds an event, whatever the events before are.
-    #[tactic(auto, using(crate::proofs::EventsLemmas::adds_event))]
-    fn add_one(&mut self, alloc: Global, event: EventParts<'_>) -> Result<(), Fault>
-        ensures { AddsEvents H.holds (as_event event.entry ∷ []) self.old result self.new }
-    {
-        self.add_event(alloc, event)
     }
 }
 
@@ -235,6 +351,7 @@ pub fn gather<H: HoldsFacts>(
     let mut found = Gathered {
         held: H::none(alloc),
         definitions: Keyed::new(alloc),
+        repeated: RepeatedRows::new(alloc),
     };
     match add_params(alloc, &mut found.held, params) {
         Ok(()) => {}

@@ -1,14 +1,12 @@
 //! Reading what the places of a row name: their declarations, and the scopes that are active for them.
 
-ghost use Rattle.std.specs.Prelude.{◌≡◌, OnOk};
+ghost use Rattle.std.specs.Prelude.{◌≡◌, ◌≤◌, ◌++◌, length, map, OnOk};
 ghost use Rattle.rc_memo.specs.Mentions as spec;
-ghost use Rattle.rc_memo.specs.inside.RowsAdded.{with_mentions};
 
 use crate::event::{Mention, Target};
-use crate::events::Events;
 use crate::table::LevelGiven;
 use rc_hir::{Environment, MutableRange, Place};
-use rc_names::{DeclarationId, EvaluationOrder, IdentifierId, ScopeId};
+use rc_names::{DeclarationId, EvaluationOrder, IdentifierId, List, ScopeId};
 use std::alloc::{AllocError, Global};
 
 /// Reads the rows of a tree. Its methods fail only when out of memory.
@@ -81,18 +79,19 @@ impl<'a> RowReader<'a> {
         }
     }
 
-    /// Adds operands to the row that was added last.
-    #[tactic(auto, using(crate::proofs::RowPartsLemmas::row_steps))]
-    pub fn add_mentions(
+    /// Adds what these places in a row of that id name.
+    pub fn push_mentions(
         &self,
-        events: &mut Events,
+        mentions: &mut List<Mention>,
         id: EvaluationOrder,
         places: &[Place],
     ) -> Result<(), AllocError>
-        ensures { OnOk result (events.new ≡ with_mentions self.now.env.now id places.now events.old) }
+        ensures ok { OnOk result (mentions.new
+            ≡ mentions.old ++ map (spec.mention_of self.now.env.now id) places.now) }
+        ensures longer { length mentions.old ≤ length mentions.new }
     {
         for place in places {
-            events.push_operand(self.mention(id, *place))?;
+            mentions.push(self.mention(id, *place))?;
         }
         Ok(())
     }

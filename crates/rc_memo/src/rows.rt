@@ -1,13 +1,16 @@
 //! The events of rows and values.
 
-ghost use Rattle.std.specs.Prelude.{◌≡◌, [], ◌++◌, Some, None, IfOk, OnOk, if◌then◌else◌};
+ghost use Rattle.std.specs.Prelude.{◌≡◌, [], ◌∷◌, ◌++◌, Some, None, IfOk, OnOk, if◌then◌else◌};
 ghost use Rattle.std.specs.List.{flat_map};
 ghost use Rattle.rc_memo.specs.RowEvents as spec;
 ghost use Rattle.rc_memo.specs.Table.{levels_of, memo_rule as line_of, written_levels};
-ghost use Rattle.rc_memo.specs.inside.RowsAdded.{AddsOperands, AddsRows, AddsWalked, with_levels, with_mentions};
+ghost use Rattle.rc_memo.specs.inside.KnownRows.{Tells};
+ghost use Rattle.rc_memo.specs.inside.RowsAdded.{AddsOperands, AddsRows, AddsWalked};
 
 use crate::MemoizationLevel;
 use crate::events::Events;
+use crate::function_rows::function_named;
+use crate::known_rows::Told;
 use crate::reader::RowReader;
 use crate::table::{Levels, memo_rule, recorded};
 use rc_hir::{
@@ -31,21 +34,19 @@ impl<'a> RowReader<'a> {
         }
     }
 
-    /// Adds the operands of an instruction that are recorded to the row that was added last.
+    /// Adds the operands of an instruction that are recorded.
     #[tactic(auto, unfolding(crate::specs::RowEvents::recorded_operands))]
     fn add_recorded(
         &self,
-        events: &mut Events,
-        id: EvaluationOrder,
+        places: &mut List<Place>,
         value: &InstructionValue,
     ) -> Result<(), AllocError>
-        ensures { OnOk result (events.new
-            ≡ with_mentions self.now.env.now id (spec.recorded_operands self.now.env.now value.now) events.old) }
+        ensures { OnOk result (places.new
+            ≡ places.old ++ spec.recorded_operands self.now.env.now value.now) }
     {
         let all = self.places_read(value)?;
         let line = memo_rule(value);
-        let places = recorded(self.env, &line, all);
-        self.add_mentions(events, id, places.as_slice())
+        push_places(places, recorded(self.env, &line, &all))
     }
 
     /// Adds that a row loads a local name into its target.
@@ -130,31 +131,32 @@ impl<'a> RowReader<'a> {
         }
     }
 
-    /// Adds what an instruction gives to its row, which was added last: its levels and its operands.
+    /// Adds the row of an instruction, with its operands and its levels.
     #[tactic(auto, unfolding(crate::specs::RowEvents::recorded_operands))]
-    fn fill_row(
+    fn add_plain_row(
         &self,
         events: &mut Events,
         id: EvaluationOrder,
         target: Option<Place>,
         value: &InstructionValue,
     ) -> Result<(), AllocError>
-        ensures { OnOk result (events.new
-            ≡ with_mentions self.now.env.now id (spec.recorded_operands self.now.env.now value.now)
-            (with_levels self.now.env.now id (levels_of self.now.env.now (line_of value.now) target
-            (spec.places_read self.now.env.now value.now) (written_levels value.now)) events.old)) }
+        ensures { OnOk result (events.new ≡ events.old
+            ++ spec.row_event self.now.env.now id (spec.recorded_operands self.now.env.now value.now)
+            (levels_of self.now.env.now (line_of value.now) target (spec.places_read self.now.env.now value.now)
+            (written_levels value.now)) ∷ []) }
     {
         let all = self.places_read(value)?;
         let line = memo_rule(value);
+        events.push_row(self, id, recorded(self.env, &line, &all))?;
         let levels = Levels { reader: *self, id };
         levels.put_line(events, value, line, target, &all)?;
-        let places = recorded(self.env, &line, all);
-        self.add_mentions(events, id, places.as_slice())
+        Ok(())
     }
 
-    /// Adds a row whose value is one instruction.
+    /// Adds a row whose value is one instruction, and none of its operands is shared.
+    #[inline(never)]
     #[tactic(auto, unfolding(crate::specs::RowEvents::own_events))]
-    fn add_instruction(
+    fn add_plain(
         &self,
         events: &mut Events,
         id: EvaluationOrder,
@@ -164,80 +166,100 @@ impl<'a> RowReader<'a> {
         ensures { OnOk result (events.new ≡ events.old ++ spec.own_events self.now.env.now id target (Some value.now)
             (spec.recorded_operands self.now.env.now value.now)) }
     {
-        events.push_row()?;
-        self.fill_row(events, id, target, value)?;
+        self.add_plain_row(events, id, target, value)?;
         self.add_load(events, target, value)?;
         self.add_escapes(events, value)?;
         Ok(())
     }
 
+    /// Adds a row whose value is one instruction.
+    #[inline(never)]
+    fn add_instruction(
+        &self,
+        told: &mut Told,
+        id: EvaluationOrder,
+        target: Option<Place>,
+        value: &InstructionValue,
+    ) -> Result<(), AllocError>
+        ensures { OnOk result (Tells self.now.env.now (spec.own_events self.now.env.now id target (Some value.now)
+            (spec.recorded_operands self.now.env.now value.now)) told.old told.new) }
+    {
+        match function_named(value) {
+            Some(function) => self.add_function(told, id, target, function)?,
+            None => self.add_plain(&mut told.events, id, target, value)?,
+        }
+        Ok(())
+    }
+
     /// Adds a row whose value is an expression over other values.
+    #[inline(never)]
     #[tactic(auto, unfolding(crate::specs::RowEvents::own_events))]
     fn add_expression(
         &self,
-        events: &mut Events,
+        told: &mut Told,
         id: EvaluationOrder,
         target: Option<Place>,
         value: &ReactiveValue,
     ) -> Result<(), AllocError>
-        ensures { OnOk result (events.new ≡ events.old ++ spec.own_events self.now.env.now id target None
-            (spec.parts_of self.now.env.now value.now).places) }
+        ensures { OnOk result (Tells self.now.env.now (spec.own_events self.now.env.now id target None
+            (spec.parts_of self.now.env.now value.now).places) told.old told.new) }
     {
-        events.push_row()?;
+        let mut places = List::new(self.alloc);
+        self.add_operands(&mut places, value)?;
+        told.events.push_row(self, id, places.as_slice())?;
         let levels = Levels { reader: *self, id };
-        levels.put_own(events, target, MemoizationLevel::Conditional)?;
-        self.add_operands(events, id, value)?;
+        levels.put_own(&mut told.events, target, MemoizationLevel::Conditional)?;
         Ok(())
     }
 
     /// Adds what a row tells of itself.
-    fn add_own(&self, events: &mut Events, row: &ReactiveInstruction) -> Result<(), AllocError>
-        ensures { OnOk result (events.new ≡ events.old
-            ++ spec.own_events self.now.env.now row.now.id row.now.lvalue (spec.instruction_of row.now.value)
-            (spec.parts_of self.now.env.now row.now.value).places) }
+    #[inline(never)]
+    fn add_own(&self, told: &mut Told, row: &ReactiveInstruction) -> Result<(), AllocError>
+        ensures { OnOk result (Tells self.now.env.now
+            (spec.own_events self.now.env.now row.now.id row.now.lvalue (spec.instruction_of row.now.value)
+            (spec.parts_of self.now.env.now row.now.value).places) told.old told.new) }
     {
         match &row.value {
             ReactiveValue::Instruction(value) => {
-                self.add_instruction(events, row.id, row.lvalue, value)
+                self.add_instruction(told, row.id, row.lvalue, value)
             }
             ReactiveValue::LogicalExpression { .. }
             | ReactiveValue::ConditionalExpression { .. }
             | ReactiveValue::SequenceExpression { .. }
             | ReactiveValue::OptionalExpression { .. } => {
-                self.add_expression(events, row.id, row.lvalue, &row.value)
+                self.add_expression(told, row.id, row.lvalue, &row.value)
             }
         }
     }
 
-    /// Adds the operands of a value in a row to that row, which was added last.
+    /// Adds the operands of a value in a row.
     #[cycle(operands)]
     fn add_operands(
         &self,
-        events: &mut Events,
-        id: EvaluationOrder,
+        places: &mut List<Place>,
         value: &ReactiveValue,
     ) -> Result<(), AllocError>
-        ensures { OnOk result (AddsOperands self.now.env.now value.now id events.old events.new) }
+        ensures { OnOk result (AddsOperands self.now.env.now value.now places.old places.new) }
     {
         match value {
-            ReactiveValue::Instruction(value) => self.add_recorded(events, id, value)?,
+            ReactiveValue::Instruction(value) => self.add_recorded(places, value)?,
             ReactiveValue::LogicalExpression { left, right, .. } => {
-                self.add_operands(events, id, left.get())?;
-                self.add_operands(events, id, right.get())?;
+                self.add_operands(places, left.get())?;
+                self.add_operands(places, right.get())?;
             }
             ReactiveValue::ConditionalExpression {
                 consequent,
                 alternate,
                 ..
             } => {
-                self.add_operands(events, id, consequent.get())?;
-                self.add_operands(events, id, alternate.get())?;
+                self.add_operands(places, consequent.get())?;
+                self.add_operands(places, alternate.get())?;
             }
             ReactiveValue::SequenceExpression { value, .. } => {
-                self.add_operands(events, id, value.get())?;
+                self.add_operands(places, value.get())?;
             }
             ReactiveValue::OptionalExpression { value, .. } => {
-                self.add_operands(events, id, value.get())?;
+                self.add_operands(places, value.get())?;
             }
         }
         Ok(())
@@ -245,58 +267,57 @@ impl<'a> RowReader<'a> {
 
     /// Adds the events of a row, those of the rows inside its value first.
     #[cycle(rows)]
-    pub fn add_row(&self, events: &mut Events, row: &ReactiveInstruction) -> Result<(), AllocError>
-        ensures { OnOk result (events.new ≡ events.old ++ spec.row_events self.now.env.now row.now) }
+    pub fn add_row(&self, told: &mut Told, row: &ReactiveInstruction) -> Result<(), AllocError>
+        ensures { OnOk result (Tells self.now.env.now (spec.row_events self.now.env.now row.now) told.old told.new) }
     {
-        self.add_inside(events, &row.value)?;
-        self.add_own(events, row)?;
+        self.add_inside(told, &row.value)?;
+        self.add_own(told, row)?;
         Ok(())
     }
 
     /// Adds the events of rows, one by one.
+    #[inline(never)]
     #[cycle(rows)]
-    fn add_rows(
-        &self,
-        events: &mut Events,
-        rows: &List<ReactiveInstruction>,
-    ) -> Result<(), AllocError>
-        ensures { OnOk result (events.new ≡ events.old ++ flat_map (spec.row_events self.now.env.now) rows.now) }
+    #[tactic(auto, using(crate::proofs::KnownRowsLemmas::tells_nothing, crate::proofs::KnownRowsLemmas::tells_all))]
+    fn add_rows(&self, told: &mut Told, rows: &List<ReactiveInstruction>) -> Result<(), AllocError>
+        ensures { OnOk result (Tells self.now.env.now (flat_map (spec.row_events self.now.env.now) rows.now) told.old
+            told.new) }
     {
         for row in rows.as_slice() {
-            self.add_row(events, row)?;
+            self.add_row(told, row)?;
         }
         Ok(())
     }
 
     /// Adds the events of the rows inside a value that stands in a row.
     #[cycle(rows)]
-    fn add_inside(&self, events: &mut Events, value: &ReactiveValue) -> Result<(), AllocError>
-        ensures { OnOk result (AddsRows self.now.env.now value.now events.old events.new) }
+    fn add_inside(&self, told: &mut Told, value: &ReactiveValue) -> Result<(), AllocError>
+        ensures { OnOk result (AddsRows self.now.env.now value.now told.old told.new) }
     {
         match value {
             ReactiveValue::Instruction(_) => {}
             ReactiveValue::LogicalExpression { left, right, .. } => {
-                self.add_inside(events, left.get())?;
-                self.add_inside(events, right.get())?;
+                self.add_inside(told, left.get())?;
+                self.add_inside(told, right.get())?;
             }
             ReactiveValue::ConditionalExpression {
                 consequent,
                 alternate,
                 ..
             } => {
-                self.add_inside(events, consequent.get())?;
-                self.add_inside(events, alternate.get())?;
+                self.add_inside(told, consequent.get())?;
+                self.add_inside(told, alternate.get())?;
             }
             ReactiveValue::SequenceExpression {
                 instructions,
                 value,
                 ..
             } => {
-                self.add_rows(events, instructions)?;
-                self.add_inside(events, value.get())?;
+                self.add_rows(told, instructions)?;
+                self.add_inside(told, value.get())?;
             }
             ReactiveValue::OptionalExpression { value, .. } => {
-                self.add_inside(events, value.get())?;
+                self.add_inside(told, value.get())?;
             }
         }
         Ok(())
@@ -305,36 +326,46 @@ impl<'a> RowReader<'a> {
     /// Adds the events of the rows inside a value that stands in a terminal.
     #[cycle(walked)]
     #[tactic(auto, using(crate::proofs::RowEventsLemmas::quiet_values))]
-    pub fn add_walked(&self, events: &mut Events, value: &ReactiveValue) -> Result<(), AllocError>
-        ensures { OnOk result (AddsWalked self.now.env.now value.now events.old events.new) }
+    pub fn add_walked(&self, told: &mut Told, value: &ReactiveValue) -> Result<(), AllocError>
+        ensures { OnOk result (AddsWalked self.now.env.now value.now told.old told.new) }
     {
         match value {
             ReactiveValue::Instruction(_) => {}
             ReactiveValue::LogicalExpression { left, right, .. } => {
-                self.add_walked(events, left.get())?;
-                self.add_walked(events, right.get())?;
+                self.add_walked(told, left.get())?;
+                self.add_walked(told, right.get())?;
             }
             ReactiveValue::ConditionalExpression {
                 test,
                 consequent,
                 alternate,
             } => {
-                self.add_walked(events, test.get())?;
-                self.add_walked(events, consequent.get())?;
-                self.add_walked(events, alternate.get())?;
+                self.add_walked(told, test.get())?;
+                self.add_walked(told, consequent.get())?;
+                self.add_walked(told, alternate.get())?;
             }
             ReactiveValue::SequenceExpression {
                 instructions,
                 value,
                 ..
             } => {
-                self.add_rows(events, instructions)?;
-                self.add_walked(events, value.get())?;
+                self.add_rows(told, instructions)?;
+                self.add_walked(told, value.get())?;
             }
             ReactiveValue::OptionalExpression { value, .. } => {
-                self.add_walked(events, value.get())?;
+                self.add_walked(told, value.get())?;
             }
         }
         Ok(())
     }
+}
+
+/// Adds places to a list. Fails only when out of memory.
+fn push_places(list: &mut List<Place>, places: &[Place]) -> Result<(), AllocError>
+    ensures { OnOk result (list.new ≡ list.old ++ places.now) }
+{
+    for place in places {
+        list.push(*place)?;
+    }
+    Ok(())
 }

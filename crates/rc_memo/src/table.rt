@@ -17,6 +17,7 @@ use rc_hir::{
 };
 use rc_names::{EvaluationOrder, List};
 use std::alloc::AllocError;
+use std::slice;
 
 /// A line of the memo table, with the places that it names.
 #[derive(Clone, Copy)]
@@ -195,11 +196,11 @@ impl<'a> Levels<'a> {
 
     /// Gives each operand that the row may change its level.
     #[tactic(auto, using(crate::proofs::RowPartsLemmas::row_steps))]
-    fn put_mutable(&self, events: &mut Events, operands: &Places<'_>) -> Result<(), AllocError>
+    pub fn put_mutable(&self, events: &mut Events, operands: &[Place]) -> Result<(), AllocError>
         ensures { OnOk result (events.new ≡ with_levels self.now.reader.env.now self.now.id
             (flat_map spec.if_mutable operands.now) events.old) }
     {
-        for operand in operands.as_slice() {
+        for operand in operands {
             self.put_if_mutable(events, *operand)?;
         }
         Ok(())
@@ -359,10 +360,10 @@ impl<'a> Levels<'a> {
                 if self.reader.env.has_no_alias_signature(callee.identifier) {
                     return Ok(());
                 }
-                self.put_mutable(events, operands)
+                self.put_mutable(events, operands.as_slice())
             }
             MemoRule::Creates => {
-                self.put_mutable(events, operands)?;
+                self.put_mutable(events, operands.as_slice())?;
                 self.put_own(events, target, MemoizationLevel::Memoized)
             }
         }
@@ -400,26 +401,26 @@ fn memoizes_cheap(env: &Environment) -> bool
 
 /// Returns the operands of an instruction that are recorded, from all of them.
 #[tactic(auto, unfolding(crate::specs::Table::recorded_of))]
-pub fn recorded<'p>(env: &Environment, line: &'p MemoRule, operands: Places<'p>) -> Places<'p>
-    ensures { result ≡ spec.recorded_of env.now line.now operands.entry }
+pub fn recorded<'p>(env: &Environment, line: &'p MemoRule, operands: &'p Places<'_>) -> &'p [Place]
+    ensures { result.now ≡ spec.recorded_of env.now line.now operands.now }
 {
     match line {
-        MemoRule::Element | MemoRule::Follows | MemoRule::Creates => operands,
+        MemoRule::Element | MemoRule::Follows | MemoRule::Creates => operands.as_slice(),
         MemoRule::Cheap => if memoizes_cheap(env) {
-            operands
+            operands.as_slice()
         } else {
-            Places::none()
+            &[]
         },
-        MemoRule::DeclaresContext { .. } | MemoRule::Declares { .. } => Places::none(),
-        MemoRule::Stores { value, .. } => Places::one(value),
-        MemoRule::StoresContext { value, .. } => Places::one(value),
-        MemoRule::StoresGlobal { value } => Places::one(value),
-        MemoRule::Destructures { value } => Places::one(value),
-        MemoRule::Reads { object } => Places::one(object),
+        MemoRule::DeclaresContext { .. } | MemoRule::Declares { .. } => &[],
+        MemoRule::Stores { value, .. } => slice::from_ref(value),
+        MemoRule::StoresContext { value, .. } => slice::from_ref(value),
+        MemoRule::StoresGlobal { value } => slice::from_ref(value),
+        MemoRule::Destructures { value } => slice::from_ref(value),
+        MemoRule::Reads { object } => slice::from_ref(object),
         MemoRule::Calls { callee } => if env.has_no_alias_signature(callee.identifier) {
-            Places::none()
+            &[]
         } else {
-            operands
+            operands.as_slice()
         },
     }
 }

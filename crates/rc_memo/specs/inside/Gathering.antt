@@ -1,23 +1,20 @@
 -- Facts that are added to what is held of them, one after the other: to nodes, or to the names that have one.
-use Rattle.std.specs.Prelude.{◌≡◌, ◌⊎◌, false, List, [], ◌∷◌, ◌++◌, None, Some, Result, Ok, Err, OnOk}
-use Rattle.std.specs.Prelude.{map, unwrap_or, if◌then◌else◌}
-use Rattle.std.specs.List.{flat_map}
+use Rattle.std.specs.Prelude.{◌≡◌, ◌⊎◌, false, List, [], ◌∷◌, ◌++◌, None, Some, Result, Ok, Err}
+use Rattle.std.specs.Prelude.{◌<◌, ℕ, Option, length, map, unwrap_or, if◌then◌else◌}
 use Rattle.std.specs.Map.{lookup}
-use Rattle.indexmap.specs.IndexMap.{insert_entry}
 use Rattle.indexmap.specs.IndexSet.{insert_key}
 use Rattle.rc_hir.specs.Model.{Fault}
 use Rattle.rc_hir.specs.declared.fault.Fault.TheVariants.{NoMemory, Uninitialised}
 use Rattle.rc_names.specs.Numbers.{DeclarationId, ScopeId, is_among, same_id}
-use Rattle.rc_memo.specs.Events.{Loaded, definitions_told, facts_behind, facts_told, loads_in}
 use Rattle.rc_memo.specs.Facts.{Fact, first_missing, names_told, node_told, nodes_told}
 use Rattle.rc_memo.specs.Level.{stronger}
-use Rattle.rc_memo.specs.declared.event.MemoEvent.{MemoEvent}
+use Rattle.rc_memo.specs.RowRecord.{operands_at}
 use Rattle.rc_memo.specs.declared.event.Mention.{Mention}
 use Rattle.rc_memo.specs.declared.event.Target.{Target}
 use Rattle.rc_memo.specs.declared.level.MemoizationLevel.{MemoizationLevel}
 use Rattle.rc_memo.specs.declared.level.MemoizationLevel.TheVariants.{Never}
-use Rattle.rc_memo.specs.declared.nodes.Gathered.{Gathered}
 use Rattle.rc_memo.specs.declared.record.MemoNode.{MemoNode}
+use Rattle.rc_memo.specs.inside.ToldFacts.{AreTold}
 
 -- the nodes as they are held
 abbrev pub Held : Type 0
@@ -50,6 +47,17 @@ pub record HoldsNodes (facts : List Fact) (nodes : Held) : Type 0 where
 abbrev pub HoldsNames : List Fact → List DeclarationId → Type 0
 HoldsNames facts names = names ≡ names_told facts
 
+-- the operands of rows
+abbrev pub RowOperands : Type 0
+RowOperands = List (List DeclarationId)
+
+-- the same, whatever operands of rows are kept
+abbrev pub NodesHold : RowOperands → List Fact → Held → Type 0
+NodesHold rows = HoldsNodes
+
+abbrev pub NamesHold : RowOperands → List Fact → List DeclarationId → Type 0
+NamesHold rows = HoldsNames
+
 -- what is held of facts
 module _ {S : Type 0} (Holds : List Fact → S → Type 0) where
   -- after what holds the facts before: it holds more facts, or the fault names the first missing name
@@ -58,9 +66,32 @@ module _ {S : Type 0} (Holds : List Fact → S → Type 0) where
   Gathers before facts (Err fault) held = (fault ≡ NoMemory)
       ⊎ ((name : DeclarationId) × (fault ≡ Uninitialised name) × (first_missing before facts ≡ Some name))
 
-  -- a call adds more facts to what is held, whatever the facts before are
-  unfoldable pub Adds : List Fact → S → Result (Unit {0}) Fault → S → Type 0
-  Adds facts old result new = (before : List Fact) → Holds before old → Gathers before facts result new
+-- a call adds more facts to what is held, whatever the facts before are, and keeps the operands of rows
+unfoldable pub Adds : {S : Type 0} → (RowOperands → List Fact → S → Type 0) → List Fact → S → Result (Unit {0}) Fault
+    → S → Type 0
+Adds Holds facts old result new = (rows : RowOperands) (before : List Fact) → Holds rows before old
+    → Gathers (Holds rows) before facts result new
+
+-- these operands stand at a position, where one is given
+abbrev pub IsRow : RowOperands → Option ℕ → List DeclarationId → Type 0
+IsRow rows None names = Unit {0}
+IsRow rows (Some row) names = (row < length rows) × (operands_at rows row ≡ names)
+
+module _ {S : Type 0} (Holds : RowOperands → List Fact → S → Type 0) where
+  -- a call adds facts of a row with these operands, which may stand at a position
+  unfoldable pub AddsAt : Option ℕ → List DeclarationId → List Fact → S → Result (Unit {0}) Fault → S → Type 0
+  AddsAt row names facts old result new = (rows : RowOperands) (before : List Fact) → IsRow rows row names
+      → Holds rows before old → Gathers (Holds rows) before facts result new
+
+  -- a call puts the operands of a row, or gives no position of them
+  unfoldable pub PutsOperands : List DeclarationId → Option ℕ → S → S → Type 0
+  PutsOperands names row old new = (rows : RowOperands) (facts : List Fact) → Holds rows facts old
+      → (more : RowOperands) × Holds (rows ++ more) facts new × IsRow (rows ++ more) row names
+
+  -- facts that are told again change nothing of what is held
+  unfoldable pub HoldsAgain : S → Type 0
+  HoldsAgain held = (rows : RowOperands) (facts more : List Fact) → AreTold facts more → Holds rows facts held
+      → Holds rows (facts ++ more) held
 
 -- a name as the definitions resolve it
 abbrev pub resolved : List (DeclarationId × DeclarationId) → DeclarationId → DeclarationId
@@ -72,26 +103,3 @@ operand_names resolve operands = map (λ operand. resolve operand.name) operands
 
 abbrev pub target_names : (DeclarationId → DeclarationId) → List Target → List DeclarationId
 target_names resolve targets = map (λ target. resolve target.mention.name) targets
-
--- the definitions with some more loads
-abbrev pub with_loads : List Loaded → List Loaded → List Loaded
-with_loads definitions [] = definitions
-with_loads definitions (load ∷ loads) = with_loads (insert_entry same_id definitions load.0 load.1) loads
-
-module _ {S : Type 0} (Holds : List Fact → S → Type 0) where
-  -- after the facts and loads before: what more events add to what is held, and to the definitions
-  pub record GathersEvents (before : List Fact) (loads : List Loaded) (events : List MemoEvent)
-      (result : Result (Unit {0}) Fault) (new : Gathered S) : Type 0 where
-    pub facts : Gathers Holds before (facts_behind loads events) result new.held
-    pub definitions : OnOk result (new.definitions ≡ definitions_told (loads ++ flat_map loads_in events))
-
-  -- a call adds events, whatever the facts and loads before are
-  unfoldable pub AddsEvents : List MemoEvent → Gathered S → Result (Unit {0}) Fault → Gathered S → Type 0
-  AddsEvents events old result new = (before : List Fact) (loads : List Loaded) → Holds before old.held
-      → old.definitions ≡ definitions_told loads → GathersEvents before loads events result new
-
-  -- the facts of the parameters and events are held with the definitions, and no name that needs a node has none
-  pub record HasGathered (params : List DeclarationId) (events : List MemoEvent) (found : Gathered S) : Type 0 where
-    pub complete : first_missing [] (facts_told params events) ≡ None
-    pub held : Holds (facts_told params events) found.held
-    pub definitions : found.definitions ≡ definitions_told (flat_map loads_in events)

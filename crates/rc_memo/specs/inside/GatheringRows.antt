@@ -13,7 +13,7 @@ use Rattle.rc_memo.specs.declared.level.MemoizationLevel.TheVariants.{Never}
 use Rattle.rc_memo.specs.declared.nodes.rows.HeldRows.{HeldRows}
 use Rattle.rc_memo.specs.declared.nodes.rows.RowTarget.{RowTarget}
 use Rattle.rc_memo.specs.declared.row_record.RowNode.{RowNode}
-use Rattle.rc_memo.specs.inside.Gathering.{HoldsNodes}
+use Rattle.rc_memo.specs.inside.Gathering.{HoldsNodes, RowOperands}
 use Rattle.rc_memo.specs.inside.Growing.{insert_all}
 
 -- the nodes as they are held
@@ -56,8 +56,7 @@ module _ (resolve : DeclarationId → DeclarationId) (row : Option ℕ) where
   with_targets (target ∷ targets) nodes = with_targets targets (with_target_at target nodes)
 
 -- operands are put last, and their position is told; no operands aren't put
-abbrev pub PutsRow : (old : List (List DeclarationId)) → List DeclarationId → Option ℕ
-    → (new : List (List DeclarationId)) → Type 0
+abbrev pub PutsRow : (old : RowOperands) → List DeclarationId → Option ℕ → (new : RowOperands) → Type 0
 PutsRow old names None new = (names ≡ []) × (new ≡ old)
 PutsRow old names (Some row) new = (row ≡ length old) × (new ≡ old ++ names ∷ [])
 
@@ -65,7 +64,15 @@ PutsRow old names (Some row) new = (row ≡ length old) × (new ≡ old ++ names
 abbrev pub RowsBelow : ℕ → DeclarationId × RowNode → Type 0
 RowsBelow count entry = AllByRecursion (λ row. row < count) entry.1.rows
 
--- the nodes name rows that are there, and stand for the nodes of the facts
-pub record HoldsRows (facts : List Fact) (held : HeldRows) : Type 0 where
+-- the operands of a row are put, unless they stand at a position that is given
+abbrev pub FindsRow : Option ℕ → (old : RowOperands) → List DeclarationId → Option ℕ → (new : RowOperands) → Type 0
+FindsRow None old names found new = PutsRow old names found new
+FindsRow (Some row) old names found new = (found ≡ Some row) × (new ≡ old)
+
+-- these operands of rows are kept, and maybe more; the nodes name rows that are there, and stand for the nodes of the
+-- facts
+pub record HoldsRows (rows : RowOperands) (facts : List Fact) (held : HeldRows) : Type 0 where
+  pub more : RowOperands
+  pub kept : held.operands ≡ rows ++ more
   pub rows_below : AllByRecursion (RowsBelow (length held.operands)) held.nodes
   pub nodes : HoldsNodes facts (nodes_of_rows held.operands held.nodes)

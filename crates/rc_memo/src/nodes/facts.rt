@@ -7,7 +7,7 @@ ghost use Rattle.indexmap.specs.IndexMap.{insert_entry};
 ghost use Rattle.rc_names.specs.Numbers.{is_among, same_id};
 ghost use Rattle.rc_memo.specs.Events.{operand_facts, scope_facts, target_facts};
 ghost use Rattle.rc_memo.specs.Facts.{DependsOn};
-ghost use Rattle.rc_memo.specs.inside.Gathering.{Adds, HoldsNodes, at_name, resolved as spec_resolved};
+ghost use Rattle.rc_memo.specs.inside.Gathering.{Adds, NodesHold, at_name, resolved as spec_resolved};
 ghost use Rattle.rc_memo.specs.inside.Gathering.{with_dependency, with_level, with_scope};
 
 use crate::event::{Mention, Target};
@@ -77,7 +77,7 @@ fn put_node(nodes: &mut Nodes, name: DeclarationId, node: MemoNode) -> Result<()
 /// Adds that a name depends on another.
 #[tactic(auto, using(crate::proofs::AddingLemmas::adds_memory, crate::proofs::HeldNodesLemmas::adds_dependency, crate::proofs::HeldNodesLemmas::adds_dependency_missing))]
 fn add_dependency(nodes: &mut Nodes, name: DeclarationId, other: DeclarationId) -> Result<(), Fault>
-    ensures { Adds HoldsNodes (DependsOn name other ∷ []) nodes.old result nodes.new }
+    ensures { Adds NodesHold (DependsOn name other ∷ []) nodes.old result nodes.new }
 {
     match put_dependency(nodes, name, other) {
         Ok(true) => Ok(()),
@@ -89,7 +89,7 @@ fn add_dependency(nodes: &mut Nodes, name: DeclarationId, other: DeclarationId) 
 /// Adds the scope of a name, where it has one.
 #[tactic(auto, using(crate::proofs::AddingLemmas::adds_nothing))]
 fn add_scope_if(nodes: &mut Nodes, name: DeclarationId, scope: Option<ScopeId>) -> Result<(), Fault>
-    ensures { Adds HoldsNodes (scope_facts name scope) nodes.old result nodes.new }
+    ensures { Adds NodesHold (scope_facts name scope) nodes.old result nodes.new }
 {
     match scope {
         Some(scope) => nodes.add_scope(name, scope),
@@ -105,7 +105,7 @@ fn add_operand(
     name: DeclarationId,
     operand: Mention,
 ) -> Result<(), Fault>
-    ensures { Adds HoldsNodes (operand_facts (spec_resolved definitions.now) name operand) nodes.old result nodes.new }
+    ensures { Adds NodesHold (operand_facts (spec_resolved definitions.now) name operand) nodes.old result nodes.new }
 {
     let other = resolved(definitions, operand.name);
     if name == other {
@@ -123,7 +123,7 @@ fn add_operands(
     name: DeclarationId,
     operands: &[Mention],
 ) -> Result<(), Fault>
-    ensures { Adds HoldsNodes (flat_map (operand_facts (spec_resolved definitions.now) name) operands.now) nodes.old
+    ensures { Adds NodesHold (flat_map (operand_facts (spec_resolved definitions.now) name) operands.now) nodes.old
         result nodes.new }
 {
     for operand in operands {
@@ -144,7 +144,7 @@ fn add_parts(
     operands: &[Mention],
     scope: Option<ScopeId>,
 ) -> Result<(), Fault>
-    ensures { Adds HoldsNodes (flat_map (operand_facts (spec_resolved definitions.now) name) operands.now
+    ensures { Adds NodesHold (flat_map (operand_facts (spec_resolved definitions.now) name) operands.now
         ++ scope_facts name scope) nodes.old result nodes.new }
 {
     match add_operands(definitions, nodes, name, operands) {
@@ -162,7 +162,7 @@ fn add_target(
     operands: &[Mention],
     target: Target,
 ) -> Result<(), Fault>
-    ensures { Adds HoldsNodes (target_facts (spec_resolved definitions.now) operands.now target) nodes.old result
+    ensures { Adds NodesHold (target_facts (spec_resolved definitions.now) operands.now target) nodes.old result
         nodes.new }
 {
     let name = resolved(definitions, target.mention.name);
@@ -181,7 +181,7 @@ fn add_targets(
     operands: &[Mention],
     targets: &[Target],
 ) -> Result<(), Fault>
-    ensures { Adds HoldsNodes (flat_map (target_facts (spec_resolved definitions.now) operands.now) targets.now)
+    ensures { Adds NodesHold (flat_map (target_facts (spec_resolved definitions.now) operands.now) targets.now)
         nodes.old result nodes.new }
 {
     for target in targets {
@@ -194,9 +194,9 @@ fn add_targets(
 }
 
 impl HoldsFacts for Nodes {
-    ghost holds = { HoldsNodes };
+    ghost holds = { NodesHold };
 
-    #[tactic(auto, using(crate::proofs::EventsLemmas::no_nodes))]
+    #[tactic(auto, using(crate::proofs::HeldNodesLemmas::no_nodes))]
     fn none(alloc: Global) -> Nodes {
         Keyed::new(alloc)
     }
@@ -239,13 +239,28 @@ impl HoldsFacts for Nodes {
         }
     }
 
+    #[tactic(auto, using(crate::proofs::AddingLemmas::puts_nothing))]
+    fn put_operands(
+        &mut self,
+        _alloc: Global,
+        _definitions: &Keyed<DeclarationId, DeclarationId>,
+        _operands: &[Mention],
+    ) -> Result<Option<usize>, AllocError> {
+        Ok(None)
+    }
+
+    #[tactic(auto, using(crate::proofs::AddingLemmas::adds_at))]
     fn add_targets(
         &mut self,
         alloc: Global,
         definitions: &Keyed<DeclarationId, DeclarationId>,
+        _row: Option<usize>,
         operands: &[Mention],
         targets: &[Target],
     ) -> Result<(), Fault> {
         add_targets(alloc, definitions, self, operands, targets)
     }
+
+    #[tactic(auto, using(crate::proofs::ToldLemmas::nodes_hold_again))]
+    fn holds_again(&self) {}
 }

@@ -2,7 +2,7 @@
 
 ghost use Rattle.std.specs.Prelude.{◌≡◌, ◌∷◌, [], None, Some, OnOk};
 ghost use Rattle.rc_memo.specs.Facts.{Fact, needed_by, target_told};
-ghost use Rattle.rc_memo.specs.inside.Gathering.{Adds, HoldsNames, resolved as spec_resolved, target_names};
+ghost use Rattle.rc_memo.specs.inside.Gathering.{Adds, NamesHold, resolved as spec_resolved, target_names};
 ghost use Rattle.rc_memo.specs.inside.Growing.{insert_all};
 
 use crate::event::{Mention, Target};
@@ -17,7 +17,7 @@ use std::alloc::{AllocError, Global};
 #[tactic(auto, using(crate::proofs::HeldNamesLemmas::names_needed, crate::proofs::HeldNamesLemmas::names_missing))]
 fn need(names: &DeclSet, name: DeclarationId) -> Result<(), Fault>
     ensures { (fact : Fact) → needed_by fact ≡ Some name → target_told fact ≡ None
-        → Adds HoldsNames (fact ∷ []) names.now result names.now }
+        → Adds NamesHold (fact ∷ []) names.now result names.now }
 {
     if names.contains(name) {
         Ok(())
@@ -42,9 +42,9 @@ fn put_targets(
 }
 
 impl HoldsFacts for KeySet<DeclarationId> {
-    ghost holds = { HoldsNames };
+    ghost holds = { NamesHold };
 
-    #[tactic(auto, using(crate::proofs::EventsLemmas::no_names))]
+    #[tactic(auto, using(crate::proofs::HeldNamesLemmas::no_names))]
     fn none(alloc: Global) -> KeySet<DeclarationId> {
         KeySet::new(alloc)
     }
@@ -70,11 +70,22 @@ impl HoldsFacts for KeySet<DeclarationId> {
         need(self, name)
     }
 
-    #[tactic(auto, using(crate::proofs::HeldNamesLemmas::names_targets, crate::proofs::AddingLemmas::adds_memory))]
+    #[tactic(auto, using(crate::proofs::AddingLemmas::puts_nothing))]
+    fn put_operands(
+        &mut self,
+        _alloc: Global,
+        _definitions: &Keyed<DeclarationId, DeclarationId>,
+        _operands: &[Mention],
+    ) -> Result<Option<usize>, AllocError> {
+        Ok(None)
+    }
+
+    #[tactic(auto, using(crate::proofs::HeldNamesLemmas::names_targets_at, crate::proofs::AddingLemmas::adds_at_memory))]
     fn add_targets(
         &mut self,
         _alloc: Global,
         definitions: &Keyed<DeclarationId, DeclarationId>,
+        _row: Option<usize>,
         _operands: &[Mention],
         targets: &[Target],
     ) -> Result<(), Fault> {
@@ -83,4 +94,7 @@ impl HoldsFacts for KeySet<DeclarationId> {
             Err(_) => Err(Fault::NoMemory),
         }
     }
+
+    #[tactic(auto, using(crate::proofs::ToldLemmas::names_hold_again))]
+    fn holds_again(&self) {}
 }

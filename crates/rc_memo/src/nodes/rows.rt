@@ -7,8 +7,8 @@ ghost use Rattle.std.specs.Option.{option_to_list};
 ghost use Rattle.indexmap.specs.IndexMap.{insert_entry};
 ghost use Rattle.rc_names.specs.Numbers.{is_among, same_id};
 ghost use Rattle.rc_memo.specs.Events.{listed, target_facts};
-ghost use Rattle.rc_memo.specs.inside.Gathering.{Adds, at_name, operand_names, resolved as spec_resolved};
-ghost use Rattle.rc_memo.specs.inside.GatheringRows.{HoldsRows, PutsRow, at_name_or, empty_row_node};
+ghost use Rattle.rc_memo.specs.inside.Gathering.{AddsAt, at_name, operand_names, resolved as spec_resolved};
+ghost use Rattle.rc_memo.specs.inside.GatheringRows.{FindsRow, HoldsRows, PutsRow, at_name_or, empty_row_node};
 ghost use Rattle.rc_memo.specs.inside.GatheringRows.{with_row_scope, with_target, with_targets};
 ghost use Rattle.rc_memo.specs.inside.Growing.{insert_all};
 
@@ -190,23 +190,41 @@ fn put_scope(nodes: &mut Nodes, name: DeclarationId, scope: ScopeId) -> Result<b
     }
 }
 
+/// Returns the position of a row's operands, which are put if no position is given. Fails only when out of memory.
+fn row_of(
+    rows: &mut List<List<DeclarationId>>,
+    alloc: Global,
+    definitions: &Keyed<DeclarationId, DeclarationId>,
+    row: Option<usize>,
+    operands: &[Mention],
+) -> Result<Option<usize>, AllocError>
+    ensures { IfOk result (λ found. FindsRow row rows.old
+        (operand_names (spec_resolved definitions.now) operands.now) found rows.new) }
+{
+    match row {
+        Some(row) => Ok(Some(row)),
+        None => put_operands(rows, alloc, definitions, operands),
+    }
+}
+
 impl HeldRows {
-    /// Adds the targets of a row with its operands. Fails only when out of memory.
+    /// Adds targets of a row. Fails only when out of memory.
     fn put_row(
         &mut self,
         alloc: Global,
         definitions: &Keyed<DeclarationId, DeclarationId>,
+        row: Option<usize>,
         operands: &[Mention],
         targets: &[Target],
     ) -> Result<(), AllocError>
-        ensures { OnOk result (Adds HoldsRows
+        ensures { OnOk result (AddsAt HoldsRows row (operand_names (spec_resolved definitions.now) operands.now)
             (flat_map (target_facts (spec_resolved definitions.now) operands.now) targets.now)
             self.old (Ok tt) self.new) }
     {
         if targets.is_empty() {
             return Ok(());
         }
-        let row = put_operands(&mut self.operands, alloc, definitions, operands)?;
+        let row = row_of(&mut self.operands, alloc, definitions, row, operands)?;
         put_targets(&mut self.nodes, alloc, definitions, row, targets)
     }
 }
@@ -255,17 +273,30 @@ impl HoldsFacts for HeldRows {
         }
     }
 
-    #[tactic(auto, using(crate::proofs::AddingLemmas::adds_memory))]
-    fn add_targets(
+    fn put_operands(
         &mut self,
         alloc: Global,
         definitions: &Keyed<DeclarationId, DeclarationId>,
         operands: &[Mention],
+    ) -> Result<Option<usize>, AllocError> {
+        put_operands(&mut self.operands, alloc, definitions, operands)
+    }
+
+    #[tactic(auto, using(crate::proofs::AddingLemmas::adds_at_memory))]
+    fn add_targets(
+        &mut self,
+        alloc: Global,
+        definitions: &Keyed<DeclarationId, DeclarationId>,
+        row: Option<usize>,
+        operands: &[Mention],
         targets: &[Target],
     ) -> Result<(), Fault> {
-        match self.put_row(alloc, definitions, operands, targets) {
+        match self.put_row(alloc, definitions, row, operands, targets) {
             Ok(()) => Ok(()),
             Err(_) => Err(Fault::NoMemory),
         }
     }
+
+    #[tactic(auto, using(crate::proofs::HeldRowsLemmas::rows_hold_again))]
+    fn holds_again(&self) {}
 }

@@ -1,5 +1,5 @@
 use Rattle.std.proofs.Common.{◌∙◌, ◌+◌, ap, get_or}
-use Rattle.rc_memo.proofs.HeldEventsLemmas.{below_heads, event_found, start_at-inside}
+use Rattle.rc_memo.proofs.HeldEventsLemmas.{below_heads, event_found, refers_at, starts_inside}
 use Rattle.rc_memo.proofs.events.Events.at.Goals as goal
 
 pub head_at-head-requires : goal.head_at-head-requires
@@ -11,34 +11,40 @@ head_at-head-requires c =
 pub start_after-end-requires : goal.start_after-end-requires
 start_after-end-requires c =
     let held = c.self.inside in
-    rw c.as_slice-2.ensures (below_heads held.operands held.targets held.scopes held.heads c.args.self.now c.args.i
+    rw c.as_slice.ensures (below_heads held.operands held.targets held.scopes held.heads c.args.self.now c.args.i
     c.self.view_is c.requires)
 
-pub parts_between-requires : goal.parts_between-requires
-parts_between-requires c =
+pub parts_of-requires-clause-end : goal.parts_of-requires-clause-end
+parts_of-requires-clause-end c =
     let held = c.self.inside in
     rw (
+      c.start_after-end.ensures,
+      c.as_slice.ensures,
+      c.as_slice-2.ensures,
       c.as_slice-3.ensures,
       c.as_slice-4.ensures,
-      c.as_slice-5.ensures,
-      c.start_after-end.ensures,
-      c.as_slice-2.ensures,
-      c.ends_of-last.ensures,
     )
-    (start_at-inside held.operands held.targets held.scopes held.heads c.self.invariant (c.args.i + 1))
+    (starts_inside held.operands held.targets held.scopes held.heads (c.args.i + 1) c.self.invariant)
 
-pub returns : goal.returns
-returns c =
+pub parts_of-requires-clause-row : goal.parts_of-requires-clause-row
+parts_of-requires-clause-row c =
+    let held = c.self.inside in
+    let head = c.head_at-head.result in
+    rw c.as_slice.ensures
+    (refers_at held.operands held.targets held.scopes held.heads c.args.self.now c.args.i head c.self.view_is
+    c.requires (c.head_at-head.ensures ∙ ap (λ w. get_or w c.args.i head) c.as_slice.ensures) c.self.invariant)
+
+pub returns-clause-event : goal.returns-clause-event
+returns-clause-event c =
     let held = c.self.inside in
     let head = c.head_at-head.result in
     rw (
-      c.parts_between.ensures,
+      c.parts_of.ensures.event,
+      c.start_after-end.ensures,
+      c.as_slice.ensures,
+      c.as_slice-2.ensures,
       c.as_slice-3.ensures,
       c.as_slice-4.ensures,
-      c.as_slice-5.ensures,
-      c.start_after-end.ensures,
-      c.as_slice-2.ensures,
-      c.ends_of-last.ensures,
     )
     (event_found held.operands held.targets held.scopes held.heads c.args.self.now c.args.i head c.self.view_is
     c.requires

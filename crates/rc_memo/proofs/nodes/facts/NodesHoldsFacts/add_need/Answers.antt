@@ -4,7 +4,8 @@ use Rattle.rc_memo.proofs.nodes.facts.NodesHoldsFacts.add_need.Goals as goal
 
 pub returns-in-Some : goal.returns-in-Some
 returns-in-Some c =
-    adds_asked c.args.name c.args.self.now (found_some c.args.name c.args.self.now c.in-Some.field-0.now c.in-Some.ensures)
+    adds_asked c.args.name c.args.self.now (found_some c.args.name c.args.self.now c.in-Some.field-0.now
+    c.in-Some.ensures)
 
 pub returns-in-None : goal.returns-in-None
 returns-in-None c =

@@ -1,0 +1,103 @@
+//! The rows that name a function: all but the first repeat one, where the context names the same.
+
+ghost use Rattle.std.specs.Prelude.{◌≡◌, ◌∷◌, [], map, IfOk, IfSome, OnOk};
+ghost use Rattle.rc_memo.specs.Mentions.{target_of};
+ghost use Rattle.rc_memo.specs.Table.{own};
+ghost use Rattle.rc_memo.specs.declared.level.MemoizationLevel.TheVariants as levels;
+ghost use Rattle.rc_memo.specs.inside.KnownRows as spec;
+
+use crate::MemoizationLevel;
+use crate::known_rows::{KnownRow, Told, count_mutable};
+use crate::reader::RowReader;
+use crate::table::Levels;
+use rc_hir::{InstructionValue, InstructionValue as Kind, Place};
+use rc_names::{EvaluationOrder, FunctionId};
+use std::alloc::AllocError;
+
+/// Returns the function that an instruction names, if it names one.
+pub fn function_named(value: &InstructionValue) -> Option<FunctionId>
+    ensures { IfSome result (λ function. spec.NamesFunction function value.now) }
+{
+    match value {
+        Kind::FunctionExpression { lowered_func, .. } => Some(lowered_func.func),
+        Kind::ObjectMethod { lowered_func, .. } => Some(lowered_func.func),
+        _ => None,
+    }
+}
+
+impl<'a> RowReader<'a> {
+    /// Returns the context of a function; a function outside the table has none.
+    fn context_of(&self, function: FunctionId) -> &[Place]
+        ensures { result.now ≡ spec.context_of self.now.env.now function }
+    {
+        match self.env.functions.get(function) {
+            Some(known) => known.context.as_slice(),
+            None => &[],
+        }
+    }
+
+    /// Adds the row of a function, and returns true, if it can repeat one; else adds nothing.
+    #[tactic(auto, using(crate::proofs::KnownRowsLemmas::repeats_nothing))]
+    fn add_repeated(
+        &self,
+        told: &mut Told,
+        id: EvaluationOrder,
+        function: FunctionId,
+    ) -> Result<bool, AllocError>
+        ensures { IfOk result (λ added. spec.Repeats self.now.env.now id function added told.old told.new) }
+    {
+        let Some(known) = told.known.get(function).copied() else {
+            return Ok(false);
+        };
+        if !known.ids.has(id) {
+            return Ok(false);
+        }
+        let added = told.events.push_repeated(known.row, known.shared)?;
+        Ok(added)
+    }
+
+    /// Adds the row of a function with its own operands, so that later rows can repeat it.
+    fn add_first(
+        &self,
+        told: &mut Told,
+        id: EvaluationOrder,
+        target: Option<Place>,
+        function: FunctionId,
+    ) -> Result<(), AllocError>
+        ensures { OnOk result (spec.Tells self.now.env.now (spec.function_row self.now.env.now id function
+            (map (target_of self.now.env.now id) (own target levels.Memoized)) ∷ []) told.old told.new) }
+    {
+        let context = self.context_of(function);
+        let known = KnownRow {
+            row: told.events.len(),
+            shared: count_mutable(context),
+            ids: self.window(id, context),
+        };
+        let levels = Levels { reader: *self, id };
+        told.events.push_row(self, id, context)?;
+        levels.put_mutable(&mut told.events, context)?;
+        levels.put_own(&mut told.events, target, MemoizationLevel::Memoized)?;
+        told.known.insert(function, known)?;
+        Ok(())
+    }
+
+    /// Adds the row of a function.
+    #[tactic(auto, using(crate::proofs::KnownRowsLemmas::tells_repeated))]
+    pub fn add_function(
+        &self,
+        told: &mut Told,
+        id: EvaluationOrder,
+        target: Option<Place>,
+        function: FunctionId,
+    ) -> Result<(), AllocError>
+        ensures { OnOk result (spec.Tells self.now.env.now (spec.function_row self.now.env.now id function
+            (map (target_of self.now.env.now id) (own target levels.Memoized)) ∷ []) told.old told.new) }
+    {
+        if self.add_repeated(told, id, function)? {
+            let levels = Levels { reader: *self, id };
+            return levels.put_own(&mut told.events, target, MemoizationLevel::Memoized);
+        }
+        self.add_first(told, id, target, function)?;
+        Ok(())
+    }
+}

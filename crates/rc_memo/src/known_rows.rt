@@ -1,0 +1,152 @@
+//! The rows that name a function, so that a later row of the same function can repeat one.
+//!
+//! Such a row has the whole context of its function as operands. What a place of the context names is the same in two
+//! rows, unless the range of its scope begins or ends between them; so with the last row of each function stand the
+//! ids at which all places name what they name there.
+
+ghost use Rattle.std.specs.Prelude.{◌≡◌, ◌≤◌, [], map, length, nat_le, true};
+ghost use Rattle.std.specs.List.{flat_map};
+ghost use Rattle.rc_memo.specs.Mentions.{is_in_range, mention_of};
+ghost use Rattle.rc_memo.specs.Table.{if_mutable};
+ghost use Rattle.rc_memo.specs.inside.KnownRows.{IsWithin, scope_range};
+ghost use Rattle.rc_names.specs.Numbers.{EvaluationOrder as Order};
+
+use crate::events::Events;
+use crate::reader::RowReader;
+use rc_hir::{MutableRange, Place};
+use rc_names::{EvaluationOrder, FunctionId, IdentifierId, Keyed};
+use std::alloc::Global;
+
+/// The ids from the first up to the last, which is inside.
+#[derive(Clone, Copy)]
+pub struct Window {
+    first: u32,
+    last: u32,
+}
+
+/// A row that names a function: the index of its event, how many of its targets are places of the context, and at
+/// which ids the context has the same mentions.
+#[derive(Clone, Copy)]
+pub struct KnownRow {
+    pub row: usize,
+    pub shared: usize,
+    pub ids: Window,
+}
+
+/// The events so far, with the last row of each function that has its own operands.
+#[derive(Drop)]
+pub struct Told {
+    pub events: Events,
+    pub known: Keyed<FunctionId, KnownRow>,
+}
+
+impl Told {
+    /// Returns no events. This takes no memory.
+    pub fn new(alloc: Global) -> Told
+        ensures events { result.events ≡ [] }
+        ensures known { result.known ≡ [] }
+    {
+        Told {
+            events: Events::new(alloc),
+            known: Keyed::new(alloc),
+        }
+    }
+}
+
+impl Window {
+    /// Returns all ids.
+    fn all() -> Window {
+        Window {
+            first: 0,
+            last: u32::MAX,
+        }
+    }
+
+    /// Returns whether the id is in the window.
+    pub fn has(self, id: EvaluationOrder) -> bool
+        ensures { result ≡ true → IsWithin self id }
+    {
+        self.first <= id.0 && id.0 <= self.last
+    }
+
+    /// Returns the ids of the window that are on the same side of a place in the order as an id is.
+    fn cut(self, id: EvaluationOrder, at: EvaluationOrder) -> Window
+        ensures within { (other : Order) → IsWithin result other → IsWithin self other }
+        ensures side { (other : Order) → IsWithin result other → nat_le at.0 other.0 ≡ nat_le at.0 id.0 }
+    {
+        if at.0 <= id.0 {
+            Window {
+                first: self.first.max(at.0),
+                last: self.last,
+            }
+        } else {
+            Window {
+                first: self.first,
+                last: self.last.min(at.0 - 1),
+            }
+        }
+    }
+
+    /// Returns the ids of the window that are in a range exactly if an id is.
+    fn cut_by(self, id: EvaluationOrder, range: MutableRange) -> Window
+        ensures within { (other : Order) → IsWithin result other → IsWithin self other }
+        ensures side { (other : Order) → IsWithin result other → is_in_range other range ≡ is_in_range id range }
+    {
+        self.cut(id, range.start).cut(id, range.end)
+    }
+}
+
+impl<'a> RowReader<'a> {
+    /// Returns the range of an identifier's scope, where it has one.
+    fn scope_range(&self, number: IdentifierId) -> Option<MutableRange>
+        ensures { result ≡ scope_range self.now.env.now number }
+    {
+        let identifier = self.env.identifiers.get(number)?;
+        let scope = identifier.scope?;
+        let known = self.env.scopes.get(scope)?;
+        Some(known.range)
+    }
+
+    /// Returns the ids of the window at which a place names what it names at an id.
+    #[tactic(auto, using(crate::proofs::WindowLemmas::mention_alike, crate::proofs::WindowLemmas::mention_anywhere))]
+    fn narrowed(&self, ids: Window, id: EvaluationOrder, place: Place) -> Window
+        ensures within { (other : Order) → IsWithin result other → IsWithin ids other }
+        ensures mention { (other : Order) → IsWithin result other
+            → mention_of self.now.env.now other place ≡ mention_of self.now.env.now id place }
+    {
+        match self.scope_range(place.identifier) {
+            Some(range) => ids.cut_by(id, range),
+            None => ids,
+        }
+    }
+
+    /// Returns ids at which all these places name what they name at an id.
+    pub fn window(&self, id: EvaluationOrder, places: &[Place]) -> Window
+        ensures { (other : Order) → IsWithin result other
+            → map (mention_of self.now.env.now other) places.now ≡ map (mention_of self.now.env.now id) places.now }
+    {
+        let mut ids = Window::all();
+        for place in places {
+            ids = self.narrowed(ids, id, *place);
+        }
+        ids
+    }
+}
+
+/// Returns how many of these places a row may change.
+pub fn count_mutable(places: &[Place]) -> usize
+    ensures { result ≡ length (flat_map if_mutable places.now) }
+{
+    let mut count = 0;
+    for place in places {
+        count += one_if_mutable(*place);
+    }
+    count
+}
+
+fn one_if_mutable(place: Place) -> usize
+    ensures count { result ≡ length (if_mutable place) }
+    ensures most { result ≤ 1 }
+{
+    if place.effect.is_mutable() { 1 } else { 0 }
+}
