@@ -63,9 +63,10 @@ def hashed(number):
 
 
 def colliding(count):
-    """So many numbers for which a look-up begins at one place in a hash table that has room for them."""
+    """So many numbers for which a look-up begins at one place in a hash table that has room for them; or at a few
+    places, where so many numbers take long to find."""
     places = 1
-    while 9 * places < count:
+    while 9 * places < count and places < 2048:
         places *= 2
     return list(itertools.islice((number for number in itertools.count() if hashed(number) % places == 0), count))
 
@@ -81,6 +82,15 @@ def chosen_in_a_row(count):
     parts["hir"]["body"]["entry"] = numbers[0]
     parts["env"]["next_block"] = numbers[-1] + 1
     return json.dumps(parts, separators=(",", ":")).encode()
+
+
+def breaks_to_one_label(count):
+    """So many `If`s one after the other in a `Label`, each of which breaks to it."""
+    end = 2 * count + 2
+    blocks = [label(0, 1, end)]
+    for head in range(1, end - 1, 2):
+        blocks += [branch(head, head + 1, head + 2), jump(head + 1, end)]
+    return document([*blocks, jump(end - 1, end), answer(end)])
 
 
 def scopes_in_a_row(count):
@@ -315,20 +325,33 @@ def nested_alternates(depth):
     return document([*blocks, *arms, answer(end)], rows=[STORE])
 
 
-def names_document(values, answered):
-    """The bytes of a document of one block with a row for each of these values, whose target is a name of its own, and
-    which returns that name. Name 0 is the parameter, and row I has name I + 1 as its target."""
+def names_document(values, answered, more=0, functions=()):
+    """The bytes of a document with a row for each of these values, whose target is a name of its own, and which returns
+    that name. Name 0 is the parameter, and row I has name I + 1 as its target. The last row stands in a scope, which
+    declares its target. There are so many names more."""
+    count = len(values)
     rows = [{"id": number + 1, "lvalue": number + 1, "value": value} for number, value in enumerate(values)]
-    last = {"id": 0, "instructions": list(range(len(rows))),
-            "terminal": {"k": "Return", "value": answered, "id": len(rows) + 1}}
-    hir = {"params": [{"k": "Place", "v": 0}], "body": {"entry": 0, "blocks": [last]}, "instructions": rows}
-    env = {
-        "identifiers": [{"declaration_id": number, "type_": 0} for number in range(len(rows) + 1)],
-        "types": ["Other"],
-        "config": {},
-        "next_block": 1,
-    }
+    rows[-1]["id"] = count + 1
+    opens = {"k": "Scope", "fallthrough": 2, "block": 1, "scope": 0, "id": count}
+    ends = {"k": "Goto", "variant": "Break", "block": 2, "id": count + 2}
+    last = {"k": "Return", "value": answered, "id": count + 3}
+    blocks = [
+        {"id": 0, "instructions": list(range(count - 1)), "terminal": opens},
+        {"id": 1, "instructions": [count - 1], "terminal": ends},
+        {"id": 2, "terminal": last},
+    ]
+    names = [{"declaration_id": number, "type_": 0} for number in range(count + 1 + more)]
+    names[count]["scope"] = 0
+    declared = {"key": count, "value": {"identifier": count, "scope": 0}}
+    env = {"identifiers": names, "types": ["Other"], "functions": [*functions],
+           "scopes": [{"range": {"start": count, "end": count + 3}, "declarations": [declared]}],
+           "config": {}, "next_block": 3}
+    hir = {"params": [{"k": "Place", "v": 0}], "body": {"entry": 0, "blocks": blocks}, "instructions": rows}
     return json.dumps({"hir": hir, "env": env}, separators=(",", ":")).encode()
+
+
+def array_of(places):
+    return {"k": "ArrayExpression", "elements": [{"k": "Place", "v": place} for place in places]}
 
 
 def names_in_a_chain(count):
@@ -339,16 +362,39 @@ def names_in_a_chain(count):
 def names_in_a_star(count):
     """So many names, all of which the last one needs, which is returned."""
     others = [{"k": "Await", "value": 0} for _ in range(count - 1)]
-    elements = [{"k": "Place", "v": number} for number in range(1, count)]
-    return names_document([*others, {"k": "ArrayExpression", "elements": elements}], count)
+    return names_document([*others, array_of(range(1, count))], count)
 
 
 def names_in_cycles(count):
     """So many names, each of which needs the one before it and the one behind it; the last one is returned."""
-    return names_document([
-        {"k": "ArrayExpression", "elements": [{"k": "Place", "v": number}, {"k": "Place", "v": number + 2}]}
-        for number in range(count - 1)
-    ] + [{"k": "Await", "value": count - 1}], count)
+    others = [array_of((number, number + 2)) for number in range(count - 1)]
+    return names_document([*others, {"k": "Await", "value": count - 1}], count)
+
+
+def names_that_change(count):
+    """So many names, all of which the last one holds and may change, so that each needs all others; it is returned."""
+    others = [{"k": "Await", "value": 0} for _ in range(count - 1)]
+    return names_document([*others, array_of([number, "Store", False] for number in range(1, count))], count)
+
+
+def function_of(context):
+    """A nested function with these places as its context, which only answers."""
+    return {"context": context, "body": {"entry": 0, "blocks": [answer(0)]}}
+
+
+def names_of_one_function(count):
+    """So many names, but for the last each the target of a row that names one function, whose context has as many
+    places, which are names of their own. The last one holds the one before it, and is returned."""
+    rows = [{"k": "FunctionExpression", "lowered_func": {"func": 0}} for _ in range(count - 1)]
+    context = range(count + 1, 2 * count + 1)
+    return names_document([*rows, array_of((count - 1,))], count, count, [function_of([*context])])
+
+
+def names_in_one_function(count):
+    """The same, where the places of the context are the targets of the rows, and may change there."""
+    rows = [{"k": "FunctionExpression", "lowered_func": {"func": 0}} for _ in range(count - 1)]
+    context = [[number, "Capture", False] for number in range(1, count)]
+    return names_document([*rows, array_of((count - 1,))], count, 0, [function_of(context)])
 
 
 def scope_with_array(name):
