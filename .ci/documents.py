@@ -51,7 +51,40 @@ def levels(depth=500):
     return document, HEAD.format("null", 0) + "\n".join(lines) + f"\n  return 0 id {2 * depth + 2}\nfates\n"
 
 
-for name, make in ("text", text), ("levels", levels), ("identifiers", many_identifiers):
+def one_function(count=10_000):
+    """Rows that name one function, whose context has as many places, and a scope whose array holds the last of them."""
+    value = {"k": "FunctionExpression", "lowered_func": {"func": 0}}
+    array = {"k": "ArrayExpression", "elements": [{"k": "Place", "v": count}]}
+    document = straight(0, 2 * count + 2)
+    document["hir"]["instructions"] = [
+        *({"id": number, "lvalue": number, "value": value} for number in range(1, count + 1)),
+        {"id": count + 2, "lvalue": count + 1, "value": array},
+    ]
+    document["hir"]["body"]["blocks"] = [
+        {"id": 0, "instructions": list(range(count)),
+         "terminal": {"k": "Scope", "fallthrough": 2, "block": 1, "scope": 0, "id": count + 1}},
+        {"id": 1, "instructions": [count],
+         "terminal": {"k": "Goto", "variant": "Break", "block": 2, "id": count + 3}},
+        {"id": 2, "terminal": {"k": "Return", "value": count + 1, "id": count + 4}},
+    ]
+    body = {"entry": 0, "blocks": [{"id": 0, "terminal": {"k": "Return", "value": 0, "id": 1}}]}
+    declared = {"key": count + 1, "value": {"identifier": count + 1, "scope": 0}}
+    document["env"]["identifiers"][count + 1]["scope"] = 0
+    document["env"] |= {
+        "functions": [{"context": list(range(count + 2, 2 * count + 2)), "body": body}],
+        "scopes": [{"range": {"start": count + 1, "end": count + 4}, "declarations": [declared]}],
+        "next_block": 3,
+    }
+    lines = [f'  {number} {number} = {{"k":"FunctionExpression","lowered_func":{{"func":0}}}}'
+             for number in range(1, count + 1)]
+    lines += ["  scope 0", f'    {count + 2} {count + 1} = {{"elements":[{{"k":"Place","v":{count}}}],'
+              '"k":"ArrayExpression"}', f"  return {count + 1} id {count + 4}", "fates", "  scope 0 kept"]
+    return document, HEAD.format("null", 0) + "\n".join(lines) + "\n"
+
+
+DOCUMENTS = {"text": text, "levels": levels, "identifiers": many_identifiers, "one_function": one_function}
+
+for name, make in DOCUMENTS.items():
     document, printed = make()
     with open(f"{sys.argv[1]}/{name}.json", "w") as file:
         json.dump(document, file)
