@@ -48,7 +48,7 @@ flat-push : {X Y : Type 0} (f : X → List Y) (ys : List X) (x : X) → flat_map
 flat-push f [] x = append-nil (f x)
 flat-push f (y ∷ ys) x = ap (λ w. f y ++ w) (flat-push f ys x) ∙ sym (append_assoc (f y) (flat_map f ys) (f x))
 
-flat-both : {X Y : Type 0} (f : X → List Y) (xs ys : List X) → flat_map f (xs ++ ys) ≡ flat_map f xs ++ flat_map f ys
+pub flat-both : {X Y : Type 0} (f : X → List Y) (xs ys : List X) → flat_map f (xs ++ ys) ≡ flat_map f xs ++ flat_map f ys
 flat-both f [] ys = refl
 flat-both f (x ∷ xs) ys =
     ap (λ w. f x ++ w) (flat-both f xs ys) ∙ sym (append_assoc (f x) (flat_map f xs) (flat_map f ys))

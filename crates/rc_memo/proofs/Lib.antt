@@ -20,3 +20,4 @@ pub mod RowEventsLemmas
 pub mod TreeEventsLemmas
 pub mod GrowingLemmas
 pub mod RecordLemmas
+pub mod RepeatedScopes

@@ -8,7 +8,7 @@ ghost use Rattle.rc_memo.specs.Facts.{distinct, first_missing};
 ghost use Rattle.rc_memo.specs.Record.{dependency_name, dependency_names, IsRecordOf, IsUninitialised, param_name, recorded_scopes};
 ghost use Rattle.rc_memo.specs.RowRecord.{record_of_rows};
 ghost use Rattle.rc_memo.specs.TreeEvents.{events_in};
-ghost use Rattle.rc_memo.specs.inside.Growing.{AddsScopes, insert_all};
+ghost use Rattle.rc_memo.specs.inside.Growing.{AddsNext, AddsScopes, insert_all};
 ghost use Rattle.rc_memo.specs.inside.HeldEvents.{as_event};
 ghost use Rattle.rc_memo.specs.inside.RecordParts.{HasRecordParts};
 
@@ -320,8 +320,29 @@ fn add_event(
     Ok(())
 }
 
+/// Records the active scopes of the event at an index that have no record from the events before. Fails only when out
+/// of memory.
+#[tactic(auto, using(crate::proofs::RepeatedScopes::adds_whole, crate::proofs::RepeatedScopes::adds_own))]
+fn add_next(
+    reader: &RowReader<'_>,
+    scopes: &mut Scopes,
+    event: EventParts<'_>,
+    i: usize,
+) -> Result<(), AllocError>
+    ensures { OnOk result (AddsNext reader.now.env.now i event.entry scopes.old scopes.new) }
+{
+    if let EventParts::Repeats { row, targets, .. } = event {
+        if row < i {
+            add_targets(reader, scopes, targets)?;
+            return Ok(());
+        }
+    }
+    add_event(reader, scopes, event)?;
+    Ok(())
+}
+
 /// Records the active scopes of events, one after the other. Fails only when out of memory.
-#[tactic(auto, using(crate::proofs::GrowingLemmas::adds_no_scopes, crate::proofs::GrowingLemmas::adds_all_scopes, crate::proofs::GrowingLemmas::adds_more_scopes))]
+#[tactic(auto, using(crate::proofs::GrowingLemmas::adds_no_scopes, crate::proofs::GrowingLemmas::adds_all_scopes))]
 fn add_events(
     reader: &RowReader<'_>,
     scopes: &mut Scopes,
@@ -330,7 +351,7 @@ fn add_events(
     ensures { OnOk result (AddsScopes reader.now.env.now (flat_map scopes_in events.now) scopes.old scopes.new) }
 {
     for i in 0..events.len() {
-        add_event(reader, scopes, events.at(i))?;
+        add_next(reader, scopes, events.at(i), i)?;
     }
     Ok(())
 }
