@@ -1,7 +1,7 @@
 //! The check that the operands of a scope stand inside its scope blocks.
 //!
-//! One pass collects the scopes that have a scope block, and another the places of each function's context whose scope
-//! is one of them. A read walk then looks up the scope of each operand, and whether a block of it is open. Only the
+//! One pass collects the scopes that have a scope block, and another the last place of each of these scopes in each
+//! function's context. A read walk then looks up the scope of each operand, and whether a block of it is open. Only the
 //! last operand outside is kept.
 
 mod contexts;

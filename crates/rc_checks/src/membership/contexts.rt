@@ -1,11 +1,13 @@
-//! The places of nested functions' contexts that a visit may find outside of their scopes.
+//! The places of nested functions' contexts to visit. A visit of any other would leave nothing behind.
 //!
 //! Each row that names a function visits its context. A place without a scope, or whose scope has no block, is inside
-//! wherever it is visited, so each context is looked through once, and its rows visit the places that are left.
+//! wherever it is visited. The places of one scope are outside together, and only the last operand outside is kept. So
+//! each context is looked through once, and its rows visit the last place of each scope that has a block.
 
-ghost use Rattle.std.specs.Prelude.{◌≡◌, IfOk};
-ghost use Rattle.std.specs.List.{filter};
+ghost use Rattle.std.specs.Prelude.{◌≡◌, ◌||◌, IfOk, OnOk};
+ghost use Rattle.rc_checks.specs.Membership as found;
 ghost use Rattle.rc_checks.specs.inside.ContextVisits as spec;
+ghost use Rattle.rc_names.specs.Numbers.{ScopeId as Scope, is_among};
 
 use crate::membership::look_ups::{range_of, scope_of};
 use rc_hir::{Environment, Place};
@@ -29,31 +31,57 @@ pub fn contexts_to_visit(
     Ok(contexts)
 }
 
-/// The places to visit among those of a context. The only error is out of memory.
+/// The places to visit among those of a context, in their order. The only error is out of memory.
 fn places_to_visit(
     alloc: Global,
     env: &Environment,
     blocks: &KeySet<ScopeId>,
     context: &[Place],
 ) -> Result<List<Place>, AllocError>
-    ensures { IfOk result (λ places. places ≡ filter (spec.may_be_outside env.now blocks.now) context.now) }
+    ensures { IfOk result (λ places. places ≡ spec.places_to_visit env.now blocks.now context.now) }
 {
+    let mut met = KeySet::new(alloc);
     let mut places = List::new(alloc);
-    for place in context {
-        if may_be_outside(env, blocks, place) {
+    // From the end on, so that the last place of a scope is met first.
+    let mut at = context.len();
+    while at > 0 {
+        at -= 1;
+        let place = &context[at];
+        if is_needed(env, blocks, &met, place) {
+            add_scope(env, place, &mut met)?;
             places.push(*place)?;
         }
     }
+    places.reverse();
     Ok(places)
 }
 
-/// Whether the place's scope has a block, or a number of the place is outside its table.
-fn may_be_outside(env: &Environment, blocks: &KeySet<ScopeId>, place: &Place) -> bool
-    ensures { result ≡ spec.may_be_outside env.now blocks.now place.now }
+/// Whether the place's scope has a block and isn't met, or a number of the place is outside its table.
+fn is_needed(
+    env: &Environment,
+    blocks: &KeySet<ScopeId>,
+    met: &KeySet<ScopeId>,
+    place: &Place,
+) -> bool
+    ensures { result ≡ spec.is_needed env.now blocks.now (is_among met.now)
+        (found.scope_of env.now place.now.identifier) }
 {
     match scope_of(env, place.identifier) {
-        Ok(Some(scope)) => range_of(env, scope).is_err() || blocks.contains(scope),
+        Ok(Some(scope)) => {
+            range_of(env, scope).is_err() || (blocks.contains(scope) && !met.contains(scope))
+        }
         Ok(None) => false,
         Err(_) => true,
     }
+}
+
+/// Adds the place's scope, where it has one. The only error is out of memory.
+fn add_scope(env: &Environment, place: &Place, met: &mut KeySet<ScopeId>) -> Result<(), AllocError>
+    ensures { OnOk result ((scope : Scope) → is_among met.new scope
+        ≡ (spec.is_scope scope (found.scope_of env.now place.now.identifier) || is_among met.old scope)) }
+{
+    if let Ok(Some(scope)) = scope_of(env, place.identifier) {
+        met.insert(scope)?;
+    }
+    Ok(())
 }
