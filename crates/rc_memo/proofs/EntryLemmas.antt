@@ -6,7 +6,7 @@ use Rattle.std.specs.List.{list_any}
 use Rattle.std.specs.Map.{keys_of, lookup, set_value}
 use Rattle.indexmap.specs.IndexMap.{insert_entry}
 use Rattle.rc_names.proofs.NumbersLemmas.{ids_equivalence, same_id-eq}
-use Rattle.rc_names.specs.Numbers.{DeclarationId, same_id}
+use Rattle.rc_names.specs.Numbers.{DeclarationId, FunctionId, same_id}
 use Rattle.rc_memo.specs.inside.Gathering.{at_name}
 use Rattle.rc_memo.specs.inside.GatheringRows.{at_name_or}
 
@@ -69,6 +69,19 @@ insert_absent d v (e ∷ es) h = go (same_id d e.0) h (λ g. insert_absent d v e
       → cond b ((e.0, v) ∷ es) (e ∷ insert_entry same_id es d v) ≡ e ∷ (es ++ (d, v) ∷ [])
   go true g r = cc
   go false g r = ap (λ w. e ∷ w) (r g)
+
+-- an entry that is there is put where it stands
+pub put_there : {V : Type 0} (key : FunctionId) (value found : V) (es : List (FunctionId × V))
+    → lookup (same_id key) es ≡ Some found → set_value (same_id key) es value ≡ insert_entry same_id es key value
+put_there key value found [] there = cc
+put_there key value found (e ∷ es) there = go (same_id key e.0) there (put_there key value found es) where
+  go : (b : Bool) → cond b (Some e.1) (lookup (same_id key) es) ≡ Some found
+      → (lookup (same_id key) es ≡ Some found
+      → set_value (same_id key) es value ≡ insert_entry same_id es key value)
+      → cond b ((e.0, value) ∷ es) (e ∷ set_value (same_id key) es value)
+      ≡ cond b ((e.0, value) ∷ es) (e ∷ insert_entry same_id es key value)
+  go true is later = refl
+  go false is later = ap (λ w. e ∷ w) (later is)
 
 module _ {V : Type 0} (d : DeclarationId) where
   -- a change of nothing

@@ -10,6 +10,7 @@ use Rattle.rc_hir.specs.Model.{Fault}
 use Rattle.rc_hir.specs.declared.fault.Fault.TheVariants.{NoMemory}
 use Rattle.rc_names.specs.Numbers.{DeclarationId, same_id}
 use Rattle.rc_memo.proofs.AddingLemmas.{adds_nothing, in_two_lists, missing_kept, missing_next, take_all, whole}
+use Rattle.rc_memo.proofs.AlikeLemmas.{alike_sym, alike_told, told_there}
 use Rattle.rc_memo.proofs.LoadsLemmas.{definitions_push, resolve_is}
 use Rattle.rc_memo.proofs.RepeatedLemmas.{gathered_facts, gathered_found, gathered_load, gathered_put, gathered_rows}
 use Rattle.rc_memo.proofs.RepeatedLemmas.{none_is_some}
@@ -27,7 +28,7 @@ use Rattle.rc_memo.specs.declared.events.EventParts.TheVariants as parts
 use Rattle.rc_memo.specs.declared.nodes.Gathered.{Gathered}
 use Rattle.rc_memo.specs.declared.nodes.repeated.GatheredRow.{GatheredRow}
 use Rattle.rc_memo.specs.declared.nodes.repeated.RepeatedRows.{RepeatedRows}
-use Rattle.rc_memo.specs.inside.Gathering.{Adds, AddsAt, Gathers, HoldsAgain, IsRow, PutsOperands, RowOperands}
+use Rattle.rc_memo.specs.inside.Gathering.{Adds, AddsAt, Gathers, HoldsAlike, IsRow, PutsOperands, RowOperands}
 use Rattle.rc_memo.specs.inside.Gathering.{operand_names, resolved}
 use Rattle.rc_memo.specs.inside.GatheringEvents.{AddsEvents, AddsShared, GathersEvents, HasGathered, IsGatheredOf}
 use Rattle.rc_memo.specs.inside.GatheringEvents.{IsMissing, IsShared}
@@ -35,7 +36,7 @@ use Rattle.rc_memo.specs.inside.HeldEvents.{as_event}
 use Rattle.rc_memo.specs.inside.RepeatedRows.{AreGathered, FindsGathered, Forgets, PutsGathered}
 
 -- the facts of some events and more
-facts_behind-append : (loads : List Loaded) (xs ys : List MemoEvent)
+pub facts_behind-append : (loads : List Loaded) (xs ys : List MemoEvent)
     → facts_behind loads (xs ++ ys) ≡ facts_behind loads xs ++ facts_behind (loads ++ flat_map loads_in xs) ys
 facts_behind-append loads [] ys = ap (λ w. facts_behind w ys) (sym (append-nil loads))
 facts_behind-append loads (x ∷ xs) ys =
@@ -45,7 +46,7 @@ facts_behind-append loads (x ∷ xs) ys =
     ∙ ap (λ w. facts_behind loads (x ∷ xs) ++ facts_behind w ys)
     (append_assoc loads (loads_in x) (flat_map loads_in xs))
 
-loads_in-append : (xs ys : List MemoEvent) → flat_map loads_in (xs ++ ys) ≡ flat_map loads_in xs ++ flat_map loads_in ys
+pub loads_in-append : (xs ys : List MemoEvent) → flat_map loads_in (xs ++ ys) ≡ flat_map loads_in xs ++ flat_map loads_in ys
 loads_in-append [] ys = refl
 loads_in-append (x ∷ xs) ys = ap (λ w. loads_in x ++ w) (loads_in-append xs ys)
     ∙ sym (append_assoc (loads_in x) (flat_map loads_in xs) (flat_map loads_in ys))
@@ -143,17 +144,19 @@ module _ {S : Type 0} (Holds : RowOperands → List Fact → S → Type 0) (all 
 
   -- what rows share, where it was gathered
   pub shares_known : (row : ℕ) (operands : List Mention) (shared : List Target) (known : GatheredRow) (old : Gathered S)
-      → HoldsAgain Holds old.held → FindsGathered old.repeated row (length shared) known
+      → HoldsAlike Holds old.held → FindsGathered old.repeated row (length shared) known
       → AddsShared Holds all row operands shared old (Ok known.position) old
-  unfolding AddsShared HoldsAgain
-  shares_known row operands shared known old again finds before loads is gathered =
+  unfolding AddsShared HoldsAlike
+  shares_known row operands shared known old alike finds before loads is gathered =
       let facts = row_facts (resolved_after loads) operands shared in
       let found = gathered_found all gathered.rows before (resolved_after loads) row operands shared known old.repeated
       finds is gathered.repeated in (
         told_complete before facts found.0,
         record {
           rows = gathered.rows;
-          held = again gathered.rows before facts found.0 gathered.held;
+          held = alike gathered.rows before (before ++ facts)
+              (alike_sym (before ++ facts) before (alike_told before facts (told_there before facts found.0)))
+              gathered.held;
           definitions = gathered.definitions;
           repeated = gathered_facts all (resolved_after loads) old.repeated.mentioned old.repeated.rows gathered.rows
               before

@@ -28,6 +28,12 @@ module _ {K : Type 0} where
       ap (distinct same_id) (sym (append_assoc keys (key ∷ []) more)) ∙ distinct-all (keys ++ key ∷ []) more
       ∙ ap (λ w. insert_all w more) (distinct_push same_id same_id-eq itself keys key)
 
+  -- and with the same behind others that are the same once each
+  pub distinct_more : (keys others more : List (Id K)) → distinct same_id keys ≡ distinct same_id others
+      → distinct same_id (keys ++ more) ≡ distinct same_id (others ++ more)
+  distinct_more keys others more same =
+      distinct-all keys more ∙ ap (λ w. insert_all w more) same ∙ sym (distinct-all others more)
+
 insert_all-push : {K : Type 0} (keys more : List (Id K)) (key : Id K) → insert_all keys (more ++ key ∷ [])
     ≡ insert_key same_id (insert_all keys more) key
 insert_all-push keys [] key = refl

@@ -21,6 +21,13 @@ use Rattle.rc_memo.specs.inside.HeldEvents.{AreSound, HasNoRow, IsInside, IsSoun
 use Rattle.rc_memo.specs.inside.HeldEvents.{ends, event_between, events_among, events_held, first_start, grown, kind_at}
 use Rattle.rc_memo.specs.inside.HeldEvents.{last_grown, operands_at, repeated, start_at, targets_at}
 
+-- an item of the front stands at its index as more are added
+pub front_found : {X : Type 0} (xs ys : List X) (i : ℕ) (x : X) → slice_get xs i ≡ Some x
+    → slice_get (xs ++ ys) i ≡ Some x
+front_found [] ys i x is = cc
+front_found (y ∷ xs) ys zero x is = is
+front_found (y ∷ xs) ys (suc i) x is = front_found xs ys i x is
+
 -- a part that ends inside stays as more is added behind, and one that reaches to the end grows
 
 part_stays : {X : Type 0} (xs ys : List X) (from to : ℕ) → from ≤ length xs → to ≤ length xs
@@ -550,6 +557,33 @@ module _ (some : List Mention) (others : List Target) (numbers : List ScopeId) (
       let more = numbers ++ scope ∷ [] in
       sym (ap (λ w. events_held some w more heads) (append-nil others))
       ∙ events_held-grown some others [] numbers (scope ∷ []) heads sound
+
+-- a row with its operands, and behind it one that repeats an earlier row
+module _ (some operands : List Mention) (others : List Target) (numbers : List ScopeId) (heads : List EventHead)
+    (sound : AreSound some others numbers heads) (row shared : ℕ) (is : kind_at heads row ≡ Some kinds.Row) where
+  abbrev with_row : List EventHead
+  with_row = heads ++ at_ends some others numbers heads sound kinds.Row ∷ []
+
+  abbrev with_both : List EventHead
+  with_both = with_row
+      ++ record { kind = kinds.Repeats row shared; start = ends (some ++ operands) others numbers } ∷ []
+
+  still_there : kind_at with_row row ≡ Some kinds.Row
+  still_there = kind_at-front heads (at_ends some others numbers heads sound kinds.Row ∷ []) row
+      (kind_at-below heads row kinds.Row is) ∙ is
+
+  pub held-behind : events_held (some ++ operands) others numbers with_both
+      ≡ events_held some others numbers heads ++ events.Row operands []
+      ∷ repeated shared (slice_get (events_held some others numbers heads) row)
+  held-behind =
+      let held = events_held some others numbers heads in
+      let found = row_at some others numbers heads row is in
+      held-repeats (some ++ operands) others numbers with_row (sound-row some others numbers heads sound operands)
+      row shared still_there
+      ∙ ap (λ w. w ++ repeated shared (slice_get w row)) (held-row some others numbers heads sound operands)
+      ∙ ap (λ w. (held ++ events.Row operands [] ∷ []) ++ repeated shared w)
+      (front_found held (events.Row operands [] ∷ []) row _ found ∙ sym found)
+      ∙ append_assoc held (events.Row operands [] ∷ []) (repeated shared (slice_get held row))
 
 -- an index below the number of events
 pub below_length : (all : List MemoEvent) (i n : ℕ) → n ≡ length all → i < n → i < length all

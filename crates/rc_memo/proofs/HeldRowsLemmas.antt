@@ -12,13 +12,13 @@ use Rattle.std.proofs.lemmas.List.Elements.{filter-append}
 use Rattle.rc_hir.specs.declared.fault.Fault.TheVariants.{Uninitialised}
 use Rattle.rc_names.specs.Numbers.{DeclarationId, ScopeId, same_id}
 use Rattle.rc_memo.proofs.AddingLemmas.{adds_at, adds_next, adds_nothing}
+use Rattle.rc_memo.proofs.AlikeLemmas.{nodes_alike}
 use Rattle.rc_memo.proofs.EntryLemmas.{keys_seen, seen_at, seen_or}
 use Rattle.rc_memo.proofs.GrowingLemmas.{distinct-all}
 use Rattle.rc_memo.proofs.HeldNodesLemmas.{adds_asked, adds_asked_missing, adds_scope, adds_scope_missing, no_nodes}
 use Rattle.rc_memo.proofs.NodesLemmas.{node_same}
 use Rattle.rc_memo.proofs.RepeatedLemmas.{at_before}
 use Rattle.rc_memo.proofs.TargetLemmas.{adds_level_or, adds_target, with_parts}
-use Rattle.rc_memo.proofs.ToldLemmas.{nodes_again}
 use Rattle.rc_memo.specs.Events.{target_facts}
 use Rattle.rc_memo.specs.Facts.{Fact, GivesLevel, HasScope, NeedsNode, distinct}
 use Rattle.rc_memo.specs.RowRecord.{names_but, node_of_rows, nodes_of_rows, operands_at, operands_of}
@@ -28,7 +28,7 @@ use Rattle.rc_memo.specs.declared.level.MemoizationLevel.{MemoizationLevel}
 use Rattle.rc_memo.specs.declared.nodes.rows.HeldRows.{HeldRows}
 use Rattle.rc_memo.specs.declared.nodes.rows.RowTarget.{RowTarget}
 use Rattle.rc_memo.specs.declared.row_record.RowNode.{RowNode}
-use Rattle.rc_memo.specs.inside.Gathering.{Adds, AddsAt, Gathers, HoldsAgain, HoldsNodes, IsRow, NodesHold}
+use Rattle.rc_memo.specs.inside.Gathering.{Adds, AddsAt, Gathers, HoldsAlike, HoldsNodes, IsRow, NodesHold}
 use Rattle.rc_memo.specs.inside.Gathering.{PutsOperands, RowOperands, at_name, empty_node, operand_names, with_level}
 use Rattle.rc_memo.specs.inside.Gathering.{with_scope}
 use Rattle.rc_memo.specs.inside.GatheringRows.{FindsRow, HeldRowNodes, HoldsRows, PutsRow, RowsBelow, at_name_or}
@@ -37,7 +37,7 @@ use Rattle.rc_memo.specs.inside.GatheringRows.{row_target, with_row_scope, with_
 
 -- the rows of nodes are among those that are there
 
-all_both : {X : Type 0} (P : X → Type 0) (xs ys : List X) → AllByRecursion P xs → AllByRecursion P ys
+pub all_both : {X : Type 0} (P : X → Type 0) (xs ys : List X) → AllByRecursion P xs → AllByRecursion P ys
     → AllByRecursion P (xs ++ ys)
 all_both P [] ys h g = g
 all_both P (x ∷ xs) ys h g = (h.0, all_both P xs ys h.1 g)
@@ -338,14 +338,14 @@ adds_no_targets resolve mentions [] row names held empty =
 adds_no_targets resolve mentions (target ∷ targets) row names held empty =
     let some : nat_eq (length (target ∷ targets)) 0 ≡ false = grind arith in absurd (true≢false (empty ∙ some))
 
--- facts that are told again
-pub rows_hold_again : (held : HeldRows) → HoldsAgain HoldsRows held
-unfolding HoldsAgain
-rows_hold_again held rows facts more told holds = record {
+-- facts that tell the same
+pub rows_hold_alike : (held : HeldRows) → HoldsAlike HoldsRows held
+unfolding HoldsAlike
+rows_hold_alike held rows facts others alike holds = record {
   more = holds.more;
   kept = holds.kept;
   rows_below = holds.rows_below;
-  nodes = nodes_again facts more (nodes_of_rows held.operands held.nodes) told holds.nodes;
+  nodes = nodes_alike facts others (nodes_of_rows held.operands held.nodes) alike holds.nodes;
 }
 
 -- before the first fact there is no node

@@ -1,19 +1,19 @@
 -- Rows that are known, as events are added, and rows that repeat one of them.
 use Rattle.std.proofs.Common.{◌≡◌, ◌∙◌, ◌+◌, ◌<◌, ◌≤◌, ℕ, zero, suc, Bool, true, false, List, [], ◌∷◌, ◌++◌}
-use Rattle.std.proofs.Common.{None, Some, ap, append-nil, append_assoc, arith, get_or, length, map, refl, slice_get}
-use Rattle.std.proofs.Common.{subst, sym, take, if◌then◌else◌}
+use Rattle.std.proofs.Common.{None, Option, Some, ap, append-nil, append_assoc, arith, get_or, length, map, refl, slice_get}
+use Rattle.std.proofs.Common.{inl, inr, is_some, subst, sym, take, true≢false, if◌then◌else◌}
 use Rattle.std.proofs.Math.Seq.{take-append_seam}
-use Rattle.std.proofs.lemmas.List.{flat_map_more, length-map, map-append, take_more}
+use Rattle.std.proofs.lemmas.List.{flat_map_more, length-map, take_more}
 use Rattle.std.specs.List.{flat_map}
 use Rattle.std.specs.Map.{lookup}
-use Rattle.indexmap.specs.IndexMap.{insert_entry}
 use Rattle.rc_hir.specs.Model.{Environment, Place}
-use Rattle.rc_names.proofs.KeyedLemmas.{lookup-insert_other, lookup-insert_there}
-use Rattle.rc_names.proofs.NumbersLemmas.{ids_equivalence, same_id-eq}
-use Rattle.rc_names.specs.Numbers.{EvaluationOrder, FunctionId, same_id}
+use Rattle.rc_names.specs.Numbers.{DeclarationId, EvaluationOrder, FunctionId, same_id}
 use Rattle.rc_memo.proofs.AddingLemmas.{take_all}
 use Rattle.rc_memo.proofs.GrownEventsLemmas.{last_grown-push}
-use Rattle.rc_memo.proofs.RowPartsLemmas.{levels_joined, row_filled}
+use Rattle.rc_memo.proofs.HeldEventsLemmas.{front_found}
+use Rattle.rc_memo.proofs.SameEventsLemmas.{same_more, same_refl}
+use Rattle.rc_memo.proofs.WaitingLemmas.{waiting_load, waiting_more}
+use Rattle.rc_memo.specs.Events.{loads_in}
 use Rattle.rc_hir.specs.Types.{is_mutable}
 use Rattle.rc_memo.specs.Mentions.{mention_of, target_of}
 use Rattle.rc_memo.specs.Table.{gives, if_mutable}
@@ -26,22 +26,27 @@ use Rattle.rc_memo.specs.declared.event.MemoEvent.{MemoEvent}
 use Rattle.rc_memo.specs.declared.event.Target.{Target}
 use Rattle.rc_memo.specs.declared.known_rows.KnownRow.{KnownRow}
 use Rattle.rc_memo.specs.declared.known_rows.Told.{Told}
+use Rattle.rc_memo.specs.inside.FunctionRows.{context_of, function_row}
 use Rattle.rc_memo.specs.inside.HeldEvents.{last_grown, repeated}
-use Rattle.rc_memo.specs.inside.KnownRows.{IsKnown, IsWithin, Knows, Repeats, Tells, context_of, function_row}
+use Rattle.rc_memo.specs.declared.waiting.WaitingGroup.{WaitingGroup}
+use Rattle.rc_memo.specs.declared.waiting.WaitingPlaces.{WaitingPlaces}
+use Rattle.rc_memo.specs.inside.Alike.{TellTheSame}
+use Rattle.rc_memo.specs.inside.KnownRows.{HasTold, IsKnown, IsWithin, Knows, Loads, Repeats, Tells, Waiting}
+use Rattle.rc_memo.specs.inside.WaitingPlaces.{ForgetsName, WaitFor, places_waiting}
 
--- an item of the front stands at its index as more are added
-front_found : {X : Type 0} (xs ys : List X) (i : ℕ) (x : X) → slice_get xs i ≡ Some x → slice_get (xs ++ ys) i ≡ Some x
-front_found [] ys i x is = cc
-front_found (y ∷ xs) ys zero x is = is
-front_found (y ∷ xs) ys (suc i) x is = front_found xs ys i x is
+none_waits : {groups : List WaitingGroup} → ◌≡◌ {A = Option (List WaitingGroup)} None (Some groups) → ⊥
+none_waits is = true≢false (sym (ap is_some is))
 
-last_found : {X : Type 0} (xs : List X) (x : X) (i : ℕ) → i ≡ length xs → slice_get (xs ++ x ∷ []) i ≡ Some x
+none_known : {known : KnownRow} → ◌≡◌ {A = Option KnownRow} None (Some known) → ⊥
+none_known is = true≢false (sym (ap is_some is))
+
+pub last_found : {X : Type 0} (xs : List X) (x : X) (i : ℕ) → i ≡ length xs → slice_get (xs ++ x ∷ []) i ≡ Some x
 last_found [] x i is = ap (λ n. slice_get (x ∷ []) n) is
 last_found (y ∷ xs) x zero is = let bad : ⊥ = omega (arith, is) in absurd bad
 last_found (y ∷ xs) x (suc i) is = last_found xs x i (omega (arith, is))
 
 module _ (env : Environment) where
-  known_later : (old more new : List MemoEvent) (function : FunctionId) (known : KnownRow) → new ≡ old ++ more
+  pub known_later : (old more new : List MemoEvent) (function : FunctionId) (known : KnownRow) → new ≡ old ++ more
       → IsKnown env old function known → IsKnown env new function known
   known_later old more new function known is h = record {
     event = λ id within. let found = h.event id within in
@@ -49,40 +54,97 @@ module _ (env : Environment) where
     shared = h.shared;
   }
 
-  knows_later : (old new : Told) (more : List MemoEvent) → new.events ≡ old.events ++ more → new.known ≡ old.known
+  pub knows_later : (old new : Told) (more : List MemoEvent) → new.events ≡ old.events ++ more → new.known ≡ old.known
       → Knows env old → Knows env new
   unfolding Knows
   knows_later old new more events same knows function known found =
       known_later old.events more new.events function known events
       (knows function known (ap (λ w. lookup (same_id function) w) (sym same) ∙ found))
 
-  -- events that name no function, none, and what is added in two steps
+  pub wait_later : (old more : List MemoEvent) (function : FunctionId) (known : KnownRow) (mentioned : List DeclarationId)
+      (groups : List WaitingGroup) → flat_map loads_in more ≡ [] → WaitFor env old function known mentioned groups
+      → WaitFor env (old ++ more) function known mentioned groups
+  wait_later old more function known mentioned groups quiet h = record {
+    id = h.id;
+    rest = h.rest;
+    event = front_found old more known.row (function_row env h.id function h.rest) h.event;
+    shared = h.shared;
+    places = waiting_more env old more h.id (context_of env function) (places_waiting groups) quiet h.places;
+    covered = h.covered;
+    names = h.names;
+  }
+
+  pub waiting_later : (old new : Told) (more : List MemoEvent) → new.events ≡ old.events ++ more
+      → new.known ≡ old.known → new.waiting ≡ old.waiting → flat_map loads_in more ≡ [] → Waiting env old
+      → Waiting env new
+  unfolding Waiting
+  waiting_later old new more events known same quiet h function row groups is_known are_waiting =
+      let before = h function row groups (ap (λ w. lookup (same_id function) w) (sym known) ∙ is_known)
+      (ap (λ (w : WaitingPlaces). lookup (same_id function) w.groups) (sym same) ∙ are_waiting) in
+      subst (λ w. WaitFor env w function row new.waiting.mentioned groups) (sym events)
+      (subst (λ (w : WaitingPlaces). WaitFor env (old.events ++ more) function row w.mentioned groups) (sym same)
+      (wait_later old.events more function row old.waiting.mentioned groups quiet before))
+
+  -- events without loads, none, a load, and what is added in two steps
 
   pub tells_events : (old new : Told) (more : List MemoEvent) → new.events ≡ old.events ++ more
-      → new.known ≡ old.known → Tells env more old new
+      → new.known ≡ old.known → new.waiting ≡ old.waiting → flat_map loads_in more ≡ [] → Tells env more old new
   unfolding Tells
-  tells_events old new more events same knows =
-      record { events = events; known = knows_later old new more events same knows }
+  tells_events old new more events known waiting quiet before h = record {
+    same = subst (λ w. TellTheSame w (before ++ more)) (sym events) (same_more old.events before more h.same);
+    known = knows_later old new more events known h.known;
+    waiting = waiting_later old new more events known waiting quiet h.waiting;
+  }
 
   pub tells_nothing : (told : Told) → Tells env [] told told
   unfolding Tells
-  tells_nothing told knows = record { events = sym (append-nil told.events); known = knows }
+  tells_nothing told before h = subst (λ w. HasTold env w told) (sym (append-nil before)) h
 
   pub tells_same : (more whole : List MemoEvent) (old new : Told) → whole ≡ more → Tells env more old new
       → Tells env whole old new
   tells_same more whole old new is told = subst (λ w. Tells env w old new) (sym is) told
 
+  -- a load of another name; a load of a name that is mentioned forgets all places
+  load_waits : (target loaded : DeclarationId) (old new : Told)
+      → new.events ≡ old.events ++ events.Load target loaded ∷ [] → new.known ≡ old.known
+      → ForgetsName target old.waiting new.waiting → Waiting env old → Waiting env new
+  unfolding Waiting
+  load_waits target loaded old new told known (inr none) h function row groups is_known are_waiting =
+      absurd (none_waits (ap (lookup (same_id function)) (sym none) ∙ are_waiting))
+  load_waits target loaded old new told known (inl kept) h function row groups is_known are_waiting =
+      let more = events.Load target loaded ∷ [] in
+      let before = h function row groups (ap (λ w. lookup (same_id function) w) (sym known) ∙ is_known)
+      (ap (λ (w : WaitingPlaces). lookup (same_id function) w.groups) (sym kept.1) ∙ are_waiting) in
+      subst (λ w. WaitFor env w function row new.waiting.mentioned groups) (sym told)
+      (subst (λ (w : WaitingPlaces). WaitFor env (old.events ++ more) function row w.mentioned groups) (sym kept.1)
+      (record {
+        id = before.id;
+        rest = before.rest;
+        event = front_found old.events more row.row (function_row env before.id function before.rest) before.event;
+        shared = before.shared;
+        places = waiting_load env old.events target loaded old.waiting.mentioned before.id (context_of env function)
+            (places_waiting groups) kept.0 before.names before.places;
+        covered = before.covered;
+        names = before.names;
+      }))
+
+  pub tells_load : (target loaded : DeclarationId) (old new : Told) → Loads target loaded old new
+      → Tells env (events.Load target loaded ∷ []) old new
+  unfolding Tells
+  tells_load target loaded old new loads before h =
+      let more = events.Load target loaded ∷ [] in
+      record {
+        same = subst (λ w. TellTheSame w (before ++ more)) (sym loads.events) (same_more old.events before more h.same);
+        known = knows_later old new more loads.events loads.known h.known;
+        waiting = load_waits target loaded old new loads.events loads.known loads.waiting h.waiting;
+      }
+
   pub tells_joined : (old mid new : Told) (a b whole : List MemoEvent) → whole ≡ a ++ b → Tells env a old mid
       → Tells env b mid new → Tells env whole old new
   unfolding Tells
-  tells_joined old mid new a b whole is first second knows =
-      let one = first knows in
-      let two = second one.known in
-      record {
-        events = two.events ∙ ap (λ w. w ++ b) one.events ∙ append_assoc old.events a b
-            ∙ ap (λ w. old.events ++ w) (sym is);
-        known = two.known;
-      }
+  tells_joined old mid new a b whole is first second before h =
+      subst (λ w. HasTold env w new) (append_assoc before a b ∙ ap (λ w. before ++ w) (sym is))
+      (second (before ++ a) (first before h))
 
   -- a loop over parts with events
   pub tells_more : {X : Type 0} (f : X → List MemoEvent) (xs : List X) (i : ℕ) (d : X) (old mid new : Told)
@@ -100,12 +162,14 @@ module _ (env : Environment) where
 
   -- from no events
   pub all_told : (more : List MemoEvent) (old new : Told) → old.events ≡ [] → old.known ≡ [] → Tells env more old new
-      → new.events ≡ more
-  unfolding Tells Knows
-  all_told more old new events known told =
-      (told (λ function row found. let none : None ≡ Some row =
-      ap (λ w. lookup (same_id function) w) (sym known) ∙ found in cc)).events
-      ∙ ap (λ w. w ++ more) events
+      → TellTheSame new.events more
+  unfolding Tells Knows Waiting
+  all_told more old new events known told = (told [] (record {
+    same = subst (λ w. TellTheSame w []) (sym events) (same_refl []);
+    known = λ function row found. absurd (none_known (ap (lookup (same_id function)) (sym known) ∙ found));
+    waiting = λ function row groups is_known are_waiting.
+        absurd (none_known (ap (lookup (same_id function)) (sym known) ∙ is_known));
+  })).same
 
   abbrev a_target : Mention → Target
   a_target mention = record { mention = mention; level = Memoized }
@@ -133,7 +197,7 @@ module _ (env : Environment) where
       go false first later = later
 
   -- the rows of a function at two ids at which its context has the same mentions
-  rows_alike : (id other : EvaluationOrder) (function : FunctionId) (rest : List Target)
+  pub rows_alike : (id other : EvaluationOrder) (function : FunctionId) (rest : List Target)
       → map (mention_of env other) (context_of env function) ≡ map (mention_of env id) (context_of env function)
       → function_row env id function rest ≡ function_row env other function rest
   rows_alike id other function rest same =
@@ -145,12 +209,13 @@ module _ (env : Environment) where
   -- a row that repeats the one that is known
   pub repeats_known : (id : EvaluationOrder) (function : FunctionId) (known : KnownRow) (added : Bool) (old new : Told)
       → Some known ≡ lookup (same_id function) old.known → IsWithin known.ids id → new.known ≡ old.known
+      → new.waiting ≡ old.waiting
       → new.events ≡ old.events ++ (if added then repeated known.shared (slice_get old.events known.row) else [])
       → Repeats env id function added old new
   unfolding Knows
-  repeats_known id function known false old new found within same told =
-      record { events = λ knows. told; known = same }
-  repeats_known id function known true old new found within same told = record {
+  repeats_known id function known false old new found within same waits told =
+      record { events = λ knows. told; known = same; waiting = waits }
+  repeats_known id function known true old new found within same waits told = record {
     events = λ knows.
         let is = knows function known (sym found) in
         let event = is.event id within in
@@ -163,109 +228,35 @@ module _ (env : Environment) where
         ∙ ap (λ w. old.events ++ events.Row operands w ∷ []) (take-append_seam targets event.0
         ∙ sym (append-nil targets));
     known = same;
+    waiting = waits;
   }
 
   pub repeats_nothing : (id : EvaluationOrder) (function : FunctionId) (told : Told)
       → Repeats env id function false told told
-  repeats_nothing id function told = record { events = λ knows. sym (append-nil told.events); known = refl }
+  repeats_nothing id function told =
+      record { events = λ knows. sym (append-nil told.events); known = refl; waiting = refl }
 
   -- the row of a function that repeats one, with its own target
   pub tells_repeated : (id : EvaluationOrder) (function : FunctionId) (given : List LevelGiven) (old mid new : Told)
       → Repeats env id function true old mid → new.events ≡ with_levels env id given mid.events
-      → new.known ≡ mid.known → Tells env (function_row env id function (map (target_of env id) given) ∷ []) old new
+      → new.known ≡ mid.known → new.waiting ≡ mid.waiting
+      → Tells env (function_row env id function (map (target_of env id) given) ∷ []) old new
   unfolding Tells with_levels
-  tells_repeated id function given old mid new first put same knows =
+  tells_repeated id function given old mid new first put same waits before h =
       let context = context_of env function in
       let operands = map (mention_of env id) context in
       let targets = map (target_of env id) (flat_map if_mutable context) in
       let own = map (target_of env id) given in
-      let all = put ∙ ap (λ w. last_grown own [] w) (first.events knows)
+      let all = put ∙ ap (λ w. last_grown own [] w) (first.events h.known)
       ∙ last_grown-push own [] old.events (function_row env id function [])
       ∙ ap (λ w. old.events ++ events.Row operands (w ++ own) ∷ []) (append-nil targets) in
-      record { events = all; known = knows_later old new _ all (same ∙ first.known) knows }
+      tells_events old new (function_row env id function own ∷ []) all (same ∙ first.known) (waits ∙ first.waiting)
+      refl before h
 
   -- the row of a function behind one that could not be repeated
   pub tells_unrepeated : (id : EvaluationOrder) (function : FunctionId) (more : List MemoEvent) (old mid new : Told)
       → Repeats env id function false old mid → Tells env more mid new → Tells env more old new
   unfolding Tells
-  tells_unrepeated id function more old mid new first second knows =
-      let same = first.events knows in
-      let told = second (knows_later old mid [] same first.known knows) in
-      record {
-        events = told.events ∙ ap (λ w. w ++ more) (same ∙ append-nil old.events);
-        known = told.known;
-      }
-
-  -- the row of a function with its own operands, which is known from then on
-  tells_known : (id : EvaluationOrder) (function : FunctionId) (given : List LevelGiven) (known : KnownRow)
-      (old new : Told) (one two three : List MemoEvent)
-      → one ≡ old.events ++ events.Row (map (mention_of env id) (context_of env function)) [] ∷ []
-      → two ≡ with_levels env id (flat_map if_mutable (context_of env function)) one
-      → three ≡ with_levels env id given two → new.events ≡ three
-      → new.known ≡ insert_entry same_id old.known function known → known.row ≡ length old.events
-      → known.shared ≡ length (flat_map if_mutable (context_of env function))
-      → ((other : EvaluationOrder) → IsWithin known.ids other
-      → map (mention_of env other) (context_of env function) ≡ map (mention_of env id) (context_of env function))
-      → Tells env (function_row env id function (map (target_of env id) given) ∷ []) old new
-  unfolding Tells Knows
-  tells_known id function given known old new one two three first second third last put at shared alike knows =
-      record { events = all; known = λ other row found. by other row found (same_id function other) refl }
-    where
-      context : List Place
-      context = context_of env function
-
-      mutable : List LevelGiven
-      mutable = flat_map if_mutable context
-
-      own : List Target
-      own = map (target_of env id) given
-
-      all : new.events ≡ old.events ++ function_row env id function own ∷ []
-      all = last ∙ row_filled env id context (mutable ++ given) old.events one three first
-          (levels_joined env id mutable given one two three second third)
-          ∙ ap (λ w. old.events ++ events.Row (map (mention_of env id) context) w ∷ [])
-          (map-append (target_of env id) mutable given)
-
-      here : IsKnown env new.events function known
-      here = record {
-        event = λ other within. (
-          own,
-          ap (λ w. slice_get w known.row) all
-              ∙ last_found old.events (function_row env id function own) known.row at
-              ∙ ap Some (rows_alike id other function own (alike other within)),
-        );
-        shared = shared;
-      }
-
-      by : (other : FunctionId) (row : KnownRow) → lookup (same_id other) new.known ≡ Some row → (b : Bool)
-          → same_id function other ≡ b → IsKnown env new.events other row
-      by other row found true is =
-          let same = same_id-eq function other is in
-          let there = ap (λ w. lookup (same_id function) w) put
-          ∙ lookup-insert_there ids_equivalence function known old.known in
-          let one_row : Some known ≡ Some row =
-          sym there ∙ ap (λ (w : FunctionId). lookup (same_id w) new.known) same ∙ found in
-          let row_is : known ≡ row = cc in
-          subst (λ w. IsKnown env new.events w row) same (subst (λ w. IsKnown env new.events function w) row_is here)
-      by other row found false is =
-          known_later old.events (function_row env id function own ∷ []) new.events other row all
-          (knows other row (sym (ap (λ w. lookup (same_id other) w) put
-          ∙ lookup-insert_other ids_equivalence function known old.known other is) ∙ found))
-
-  -- the same, where the context was looked up
-  pub tells_first : (id : EvaluationOrder) (function : FunctionId) (given : List LevelGiven) (known : KnownRow)
-      (context : List Place) (old new : Told) (one two three : List MemoEvent) → context ≡ context_of env function
-      → one ≡ old.events ++ events.Row (map (mention_of env id) context) [] ∷ []
-      → two ≡ with_levels env id (flat_map if_mutable context) one → three ≡ with_levels env id given two
-      → new.events ≡ three → new.known ≡ insert_entry same_id old.known function known
-      → known.row ≡ length old.events → known.shared ≡ length (flat_map if_mutable context)
-      → ((other : EvaluationOrder) → IsWithin known.ids other
-      → map (mention_of env other) context ≡ map (mention_of env id) context)
-      → Tells env (function_row env id function (map (target_of env id) given) ∷ []) old new
-  tells_first id function given known context old new one two three is first second third last put at shared alike =
-      tells_known id function given known old new one two three
-      (subst (λ w. one ≡ old.events ++ events.Row (map (mention_of env id) w) [] ∷ []) is first)
-      (subst (λ w. two ≡ with_levels env id (flat_map if_mutable w) one) is second) third last put at
-      (subst (λ w. known.shared ≡ length (flat_map if_mutable w)) is shared)
-      (subst (λ w. (other : EvaluationOrder) → IsWithin known.ids other
-      → map (mention_of env other) w ≡ map (mention_of env id) w) is alike)
+  tells_unrepeated id function more old mid new first second before h =
+      subst (λ w. HasTold env (w ++ more) new) (append-nil before)
+      (second (before ++ []) (tells_events old mid [] (first.events h.known) first.known first.waiting refl before h))

@@ -80,7 +80,7 @@ module _ (all : List MemoEvent) (resolve : DeclarationId → DeclarationId) (men
 
 -- names that two ways to resolve agree on
 
-Agree : (r s : DeclarationId → DeclarationId) → List DeclarationId → Type 0
+unfoldable pub Agree : (r s : DeclarationId → DeclarationId) → List DeclarationId → Type 0
 Agree r s names = AllByRecursion (λ name. r name ≡ s name) names
 
 module _ (r s : DeclarationId → DeclarationId) where
@@ -140,7 +140,7 @@ module _ (loads : List Loaded) (target loaded : DeclarationId) (mentioned : List
   other_name name there true is = absurd (true≢false (sym there
       ∙ ap (is_among mentioned) (sym (same_id-eq target name is)) ∙ apart))
 
-  agree : (names : List DeclarationId) → AreMentioned mentioned names
+  pub agree : (names : List DeclarationId) → AreMentioned mentioned names
       → Agree (resolved_after loads) (resolved_after (loads ++ (target, loaded) ∷ [])) names
   unfolding Agree
   agree [] h = tt
@@ -200,12 +200,12 @@ among_all names [] name h = h
 among_all names (first ∷ more) name h = among_all (insert_key same_id names first) more name (among_inserted names
     first name h)
 
-mentioned_all : (names more those : List DeclarationId) → AreMentioned names those
+pub mentioned_all : (names more those : List DeclarationId) → AreMentioned names those
     → AreMentioned (insert_all names more) those
 mentioned_all names more [] h = tt
 mentioned_all names more (name ∷ those) h = (among_all names more name h.0, mentioned_all names more those h.1)
 
-mentioned_put : (names more : List DeclarationId) → AreMentioned (insert_all names more) more
+pub mentioned_put : (names more : List DeclarationId) → AreMentioned (insert_all names more) more
 mentioned_put names [] = tt
 mentioned_put names (name ∷ more) = (
   among_all (insert_key same_id names name) more name (any_inserted name names),

@@ -22,23 +22,23 @@ use Rattle.rc_memo.specs.declared.events.EventParts.TheVariants as parts
 use Rattle.rc_memo.specs.inside.Growing.{AddsNext, AddsScopes, AreAmong, insert_all}
 use Rattle.rc_memo.specs.inside.HeldEvents.{RepeatsRow, as_event}
 
-or_right : (a b : Bool) → b ≡ true → (a || b) ≡ true
+pub or_right : (a b : Bool) → b ≡ true → (a || b) ≡ true
 or_right true b is = refl
 or_right false b is = is
 
-or_left : (a b : Bool) → a ≡ true → (a || b) ≡ true
+pub or_left : (a b : Bool) → a ≡ true → (a || b) ≡ true
 or_left true b is = refl
 or_left false b is = cc
 
 -- keys that are all there are not put in again
-insert_known : (keys more : List ScopeId) → AreAmong more keys → insert_all keys more ≡ keys
+pub insert_known : (keys more : List ScopeId) → AreAmong more keys → insert_all keys more ≡ keys
 insert_known keys [] among = refl
 insert_known keys (key ∷ more) among =
     ap (λ w. insert_all (cond w keys (keys ++ key ∷ [])) more)
     (among key (or_left (same_id key key) (is_among more key) (itself key)))
     ∙ insert_known keys more (λ scope h. among scope (or_right (same_id scope key) (is_among more scope) h))
 
-among_front : (some more : List ScopeId) → AreAmong some (some ++ more)
+pub among_front : (some more : List ScopeId) → AreAmong some (some ++ more)
 among_front [] more scope h = cc
 among_front (x ∷ some) more scope h = go (same_id scope x) h (among_front some more scope)
   where
@@ -48,7 +48,7 @@ among_front (x ∷ some) more scope h = go (same_id scope x) h (among_front some
     go true h later = refl
     go false h later = later h
 
-among_behind : (some more : List ScopeId) → AreAmong more (some ++ more)
+pub among_behind : (some more : List ScopeId) → AreAmong more (some ++ more)
 among_behind [] more scope h = h
 among_behind (x ∷ some) more scope h =
     or_right (same_id scope x) (is_among (some ++ more) scope) (among_behind some more scope h)

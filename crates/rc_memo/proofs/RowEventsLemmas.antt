@@ -1,9 +1,11 @@
 -- What each form of value brings, and the steps in which its parts are added.
-use Rattle.std.proofs.Common.{◌≡◌, ◌∙◌, Bool, List, [], ◌∷◌, ◌++◌, Option, None, Some, ap, append_assoc}
-use Rattle.std.proofs.Common.{map, refl, subst, sym}
+use Rattle.std.proofs.Common.{◌≡◌, ◌∙◌, Bool, true, false, List, [], ◌∷◌, ◌++◌, Option, None, Some, ap, append_assoc}
+use Rattle.std.proofs.Common.{map, refl, subst, sym, if◌then◌else◌}
 use Rattle.std.proofs.lemmas.List.{map-append}
 use Rattle.std.specs.List.{flat_map}
-use Rattle.rc_hir.specs.Model.{Environment, InstructionValue, LogicalOperator, Place}
+use Rattle.rc_hir.specs.Model.{Environment, InstructionValue, LogicalOperator, Place, PlaceOrSpread}
+use Rattle.rc_hir.specs.Operands.{argument_places}
+use Rattle.rc_hir.specs.declared.instruction.InstructionValue.TheVariants as kind
 use Rattle.rc_names.specs.Numbers.{EvaluationOrder, FunctionId}
 use Rattle.rc_tree.specs.Model.{ReactiveInstruction}
 use Rattle.rc_tree.specs.declared.value.ReactiveValue.{ReactiveValue, map-ReactiveValue, roll-ReactiveValue}
@@ -13,14 +15,17 @@ use Rattle.rc_tree.specs.declared.value.ReactiveValue.TheVariants as reactive_va
 use Rattle.rc_memo.specs.RowEvents.{ValueParts, both_parts, instruction_of, own_events, parts_of, recorded_operands}
 use Rattle.rc_memo.specs.RowEvents.{row_events, row_step, value_step}
 use Rattle.rc_memo.specs.declared.event.MemoEvent.{MemoEvent}
+use Rattle.rc_memo.proofs.EventsLemmas.{loads_in-append}
 use Rattle.rc_memo.proofs.KnownRowsLemmas.{tells_joined, tells_nothing, tells_same}
 use Rattle.rc_memo.specs.declared.known_rows.Told.{Told}
-use Rattle.rc_memo.specs.Mentions.{mention_of, target_of}
-use Rattle.rc_memo.specs.RowEvents.{escape_events, load_events, places_read, row_event}
+use Rattle.rc_memo.specs.Events.{loads_in}
+use Rattle.rc_memo.specs.Mentions.{declaration_of, mention_of, target_of}
+use Rattle.rc_memo.specs.RowEvents.{argument_events, escape_events, lets_escape, load_events, places_read, row_event}
 use Rattle.rc_memo.specs.Table.{if_mutable, levels_of, own, recorded_of}
 use Rattle.rc_memo.specs.declared.event.MemoEvent.TheVariants as events
 use Rattle.rc_memo.specs.declared.level.MemoizationLevel.TheVariants.{Memoized}
-use Rattle.rc_memo.specs.inside.KnownRows.{NamesFunction, Tells, context_of, expression, function_row, method}
+use Rattle.rc_memo.specs.inside.FunctionRows.{NamesFunction, context_of, expression, function_row, method}
+use Rattle.rc_memo.specs.inside.KnownRows.{Tells}
 use Rattle.rc_memo.specs.inside.RowsAdded.{AddsOperands, AddsRows, AddsWalked}
 
 module _ (env : Environment) where
@@ -251,3 +256,30 @@ module _ (env : Environment) where
   }
 
 pub ruleset quiet_values = walks-Instruction
+
+module _ (env : Environment) where
+  -- what escapes loads nothing
+  no_loads_given : (places : List Place)
+      → flat_map loads_in (map (λ (place : Place). events.Escape (declaration_of env place.identifier)) places) ≡ []
+  no_loads_given [] = refl
+  no_loads_given (place ∷ places) = no_loads_given places
+
+  no_loads_argued : (arguments : List PlaceOrSpread) → flat_map loads_in (flat_map (argument_events env) arguments) ≡ []
+  no_loads_argued [] = refl
+  no_loads_argued (argument ∷ arguments) =
+      loads_in-append (argument_events env argument) (flat_map (argument_events env) arguments)
+      ∙ ap (λ w. w ++ flat_map loads_in (flat_map (argument_events env) arguments))
+      (no_loads_given (argument_places argument)) ∙ no_loads_argued arguments
+
+  no_loads_if : (escapes : Bool) (arguments : List PlaceOrSpread)
+      → flat_map loads_in (if escapes then flat_map (argument_events env) arguments else []) ≡ []
+  no_loads_if true arguments = no_loads_argued arguments
+  no_loads_if false arguments = refl
+
+  pub no_loads_escape : (value : InstructionValue) → flat_map loads_in (escape_events env value) ≡ []
+  unfolding escape_events
+  no_loads_escape (kind.CallExpression callee arguments span) =
+      no_loads_if (lets_escape env callee.identifier) arguments
+  no_loads_escape (kind.MethodCall receiver property arguments span) =
+      no_loads_if (lets_escape env property.identifier) arguments
+  no_loads_escape _ = refl

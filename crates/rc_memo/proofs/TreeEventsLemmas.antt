@@ -4,7 +4,7 @@ use Rattle.std.proofs.Common.{length, map, refl, subst, suc, sym, zero}
 use Rattle.std.specs.List.{flat_map}
 use Rattle.std.proofs.lemmas.List.{drop_more}
 use Rattle.rc_hir.specs.Model.{Environment}
-use Rattle.rc_names.specs.Numbers.{EvaluationOrder, ScopeId}
+use Rattle.rc_names.specs.Numbers.{DeclarationId, EvaluationOrder, IdentifierId, ScopeId}
 use Rattle.rc_tree.proofs.CollectedLemmas.{collected-case, collected-Scope, collected_forms}
 use Rattle.rc_tree.specs.Collected.{collected, collected_case, collected_cases, collected_if, collected_list}
 use Rattle.rc_tree.specs.Collected.{collected_statement}
@@ -14,6 +14,7 @@ use Rattle.rc_tree.specs.declared.statement.ReactiveStatement.TheVariants as rea
 use Rattle.rc_tree.specs.declared.statement.ReactiveStatement.TheViews.{out-ReactiveSwitchCase}
 use Rattle.rc_tree.specs.declared.statement.ReactiveStatement.TheViews.{roll-out-ReactiveSwitchCase}
 use Rattle.rc_memo.proofs.KnownRowsLemmas.{tells_joined, tells_nothing, tells_same}
+use Rattle.rc_memo.specs.Events.{loads_in}
 use Rattle.rc_memo.specs.Mentions.{declaration_of}
 use Rattle.rc_memo.specs.TreeEvents.{Events, events_of_parts, reassigned_by, reassigned_events}
 use Rattle.rc_memo.specs.declared.event.MemoEvent.{MemoEvent}
@@ -136,3 +137,9 @@ module _ (env : Environment) where
       → Tells env (collected_list (events_of_parts env) all around) start mid
   statements_told around all i start mid past so_far = all_told start mid _ _
       (ap (λ w. collected_list (events_of_parts env) w around) (drop_all all i past)) so_far
+
+-- names that are within scopes load nothing
+pub no_loads_within : (name : IdentifierId → DeclarationId) (scopes : List ScopeId) (numbers : List IdentifierId)
+    → flat_map loads_in (flat_map (λ number. kinds.Within (name number) scopes ∷ []) numbers) ≡ []
+no_loads_within name scopes [] = refl
+no_loads_within name scopes (number ∷ numbers) = no_loads_within name scopes numbers

@@ -10,7 +10,7 @@ use Rattle.std.specs.List.{flat_map}
 use Rattle.rc_memo.specs.Table.{if_mutable}
 use Rattle.rc_memo.specs.Mentions.{active_scope, declaration_of, if_active, is_in_range, mention_of}
 use Rattle.rc_memo.specs.declared.event.Mention.{Mention}
-use Rattle.rc_memo.specs.inside.KnownRows.{scope_range}
+use Rattle.rc_memo.specs.inside.FunctionRows.{scope_range}
 
 -- two numbers that a third is above alike are below it alike
 below_alike : (a b c : ℕ) → nat_le c a ≡ nat_le c b → nat_lt a c ≡ nat_lt b c

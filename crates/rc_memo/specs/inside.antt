@@ -3,9 +3,12 @@ pub mod HeldEvents
 pub mod Gathering
 pub mod RowsAdded
 pub mod Growing
+pub mod FunctionRows
 pub mod KnownRows
 pub mod ToldFacts
 pub mod GatheringRows
 pub mod RepeatedRows
 pub mod GatheringEvents
 pub mod RecordParts
+pub mod Alike
+pub mod WaitingPlaces

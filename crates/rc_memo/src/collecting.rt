@@ -112,6 +112,7 @@ fn parts_of<H: HoldsFacts>(
     let escaping = escaping_of(alloc, &events)?;
     let scopes = scopes_of(&reader, &events)?;
     let found: Gathered<H> = gather(alloc, &params, &events)?;
+    found.held.holds_alike();
     Ok(RecordParts {
         found,
         scopes,

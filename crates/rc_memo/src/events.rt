@@ -190,6 +190,37 @@ impl Events {
         Ok(true)
     }
 
+    /// Adds a row of that id with these operands and no targets, and behind it a row that repeats the one at an index.
+    /// Adds nothing and returns false if no row stands there that has its own operands.
+    pub fn push_repeated_behind(
+        &mut self,
+        reader: &RowReader<'_>,
+        id: EvaluationOrder,
+        operands: &[Place],
+        row: usize,
+        shared: usize,
+    ) -> Result<bool, AllocError>
+        ensures { IfOk result (λ added. self.new ≡ self.old
+            ++ (if added then kinds.Row (map (mention_of reader.now.env.now id) operands.now) []
+            ∷ repeated shared (slice_get self.old row) else [])) }
+    {
+        if !is_row(self.heads.as_slice(), row) {
+            return Ok(false);
+        }
+        let start = ends_of(&self.operands, &self.targets, &self.scopes);
+        reader.push_mentions(&mut self.operands, id, operands)?;
+        self.heads.push(EventHead {
+            kind: EventKind::Row,
+            start,
+        })?;
+        let start = ends_of(&self.operands, &self.targets, &self.scopes);
+        self.heads.push(EventHead {
+            kind: EventKind::Repeats { row, shared },
+            start,
+        })?;
+        Ok(true)
+    }
+
     /// Adds a row that loads a name into another.
     pub fn push_load(
         &mut self,

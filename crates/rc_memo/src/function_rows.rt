@@ -1,10 +1,12 @@
 //! The rows that name a function: all but the first repeat one, where the context names the same.
 
-ghost use Rattle.std.specs.Prelude.{◌≡◌, ◌∷◌, [], map, IfOk, IfSome, OnOk};
+ghost use Rattle.std.specs.Prelude.{◌≡◌, ◌∷◌, [], Some, false, map, true, IfOk, IfSome, OnOk};
 ghost use Rattle.rc_memo.specs.Mentions.{target_of};
 ghost use Rattle.rc_memo.specs.Table.{own};
 ghost use Rattle.rc_memo.specs.declared.level.MemoizationLevel.TheVariants as levels;
+ghost use Rattle.rc_memo.specs.inside.FunctionRows as rows;
 ghost use Rattle.rc_memo.specs.inside.KnownRows as spec;
+ghost use Rattle.rc_names.specs.Numbers.{FunctionId as Function};
 
 use crate::MemoizationLevel;
 use crate::known_rows::{KnownRow, Told, count_mutable};
@@ -16,7 +18,8 @@ use std::alloc::AllocError;
 
 /// Returns the function that an instruction names, if it names one.
 pub fn function_named(value: &InstructionValue) -> Option<FunctionId>
-    ensures { IfSome result (λ function. spec.NamesFunction function value.now) }
+    ensures named { IfSome result (λ function. rows.NamesFunction function value.now) }
+    ensures all_named { (function : Function) → rows.NamesFunction function value.now → result ≡ Some function }
 {
     match value {
         Kind::FunctionExpression { lowered_func, .. } => Some(lowered_func.func),
@@ -28,7 +31,7 @@ pub fn function_named(value: &InstructionValue) -> Option<FunctionId>
 impl<'a> RowReader<'a> {
     /// Returns the context of a function; a function outside the table has none.
     fn context_of(&self, function: FunctionId) -> &[Place]
-        ensures { result.now ≡ spec.context_of self.now.env.now function }
+        ensures { result.now ≡ rows.context_of self.now.env.now function }
     {
         match self.env.functions.get(function) {
             Some(known) => known.context.as_slice(),
@@ -56,6 +59,35 @@ impl<'a> RowReader<'a> {
         Ok(added)
     }
 
+    /// Adds the row of a function behind what became active of its context since the rows before, and returns true, if
+    /// it can repeat one; else adds nothing.
+    fn add_resumed(
+        &self,
+        told: &mut Told,
+        id: EvaluationOrder,
+        function: FunctionId,
+    ) -> Result<bool, AllocError>
+        ensures resumed { IfOk result (λ added. added ≡ true
+            → spec.Resumes self.now.env.now id function told.old told.new) }
+        ensures nothing { IfOk result (λ added. added ≡ false → told.new ≡ told.old) }
+    {
+        let Some(known) = told.known.get(function).copied() else {
+            return Ok(false);
+        };
+        let Some(groups) = told.waiting.groups.get(function) else {
+            return Ok(false);
+        };
+        let active = self.active_of(id, groups.as_slice())?;
+        if !told
+            .events
+            .push_repeated_behind(self, id, active.as_slice(), known.row, known.shared)?
+        {
+            return Ok(false);
+        }
+        self.drop_waiting(&mut told.waiting, id, function)?;
+        Ok(true)
+    }
+
     /// Adds the row of a function with its own operands, so that later rows can repeat it.
     fn add_first(
         &self,
@@ -64,7 +96,7 @@ impl<'a> RowReader<'a> {
         target: Option<Place>,
         function: FunctionId,
     ) -> Result<(), AllocError>
-        ensures { OnOk result (spec.Tells self.now.env.now (spec.function_row self.now.env.now id function
+        ensures { OnOk result (spec.Tells self.now.env.now (rows.function_row self.now.env.now id function
             (map (target_of self.now.env.now id) (own target levels.Memoized)) ∷ []) told.old told.new) }
     {
         let context = self.context_of(function);
@@ -77,7 +109,10 @@ impl<'a> RowReader<'a> {
         told.events.push_row(self, id, context)?;
         levels.put_mutable(&mut told.events, context)?;
         levels.put_own(&mut told.events, target, MemoizationLevel::Memoized)?;
+        let groups = self.groups_of(id, context)?;
+        self.put_names(&mut told.waiting.mentioned, context)?;
         told.known.insert(function, known)?;
+        told.waiting.groups.insert(function, groups)?;
         Ok(())
     }
 
@@ -90,10 +125,10 @@ impl<'a> RowReader<'a> {
         target: Option<Place>,
         function: FunctionId,
     ) -> Result<(), AllocError>
-        ensures { OnOk result (spec.Tells self.now.env.now (spec.function_row self.now.env.now id function
+        ensures { OnOk result (spec.Tells self.now.env.now (rows.function_row self.now.env.now id function
             (map (target_of self.now.env.now id) (own target levels.Memoized)) ∷ []) told.old told.new) }
     {
-        if self.add_repeated(told, id, function)? {
+        if self.add_repeated(told, id, function)? || self.add_resumed(told, id, function)? {
             let levels = Levels { reader: *self, id };
             return levels.put_own(&mut told.events, target, MemoizationLevel::Memoized);
         }

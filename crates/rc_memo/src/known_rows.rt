@@ -4,18 +4,20 @@
 //! rows, unless the range of its scope begins or ends between them; so with the last row of each function stand the
 //! ids at which all places name what they name there.
 
-ghost use Rattle.std.specs.Prelude.{◌≡◌, ◌≤◌, [], map, length, nat_le, true};
+ghost use Rattle.std.specs.Prelude.{◌≡◌, ◌≤◌, [], false, map, length, nat_le, true, OnOk};
 ghost use Rattle.std.specs.List.{flat_map};
 ghost use Rattle.rc_memo.specs.Mentions.{is_in_range, mention_of};
 ghost use Rattle.rc_memo.specs.Table.{if_mutable};
-ghost use Rattle.rc_memo.specs.inside.KnownRows.{IsWithin, scope_range};
+ghost use Rattle.rc_memo.specs.inside.FunctionRows.{scope_range};
+ghost use Rattle.rc_memo.specs.inside.KnownRows.{IsWithin, Loads};
 ghost use Rattle.rc_names.specs.Numbers.{EvaluationOrder as Order};
 
 use crate::events::Events;
 use crate::reader::RowReader;
+use crate::waiting::WaitingPlaces;
 use rc_hir::{MutableRange, Place};
-use rc_names::{EvaluationOrder, FunctionId, IdentifierId, Keyed};
-use std::alloc::Global;
+use rc_names::{DeclarationId, EvaluationOrder, FunctionId, IdentifierId, Keyed};
+use std::alloc::{AllocError, Global};
 
 /// The ids from the first up to the last, which is inside.
 #[derive(Clone, Copy)]
@@ -33,11 +35,13 @@ pub struct KnownRow {
     pub ids: Window,
 }
 
-/// The events so far, with the last row of each function that has its own operands.
+/// The events so far, with the last row of each function that has its own operands, and the places of which later rows
+/// have something to tell.
 #[derive(Drop)]
 pub struct Told {
     pub events: Events,
     pub known: Keyed<FunctionId, KnownRow>,
+    pub waiting: WaitingPlaces,
 }
 
 impl Told {
@@ -45,11 +49,27 @@ impl Told {
     pub fn new(alloc: Global) -> Told
         ensures events { result.events ≡ [] }
         ensures known { result.known ≡ [] }
+        ensures waiting { result.waiting.groups ≡ [] }
     {
         Told {
             events: Events::new(alloc),
             known: Keyed::new(alloc),
+            waiting: WaitingPlaces::new(alloc),
         }
+    }
+
+    /// Adds a row that loads a name into another, of which no function's places tell any longer.
+    pub fn push_load(
+        &mut self,
+        alloc: Global,
+        target: DeclarationId,
+        loaded: DeclarationId,
+    ) -> Result<(), AllocError>
+        ensures { OnOk result (Loads target loaded self.old self.new) }
+    {
+        self.waiting.forget(alloc, target);
+        self.events.push_load(target, loaded)?;
+        Ok(())
     }
 }
 
@@ -64,7 +84,8 @@ impl Window {
 
     /// Returns whether the id is in the window.
     pub fn has(self, id: EvaluationOrder) -> bool
-        ensures { result ≡ true → IsWithin self id }
+        ensures inside { result ≡ true → IsWithin self id }
+        ensures outside { result ≡ false → IsWithin self id → ⊥ }
     {
         self.first <= id.0 && id.0 <= self.last
     }
@@ -98,7 +119,7 @@ impl Window {
 
 impl<'a> RowReader<'a> {
     /// Returns the range of an identifier's scope, where it has one.
-    fn scope_range(&self, number: IdentifierId) -> Option<MutableRange>
+    pub fn scope_range(&self, number: IdentifierId) -> Option<MutableRange>
         ensures { result ≡ scope_range self.now.env.now number }
     {
         let identifier = self.env.identifiers.get(number)?;

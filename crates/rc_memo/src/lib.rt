@@ -20,6 +20,7 @@ mod row_record;
 mod rows;
 mod table;
 mod tree;
+mod waiting;
 
 pub use collecting::{check_nodes, collect, collect_rows};
 pub use level::{MemoizationLevel, join_aliases};

@@ -259,7 +259,7 @@ impl<H: HoldsFacts> Gathered<H> {
     {
         match self.repeated.find(row, shared.len()) {
             Some(known) => {
-                self.held.holds_again();
+                self.held.holds_alike();
                 Ok(known.position)
             }
             None => self.add_first(alloc, row, operands, shared),

@@ -17,7 +17,7 @@ pub struct RowReader<'a> {
 }
 
 /// Returns whether the id is in the range, whose end is outside.
-fn is_in_range(id: EvaluationOrder, range: MutableRange) -> bool
+pub fn is_in_range(id: EvaluationOrder, range: MutableRange) -> bool
     ensures { result ≡ spec.is_in_range id range }
 {
     range.start.0 <= id.0 && id.0 < range.end.0
@@ -49,7 +49,7 @@ impl<'a> RowReader<'a> {
     }
 
     /// Returns the scope of an identifier, where it is active at the id.
-    fn active_scope(&self, id: EvaluationOrder, number: IdentifierId) -> Option<ScopeId>
+    pub fn active_scope(&self, id: EvaluationOrder, number: IdentifierId) -> Option<ScopeId>
         ensures { result ≡ spec.active_scope self.now.env.now id number }
     {
         let identifier = self.env.identifiers.get(number)?;

@@ -50,20 +50,22 @@ impl<'a> RowReader<'a> {
     }
 
     /// Adds that a row loads a local name into its target.
-    #[tactic(auto, unfolding(crate::specs::RowEvents::load_events))]
+    #[tactic(auto, unfolding(crate::specs::RowEvents::load_events), using(crate::proofs::KnownRowsLemmas::tells_nothing, crate::proofs::KnownRowsLemmas::tells_load))]
     fn add_load(
         &self,
-        events: &mut Events,
+        told: &mut Told,
         target: Option<Place>,
         value: &InstructionValue,
     ) -> Result<(), AllocError>
-        ensures { OnOk result (events.new ≡ events.old ++ spec.load_events self.now.env.now target value.now) }
+        ensures { OnOk result (Tells self.now.env.now (spec.load_events self.now.env.now target value.now) told.old
+            told.new) }
     {
         let Some(target) = target else {
             return Ok(());
         };
         match value {
-            Kind::LoadLocal { place, .. } => events.push_load(
+            Kind::LoadLocal { place, .. } => told.push_load(
+                self.alloc,
                 self.declaration(target.identifier),
                 self.declaration(place.identifier),
             ),
@@ -153,22 +155,21 @@ impl<'a> RowReader<'a> {
         Ok(())
     }
 
-    /// Adds a row whose value is one instruction, and none of its operands is shared.
+    /// Adds a row whose value is one instruction that names no function.
     #[inline(never)]
-    #[tactic(auto, unfolding(crate::specs::RowEvents::own_events))]
     fn add_plain(
         &self,
-        events: &mut Events,
+        told: &mut Told,
         id: EvaluationOrder,
         target: Option<Place>,
         value: &InstructionValue,
     ) -> Result<(), AllocError>
-        ensures { OnOk result (events.new ≡ events.old ++ spec.own_events self.now.env.now id target (Some value.now)
-            (spec.recorded_operands self.now.env.now value.now)) }
+        ensures { OnOk result (Tells self.now.env.now (spec.own_events self.now.env.now id target (Some value.now)
+            (spec.recorded_operands self.now.env.now value.now)) told.old told.new) }
     {
-        self.add_plain_row(events, id, target, value)?;
-        self.add_load(events, target, value)?;
-        self.add_escapes(events, value)?;
+        self.add_plain_row(&mut told.events, id, target, value)?;
+        self.add_load(told, target, value)?;
+        self.add_escapes(&mut told.events, value)?;
         Ok(())
     }
 
@@ -186,7 +187,7 @@ impl<'a> RowReader<'a> {
     {
         match function_named(value) {
             Some(function) => self.add_function(told, id, target, function)?,
-            None => self.add_plain(&mut told.events, id, target, value)?,
+            None => self.add_plain(told, id, target, value)?,
         }
         Ok(())
     }

@@ -9,6 +9,7 @@ ghost use Rattle.rc_memo.specs.Mentions.{declaration_of};
 ghost use Rattle.rc_memo.specs.RowEvents.{walked_events};
 ghost use Rattle.rc_memo.specs.TreeEvents.{events_in, events_of_parts, reassigned_by, reassigned_events};
 ghost use Rattle.rc_memo.specs.declared.event.MemoEvent.TheVariants as kinds;
+ghost use Rattle.rc_memo.specs.inside.Alike.{TellTheSame};
 ghost use Rattle.rc_memo.specs.inside.KnownRows.{Tells};
 ghost use Rattle.rc_names.specs.Numbers.{EvaluationOrder as Order};
 ghost use Rattle.rc_tree.specs.Collected.{collected, collected_cases, collected_if, collected_list};
@@ -311,9 +312,9 @@ fn add_if_there(
     }
 }
 
-/// Returns the events of a whole body, in the order of the text. Fails only when out of memory.
+/// Returns events that make the memo record of a whole body, in the order of the text. Fails only when out of memory.
 pub fn events_of(reader: &RowReader<'_>, body: &ReactiveBlock) -> Result<Events, AllocError>
-    ensures { IfOk result (λ events. events ≡ events_in reader.now.env.now body.now) }
+    ensures { IfOk result (λ events. TellTheSame events (events_in reader.now.env.now body.now)) }
 {
     let mut told = Told::new(reader.alloc);
     let around = List::new(reader.alloc);

@@ -14,7 +14,7 @@ use Rattle.rc_memo.specs.declared.event.Target.{Target}
 use Rattle.rc_memo.specs.declared.level.MemoizationLevel.{MemoizationLevel}
 use Rattle.rc_memo.specs.declared.level.MemoizationLevel.TheVariants.{Never}
 use Rattle.rc_memo.specs.declared.record.MemoNode.{MemoNode}
-use Rattle.rc_memo.specs.inside.ToldFacts.{AreTold}
+use Rattle.rc_memo.specs.inside.Alike.{AreAlike}
 
 -- the nodes as they are held
 abbrev pub Held : Type 0
@@ -88,10 +88,10 @@ module _ {S : Type 0} (Holds : RowOperands → List Fact → S → Type 0) where
   PutsOperands names row old new = (rows : RowOperands) (facts : List Fact) → Holds rows facts old
       → (more : RowOperands) × Holds (rows ++ more) facts new × IsRow (rows ++ more) row names
 
-  -- facts that are told again change nothing of what is held
-  unfoldable pub HoldsAgain : S → Type 0
-  HoldsAgain held = (rows : RowOperands) (facts more : List Fact) → AreTold facts more → Holds rows facts held
-      → Holds rows (facts ++ more) held
+  -- what is held of facts is held of others that tell the same
+  unfoldable pub HoldsAlike : S → Type 0
+  HoldsAlike held = (rows : RowOperands) (facts others : List Fact) → AreAlike facts others → Holds rows facts held
+      → Holds rows others held
 
 -- a name as the definitions resolve it
 abbrev pub resolved : List (DeclarationId × DeclarationId) → DeclarationId → DeclarationId

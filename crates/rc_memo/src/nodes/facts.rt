@@ -261,6 +261,6 @@ impl HoldsFacts for Nodes {
         add_targets(alloc, definitions, self, operands, targets)
     }
 
-    #[tactic(auto, using(crate::proofs::ToldLemmas::nodes_hold_again))]
-    fn holds_again(&self) {}
+    #[tactic(auto, using(crate::proofs::ToldLemmas::nodes_hold_alike))]
+    fn holds_alike(&self) {}
 }

@@ -5,7 +5,7 @@ ghost use Rattle.std.specs.Prelude.{[], ◌∷◌, IfOk};
 ghost use Rattle.std.specs.List.{flat_map};
 ghost use Rattle.rc_memo.specs.Events.{target_facts};
 ghost use Rattle.rc_memo.specs.Facts.{GivesLevel, HasScope, NeedsNode};
-ghost use Rattle.rc_memo.specs.inside.Gathering.{Adds, AddsAt, HoldsAgain, PutsOperands, operand_names, resolved};
+ghost use Rattle.rc_memo.specs.inside.Gathering.{Adds, AddsAt, HoldsAlike, PutsOperands, operand_names, resolved};
 
 use crate::MemoizationLevel;
 use crate::event::{Mention, Target};
@@ -68,7 +68,7 @@ pub trait HoldsFacts: Sized + Drop {
         ensures { AddsAt holds row (operand_names (resolved definitions.now) operands.now)
             (flat_map (target_facts (resolved definitions.now) operands.now) targets.now) self.old result self.new };
 
-    /// Says that facts which are told again change nothing. It does nothing.
-    fn holds_again(&self)
-        ensures { HoldsAgain holds self.now };
+    /// Says that only what facts tell counts, not how often. It does nothing.
+    fn holds_alike(&self)
+        ensures { HoldsAlike holds self.now };
 }

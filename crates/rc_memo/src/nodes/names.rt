@@ -95,6 +95,6 @@ impl HoldsFacts for KeySet<DeclarationId> {
         }
     }
 
-    #[tactic(auto, using(crate::proofs::ToldLemmas::names_hold_again))]
-    fn holds_again(&self) {}
+    #[tactic(auto, using(crate::proofs::AlikeLemmas::names_hold_alike))]
+    fn holds_alike(&self) {}
 }

@@ -297,6 +297,6 @@ impl HoldsFacts for HeldRows {
         }
     }
 
-    #[tactic(auto, using(crate::proofs::HeldRowsLemmas::rows_hold_again))]
-    fn holds_again(&self) {}
+    #[tactic(auto, using(crate::proofs::HeldRowsLemmas::rows_hold_alike))]
+    fn holds_alike(&self) {}
 }

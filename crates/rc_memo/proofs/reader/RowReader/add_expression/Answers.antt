@@ -19,4 +19,4 @@ returns c =
     tells_events env c.args.told.now _ _
     (row_filled env c.args.id places (own c.args.target Conditional) old c.push_row.new.self c.put_own.new.events
     (c.in_ok-push_row.ensures ∙ ap (λ w. old ++ kinds.Row (map (mention_of env c.args.id) w) [] ∷ []) are)
-    c.in_ok-put_own.ensures) refl
+    c.in_ok-put_own.ensures) refl refl refl

@@ -1,0 +1,241 @@
+-- The row of a function behind what became active of its context: it makes the same record as the whole row.
+use Rattle.std.proofs.Common.{◌≡◌, ◌∙◌, Bool, true, false, List, [], ◌∷◌, ◌++◌, Some, ap, append-nil, append_assoc}
+use Rattle.std.proofs.Common.{map, refl, subst, sym, take}
+use Rattle.std.proofs.Math.Seq.{take-append_seam}
+use Rattle.std.proofs.lemmas.List.{length-map}
+use Rattle.std.specs.Prelude.{slice_get}
+use Rattle.std.specs.List.{flat_map}
+use Rattle.std.specs.Map.{lookup}
+use Rattle.indexmap.specs.IndexMap.{insert_entry}
+use Rattle.rc_hir.specs.Model.{Environment, Place}
+use Rattle.rc_names.proofs.NumbersLemmas.{same_id-eq}
+use Rattle.rc_names.specs.Numbers.{DeclarationId, EvaluationOrder, FunctionId, same_id}
+use Rattle.rc_memo.proofs.AlikeLemmas.{alike_more, alike_sym, alike_trans, there_right}
+use Rattle.rc_memo.proofs.EventsLemmas.{facts_behind-append, loads_in-append}
+use Rattle.rc_memo.proofs.FirstRowsLemmas.{entry_kept, entry_put}
+use Rattle.rc_memo.proofs.GrowingLemmas.{distinct-all, flat-both}
+use Rattle.rc_memo.proofs.GrownEventsLemmas.{last_grown-push}
+use Rattle.rc_memo.proofs.HeldEventsLemmas.{front_found}
+use Rattle.rc_memo.proofs.KnownRowsLemmas.{knows_later, wait_later}
+use Rattle.rc_memo.proofs.WaitingLemmas.{row_alike, row_scopes_alike, waiting_resumed}
+use Rattle.rc_memo.specs.Events.{escaping_in, facts_behind, facts_told, loads_in, mention_facts, mention_scopes}
+use Rattle.rc_memo.specs.Events.{params_facts, resolved_after, row_facts, scopes_in, target_scopes}
+use Rattle.rc_memo.specs.Facts.{distinct}
+use Rattle.rc_memo.specs.Mentions.{mention_of, target_of}
+use Rattle.rc_memo.specs.Table.{if_mutable}
+use Rattle.rc_memo.specs.declared.event.Mention.{Mention}
+use Rattle.rc_memo.specs.declared.event.MemoEvent.{MemoEvent}
+use Rattle.rc_memo.specs.declared.event.MemoEvent.TheVariants as events
+use Rattle.rc_memo.specs.declared.event.Target.{Target}
+use Rattle.rc_memo.specs.declared.known_rows.KnownRow.{KnownRow}
+use Rattle.rc_memo.specs.declared.known_rows.Told.{Told}
+use Rattle.rc_memo.specs.declared.table.LevelGiven.{LevelGiven}
+use Rattle.rc_memo.specs.declared.waiting.WaitingGroup.{WaitingGroup}
+use Rattle.rc_memo.specs.declared.waiting.WaitingPlaces.{WaitingPlaces}
+use Rattle.rc_memo.specs.inside.Alike.{AreAlike}
+use Rattle.rc_memo.specs.inside.FunctionRows.{context_of, function_row}
+use Rattle.rc_memo.specs.inside.Growing.{insert_all}
+use Rattle.rc_memo.specs.inside.HeldEvents.{last_grown, repeated}
+use Rattle.rc_memo.specs.inside.KnownRows.{HasTold, Resumes, Tells, Waiting}
+use Rattle.rc_memo.specs.inside.RepeatedRows.{AreMentioned}
+use Rattle.rc_memo.specs.inside.RowsAdded.{with_levels}
+use Rattle.rc_memo.specs.inside.WaitingPlaces.{AllLeaveIdle, AreWaiting, WaitFor, active_places, place_name}
+use Rattle.rc_memo.specs.inside.WaitingPlaces.{places_waiting}
+
+-- the facts of rows behind other events
+facts_of_row : (params : List DeclarationId) (before : List MemoEvent) (operands : List Mention) (targets : List Target)
+    → facts_told params (before ++ events.Row operands targets ∷ [])
+    ≡ facts_told params before ++ row_facts (resolved_after (flat_map loads_in before)) operands targets
+facts_of_row params before operands targets =
+    let first = params_facts params in
+    let row = row_facts (resolved_after (flat_map loads_in before)) operands targets in
+    ap (λ w. first ++ w) (facts_behind-append [] before (events.Row operands targets ∷ [])
+    ∙ ap (λ w. facts_behind [] before ++ w) (append-nil row))
+    ∙ sym (append_assoc first (facts_behind [] before) row)
+
+no_loads_behind : (before : List MemoEvent) (operands : List Mention) (targets : List Target)
+    → flat_map loads_in (before ++ events.Row operands targets ∷ []) ≡ flat_map loads_in before
+no_loads_behind before operands targets =
+    loads_in-append before (events.Row operands targets ∷ []) ∙ append-nil (flat_map loads_in before)
+
+-- what waits of a function that is known
+waits_for : (env : Environment) (told : Told) (function : FunctionId) (row : KnownRow) (groups : List WaitingGroup)
+    → Waiting env told → lookup (same_id function) told.known ≡ Some row
+    → lookup (same_id function) told.waiting.groups ≡ Some groups
+    → WaitFor env told.events function row told.waiting.mentioned groups
+unfolding Waiting
+waits_for env told function row groups waiting is_known there = waiting function row groups is_known there
+
+module _ (env : Environment) (id : EvaluationOrder) (function : FunctionId) (given : List LevelGiven)
+    (before : List MemoEvent) (old mid new : Told) (resumes : Resumes env id function old mid)
+    (put : new.events ≡ with_levels env id given mid.events) (known : new.known ≡ mid.known)
+    (waits : new.waiting ≡ mid.waiting) (h : HasTold env before old)
+    (found : WaitFor env old.events function resumes.row old.waiting.mentioned resumes.groups)
+    (left : List WaitingGroup) (leaves : AllLeaveIdle env id resumes.groups left)
+    (taken : new.waiting.groups ≡ insert_entry same_id old.waiting.groups function left) where
+  abbrev context : List Place
+  context = context_of env function
+
+  abbrev places : List Place
+  places = places_waiting resumes.groups
+
+  abbrev own : List Target
+  own = map (target_of env id) given
+
+  abbrev operands : EvaluationOrder → List Mention
+  operands at = map (mention_of env at) context
+
+  abbrev shared : EvaluationOrder → List Target
+  shared at = map (target_of env at) (flat_map if_mutable context)
+
+  abbrev active : List Mention
+  active = map (mention_of env id) (active_places env id places)
+
+  -- what is there behind the old events: the active places, and the known row with its own target
+  abbrev front : List MemoEvent
+  front = old.events ++ events.Row active [] ∷ []
+
+  abbrev last : MemoEvent
+  last = function_row env found.id function own
+
+  row_repeated : repeated resumes.row.shared (slice_get old.events resumes.row.row)
+      ≡ function_row env found.id function [] ∷ []
+  row_repeated =
+      ap (repeated resumes.row.shared) found.event
+      ∙ ap (λ w. events.Row (operands found.id) (take w (shared found.id ++ found.rest)) ∷ [])
+      (found.shared ∙ sym (length-map (flat_map if_mutable context) (target_of env found.id)))
+      ∙ ap (λ w. events.Row (operands found.id) w ∷ []) (take-append_seam (shared found.id) found.rest
+      ∙ sym (append-nil (shared found.id)))
+
+  all : new.events ≡ front ++ last ∷ []
+  unfolding with_levels
+  all = put ∙ ap (λ w. last_grown own [] w) (resumes.events found.covered
+      ∙ ap (λ w. old.events ++ events.Row active [] ∷ w) row_repeated
+      ∙ sym (append_assoc old.events (events.Row active [] ∷ []) (function_row env found.id function [] ∷ [])))
+      ∙ last_grown-push own [] front (function_row env found.id function [])
+      ∙ ap (λ w. front ++ events.Row (operands found.id) (w ++ own) ∷ []) (append-nil (shared found.id))
+
+  told : new.events ≡ old.events ++ (events.Row active [] ∷ last ∷ [])
+  told = all ∙ append_assoc old.events (events.Row active [] ∷ []) (last ∷ [])
+
+  abbrev whole : MemoEvent
+  whole = function_row env id function own
+
+  abbrev resolve : DeclarationId → DeclarationId
+  resolve = resolved_after (flat_map loads_in old.events)
+
+  facts_are : (params : List DeclarationId) → AreAlike (facts_told params new.events)
+      (facts_told params (before ++ whole ∷ []))
+  facts_are params =
+      let old_facts = facts_told params old.events in
+      let news = flat_map (mention_facts resolve) active in
+      let row = λ (at : EvaluationOrder). row_facts resolve (operands at) (shared at ++ own) in
+      let held = ap (facts_told params) all ∙ facts_of_row params front (operands found.id) (shared found.id ++ own)
+      ∙ ap (λ w. facts_told params front ++ row_facts (resolved_after w) (operands found.id) (shared found.id ++ own))
+      (no_loads_behind old.events active [])
+      ∙ ap (λ w. w ++ row found.id) (facts_of_row params old.events active []
+      ∙ ap (λ w. old_facts ++ w) (append-nil news)) in
+      let asked = facts_of_row params before (operands id) (shared id ++ own)
+      ∙ ap (λ w. facts_told params before ++ row_facts (resolved_after w) (operands id) (shared id ++ own))
+      (sym h.same.loads) in
+      let resumed = row_alike env old.events old_facts id found.id context places own
+      (there_right (params_facts params) (facts_behind [] old.events)) found.places in
+      subst (λ w. AreAlike w (facts_told params (before ++ whole ∷ []))) (sym held)
+      (subst (AreAlike ((old_facts ++ news) ++ row found.id)) (sym asked)
+      (alike_trans ((old_facts ++ news) ++ row found.id) (old_facts ++ row id) (facts_told params before ++ row id)
+      (alike_sym (old_facts ++ row id) ((old_facts ++ news) ++ row found.id) resumed)
+      (alike_more old_facts (facts_told params before) (row id) (h.same.facts params))))
+
+  scopes_are : distinct same_id (flat_map scopes_in new.events)
+      ≡ distinct same_id (flat_map scopes_in (before ++ whole ∷ []))
+  scopes_are =
+      let old_scopes = flat_map scopes_in old.events in
+      let row = λ (at : EvaluationOrder). mention_scopes (operands at) ++ target_scopes (shared at ++ own) in
+      let held : flat_map scopes_in new.events ≡ old_scopes ++ (mention_scopes active ++ row found.id) =
+      ap (flat_map scopes_in) told
+      ∙ flat-both scopes_in old.events (events.Row active [] ∷ last ∷ [])
+      ∙ ap (λ w. old_scopes ++ (w ++ (row found.id ++ []))) (append-nil (mention_scopes active))
+      ∙ ap (λ w. old_scopes ++ (mention_scopes active ++ w)) (append-nil (row found.id)) in
+      let asked : flat_map scopes_in (before ++ whole ∷ []) ≡ flat_map scopes_in before ++ row id =
+      flat-both scopes_in before (whole ∷ []) ∙ ap (λ w. flat_map scopes_in before ++ w) (append-nil (row id)) in
+      ap (distinct same_id) held
+      ∙ sym (row_scopes_alike env old.events old_scopes id found.id context places own (λ scope is. is)
+      found.places)
+      ∙ distinct-all old_scopes (row id) ∙ ap (λ w. insert_all w (row id)) h.same.scopes
+      ∙ sym (distinct-all (flat_map scopes_in before) (row id)) ∙ ap (distinct same_id) (sym asked)
+
+  escaping_are : flat_map escaping_in new.events ≡ flat_map escaping_in (before ++ whole ∷ [])
+  escaping_are = ap (flat_map escaping_in) told
+      ∙ flat-both escaping_in old.events (events.Row active [] ∷ last ∷ [])
+      ∙ append-nil (flat_map escaping_in old.events) ∙ h.same.escaping
+      ∙ sym (flat-both escaping_in before (whole ∷ []) ∙ append-nil (flat_map escaping_in before))
+
+  loads_are : flat_map loads_in new.events ≡ flat_map loads_in (before ++ whole ∷ [])
+  loads_are = ap (flat_map loads_in) all ∙ no_loads_behind front (operands found.id) (shared found.id ++ own)
+      ∙ no_loads_behind old.events active [] ∙ h.same.loads
+      ∙ sym (no_loads_behind before (operands id) (shared id ++ own))
+
+  same_known : new.known ≡ old.known
+  same_known = known ∙ resumes.known
+
+  same_mentioned : new.waiting.mentioned ≡ old.waiting.mentioned
+  same_mentioned = ap (λ (w : WaitingPlaces). w.mentioned) waits ∙ resumes.waiting.mentioned
+
+  waits_here : WaitFor env new.events function resumes.row new.waiting.mentioned left
+  waits_here = record {
+    id = found.id;
+    rest = found.rest;
+    event = ap (λ w. slice_get w resumes.row.row) told
+        ∙ front_found old.events (events.Row active [] ∷ last ∷ []) resumes.row.row
+        (function_row env found.id function found.rest) found.event;
+    shared = found.shared;
+    places = subst (λ w. AreWaiting env w found.id context (places_waiting left)) (sym told)
+        (subst (λ w. AreWaiting env (old.events ++ (events.Row active [] ∷ last ∷ [])) found.id context w)
+        (sym (leaves.places found.covered))
+        (waiting_resumed env old.events id found.id context places (last ∷ []) refl found.places));
+    covered = leaves.covered found.covered;
+    names = subst (λ w. AreMentioned w (map (place_name env) context)) (sym same_mentioned) found.names;
+  }
+
+  waits_by : (other : FunctionId) (row : KnownRow) (those : List WaitingGroup)
+      → lookup (same_id other) new.known ≡ Some row → lookup (same_id other) new.waiting.groups ≡ Some those
+      → (b : Bool) → same_id function other ≡ b → WaitFor env new.events other row new.waiting.mentioned those
+  waits_by other row those is_known there true is =
+      let one : Some resumes.row ≡ Some row =
+      sym (ap (λ w. lookup (same_id function) w) same_known ∙ resumes.is_known)
+      ∙ ap (λ (w : FunctionId). lookup (same_id w) new.known) (same_id-eq function other is) ∙ is_known in
+      let row_is : resumes.row ≡ row = cc in
+      subst (λ w. WaitFor env new.events w row new.waiting.mentioned those) (same_id-eq function other is)
+      (subst (λ w. WaitFor env new.events function w new.waiting.mentioned those) row_is
+      (subst (λ w. WaitFor env new.events function resumes.row new.waiting.mentioned w)
+      (entry_put function other left those old.waiting.groups new.waiting.groups
+      taken there is) waits_here))
+  waits_by other row those is_known there false is =
+      subst (λ w. WaitFor env w other row new.waiting.mentioned those) (sym told)
+      (subst (λ w. WaitFor env (old.events ++ (events.Row active [] ∷ last ∷ [])) other row w those)
+      (sym same_mentioned)
+      (wait_later env old.events (events.Row active [] ∷ last ∷ []) other row old.waiting.mentioned those refl
+      (waits_for env old other row those h.waiting (ap (λ w. lookup (same_id other) w) (sym same_known) ∙ is_known)
+      (entry_kept function other left those old.waiting.groups new.waiting.groups
+      taken there is))))
+
+  resumed : HasTold env (before ++ whole ∷ []) new
+  unfolding Waiting
+  resumed = record {
+    same = record { facts = facts_are; loads = loads_are; escaping = escaping_are; scopes = scopes_are };
+    known = knows_later env old new (events.Row active [] ∷ last ∷ []) told same_known h.known;
+    waiting = λ other row those is_known there.
+        waits_by other row those is_known there (same_id function other) refl;
+  }
+
+module _ (env : Environment) (id : EvaluationOrder) (function : FunctionId) (given : List LevelGiven)
+    (old mid new : Told) where
+  pub tells_resumed : Resumes env id function old mid → new.events ≡ with_levels env id given mid.events
+      → new.known ≡ mid.known → new.waiting ≡ mid.waiting
+      → Tells env (function_row env id function (map (target_of env id) given) ∷ []) old new
+  unfolding Tells
+  tells_resumed resumes put known waits before h =
+      let left = resumes.waiting.groups resumes.groups resumes.are_waiting in
+      resumed env id function given before old mid new resumes put known waits h
+      (waits_for env old function resumes.row resumes.groups h.waiting resumes.is_known resumes.are_waiting)
+      left.0 left.2 (ap (λ (w : WaitingPlaces). w.groups) waits ∙ left.1)
