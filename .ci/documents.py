@@ -82,7 +82,18 @@ def one_function(count=10_000):
     return document, HEAD.format("null", 0) + "\n".join(lines) + "\n"
 
 
-DOCUMENTS = {"text": text, "levels": levels, "identifiers": many_identifiers, "one_function": one_function}
+def function_of_scopes(count=10_000):
+    """The same, where the context has the names of the rows, each in a scope that is active at the next row alone."""
+    document, printed = one_function(count)
+    for name in range(1, count + 1):
+        document["env"]["identifiers"][name]["scope"] = name
+        document["env"]["scopes"].append({"range": {"start": name + 1, "end": name + 2}})
+    document["env"]["functions"][0]["context"] = list(range(1, count + 1))
+    return document, printed
+
+
+DOCUMENTS = {"text": text, "levels": levels, "identifiers": many_identifiers, "one_function": one_function,
+             "function_of_scopes": function_of_scopes}
 
 for name, make in DOCUMENTS.items():
     document, printed = make()

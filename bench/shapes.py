@@ -397,6 +397,15 @@ def names_in_one_function(count):
     return names_document([*rows, array_of((count - 1,))], count, 0, [function_of(context)])
 
 
+def names_in_scopes(count):
+    """The same, where each of these names is in a scope of its own, which is active at the next row alone."""
+    whole = json.loads(names_in_one_function(count))
+    for name in range(1, count):
+        whole["env"]["identifiers"][name]["scope"] = name
+        whole["env"]["scopes"].append({"range": {"start": name + 1, "end": name + 2}})
+    return json.dumps(whole, separators=(",", ":")).encode()
+
+
 def scope_with_array(name):
     """The two blocks of a scope with an array, the row, the identifier of the array, and the scope."""
     head, at = 2 * name, 3 * name + 1
