@@ -48,6 +48,21 @@ pub there_second : (f xs ys : List Fact) → AreOf f (xs ++ ys) → AreOf f ys
 there_second f [] ys there = there
 there_second f (fact ∷ xs) ys there = there_second f xs ys there.1
 
+pub there_itself : (f : List Fact) → AreOf f f
+there_itself f = there_right [] f
+
+one_through : (fact : Fact) (f those : List Fact) → AreOf f those → IsOneOf fact those → IsOneOf fact f
+one_through fact f [] there is = absurd is
+one_through fact f (other ∷ those) there is = elim is [
+  | inl same ↦ subst (λ w. IsOneOf w f) same there.0
+  | inr later ↦ one_through fact f those there.1 later
+]
+
+pub there_through : (f those more : List Fact) → AreOf f those → AreOf those more → AreOf f more
+there_through f those [] there more = tt
+there_through f those (fact ∷ facts) there more =
+    (one_through fact f those there more.0, there_through f those facts there more.1)
+
 -- what is told is there
 pub told_there : (f those : List Fact) → AreTold f those → AreOf f those
 told_there f [] told = tt
@@ -119,7 +134,7 @@ missing_same f g (fact ∷ more) same =
     (missing_same (f ++ fact ∷ []) (g ++ fact ∷ []) more (names_behind f g (fact ∷ []) same))
 
 -- what is missing first is missing among some facts, or else among those behind them
-missing_first : (f more : List Fact) (first : Option DeclarationId) → first_missing [] f ≡ first
+pub missing_first : (f more : List Fact) (first : Option DeclarationId) → first_missing [] f ≡ first
     → first_missing [] (f ++ more) ≡ or_else first (first_missing f more)
 missing_first f more None is = missing_next [] f more is
 missing_first f more (Some name) is = missing_kept [] f more name is
@@ -135,7 +150,7 @@ alike_more f g more alike = record {
 
 -- a fact that is there adds no name, and changes no node
 
-any_told : {K : Type 0} (tells : Fact → Option (Id K)) (fact : Fact) (x : Id K) (facts : List Fact)
+pub any_told : {K : Type 0} (tells : Fact → Option (Id K)) (fact : Fact) (x : Id K) (facts : List Fact)
     → IsOneOf fact facts → tells fact ≡ Some x → list_any (same_id x) (filter_map tells facts) ≡ true
 any_told tells fact x [] h is = absurd h
 any_told tells fact x (other ∷ facts) h is = elim h [
@@ -239,6 +254,11 @@ alike_told f more there =
     go None none = missing_first f more None none
         ∙ told_complete f more (there_told f more (added_are_told [] f none) there) ∙ sym none
     go (Some name) is = missing_first f more (Some name) is ∙ sym is
+
+-- nor do they before others that are not
+pub alike_before : (f xs ys : List Fact) → AreOf f xs → AreAlike (f ++ (xs ++ ys)) (f ++ ys)
+alike_before f xs ys there =
+    subst (λ w. AreAlike w (f ++ ys)) (append_assoc f xs ys) (alike_more (f ++ xs) f ys (alike_told f xs there))
 
 -- what is held of facts is held of others that tell the same
 

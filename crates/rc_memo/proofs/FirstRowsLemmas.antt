@@ -9,7 +9,7 @@ use Rattle.rc_hir.specs.Model.{Environment, Place}
 use Rattle.rc_names.proofs.KeyedLemmas.{lookup-insert_other, lookup-insert_there}
 use Rattle.rc_names.proofs.NumbersLemmas.{ids_equivalence, same_id-eq}
 use Rattle.rc_names.specs.Numbers.{EvaluationOrder, FunctionId, same_id}
-use Rattle.rc_memo.proofs.KnownRowsLemmas.{known_later, last_found, rows_alike, wait_later}
+use Rattle.rc_memo.proofs.KnownRowsLemmas.{inner_later, known_later, last_found, rows_alike, wait_later}
 use Rattle.rc_memo.proofs.RepeatedLemmas.{mentioned_all, mentioned_put}
 use Rattle.rc_memo.proofs.RowPartsLemmas.{levels_joined, row_filled}
 use Rattle.rc_memo.proofs.SameEventsLemmas.{same_more}
@@ -59,7 +59,7 @@ module _ (env : Environment) (id : EvaluationOrder) (function : FunctionId) (giv
     ≡ insert_all old.waiting.mentioned (map (place_name env) (context_of env function)))
     (waits : new.waiting.groups ≡ insert_entry same_id old.waiting.groups function groups)
     (placed : places_waiting groups ≡ idle_places env id (context_of env function))
-    (covered : AreAllCovered env groups) where
+    (covered : AreAllCovered env groups) (inner : new.inner ≡ old.inner) where
   abbrev context : List Place
   context = context_of env function
 
@@ -152,11 +152,13 @@ module _ (env : Environment) (id : EvaluationOrder) (function : FunctionId) (giv
     known = λ other row found. known_by other row h.known found (same_id function other) refl;
     waiting = λ other row those found there.
         waits_by other row those h.waiting found there (same_id function other) refl;
+    inner = inner_later env old new more all inner refl h.inner;
   }
 
 -- the same, where the context was looked up
 module _ (env : Environment) (id : EvaluationOrder) (function : FunctionId) (given : List LevelGiven) where
-  pub tells_first : (known : KnownRow) (groups : List WaitingGroup) (context : List Place) (old new : Told) (one two three : List MemoEvent)
+  pub tells_first : (known : KnownRow) (groups : List WaitingGroup) (context : List Place) (old new : Told)
+      (one two three : List MemoEvent)
       → context ≡ context_of env function
       → one ≡ old.events ++ events.Row (map (mention_of env id) context) [] ∷ []
       → two ≡ with_levels env id (flat_map if_mutable context) one → three ≡ with_levels env id given two
@@ -166,10 +168,10 @@ module _ (env : Environment) (id : EvaluationOrder) (function : FunctionId) (giv
       → map (mention_of env other) context ≡ map (mention_of env id) context)
       → new.waiting.mentioned ≡ insert_all old.waiting.mentioned (map (place_name env) context)
       → new.waiting.groups ≡ insert_entry same_id old.waiting.groups function groups
-      → places_waiting groups ≡ idle_places env id context → AreAllCovered env groups
+      → places_waiting groups ≡ idle_places env id context → AreAllCovered env groups → new.inner ≡ old.inner
       → Tells env (function_row env id function (map (target_of env id) given) ∷ []) old new
   tells_first known groups context old new one two three is first second third last put at shared alike named waits
-      placed covered =
+      placed covered inner =
       tells_known env id function given known groups old new one two three
       (subst (λ w. one ≡ old.events ++ events.Row (map (mention_of env id) w) [] ∷ []) is first)
       (subst (λ w. two ≡ with_levels env id (flat_map if_mutable w) one) is second) third last put at
@@ -177,4 +179,4 @@ module _ (env : Environment) (id : EvaluationOrder) (function : FunctionId) (giv
       (subst (λ w. (other : EvaluationOrder) → IsWithin known.ids other
       → map (mention_of env other) w ≡ map (mention_of env id) w) is alike)
       (subst (λ w. new.waiting.mentioned ≡ insert_all old.waiting.mentioned (map (place_name env) w)) is named)
-      waits (subst (λ w. places_waiting groups ≡ idle_places env id w) is placed) covered
+      waits (subst (λ w. places_waiting groups ≡ idle_places env id w) is placed) covered inner

@@ -24,6 +24,7 @@ use Rattle.rc_memo.specs.declared.table.LevelGiven.{LevelGiven}
 use Rattle.rc_memo.specs.inside.RowsAdded.{with_levels}
 use Rattle.rc_memo.specs.declared.event.MemoEvent.{MemoEvent}
 use Rattle.rc_memo.specs.declared.event.Target.{Target}
+use Rattle.rc_memo.specs.declared.known_rows.InnerContexts.{InnerContexts}
 use Rattle.rc_memo.specs.declared.known_rows.KnownRow.{KnownRow}
 use Rattle.rc_memo.specs.declared.known_rows.Told.{Told}
 use Rattle.rc_memo.specs.inside.FunctionRows.{context_of, function_row}
@@ -31,7 +32,8 @@ use Rattle.rc_memo.specs.inside.HeldEvents.{last_grown, repeated}
 use Rattle.rc_memo.specs.declared.waiting.WaitingGroup.{WaitingGroup}
 use Rattle.rc_memo.specs.declared.waiting.WaitingPlaces.{WaitingPlaces}
 use Rattle.rc_memo.specs.inside.Alike.{TellTheSame}
-use Rattle.rc_memo.specs.inside.KnownRows.{HasTold, IsKnown, IsWithin, Knows, Loads, Repeats, Tells, Waiting}
+use Rattle.rc_memo.specs.inside.KnownRows.{HasTold, Inner, IsInner, IsKnown, IsWithin, Knows, Loads, Repeats, Tells}
+use Rattle.rc_memo.specs.inside.KnownRows.{Waiting}
 use Rattle.rc_memo.specs.inside.WaitingPlaces.{ForgetsName, WaitFor, places_waiting}
 
 none_waits : {groups : List WaitingGroup} → ◌≡◌ {A = Option (List WaitingGroup)} None (Some groups) → ⊥
@@ -39,6 +41,9 @@ none_waits is = true≢false (sym (ap is_some is))
 
 none_known : {known : KnownRow} → ◌≡◌ {A = Option KnownRow} None (Some known) → ⊥
 none_known is = true≢false (sym (ap is_some is))
+
+none_inner : {row : ℕ} → ◌≡◌ {A = Option ℕ} None (Some row) → ⊥
+none_inner is = true≢false (sym (ap is_some is))
 
 pub last_found : {X : Type 0} (xs : List X) (x : X) (i : ℕ) → i ≡ length xs → slice_get (xs ++ x ∷ []) i ≡ Some x
 last_found [] x i is = ap (λ n. slice_get (x ∷ []) n) is
@@ -85,15 +90,41 @@ module _ (env : Environment) where
       (subst (λ (w : WaitingPlaces). WaitFor env (old.events ++ more) function row w.mentioned groups) (sym same)
       (wait_later old.events more function row old.waiting.mentioned groups quiet before))
 
+  pub context_later : (old more : List MemoEvent) (function : FunctionId) (row : ℕ) (mentioned : List DeclarationId)
+      (groups : List WaitingGroup) → flat_map loads_in more ≡ [] → IsInner env old function row mentioned groups
+      → IsInner env (old ++ more) function row mentioned groups
+  context_later old more function row mentioned groups quiet h = record {
+    id = h.id;
+    targets = h.targets;
+    event = front_found old more row (events.Row (map (mention_of env h.id) (context_of env function)) h.targets)
+        h.event;
+    places = waiting_more env old more h.id (context_of env function) (places_waiting groups) quiet h.places;
+    covered = h.covered;
+    names = h.names;
+  }
+
+  pub inner_later : (old new : Told) (more : List MemoEvent) → new.events ≡ old.events ++ more
+      → new.inner ≡ old.inner → flat_map loads_in more ≡ [] → Inner env old → Inner env new
+  unfolding Inner
+  inner_later old new more events same quiet h function row groups is_known are_waiting =
+      let before = h function row groups
+      (ap (λ (w : InnerContexts). lookup (same_id function) w.rows) (sym same) ∙ is_known)
+      (ap (λ (w : InnerContexts). lookup (same_id function) w.waiting.groups) (sym same) ∙ are_waiting) in
+      subst (λ w. IsInner env w function row new.inner.waiting.mentioned groups) (sym events)
+      (subst (λ (w : InnerContexts). IsInner env (old.events ++ more) function row w.waiting.mentioned groups)
+      (sym same) (context_later old.events more function row old.inner.waiting.mentioned groups quiet before))
+
   -- events without loads, none, a load, and what is added in two steps
 
   pub tells_events : (old new : Told) (more : List MemoEvent) → new.events ≡ old.events ++ more
-      → new.known ≡ old.known → new.waiting ≡ old.waiting → flat_map loads_in more ≡ [] → Tells env more old new
+      → new.known ≡ old.known → new.waiting ≡ old.waiting → new.inner ≡ old.inner → flat_map loads_in more ≡ []
+      → Tells env more old new
   unfolding Tells
-  tells_events old new more events known waiting quiet before h = record {
+  tells_events old new more events known waiting inner quiet before h = record {
     same = subst (λ w. TellTheSame w (before ++ more)) (sym events) (same_more old.events before more h.same);
     known = knows_later old new more events known h.known;
     waiting = waiting_later old new more events known waiting quiet h.waiting;
+    inner = inner_later old new more events inner quiet h.inner;
   }
 
   pub tells_nothing : (told : Told) → Tells env [] told told
@@ -128,6 +159,29 @@ module _ (env : Environment) where
         names = before.names;
       }))
 
+  load_inner : (target loaded : DeclarationId) (old new : Told)
+      → new.events ≡ old.events ++ events.Load target loaded ∷ [] → new.inner.rows ≡ old.inner.rows
+      → ForgetsName target old.inner.waiting new.inner.waiting → Inner env old → Inner env new
+  unfolding Inner
+  load_inner target loaded old new told rows (inr none) h function row groups is_known are_waiting =
+      absurd (none_waits (ap (lookup (same_id function)) (sym none) ∙ are_waiting))
+  load_inner target loaded old new told rows (inl kept) h function row groups is_known are_waiting =
+      let more = events.Load target loaded ∷ [] in
+      let before = h function row groups (ap (λ w. lookup (same_id function) w) (sym rows) ∙ is_known)
+      (ap (λ (w : WaitingPlaces). lookup (same_id function) w.groups) (sym kept.1) ∙ are_waiting) in
+      subst (λ w. IsInner env w function row new.inner.waiting.mentioned groups) (sym told)
+      (subst (λ (w : WaitingPlaces). IsInner env (old.events ++ more) function row w.mentioned groups) (sym kept.1)
+      (record {
+        id = before.id;
+        targets = before.targets;
+        event = front_found old.events more row
+            (events.Row (map (mention_of env before.id) (context_of env function)) before.targets) before.event;
+        places = waiting_load env old.events target loaded old.inner.waiting.mentioned before.id
+            (context_of env function) (places_waiting groups) kept.0 before.names before.places;
+        covered = before.covered;
+        names = before.names;
+      }))
+
   pub tells_load : (target loaded : DeclarationId) (old new : Told) → Loads target loaded old new
       → Tells env (events.Load target loaded ∷ []) old new
   unfolding Tells
@@ -137,6 +191,7 @@ module _ (env : Environment) where
         same = subst (λ w. TellTheSame w (before ++ more)) (sym loads.events) (same_more old.events before more h.same);
         known = knows_later old new more loads.events loads.known h.known;
         waiting = load_waits target loaded old new loads.events loads.known loads.waiting h.waiting;
+        inner = load_inner target loaded old new loads.events loads.rows loads.inner h.inner;
       }
 
   pub tells_joined : (old mid new : Told) (a b whole : List MemoEvent) → whole ≡ a ++ b → Tells env a old mid
@@ -161,14 +216,16 @@ module _ (env : Environment) where
       tells_same (flat_map f (take i xs)) (flat_map f xs) old new (ap (flat_map f) (sym (take_all xs i past))) told
 
   -- from no events
-  pub all_told : (more : List MemoEvent) (old new : Told) → old.events ≡ [] → old.known ≡ [] → Tells env more old new
-      → TellTheSame new.events more
-  unfolding Tells Knows Waiting
-  all_told more old new events known told = (told [] (record {
+  pub all_told : (more : List MemoEvent) (old new : Told) → old.events ≡ [] → old.known ≡ [] → old.inner.rows ≡ []
+      → Tells env more old new → TellTheSame new.events more
+  unfolding Tells Knows Waiting Inner
+  all_told more old new events known rows told = (told [] (record {
     same = subst (λ w. TellTheSame w []) (sym events) (same_refl []);
     known = λ function row found. absurd (none_known (ap (lookup (same_id function)) (sym known) ∙ found));
     waiting = λ function row groups is_known are_waiting.
         absurd (none_known (ap (lookup (same_id function)) (sym known) ∙ is_known));
+    inner = λ function row groups is_known are_waiting.
+        absurd (none_inner (ap (lookup (same_id function)) (sym rows) ∙ is_known));
   })).same
 
   abbrev a_target : Mention → Target
@@ -209,13 +266,13 @@ module _ (env : Environment) where
   -- a row that repeats the one that is known
   pub repeats_known : (id : EvaluationOrder) (function : FunctionId) (known : KnownRow) (added : Bool) (old new : Told)
       → Some known ≡ lookup (same_id function) old.known → IsWithin known.ids id → new.known ≡ old.known
-      → new.waiting ≡ old.waiting
+      → new.waiting ≡ old.waiting → new.inner ≡ old.inner
       → new.events ≡ old.events ++ (if added then repeated known.shared (slice_get old.events known.row) else [])
       → Repeats env id function added old new
   unfolding Knows
-  repeats_known id function known false old new found within same waits told =
-      record { events = λ knows. told; known = same; waiting = waits }
-  repeats_known id function known true old new found within same waits told = record {
+  repeats_known id function known false old new found within same waits inner told =
+      record { events = λ knows. told; known = same; waiting = waits; inner = inner }
+  repeats_known id function known true old new found within same waits inner told = record {
     events = λ knows.
         let is = knows function known (sym found) in
         let event = is.event id within in
@@ -229,20 +286,21 @@ module _ (env : Environment) where
         ∙ sym (append-nil targets));
     known = same;
     waiting = waits;
+    inner = inner;
   }
 
   pub repeats_nothing : (id : EvaluationOrder) (function : FunctionId) (told : Told)
       → Repeats env id function false told told
   repeats_nothing id function told =
-      record { events = λ knows. sym (append-nil told.events); known = refl; waiting = refl }
+      record { events = λ knows. sym (append-nil told.events); known = refl; waiting = refl; inner = refl }
 
   -- the row of a function that repeats one, with its own target
   pub tells_repeated : (id : EvaluationOrder) (function : FunctionId) (given : List LevelGiven) (old mid new : Told)
       → Repeats env id function true old mid → new.events ≡ with_levels env id given mid.events
-      → new.known ≡ mid.known → new.waiting ≡ mid.waiting
+      → new.known ≡ mid.known → new.waiting ≡ mid.waiting → new.inner ≡ mid.inner
       → Tells env (function_row env id function (map (target_of env id) given) ∷ []) old new
   unfolding Tells with_levels
-  tells_repeated id function given old mid new first put same waits before h =
+  tells_repeated id function given old mid new first put same waits inner before h =
       let context = context_of env function in
       let operands = map (mention_of env id) context in
       let targets = map (target_of env id) (flat_map if_mutable context) in
@@ -251,7 +309,7 @@ module _ (env : Environment) where
       ∙ last_grown-push own [] old.events (function_row env id function [])
       ∙ ap (λ w. old.events ++ events.Row operands (w ++ own) ∷ []) (append-nil targets) in
       tells_events old new (function_row env id function own ∷ []) all (same ∙ first.known) (waits ∙ first.waiting)
-      refl before h
+      (inner ∙ first.inner) refl before h
 
   -- the row of a function behind one that could not be repeated
   pub tells_unrepeated : (id : EvaluationOrder) (function : FunctionId) (more : List MemoEvent) (old mid new : Told)
@@ -259,4 +317,5 @@ module _ (env : Environment) where
   unfolding Tells
   tells_unrepeated id function more old mid new first second before h =
       subst (λ w. HasTold env (w ++ more) new) (append-nil before)
-      (second (before ++ []) (tells_events old mid [] (first.events h.known) first.known first.waiting refl before h))
+      (second (before ++ []) (tells_events old mid [] (first.events h.known) first.known first.waiting first.inner refl
+      before h))

@@ -18,12 +18,16 @@ pub mod GrownEventsLemmas
 pub mod HeldEventsLemmas
 pub mod RowPartsLemmas
 pub mod WindowLemmas
+pub mod RepeatedScopes
+pub mod RowsToldLemmas
+pub mod PiecesLemmas
 pub mod WaitingLemmas
 pub mod GroupsLemmas
 pub mod KnownRowsLemmas
 pub mod FirstRowsLemmas
 pub mod ResumedRowsLemmas
+pub mod InnerLemmas
 pub mod RowEventsLemmas
+pub mod ExpressionLemmas
 pub mod TreeEventsLemmas
 pub mod RecordLemmas
-pub mod RepeatedScopes

@@ -8,7 +8,7 @@ use Rattle.rc_hir.specs.Model.{Environment}
 use Rattle.rc_names.proofs.NumbersLemmas.{same_id-eq}
 use Rattle.rc_names.specs.Numbers.{DeclarationId, ScopeId, is_among, same_id}
 use Rattle.rc_memo.proofs.DistinctLemmas.{any_distinct}
-use Rattle.rc_memo.proofs.GrowingLemmas.{adds_scopes_next, distinct-all, flat-both}
+use Rattle.rc_memo.proofs.GrowingLemmas.{adds_scopes_next, distinct-all, distinct_more, flat-both}
 use Rattle.rc_memo.proofs.NodesLemmas.{itself}
 use Rattle.rc_memo.specs.Events.{listed, mention_scopes, scopes_in, target_scopes}
 use Rattle.rc_memo.specs.Facts.{distinct}
@@ -52,6 +52,28 @@ pub among_behind : (some more : List ScopeId) → AreAmong more (some ++ more)
 among_behind [] more scope h = h
 among_behind (x ∷ some) more scope h =
     or_right (same_id scope x) (is_among (some ++ more) scope) (among_behind some more scope h)
+
+pub among_both : (a b c : List ScopeId) → AreAmong a c → AreAmong b c → AreAmong (a ++ b) c
+among_both [] b c first second scope h = second scope h
+among_both (x ∷ a) b c first second scope h =
+    go (same_id scope x) refl h
+    (among_both a b c (λ s there. first s (or_right (same_id s x) (is_among a s) there)) second scope)
+  where
+    go : (t : Bool) → same_id scope x ≡ t → (t || is_among (a ++ b) scope) ≡ true
+        → (is_among (a ++ b) scope ≡ true → is_among c scope ≡ true) → is_among c scope ≡ true
+    go true is k later = first scope (or_left (same_id scope x) (is_among a scope) is)
+    go false is k later = later k
+
+-- scopes once each, with some that are there
+pub known_again : (some more : List ScopeId) → AreAmong more some
+    → distinct same_id (some ++ more) ≡ distinct same_id some
+known_again some more among = distinct-all some more ∙ insert_known (distinct same_id some) more
+    (λ scope h. any_distinct same_id same_id-eq itself scope some ∙ among scope h)
+
+pub known_before : (some more rest : List ScopeId) → AreAmong more some
+    → distinct same_id (some ++ (more ++ rest)) ≡ distinct same_id (some ++ rest)
+known_before some more rest among = ap (distinct same_id) (sym (append_assoc some more rest))
+    ∙ distinct_more (some ++ more) some rest (known_again some more among)
 
 -- the scopes of an event before an index
 among_events : (all : List MemoEvent) (row i : ℕ) (event : MemoEvent) → slice_get all row ≡ Some event → row < i

@@ -11,12 +11,12 @@ use Rattle.rc_hir.specs.Model.{Environment, Place}
 use Rattle.rc_names.proofs.NumbersLemmas.{same_id-eq}
 use Rattle.rc_names.specs.Numbers.{DeclarationId, EvaluationOrder, FunctionId, same_id}
 use Rattle.rc_memo.proofs.AlikeLemmas.{alike_more, alike_sym, alike_trans, there_right}
-use Rattle.rc_memo.proofs.EventsLemmas.{facts_behind-append, loads_in-append}
 use Rattle.rc_memo.proofs.FirstRowsLemmas.{entry_kept, entry_put}
 use Rattle.rc_memo.proofs.GrowingLemmas.{distinct-all, flat-both}
 use Rattle.rc_memo.proofs.GrownEventsLemmas.{last_grown-push}
 use Rattle.rc_memo.proofs.HeldEventsLemmas.{front_found}
-use Rattle.rc_memo.proofs.KnownRowsLemmas.{knows_later, wait_later}
+use Rattle.rc_memo.proofs.KnownRowsLemmas.{inner_later, knows_later, wait_later}
+use Rattle.rc_memo.proofs.RowsToldLemmas.{facts_of_row, no_loads_behind}
 use Rattle.rc_memo.proofs.WaitingLemmas.{row_alike, row_scopes_alike, waiting_resumed}
 use Rattle.rc_memo.specs.Events.{escaping_in, facts_behind, facts_told, loads_in, mention_facts, mention_scopes}
 use Rattle.rc_memo.specs.Events.{params_facts, resolved_after, row_facts, scopes_in, target_scopes}
@@ -42,22 +42,6 @@ use Rattle.rc_memo.specs.inside.RowsAdded.{with_levels}
 use Rattle.rc_memo.specs.inside.WaitingPlaces.{AllLeaveIdle, AreWaiting, WaitFor, active_places, place_name}
 use Rattle.rc_memo.specs.inside.WaitingPlaces.{places_waiting}
 
--- the facts of rows behind other events
-facts_of_row : (params : List DeclarationId) (before : List MemoEvent) (operands : List Mention) (targets : List Target)
-    → facts_told params (before ++ events.Row operands targets ∷ [])
-    ≡ facts_told params before ++ row_facts (resolved_after (flat_map loads_in before)) operands targets
-facts_of_row params before operands targets =
-    let first = params_facts params in
-    let row = row_facts (resolved_after (flat_map loads_in before)) operands targets in
-    ap (λ w. first ++ w) (facts_behind-append [] before (events.Row operands targets ∷ [])
-    ∙ ap (λ w. facts_behind [] before ++ w) (append-nil row))
-    ∙ sym (append_assoc first (facts_behind [] before) row)
-
-no_loads_behind : (before : List MemoEvent) (operands : List Mention) (targets : List Target)
-    → flat_map loads_in (before ++ events.Row operands targets ∷ []) ≡ flat_map loads_in before
-no_loads_behind before operands targets =
-    loads_in-append before (events.Row operands targets ∷ []) ∙ append-nil (flat_map loads_in before)
-
 -- what waits of a function that is known
 waits_for : (env : Environment) (told : Told) (function : FunctionId) (row : KnownRow) (groups : List WaitingGroup)
     → Waiting env told → lookup (same_id function) told.known ≡ Some row
@@ -69,7 +53,7 @@ waits_for env told function row groups waiting is_known there = waiting function
 module _ (env : Environment) (id : EvaluationOrder) (function : FunctionId) (given : List LevelGiven)
     (before : List MemoEvent) (old mid new : Told) (resumes : Resumes env id function old mid)
     (put : new.events ≡ with_levels env id given mid.events) (known : new.known ≡ mid.known)
-    (waits : new.waiting ≡ mid.waiting) (h : HasTold env before old)
+    (waits : new.waiting ≡ mid.waiting) (inner : new.inner ≡ mid.inner) (h : HasTold env before old)
     (found : WaitFor env old.events function resumes.row old.waiting.mentioned resumes.groups)
     (left : List WaitingGroup) (leaves : AllLeaveIdle env id resumes.groups left)
     (taken : new.waiting.groups ≡ insert_entry same_id old.waiting.groups function left) where
@@ -226,16 +210,17 @@ module _ (env : Environment) (id : EvaluationOrder) (function : FunctionId) (giv
     known = knows_later env old new (events.Row active [] ∷ last ∷ []) told same_known h.known;
     waiting = λ other row those is_known there.
         waits_by other row those is_known there (same_id function other) refl;
+    inner = inner_later env old new (events.Row active [] ∷ last ∷ []) told (inner ∙ resumes.inner) refl h.inner;
   }
 
 module _ (env : Environment) (id : EvaluationOrder) (function : FunctionId) (given : List LevelGiven)
     (old mid new : Told) where
   pub tells_resumed : Resumes env id function old mid → new.events ≡ with_levels env id given mid.events
-      → new.known ≡ mid.known → new.waiting ≡ mid.waiting
+      → new.known ≡ mid.known → new.waiting ≡ mid.waiting → new.inner ≡ mid.inner
       → Tells env (function_row env id function (map (target_of env id) given) ∷ []) old new
   unfolding Tells
-  tells_resumed resumes put known waits before h =
+  tells_resumed resumes put known waits inner before h =
       let left = resumes.waiting.groups resumes.groups resumes.are_waiting in
-      resumed env id function given before old mid new resumes put known waits h
+      resumed env id function given before old mid new resumes put known waits inner h
       (waits_for env old function resumes.row resumes.groups h.waiting resumes.is_known resumes.are_waiting)
       left.0 left.2 (ap (λ (w : WaitingPlaces). w.groups) waits ∙ left.1)

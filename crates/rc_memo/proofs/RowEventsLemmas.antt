@@ -41,12 +41,12 @@ module _ (env : Environment) where
       ≡ record { places = recorded_operands env x; rows = []; walked = [] }
   parts-Instruction x = ap (parts_of env) (sym (reactive_values.rolls-Instruction x)) ∙ opened (value.Instruction x)
 
-  parts-Logical : (operator : LogicalOperator) (x y : ReactiveValue)
+  pub parts-Logical : (operator : LogicalOperator) (x y : ReactiveValue)
       → parts_of env (reactive_values.LogicalExpression operator x y) ≡ both_parts (parts_of env x) (parts_of env y)
   parts-Logical operator x y = ap (parts_of env) (sym (reactive_values.rolls-LogicalExpression operator x y))
       ∙ opened (value.LogicalExpression operator x y)
 
-  parts-Conditional : (test x y : ReactiveValue)
+  pub parts-Conditional : (test x y : ReactiveValue)
       → parts_of env (reactive_values.ConditionalExpression test x y)
       ≡ record (both_parts (parts_of env x) (parts_of env y))
       { walked = (parts_of env test).walked ++ ((parts_of env x).walked ++ (parts_of env y).walked) }
@@ -59,7 +59,7 @@ module _ (env : Environment) where
   flat-map [] = refl
   flat-map (row ∷ rows) = ap (λ w. row_events env row ++ w) (flat-map rows)
 
-  parts-Sequence : (rows : List ReactiveInstruction) (id : EvaluationOrder) (x : ReactiveValue)
+  pub parts-Sequence : (rows : List ReactiveInstruction) (id : EvaluationOrder) (x : ReactiveValue)
       → parts_of env (reactive_values.SequenceExpression rows id x) ≡ record {
         places = (parts_of env x).places;
         rows = flat_map (row_events env) rows ++ (parts_of env x).rows;
@@ -73,7 +73,7 @@ module _ (env : Environment) where
         walked = before ++ (parts_of env x).walked;
       }) (flat-map rows)
 
-  parts-Optional : (x : ReactiveValue) (optional : Bool)
+  pub parts-Optional : (x : ReactiveValue) (optional : Bool)
       → parts_of env (reactive_values.OptionalExpression x optional) ≡ parts_of env x
   parts-Optional x optional = ap (parts_of env) (sym (reactive_values.rolls-OptionalExpression x optional))
       ∙ opened (value.OptionalExpression x optional)

@@ -44,7 +44,7 @@ names_left facts more name h =
     ∙ any_left name (filter_map target_told facts) (filter_map target_told more)
     (sym (any_distinct same_id same_id-eq itself name (filter_map target_told facts)) ∙ h)
 
-needs_left : (facts more : List Fact) (need : Option DeclarationId) → missing_now facts need ≡ None
+pub needs_left : (facts more : List Fact) (need : Option DeclarationId) → missing_now facts need ≡ None
     → missing_now (facts ++ more) need ≡ None
 needs_left facts more None h = refl
 needs_left facts more (Some name) h =

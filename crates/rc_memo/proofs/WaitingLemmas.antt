@@ -9,14 +9,12 @@ use Rattle.rc_hir.specs.Model.{Environment, Place, ReactiveScope}
 use Rattle.rc_hir.specs.Types.{is_mutable}
 use Rattle.rc_names.proofs.NumbersLemmas.{same_id-eq}
 use Rattle.rc_names.specs.Numbers.{DeclarationId, EvaluationOrder, ScopeId, is_among, same_id}
-use Rattle.rc_memo.proofs.AlikeLemmas.{alike_more, alike_refl, alike_sym, alike_told, alike_trans, there_both}
-use Rattle.rc_memo.proofs.AlikeLemmas.{there_first, there_left, there_right, there_second}
-use Rattle.rc_memo.proofs.DistinctLemmas.{any_distinct}
-use Rattle.rc_memo.proofs.EventsLemmas.{facts_behind-append}
-use Rattle.rc_memo.proofs.GrowingLemmas.{distinct-all, distinct_more, flat-both}
-use Rattle.rc_memo.proofs.NodesLemmas.{itself}
+use Rattle.rc_memo.proofs.AlikeLemmas.{alike_before, alike_more, alike_refl, alike_sym, alike_told, alike_trans}
+use Rattle.rc_memo.proofs.AlikeLemmas.{there_both, there_first, there_left, there_right, there_second, there_through}
+use Rattle.rc_memo.proofs.GrowingLemmas.{distinct_more, flat-both}
 use Rattle.rc_memo.proofs.RepeatedLemmas.{Agree, agree}
-use Rattle.rc_memo.proofs.RepeatedScopes.{among_behind, among_front, insert_known, or_left, or_right}
+use Rattle.rc_memo.proofs.RepeatedScopes.{among_behind, among_both, among_front, known_before}
+use Rattle.rc_memo.proofs.RowsToldLemmas.{facts_stay, row_scopes_told, row_told, same_loads, scopes_stay}
 use Rattle.rc_memo.specs.Events.{dependency_facts, facts_behind, listed, loads_in, mention_facts, mention_scopes}
 use Rattle.rc_memo.specs.Events.{operand_facts, resolved_after, row_facts, scope_facts, scopes_in, target_facts}
 use Rattle.rc_memo.specs.Events.{target_scopes}
@@ -36,58 +34,12 @@ use Rattle.rc_memo.specs.inside.ToldFacts.{IsOneOf}
 use Rattle.rc_memo.specs.inside.WaitingPlaces.{AreWaiting, IsToldPlace, active_places, idle_places, is_idle}
 use Rattle.rc_memo.specs.inside.WaitingPlaces.{place_name, resolve_now}
 
--- facts that are there
-
-there_itself : (f : List Fact) → AreOf f f
-there_itself f = there_right [] f
-
-one_through : (fact : Fact) (f those : List Fact) → AreOf f those → IsOneOf fact those → IsOneOf fact f
-one_through fact f [] there is = absurd is
-one_through fact f (other ∷ those) there is = elim is [
-  | inl same ↦ subst (λ w. IsOneOf w f) same there.0
-  | inr later ↦ one_through fact f those there.1 later
-]
-
-there_through : (f those more : List Fact) → AreOf f those → AreOf those more → AreOf f more
-there_through f those [] there more = tt
-there_through f those (fact ∷ facts) there more =
-    (one_through fact f those there more.0, there_through f those facts there more.1)
-
--- facts that are there, before others that are not
-alike_before : (f xs ys : List Fact) → AreOf f xs → AreAlike (f ++ (xs ++ ys)) (f ++ ys)
-alike_before f xs ys there =
-    subst (λ w. AreAlike w (f ++ ys)) (append_assoc f xs ys) (alike_more (f ++ xs) f ys (alike_told f xs there))
-
--- and behind them
+-- facts that are there, between others that are not
 alike_between : (f xs ys zs : List Fact) → AreOf f ys → AreAlike (f ++ ((xs ++ ys) ++ zs)) ((f ++ xs) ++ zs)
 alike_between f xs ys zs there =
     subst (λ w. AreAlike w ((f ++ xs) ++ zs))
     (append_assoc f xs (ys ++ zs) ∙ ap (λ w. f ++ w) (sym (append_assoc xs ys zs)))
     (alike_before (f ++ xs) ys zs (there_left f xs ys there))
-
--- scopes that are there
-
-among_both : (a b c : List ScopeId) → AreAmong a c → AreAmong b c → AreAmong (a ++ b) c
-among_both [] b c first second scope h = second scope h
-among_both (x ∷ a) b c first second scope h =
-    go (same_id scope x) refl h
-    (among_both a b c (λ s there. first s (or_right (same_id s x) (is_among a s) there)) second scope)
-  where
-    go : (t : Bool) → same_id scope x ≡ t → (t || is_among (a ++ b) scope) ≡ true
-        → (is_among (a ++ b) scope ≡ true → is_among c scope ≡ true) → is_among c scope ≡ true
-    go true is k later = first scope (or_left (same_id scope x) (is_among a scope) is)
-    go false is k later = later k
-
--- scopes once each, with some that are there
-known_again : (some more : List ScopeId) → AreAmong more some
-    → distinct same_id (some ++ more) ≡ distinct same_id some
-known_again some more among = distinct-all some more ∙ insert_known (distinct same_id some) more
-    (λ scope h. any_distinct same_id same_id-eq itself scope some ∙ among scope h)
-
-known_before : (some more rest : List ScopeId) → AreAmong more some
-    → distinct same_id (some ++ (more ++ rest)) ≡ distinct same_id (some ++ rest)
-known_before some more rest among = ap (distinct same_id) (sym (append_assoc some more rest))
-    ∙ distinct_more (some ++ more) some rest (known_again some more among)
 
 -- names that are resolved alike
 agree_same : (r s : DeclarationId → DeclarationId) (names : List DeclarationId) → r ≡ s → Agree r s names
@@ -122,13 +74,13 @@ module _ (env : Environment) where
       go None is later =
           later ∙ ap (λ w. w ++ flat_map f (mentions id places)) (sym (none (mention_of env id place) is))
 
-  active_scopes : (id : EvaluationOrder) (places : List Place)
+  pub active_scopes : (id : EvaluationOrder) (places : List Place)
       → mention_scopes (mentions id (active_places env id places)) ≡ mention_scopes (mentions id places)
   active_scopes id places =
       active_only (λ (mention : Mention). listed mention.scope) (λ mention none. ap listed none) id places
 
   module _ (r : DeclarationId → DeclarationId) where
-    active_facts : (id : EvaluationOrder) (places : List Place)
+    pub active_facts : (id : EvaluationOrder) (places : List Place)
         → flat_map (mention_facts r) (mentions id (active_places env id places))
         ≡ flat_map (mention_facts r) (mentions id places)
     active_facts id places =
@@ -143,7 +95,7 @@ module _ (env : Environment) where
     same_dependencies id base name (place ∷ places) =
         ap (λ w. dependency_facts name (r (place_name env place)) ++ w) (same_dependencies id base name places)
 
-    same_target_facts : (id base : EvaluationOrder) (places : List Place)
+    pub same_target_facts : (id base : EvaluationOrder) (places : List Place)
         → target_facts r (mentions id places) ≡ target_facts r (mentions base places)
     unfolding target_facts
     same_target_facts id base places = λ i target.
@@ -200,7 +152,7 @@ module _ (env : Environment) where
 
   module _ (told : List MemoEvent) where
     -- what a row tells anew of the places of a context, it tells of those that wait
-    mention_facts_alike : (f : List Fact) (id base : EvaluationOrder) (places waiting : List Place)
+    pub mention_facts_alike : (f : List Fact) (id base : EvaluationOrder) (places waiting : List Place)
         → AreOf f (facts_behind [] told) → AreWaiting env told base places waiting
         → AreAlike (f ++ flat_map (mention_facts (resolve_now env told)) (mentions id places))
         (f ++ flat_map (mention_facts (resolve_now env told)) (mentions id waiting))
@@ -225,7 +177,7 @@ module _ (env : Environment) where
         (mention_facts_alike (f ++ own) id base places is.0 (there_left f own (facts_behind [] told) there) is.3)))
 
     -- at the id at which none of these is active all is told
-    all_there : (f : List Fact) (base : EvaluationOrder) (places waiting : List Place)
+    pub all_there : (f : List Fact) (base : EvaluationOrder) (places waiting : List Place)
         → AreOf f (facts_behind [] told) → AreWaiting env told base places waiting
         → AreOf f (flat_map (mention_facts (resolve_now env told)) (mentions base places))
     unfolding mention_of
@@ -322,7 +274,7 @@ module _ (env : Environment) where
       go false later = later
 
   module _ (told : List MemoEvent) where
-    mention_scopes_alike : (known : List ScopeId) (id base : EvaluationOrder) (places waiting : List Place)
+    pub mention_scopes_alike : (known : List ScopeId) (id base : EvaluationOrder) (places waiting : List Place)
         → AreAmong (flat_map scopes_in told) known → AreWaiting env told base places waiting
         → distinct same_id (known ++ mention_scopes (mentions id places))
         ≡ distinct same_id (known ++ mention_scopes (mentions id waiting))
@@ -341,7 +293,7 @@ module _ (env : Environment) where
         ∙ ap (distinct same_id) (append_assoc known own (mention_scopes (mentions id is.0)))
         ∙ ap (λ w. distinct same_id (known ++ mention_scopes (mentions id w))) (sym is.1)
 
-    all_among : (known : List ScopeId) (base : EvaluationOrder) (places waiting : List Place)
+    pub all_among : (known : List ScopeId) (base : EvaluationOrder) (places waiting : List Place)
         → AreAmong (flat_map scopes_in told) known → AreWaiting env told base places waiting
         → AreAmong (mention_scopes (mentions base places)) known
     unfolding mention_of
@@ -403,15 +355,6 @@ module _ (env : Environment) where
   -- what is known of the places as events come
 
   module _ (told more : List MemoEvent) where
-    facts_stay : AreOf (facts_behind [] (told ++ more)) (facts_behind [] told)
-    facts_stay = subst (λ w. AreOf w (facts_behind [] told)) (sym (facts_behind-append [] told more))
-        (there_left (facts_behind [] told) (facts_behind (flat_map loads_in told) more) (facts_behind [] told)
-        (there_itself (facts_behind [] told)))
-
-    scopes_stay : AreAmong (flat_map scopes_in told) (flat_map scopes_in (told ++ more))
-    scopes_stay = subst (λ w. AreAmong (flat_map scopes_in told) w) (sym (flat-both scopes_in told more))
-        (among_front (flat_map scopes_in told) (flat_map scopes_in more))
-
     told_stays : (place : Place)
         → resolve_now env told (place_name env place) ≡ resolve_now env (told ++ more) (place_name env place)
         → IsToldPlace env told place → IsToldPlace env (told ++ more) place
@@ -420,8 +363,8 @@ module _ (env : Environment) where
       facts = λ id. subst (λ w. AreOf (facts_behind [] (told ++ more))
           (scope_facts w (active_scope env id place.identifier))) same
           (there_through (facts_behind [] (told ++ more)) (facts_behind [] told)
-          (mention_facts (resolve_now env told) (mention_of env id place)) facts_stay (is.facts id));
-      scopes = λ id scope h. scopes_stay scope (is.scopes id scope h);
+          (mention_facts (resolve_now env told) (mention_of env id place)) (facts_stay told more) (is.facts id));
+      scopes = λ id scope h. scopes_stay told more scope (is.scopes id scope h);
     }
 
     waiting_stay : (id : EvaluationOrder) (places waiting : List Place)
@@ -433,10 +376,6 @@ module _ (env : Environment) where
         inl (told_stays place same.0 is.0, waiting_stay id places waiting same.1 is.1)
     waiting_stay id (place ∷ places) waiting same (inr is) =
         inr (is.0, is.1, is.2, waiting_stay id places is.0 same.1 is.3)
-
-    same_loads : flat_map loads_in more ≡ [] → resolve_now env told ≡ resolve_now env (told ++ more)
-    same_loads none = ap resolved_after (sym (flat-both loads_in told more
-        ∙ ap (λ w. flat_map loads_in told ++ w) none ∙ append-nil (flat_map loads_in told)))
 
   -- the same places wait behind events that give no name another meaning
   pub waiting_more : (told more : List MemoEvent) (id : EvaluationOrder) (places waiting : List Place)
@@ -610,37 +549,6 @@ module _ (env : Environment) where
             (λ s h. their_scopes s (among_front scope (mention_scopes (mentions id is.0)) s h)),
         later,
       )
-
-  module _ (told : List MemoEvent) (operands : List Mention) (targets : List Target) (more : List MemoEvent) where
-    row_told : AreOf (facts_behind [] (told ++ events.Row operands targets ∷ more))
-        (flat_map (mention_facts (resolve_now env told)) operands)
-    row_told =
-        subst (λ w. AreOf w mentioned)
-        (append_assoc before mentioned (others ++ later) ∙ ap (λ w. before ++ w)
-        (sym (append_assoc mentioned others later))
-        ∙ sym (facts_behind-append [] told (events.Row operands targets ∷ more)))
-        (there_left (before ++ mentioned) (others ++ later) mentioned (there_right before mentioned))
-      where
-        before : List Fact
-        before = facts_behind [] told
-
-        mentioned : List Fact
-        mentioned = flat_map (mention_facts (resolve_now env told)) operands
-
-        others : List Fact
-        others = flat_map (target_facts (resolve_now env told) operands) targets
-
-        later : List Fact
-        later = facts_behind (flat_map loads_in told ++ []) more
-
-    row_scopes_told : AreAmong (mention_scopes operands)
-        (flat_map scopes_in (told ++ events.Row operands targets ∷ more))
-    row_scopes_told scope h =
-        subst (λ w. is_among w scope ≡ true) (sym (flat-both scopes_in told (events.Row operands targets ∷ more)))
-        (among_behind (flat_map scopes_in told)
-        ((mention_scopes operands ++ target_scopes targets) ++ flat_map scopes_in more) scope
-        (among_front (mention_scopes operands ++ target_scopes targets) (flat_map scopes_in more) scope
-        (among_front (mention_scopes operands) (target_scopes targets) scope h)))
 
   -- those that were active now wait no more
   pub waiting_resumed : (told : List MemoEvent) (id base : EvaluationOrder) (places waiting : List Place)

@@ -30,7 +30,7 @@ pub fn function_named(value: &InstructionValue) -> Option<FunctionId>
 
 impl<'a> RowReader<'a> {
     /// Returns the context of a function; a function outside the table has none.
-    fn context_of(&self, function: FunctionId) -> &[Place]
+    pub fn context_of(&self, function: FunctionId) -> &[Place]
         ensures { result.now ≡ rows.context_of self.now.env.now function }
     {
         match self.env.functions.get(function) {

@@ -35,6 +35,14 @@ pub struct KnownRow {
     pub ids: Window,
 }
 
+/// The contexts of functions that stand inside expressions: for each, the index of an event that has its places as
+/// operands, and the places that wait.
+#[derive(Drop)]
+pub struct InnerContexts {
+    pub rows: Keyed<FunctionId, usize>,
+    pub waiting: WaitingPlaces,
+}
+
 /// The events so far, with the last row of each function that has its own operands, and the places of which later rows
 /// have something to tell.
 #[derive(Drop)]
@@ -42,6 +50,19 @@ pub struct Told {
     pub events: Events,
     pub known: Keyed<FunctionId, KnownRow>,
     pub waiting: WaitingPlaces,
+    pub inner: InnerContexts,
+}
+
+impl InnerContexts {
+    /// Returns no contexts. This takes no memory.
+    fn new(alloc: Global) -> InnerContexts
+        ensures { result.rows ≡ [] }
+    {
+        InnerContexts {
+            rows: Keyed::new(alloc),
+            waiting: WaitingPlaces::new(alloc),
+        }
+    }
 }
 
 impl Told {
@@ -49,12 +70,14 @@ impl Told {
     pub fn new(alloc: Global) -> Told
         ensures events { result.events ≡ [] }
         ensures known { result.known ≡ [] }
+        ensures inner { result.inner.rows ≡ [] }
         ensures waiting { result.waiting.groups ≡ [] }
     {
         Told {
             events: Events::new(alloc),
             known: Keyed::new(alloc),
             waiting: WaitingPlaces::new(alloc),
+            inner: InnerContexts::new(alloc),
         }
     }
 
@@ -68,6 +91,7 @@ impl Told {
         ensures { OnOk result (Loads target loaded self.old self.new) }
     {
         self.waiting.forget(alloc, target);
+        self.inner.waiting.forget(alloc, target);
         self.events.push_load(target, loaded)?;
         Ok(())
     }

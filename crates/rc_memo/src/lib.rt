@@ -10,6 +10,7 @@
 mod collecting;
 mod event;
 mod events;
+mod expression_rows;
 mod function_rows;
 mod known_rows;
 mod level;

@@ -5,9 +5,8 @@ ghost use Rattle.std.specs.List.{flat_map};
 ghost use Rattle.rc_memo.specs.RowEvents as spec;
 ghost use Rattle.rc_memo.specs.Table.{levels_of, memo_rule as line_of, written_levels};
 ghost use Rattle.rc_memo.specs.inside.KnownRows.{Tells};
-ghost use Rattle.rc_memo.specs.inside.RowsAdded.{AddsOperands, AddsRows, AddsWalked};
+ghost use Rattle.rc_memo.specs.inside.RowsAdded.{AddsRows, AddsWalked};
 
-use crate::MemoizationLevel;
 use crate::events::Events;
 use crate::function_rows::function_named;
 use crate::known_rows::Told;
@@ -24,7 +23,7 @@ use std::alloc::AllocError;
 impl<'a> RowReader<'a> {
     /// Returns all operands of an instruction; one that names a function outside its table has none.
     #[tactic(auto, unfolding(crate::specs::RowEvents::places_read))]
-    fn places_read<'p>(&'p self, value: &'p InstructionValue) -> Result<Places<'p>, AllocError>
+    pub fn places_read<'p>(&'p self, value: &'p InstructionValue) -> Result<Places<'p>, AllocError>
         ensures { IfOk result (λ places. places ≡ spec.places_read self.now.env.now value.now) }
     {
         match each_instruction_value_operand(self.alloc, value, self.env) {
@@ -36,7 +35,7 @@ impl<'a> RowReader<'a> {
 
     /// Adds the operands of an instruction that are recorded.
     #[tactic(auto, unfolding(crate::specs::RowEvents::recorded_operands))]
-    fn add_recorded(
+    pub fn add_recorded(
         &self,
         places: &mut List<Place>,
         value: &InstructionValue,
@@ -192,27 +191,6 @@ impl<'a> RowReader<'a> {
         Ok(())
     }
 
-    /// Adds a row whose value is an expression over other values.
-    #[inline(never)]
-    #[tactic(auto, unfolding(crate::specs::RowEvents::own_events))]
-    fn add_expression(
-        &self,
-        told: &mut Told,
-        id: EvaluationOrder,
-        target: Option<Place>,
-        value: &ReactiveValue,
-    ) -> Result<(), AllocError>
-        ensures { OnOk result (Tells self.now.env.now (spec.own_events self.now.env.now id target None
-            (spec.parts_of self.now.env.now value.now).places) told.old told.new) }
-    {
-        let mut places = List::new(self.alloc);
-        self.add_operands(&mut places, value)?;
-        told.events.push_row(self, id, places.as_slice())?;
-        let levels = Levels { reader: *self, id };
-        levels.put_own(&mut told.events, target, MemoizationLevel::Conditional)?;
-        Ok(())
-    }
-
     /// Adds what a row tells of itself.
     #[inline(never)]
     fn add_own(&self, told: &mut Told, row: &ReactiveInstruction) -> Result<(), AllocError>
@@ -231,39 +209,6 @@ impl<'a> RowReader<'a> {
                 self.add_expression(told, row.id, row.lvalue, &row.value)
             }
         }
-    }
-
-    /// Adds the operands of a value in a row.
-    #[cycle(operands)]
-    fn add_operands(
-        &self,
-        places: &mut List<Place>,
-        value: &ReactiveValue,
-    ) -> Result<(), AllocError>
-        ensures { OnOk result (AddsOperands self.now.env.now value.now places.old places.new) }
-    {
-        match value {
-            ReactiveValue::Instruction(value) => self.add_recorded(places, value)?,
-            ReactiveValue::LogicalExpression { left, right, .. } => {
-                self.add_operands(places, left.get())?;
-                self.add_operands(places, right.get())?;
-            }
-            ReactiveValue::ConditionalExpression {
-                consequent,
-                alternate,
-                ..
-            } => {
-                self.add_operands(places, consequent.get())?;
-                self.add_operands(places, alternate.get())?;
-            }
-            ReactiveValue::SequenceExpression { value, .. } => {
-                self.add_operands(places, value.get())?;
-            }
-            ReactiveValue::OptionalExpression { value, .. } => {
-                self.add_operands(places, value.get())?;
-            }
-        }
-        Ok(())
     }
 
     /// Adds the events of a row, those of the rows inside its value first.

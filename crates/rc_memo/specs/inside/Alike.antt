@@ -2,9 +2,12 @@
 use Rattle.std.specs.Prelude.{◌≡◌, List, []}
 use Rattle.std.specs.List.{AllByRecursion, flat_map}
 use Rattle.rc_names.specs.Numbers.{DeclarationId, same_id}
-use Rattle.rc_memo.specs.Events.{escaping_in, facts_told, loads_in, scopes_in}
+use Rattle.rc_memo.specs.Events.{escaping_in, facts_behind, facts_told, loads_in, mention_facts, mention_scopes}
+use Rattle.rc_memo.specs.Events.{resolved_after, scopes_in}
 use Rattle.rc_memo.specs.Facts.{Fact, distinct, first_missing, names_told, node_told}
+use Rattle.rc_memo.specs.declared.event.Mention.{Mention}
 use Rattle.rc_memo.specs.declared.event.MemoEvent.{MemoEvent}
+use Rattle.rc_memo.specs.inside.Growing.{AreAmong}
 use Rattle.rc_memo.specs.inside.ToldFacts.{IsOneOf}
 
 -- the facts give the nodes that others give, and miss the name that these miss
@@ -23,3 +26,9 @@ pub record TellTheSame (events others : List MemoEvent) : Type 0 where
   pub loads : flat_map loads_in events ≡ flat_map loads_in others
   pub escaping : flat_map escaping_in events ≡ flat_map escaping_in others
   pub scopes : distinct same_id (flat_map scopes_in events) ≡ distinct same_id (flat_map scopes_in others)
+
+-- the events before told what a row tells of these operands, other than what its targets depend on
+pub record MentionsTold (before : List MemoEvent) (operands : List Mention) : Type 0 where
+  pub facts : AreOf (facts_behind [] before)
+      (flat_map (mention_facts (resolved_after (flat_map loads_in before))) operands)
+  pub scopes : AreAmong (mention_scopes operands) (flat_map scopes_in before)

@@ -1,30 +1,35 @@
 -- Rows that name a function, so that a later row of the same function repeats one.
-use Rattle.std.specs.Prelude.{◌≡◌, ◌≤◌, Bool, List, [], ◌∷◌, ◌++◌, Some, length, map, slice_get}
+use Rattle.std.specs.Prelude.{ℕ, ◌≡◌, ◌≤◌, Bool, List, [], ◌∷◌, ◌++◌, Option, Some, length, map, slice_get}
 use Rattle.std.specs.Prelude.{if◌then◌else◌}
 use Rattle.std.specs.List.{flat_map}
 use Rattle.std.specs.Map.{lookup}
-use Rattle.rc_hir.specs.Model.{Environment}
+use Rattle.rc_hir.specs.Model.{Environment, Place}
 use Rattle.rc_names.specs.Numbers.{DeclarationId, EvaluationOrder, FunctionId, same_id}
 use Rattle.rc_memo.specs.Mentions.{mention_of}
-use Rattle.rc_memo.specs.Table.{if_mutable}
+use Rattle.rc_memo.specs.RowEvents.{row_event}
+use Rattle.rc_memo.specs.Table.{if_mutable, own}
 use Rattle.rc_memo.specs.declared.event.MemoEvent.{MemoEvent}
 use Rattle.rc_memo.specs.declared.event.MemoEvent.TheVariants as events
 use Rattle.rc_memo.specs.declared.event.Target.{Target}
+use Rattle.rc_memo.specs.declared.level.MemoizationLevel.TheVariants.{Conditional}
 use Rattle.rc_memo.specs.declared.known_rows.KnownRow.{KnownRow}
 use Rattle.rc_memo.specs.declared.known_rows.Told.{Told}
 use Rattle.rc_memo.specs.declared.known_rows.Window.{Window}
 use Rattle.rc_memo.specs.declared.waiting.WaitingGroup.{WaitingGroup}
-use Rattle.rc_memo.specs.inside.Alike.{TellTheSame}
+use Rattle.rc_memo.specs.inside.Alike.{MentionsTold, TellTheSame}
 use Rattle.rc_memo.specs.inside.FunctionRows.{context_of, function_row}
 use Rattle.rc_memo.specs.inside.HeldEvents.{repeated}
-use Rattle.rc_memo.specs.inside.WaitingPlaces.{AreAllCovered, DropsActive, ForgetsName, WaitFor, active_places}
-use Rattle.rc_memo.specs.inside.WaitingPlaces.{places_waiting}
+use Rattle.rc_memo.specs.inside.RepeatedRows.{AreMentioned}
+use Rattle.rc_memo.specs.inside.WaitingPlaces.{AreAllCovered, AreWaiting, DropsActive, ForgetsName, WaitFor}
+use Rattle.rc_memo.specs.inside.WaitingPlaces.{active_places, place_name, places_waiting}
 
 -- a call adds a load, and forgets places whose names it gives another meaning
 pub record Loads (target loaded : DeclarationId) (old new : Told) : Type 0 where
   pub events : new.events ≡ old.events ++ events.Load target loaded ∷ []
   pub known : new.known ≡ old.known
   pub waiting : ForgetsName target old.waiting new.waiting
+  pub rows : new.inner.rows ≡ old.inner.rows
+  pub inner : ForgetsName target old.inner.waiting new.inner.waiting
 
 -- the id is in the window, whose ends are inside
 pub record IsWithin (ids : Window) (id : EvaluationOrder) : Type 0 where
@@ -50,11 +55,30 @@ module _ (env : Environment) where
       → lookup (same_id function) told.waiting.groups ≡ Some groups
       → WaitFor env told.events function known told.waiting.mentioned groups
 
+  -- the event at an index has the context of a function as operands, of which the places of these groups wait, and
+  -- whose names are mentioned
+  pub record IsInner (told : List MemoEvent) (function : FunctionId) (row : ℕ) (mentioned : List DeclarationId)
+      (groups : List WaitingGroup) : Type 0 where
+    pub id : EvaluationOrder
+    pub targets : List Target
+    pub event : slice_get told row ≡ Some (events.Row (map (mention_of env id) (context_of env function)) targets)
+    pub places : AreWaiting env told id (context_of env function) (places_waiting groups)
+    pub covered : AreAllCovered env groups
+    pub names : AreMentioned mentioned (map (place_name env) (context_of env function))
+
+  -- all inner contexts have
+  unfoldable pub Inner : Told → Type 0
+  Inner told = (function : FunctionId) (row : ℕ) (groups : List WaitingGroup)
+      → lookup (same_id function) told.inner.rows ≡ Some row
+      → lookup (same_id function) told.inner.waiting.groups ≡ Some groups
+      → IsInner told.events function row told.inner.waiting.mentioned groups
+
   -- what was told makes the memo record of these events
   pub record HasTold (events : List MemoEvent) (told : Told) : Type 0 where
     pub same : TellTheSame told.events events
     pub known : Knows told
     pub waiting : Waiting told
+    pub inner : Inner told
 
   -- a call adds more events
   unfoldable pub Tells : List MemoEvent → Told → Told → Type 0
@@ -66,6 +90,7 @@ module _ (env : Environment) where
         → new.events ≡ old.events ++ (if added then function_row env id function [] ∷ [] else [])
     pub known : new.known ≡ old.known
     pub waiting : new.waiting ≡ old.waiting
+    pub inner : new.inner ≡ old.inner
 
   -- a call adds a row with the places that waited and whose scope is active now, and behind it a row that repeats the
   -- known one
@@ -79,3 +104,41 @@ module _ (env : Environment) where
         ∷ repeated row.shared (slice_get old.events row.row)
     pub known : new.known ≡ old.known
     pub waiting : DropsActive env id function old.waiting new.waiting
+    pub inner : new.inner ≡ old.inner
+
+  -- a call adds a row without targets that has those places of an inner context whose scope is active now
+  pub record AddsActive (id : EvaluationOrder) (function : FunctionId) (old new : Told) : Type 0 where
+    pub row : ℕ
+    pub groups : List WaitingGroup
+    pub is_known : lookup (same_id function) old.inner.rows ≡ Some row
+    pub are_waiting : lookup (same_id function) old.inner.waiting.groups ≡ Some groups
+    pub events : AreAllCovered env groups → new.events
+        ≡ old.events ++ events.Row (map (mention_of env id) (active_places env id (places_waiting groups))) [] ∷ []
+    pub known : new.known ≡ old.known
+    pub waiting : new.waiting ≡ old.waiting
+    pub rows : new.inner.rows ≡ old.inner.rows
+    pub inner : DropsActive env id function old.inner.waiting new.inner.waiting
+
+  -- a call adds a row that has an inner context's operands, and no targets yet
+  pub record RepeatsContext (function : FunctionId) (old new : Told) : Type 0 where
+    pub row : ℕ
+    pub groups : List WaitingGroup
+    pub is_known : lookup (same_id function) old.inner.rows ≡ Some row
+    pub are_waiting : lookup (same_id function) old.inner.waiting.groups ≡ Some groups
+    pub events : new.events ≡ old.events ++ repeated 0 (slice_get old.events row)
+    pub known : new.known ≡ old.known
+    pub waiting : new.waiting ≡ old.waiting
+    pub inner : new.inner ≡ old.inner
+
+  -- a row with these operands and no targets, and one with these operands and the target of an expression
+  abbrev pub operands_row : EvaluationOrder → List Place → MemoEvent
+  operands_row id places = events.Row (map (mention_of env id) places) []
+
+  abbrev pub expression_row : EvaluationOrder → Option Place → List Place → MemoEvent
+  expression_row id target places = row_event env id places (own target Conditional)
+
+  -- a call adds the row of an expression with some of its operands, whose mentions are told before
+  unfoldable pub TellsPiece : EvaluationOrder → Option Place → List Place → Told → Told → Type 0
+  TellsPiece id target places old new = (before : List MemoEvent)
+      → MentionsTold before (map (mention_of env id) places) → HasTold before old
+      → HasTold (before ++ expression_row id target places ∷ []) new

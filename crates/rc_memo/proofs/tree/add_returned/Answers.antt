@@ -13,4 +13,4 @@ returns c =
     (c.in_ok-add_within.ensures
     ∙ ap (λ w. w ++ kinds.Within name c.args.around.now ∷ []) (c.in_ok-push_escape.ensures
     ∙ ap (λ w. old ++ kinds.Escape w ∷ []) c.declaration.ensures)
-    ∙ append_assoc old (kinds.Escape name ∷ []) (kinds.Within name c.args.around.now ∷ [])) refl refl refl
+    ∙ append_assoc old (kinds.Escape name ∷ []) (kinds.Within name c.args.around.now ∷ [])) refl refl refl refl

@@ -13,9 +13,10 @@ returns c =
       events = c.put_own.new.events;
       known = c.insert.new.self;
       waiting = record { groups = c.insert-2.new.self; mentioned = c.put_names.new.names };
+      inner = c.args.told.now.inner;
     })
     c.push_row.new.self c.put_mutable.new.events c.put_own.new.events c.context_of-context.ensures
     c.in_ok-push_row.ensures c.in_ok-put_mutable.ensures c.in_ok-put_own.ensures refl c.in_ok-insert.ensures.entries
     c.len.ensures c.count_mutable.ensures c.window.ensures
     c.in_ok-put_names.ensures c.in_ok-insert-2.ensures.entries c.in_ok-groups.ensures.places
-    c.in_ok-groups.ensures.covered
+    c.in_ok-groups.ensures.covered refl

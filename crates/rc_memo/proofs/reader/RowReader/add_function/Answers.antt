@@ -23,11 +23,11 @@ returns-then-branch c =
     onward c.put_own.result (λ put. elim c.then-branch.branch [
       | then-branch-via-then-branch w ↦ tells_repeated env id function given told last _
           (subst (λ m. Repeats env id function true told m) (sym w.told-is)
-          (subst (λ b. Repeats env id function b told mid) w.if-branch.true c.in_ok-add_repeated.ensures)) put refl refl
+          (subst (λ b. Repeats env id function b told mid) w.if-branch.true c.in_ok-add_repeated.ensures)) put refl refl refl
       | then-branch-via-else-branch+in_ok-add_resumed+then-branch-2 w ↦ tells_unrepeated env id function _ told mid _
           (subst (λ b. Repeats env id function b told mid) w.if-branch.false c.in_ok-add_repeated.ensures)
           (tells_resumed env id function given mid last _ (subst (λ m. Resumes env id function mid m) (sym w.told-is)
-          (w.in_ok-add_resumed.ensures.resumed w.if-branch-2.true)) put refl refl)
+          (w.in_ok-add_resumed.ensures.resumed w.if-branch-2.true)) put refl refl refl)
     ]) c.put_own.ensures
 
 pub returns : goal.returns

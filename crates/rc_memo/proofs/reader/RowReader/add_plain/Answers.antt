@@ -15,6 +15,6 @@ returns c =
     let loads = load_events env c.args.target value in
     let escapes = escape_events env value in
     tells_joined env c.args.told.now _ _ (row ∷ []) (loads ++ escapes) _ refl
-    (tells_events env c.args.told.now _ (row ∷ []) c.in_ok-add_plain_row.ensures refl refl refl)
+    (tells_events env c.args.told.now _ (row ∷ []) c.in_ok-add_plain_row.ensures refl refl refl refl)
     (tells_joined env _ c.add_load.new.told _ loads escapes _ refl c.in_ok-add_load.ensures
-    (tells_events env c.add_load.new.told _ escapes c.in_ok-add_escapes.ensures refl refl (no_loads_escape env value)))
+    (tells_events env c.add_load.new.told _ escapes c.in_ok-add_escapes.ensures refl refl refl (no_loads_escape env value)))

@@ -11,4 +11,4 @@ returns c =
     let found : Some known ≡ lookup (same_id c.args.function) c.args.told.now.known = search rules in
     let within : IsWithin known.ids c.args.id = search rules in
     repeats_known c.args.self.now.env.now c.args.id c.args.function known c.in_ok-added.added
-    c.args.told.now _ found within refl refl c.in_ok-added.ensures
+    c.args.told.now _ found within refl refl refl c.in_ok-added.ensures
