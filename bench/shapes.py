@@ -406,6 +406,16 @@ def names_in_scopes(count):
     return json.dumps(whole, separators=(",", ":")).encode()
 
 
+def functions_in_values(count):
+    """So many `Ternary`s one after the other, both arms of which name one function, whose context has as many places."""
+    whole = json.loads(values_in_a_row("Ternary", count))
+    whole["hir"]["instructions"][0]["value"] = {"k": "FunctionExpression", "lowered_func": {"func": 0}}
+    names = len(whole["env"]["identifiers"])
+    whole["env"]["identifiers"] += [{"declaration_id": names + name, "type_": 0} for name in range(count)]
+    whole["env"]["functions"] = [function_of([*range(names, names + count)])]
+    return json.dumps(whole, separators=(",", ":")).encode()
+
+
 def scope_with_array(name):
     """The two blocks of a scope with an array, the row, the identifier of the array, and the scope."""
     head, at = 2 * name, 3 * name + 1
