@@ -9,7 +9,8 @@ use Rattle.rc_hir.specs.Model.{Environment, Place}
 use Rattle.rc_names.proofs.KeyedLemmas.{lookup-insert_other, lookup-insert_there}
 use Rattle.rc_names.proofs.NumbersLemmas.{ids_equivalence, same_id-eq}
 use Rattle.rc_names.specs.Numbers.{EvaluationOrder, FunctionId, same_id}
-use Rattle.rc_memo.proofs.KnownRowsLemmas.{inner_later, known_later, last_found, rows_alike, wait_later}
+use Rattle.rc_memo.proofs.IndexLemmas.{last_found}
+use Rattle.rc_memo.proofs.KnownRowsLemmas.{inner_later, known_later, rows_alike, wait_later}
 use Rattle.rc_memo.proofs.RepeatedLemmas.{mentioned_all, mentioned_put}
 use Rattle.rc_memo.proofs.RowPartsLemmas.{levels_joined, row_filled}
 use Rattle.rc_memo.proofs.SameEventsLemmas.{same_more}
@@ -170,7 +171,7 @@ module _ (env : Environment) (id : EvaluationOrder) (function : FunctionId) (giv
       → new.waiting.groups ≡ insert_entry same_id old.waiting.groups function groups
       → places_waiting groups ≡ idle_places env id context → AreAllCovered env groups → new.inner ≡ old.inner
       → Tells env (function_row env id function (map (target_of env id) given) ∷ []) old new
-  tells_first known groups context old new one two three is first second third last put at shared alike named waits
+  tells_first known groups found old new one two three is first second third last put at shared alike named waits
       placed covered inner =
       tells_known env id function given known groups old new one two three
       (subst (λ w. one ≡ old.events ++ events.Row (map (mention_of env id) w) [] ∷ []) is first)

@@ -4,11 +4,11 @@ use Rattle.std.proofs.Common.{append_assoc, arith}
 use Rattle.std.proofs.Common.{drop, get_or, length, refl, slice_get, subst, suc, sym, take, zero}
 use Rattle.std.proofs.lemmas.List.{drop-append-le, length-append, length-drop, take-append-le, take_all, take_more}
 use Rattle.std.proofs.lemmas.List.{take-append-drop, take_rest}
-use Rattle.std.proofs.lemmas.Option.{get_or_from_slice_get}
 use Rattle.std.proofs.lemmas.List.Elements.{All-head, All-push, All-tail, All-weaker}
 use Rattle.std.specs.List.{All, slice_range}
 use Rattle.rc_names.specs.Numbers.{DeclarationId, ScopeId}
 use Rattle.rc_memo.proofs.GrownEventsLemmas.{last_grown-push, same_rows}
+use Rattle.rc_memo.proofs.IndexLemmas.{front_found}
 use Rattle.rc_memo.specs.declared.event.MemoEvent.{MemoEvent}
 use Rattle.rc_memo.specs.declared.event.MemoEvent.TheVariants as events
 use Rattle.rc_memo.specs.declared.event.Mention.{Mention}
@@ -20,13 +20,6 @@ use Rattle.rc_memo.specs.declared.events.Start.{Start}
 use Rattle.rc_memo.specs.inside.HeldEvents.{AreSound, HasNoRow, IsInside, IsSound, RefersToRow, begun}
 use Rattle.rc_memo.specs.inside.HeldEvents.{ends, event_between, events_among, events_held, first_start, grown, kind_at}
 use Rattle.rc_memo.specs.inside.HeldEvents.{last_grown, operands_at, repeated, start_at, targets_at}
-
--- an item of the front stands at its index as more are added
-pub front_found : {X : Type 0} (xs ys : List X) (i : ℕ) (x : X) → slice_get xs i ≡ Some x
-    → slice_get (xs ++ ys) i ≡ Some x
-front_found [] ys i x is = cc
-front_found (y ∷ xs) ys zero x is = is
-front_found (y ∷ xs) ys (suc i) x is = front_found xs ys i x is
 
 -- a part that ends inside stays as more is added behind, and one that reaches to the end grows
 
@@ -584,15 +577,6 @@ module _ (some operands : List Mention) (others : List Target) (numbers : List S
       ∙ ap (λ w. (held ++ events.Row operands [] ∷ []) ++ repeated shared w)
       (front_found held (events.Row operands [] ∷ []) row _ found ∙ sym found)
       ∙ append_assoc held (events.Row operands [] ∷ []) (repeated shared (slice_get held row))
-
--- an index below the number of events
-pub below_length : (all : List MemoEvent) (i n : ℕ) → n ≡ length all → i < n → i < length all
-below_length all i n is below = omega (arith, is, below)
-
--- an event that was given out stands at its index
-pub event_at : (all : List MemoEvent) (i : ℕ) (event : MemoEvent) → slice_get all i ≡ Some event
-    → event ≡ get_or all i event
-event_at all i event found = sym (get_or_from_slice_get all i event event found)
 
 -- the scopes of a name, one after the other
 pub within_more : (before : List MemoEvent) (name : DeclarationId) (numbers : List ScopeId) (i : ℕ) (d : ScopeId)

@@ -12,8 +12,8 @@ use Rattle.rc_memo.proofs.AlikeLemmas.{alike_before, alike_more, alike_sym, alik
 use Rattle.rc_memo.proofs.FirstRowsLemmas.{entry_kept, entry_put}
 use Rattle.rc_memo.proofs.GrowingLemmas.{distinct_more, flat-both}
 use Rattle.rc_memo.proofs.GrownEventsLemmas.{last_grown-push}
-use Rattle.rc_memo.proofs.HeldEventsLemmas.{front_found}
-use Rattle.rc_memo.proofs.KnownRowsLemmas.{context_later, inner_later, knows_later, last_found, waiting_later}
+use Rattle.rc_memo.proofs.IndexLemmas.{front_found, last_found}
+use Rattle.rc_memo.proofs.KnownRowsLemmas.{context_later, inner_later, knows_later, waiting_later}
 use Rattle.rc_memo.proofs.RepeatedLemmas.{mentioned_all, mentioned_put}
 use Rattle.rc_memo.proofs.RepeatedScopes.{known_before}
 use Rattle.rc_memo.proofs.RowsToldLemmas.{facts_of_row, no_loads_behind}

@@ -1,6 +1,6 @@
 -- Rows that are known, as events are added, and rows that repeat one of them.
-use Rattle.std.proofs.Common.{◌≡◌, ◌∙◌, ◌+◌, ◌<◌, ◌≤◌, ℕ, zero, suc, Bool, true, false, List, [], ◌∷◌, ◌++◌}
-use Rattle.std.proofs.Common.{None, Option, Some, ap, append-nil, append_assoc, arith, get_or, length, map, refl, slice_get}
+use Rattle.std.proofs.Common.{◌≡◌, ◌∙◌, ◌+◌, ◌<◌, ◌≤◌, ℕ, Bool, true, false, List, [], ◌∷◌, ◌++◌}
+use Rattle.std.proofs.Common.{None, Option, Some, ap, append-nil, append_assoc, get_or, length, map, refl, slice_get}
 use Rattle.std.proofs.Common.{inl, inr, is_some, subst, sym, take, true≢false, if◌then◌else◌}
 use Rattle.std.proofs.Math.Seq.{take-append_seam}
 use Rattle.std.proofs.lemmas.List.{flat_map_more, length-map, take_more}
@@ -10,7 +10,7 @@ use Rattle.rc_hir.specs.Model.{Environment, Place}
 use Rattle.rc_names.specs.Numbers.{DeclarationId, EvaluationOrder, FunctionId, same_id}
 use Rattle.rc_memo.proofs.AddingLemmas.{take_all}
 use Rattle.rc_memo.proofs.GrownEventsLemmas.{last_grown-push}
-use Rattle.rc_memo.proofs.HeldEventsLemmas.{front_found}
+use Rattle.rc_memo.proofs.IndexLemmas.{front_found}
 use Rattle.rc_memo.proofs.SameEventsLemmas.{same_more, same_refl}
 use Rattle.rc_memo.proofs.WaitingLemmas.{waiting_load, waiting_more}
 use Rattle.rc_memo.specs.Events.{loads_in}
@@ -44,11 +44,6 @@ none_known is = true≢false (sym (ap is_some is))
 
 none_inner : {row : ℕ} → ◌≡◌ {A = Option ℕ} None (Some row) → ⊥
 none_inner is = true≢false (sym (ap is_some is))
-
-pub last_found : {X : Type 0} (xs : List X) (x : X) (i : ℕ) → i ≡ length xs → slice_get (xs ++ x ∷ []) i ≡ Some x
-last_found [] x i is = ap (λ n. slice_get (x ∷ []) n) is
-last_found (y ∷ xs) x zero is = let bad : ⊥ = omega (arith, is) in absurd bad
-last_found (y ∷ xs) x (suc i) is = last_found xs x i (omega (arith, is))
 
 module _ (env : Environment) where
   pub known_later : (old more new : List MemoEvent) (function : FunctionId) (known : KnownRow) → new ≡ old ++ more

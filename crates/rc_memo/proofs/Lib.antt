@@ -15,6 +15,7 @@ pub mod HeldRowsLemmas
 pub mod EventsLemmas
 pub mod SameEventsLemmas
 pub mod GrownEventsLemmas
+pub mod IndexLemmas
 pub mod HeldEventsLemmas
 pub mod RowPartsLemmas
 pub mod WindowLemmas

@@ -14,7 +14,7 @@ use Rattle.rc_memo.proofs.AlikeLemmas.{alike_more, alike_sym, alike_trans, there
 use Rattle.rc_memo.proofs.FirstRowsLemmas.{entry_kept, entry_put}
 use Rattle.rc_memo.proofs.GrowingLemmas.{distinct-all, flat-both}
 use Rattle.rc_memo.proofs.GrownEventsLemmas.{last_grown-push}
-use Rattle.rc_memo.proofs.HeldEventsLemmas.{front_found}
+use Rattle.rc_memo.proofs.IndexLemmas.{front_found}
 use Rattle.rc_memo.proofs.KnownRowsLemmas.{inner_later, knows_later, wait_later}
 use Rattle.rc_memo.proofs.RowsToldLemmas.{facts_of_row, no_loads_behind}
 use Rattle.rc_memo.proofs.WaitingLemmas.{row_alike, row_scopes_alike, waiting_resumed}

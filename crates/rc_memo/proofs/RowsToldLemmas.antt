@@ -1,5 +1,5 @@
 -- What a row tells behind other events, and what stays told as more events come.
-use Rattle.std.proofs.Common.{◌≡◌, ◌∙◌, ◌++◌, true, List, [], ◌∷◌, ap, append-nil, append_assoc, refl, subst, sym}
+use Rattle.std.proofs.Common.{◌≡◌, ◌∙◌, ◌++◌, true, List, [], ◌∷◌, ap, append-nil, append_assoc, subst, sym}
 use Rattle.std.specs.List.{flat_map}
 use Rattle.rc_names.specs.Numbers.{DeclarationId, is_among}
 use Rattle.rc_memo.proofs.AlikeLemmas.{there_itself, there_left, there_right}

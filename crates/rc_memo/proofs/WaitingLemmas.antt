@@ -2,12 +2,11 @@
 -- earlier one, tell what a new row would; and what is known of all of them stays as events come.
 use Rattle.std.proofs.Common.{◌≡◌, ◌⊎◌, ◌∙◌, ◌++◌, inl, inr, Bool, true, false, List, [], ◌∷◌, Option, None, Some, ap}
 use Rattle.std.proofs.Common.{append-nil, append_assoc, cond, is_some, map, not, refl, subst, sym, if◌then◌else◌}
-use Rattle.std.specs.Prelude.{◌&&◌, ◌||◌, option_and_then, slice_get}
+use Rattle.std.specs.Prelude.{◌&&◌, option_and_then, slice_get}
 use Rattle.std.specs.List.{flat_map}
 use Rattle.std.specs.Option.{option_map}
 use Rattle.rc_hir.specs.Model.{Environment, Place, ReactiveScope}
 use Rattle.rc_hir.specs.Types.{is_mutable}
-use Rattle.rc_names.proofs.NumbersLemmas.{same_id-eq}
 use Rattle.rc_names.specs.Numbers.{DeclarationId, EvaluationOrder, ScopeId, is_among, same_id}
 use Rattle.rc_memo.proofs.AlikeLemmas.{alike_before, alike_more, alike_refl, alike_sym, alike_told, alike_trans}
 use Rattle.rc_memo.proofs.AlikeLemmas.{there_both, there_first, there_left, there_right, there_second, there_through}
@@ -30,7 +29,6 @@ use Rattle.rc_memo.specs.inside.Alike.{AreAlike, AreOf}
 use Rattle.rc_memo.specs.inside.FunctionRows.{scope_range}
 use Rattle.rc_memo.specs.inside.Growing.{AreAmong}
 use Rattle.rc_memo.specs.inside.RepeatedRows.{AreMentioned}
-use Rattle.rc_memo.specs.inside.ToldFacts.{IsOneOf}
 use Rattle.rc_memo.specs.inside.WaitingPlaces.{AreWaiting, IsToldPlace, active_places, idle_places, is_idle}
 use Rattle.rc_memo.specs.inside.WaitingPlaces.{place_name, resolve_now}
 

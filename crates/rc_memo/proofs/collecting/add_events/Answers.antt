@@ -1,4 +1,4 @@
-use Rattle.rc_memo.proofs.HeldEventsLemmas.{below_length, event_at}
+use Rattle.rc_memo.proofs.IndexLemmas.{below_length, event_at}
 use Rattle.rc_memo.proofs.RepeatedScopes.{adds_next_event}
 use Rattle.rc_memo.proofs.collecting.add_events.Goals as goal
 

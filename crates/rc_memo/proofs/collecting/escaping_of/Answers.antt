@@ -1,5 +1,5 @@
 use Rattle.rc_memo.proofs.GrowingLemmas.{grown}
-use Rattle.rc_memo.proofs.HeldEventsLemmas.{below_length, event_at}
+use Rattle.rc_memo.proofs.IndexLemmas.{below_length, event_at}
 use Rattle.rc_memo.specs.Events.{escaping_in}
 use Rattle.rc_memo.specs.inside.HeldEvents.{as_event}
 use Rattle.rc_memo.proofs.collecting.escaping_of.Goals as goal

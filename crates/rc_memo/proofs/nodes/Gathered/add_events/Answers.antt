@@ -1,6 +1,6 @@
 use Rattle.rc_memo.specs.inside.HeldEvents.{as_event}
 use Rattle.rc_memo.proofs.EventsLemmas.{adds_events_stopped, adds_more_events}
-use Rattle.rc_memo.proofs.HeldEventsLemmas.{below_length, event_at}
+use Rattle.rc_memo.proofs.IndexLemmas.{below_length, event_at}
 use Rattle.rc_memo.proofs.nodes.Gathered.add_events.Goals as goal
 
 pub loop-i-preserved : goal.loop-i-preserved
