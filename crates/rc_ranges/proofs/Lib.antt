@@ -1,0 +1,6 @@
+mod WithinLemmas
+mod JoinedLemmas
+mod AscendingLemmas
+mod OrderLemmas
+mod LeftLemmas
+mod GivenLemmas

@@ -1,0 +1,6 @@
+use Rattle.std.proofs.Common.{◌≡◌}
+use Rattle.rc_ranges.proofs.JoinedLemmas.{done}
+use Rattle.rc_ranges.proofs.places_by_range.remove_from.Given as goal
+
+abbrev pub invariant-loop-i : goal.invariant-loop-i
+invariant-loop-i l = l.sections ≡ done l.id l.i l.fn.sections
