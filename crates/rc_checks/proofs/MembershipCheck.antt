@@ -5,4 +5,5 @@ pub mod CheckLemmas
 pub mod UnknownOperands
 pub mod UnknownVisits
 pub mod WithoutBlocks
+pub mod RangeLemmas
 pub mod ContextLemmas

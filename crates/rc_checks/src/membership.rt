@@ -1,8 +1,8 @@
 //! The check that the operands of a scope stand inside its scope blocks.
 //!
 //! One pass collects the scopes that have a scope block, and another the last place of each of these scopes in each
-//! function's context. A read walk then looks up the scope of each operand, and whether a block of it is open. Only the
-//! last operand outside is kept.
+//! function's context, by the scope's range. A read walk then looks up the scope of each operand, and whether a block
+//! of it is open; of a context it visits the places whose range has the id. Only the last operand outside is kept.
 
 mod contexts;
 mod look_ups;
@@ -56,6 +56,7 @@ pub fn assert_scope_instructions_within_scopes(
     let blocks = scope_blocks(alloc, &func.body)?;
     let contexts = contexts_to_visit(alloc, env, &blocks)?;
     let check = Membership {
+        alloc,
         env,
         blocks: &blocks,
         contexts,

@@ -9,6 +9,7 @@ use Rattle.rc_hir.specs.Model.{Environment, Identifier, Fault, TableName, Reacti
 use Rattle.rc_hir.specs.declared.fault.Fault.TheVariants.{BadName, NoMemory, ScopeCompleted}
 use Rattle.rc_hir.specs.declared.fault.TableName.TheVariants.{Identifiers, Scopes}
 use Rattle.rc_names.specs.Numbers.{EvaluationOrder, IdentifierId, ScopeId, is_among}
+use Rattle.rc_ranges.specs.Ranges.{is_in_range}
 use Rattle.rc_tree.proofs.StepLemmas.{same_rest}
 use Rattle.rc_tree.specs.Step.{IsStep, bind}
 use Rattle.rc_tree.specs.Read.{read_block}
@@ -16,7 +17,7 @@ use Rattle.rc_tree.specs.Model.{ReactiveBlock}
 use Rattle.rc_checks.proofs.MembershipCheck.WalkLemmas.{IsBadName, Names, seen, told, visits_name, walk_follows}
 use Rattle.rc_checks.specs.declared.membership.visitor.Outside.{Outside}
 use Rattle.rc_checks.specs.declared.membership.visitor.Seen.{Seen}
-use Rattle.rc_checks.specs.Membership.{is_in_range, scope_found, scope_of, range_found, range_of, if_outside}
+use Rattle.rc_checks.specs.Membership.{scope_found, scope_of, range_found, range_of, if_outside}
 use Rattle.rc_checks.specs.Membership.{operand_outside, outside, IsKnown, IsInside, IsLastOutside, IsFirstUnknown}
 use Rattle.rc_checks.specs.inside.MembershipSteps.{latest_outside, visit_step, after_visits, membership_steps}
 use Rattle.rc_checks.specs.ScopeBlocks.{scopes_in}

@@ -1,5 +1,5 @@
 -- A context is visited by its places that are needed: a visit of another place changes nothing, or what it changes is
--- changed again by that of a later place with the same scope.
+-- changed again by that of a later place with the same scope. Of these, those that are left at the row's id are enough.
 use Rattle.std.proofs.Common.{◌≡◌, ◌∙◌, ◌∷◌, Bool, true, false, ◌&&◌, ◌||◌, not, List, [], Option}
 use Rattle.std.proofs.Common.{None, Some, Result, Ok, Err, ℕ, ◌-◌, ◌<◌, ◌≤◌, length, drop, get_or, arith}
 use Rattle.std.proofs.Common.{refl, sym, ap, subst, if◌then◌else◌, option_map, slice_get, true≢false}
@@ -12,19 +12,19 @@ use Rattle.rc_hir.specs.declared.fault.Fault.TheVariants.{BadName}
 use Rattle.rc_hir.specs.declared.fault.TableName.TheVariants.{Functions}
 use Rattle.rc_names.specs.Numbers.{EvaluationOrder, FunctionId, ScopeId, is_among, same_id}
 use Rattle.rc_names.proofs.NumbersLemmas.{same_id-eq}
+use Rattle.rc_ranges.specs.Ranges.{is_in_range}
 use Rattle.rc_tree.proofs.StepLemmas.{Ok-injective, not_err, same_rest}
 use Rattle.rc_tree.specs.Step.{Walk, bind, each}
+use Rattle.rc_checks.proofs.MembershipCheck.RangeLemmas.{some_same, visited_at_id}
 use Rattle.rc_checks.proofs.MembershipCheck.WalkLemmas.{seen, told}
 use Rattle.rc_checks.proofs.MembershipCheck.WithoutBlocks.{never}
+use Rattle.rc_checks.specs.declared.membership.contexts.ContextToVisit.{ContextToVisit}
 use Rattle.rc_checks.specs.declared.membership.visitor.Outside.{Outside}
 use Rattle.rc_checks.specs.declared.membership.visitor.Seen.{Seen}
-use Rattle.rc_checks.specs.Membership.{if_outside, is_in_range, range_of, scope_of}
-use Rattle.rc_checks.specs.inside.ContextVisits.{contexts_to_visit, has_scope, in_front, is_needed, is_scope}
-use Rattle.rc_checks.specs.inside.ContextVisits.{places_to_visit}
+use Rattle.rc_checks.specs.Membership.{if_outside, range_of, scope_of}
+use Rattle.rc_checks.specs.inside.ContextVisits.{by_range, contexts_to_visit, has_scope, in_front, is_needed, is_scope}
+use Rattle.rc_checks.specs.inside.ContextVisits.{places_to_visit, visited_at}
 use Rattle.rc_checks.specs.inside.MembershipSteps.{latest_outside, membership_steps}
-
-some_same : {X : Type 0} {x y : X} → Some x ≡ Some y → x ≡ y
-some_same e = cc
 
 -- found twice is as found once
 latest_again : (id : EvaluationOrder) (found : Option ScopeId) (last : Option Outside)
@@ -147,26 +147,27 @@ module _ (env : Environment) (blocks : List ScopeId) (id : EvaluationOrder) wher
       same_rest (visit_place place s) _ _ (λ r. visited_by_rest places r.1)
       ∙ front_visited place (places_to_visit env blocks places) s
 
--- a context, visited by what is left of it
+-- a context, visited by what is left of it at the id
 module _ (env : Environment) (blocks : List ScopeId) where
-  pub context_by_rest : (id : EvaluationOrder) (function : FunctionId) (places left : List Place)
-      (contexts : List (List Place)) (s : Seen)
+  pub context_by_rest : (id : EvaluationOrder) (function : FunctionId) (places : List Place) (left : ContextToVisit)
+      (contexts : List ContextToVisit) (s : Seen)
       → context_found function (slice_get env.functions function.0) ≡ Ok places
       → contexts ≡ contexts_to_visit env blocks → slice_get contexts function.0 ≡ Some left
-      → each (visit_place env blocks id) places s ≡ each (visit_place env blocks id) left s
+      → each (visit_place env blocks id) places s ≡ each (visit_place env blocks id) (visited_at id left) s
   context_by_rest id function places left contexts s is all found =
       by (slice_get env.functions function.0) is
-      (sym (slice_get-map (λ f. places_to_visit env blocks f.context) env.functions function.0)
+      (sym (slice_get-map (λ f. by_range env (places_to_visit env blocks f.context)) env.functions function.0)
       ∙ ap (λ listed. slice_get listed function.0) (sym all) ∙ found)
     where
       by : (f : Option HirFunction) → context_found function f ≡ Ok places
-          → option_map (λ (f : HirFunction). places_to_visit env blocks f.context) f ≡ Some left
-          → each (visit_place env blocks id) places s ≡ each (visit_place env blocks id) left s
+          → option_map (λ (f : HirFunction). by_range env (places_to_visit env blocks f.context)) f ≡ Some left
+          → each (visit_place env blocks id) places s ≡ each (visit_place env blocks id) (visited_at id left) s
       by None is found = absurd (not_err places (BadName Functions function.0) (sym is))
       by (Some f) is found =
           ap (λ ps. each (visit_place env blocks id) ps s) (sym (Ok-injective f.context places is))
           ∙ visited_by_rest env blocks id f.context s
-          ∙ ap (λ ps. each (visit_place env blocks id) ps s) (some_same found)
+          ∙ visited_at_id env blocks id (places_to_visit env blocks f.context) s
+          ∙ ap (λ context. each (visit_place env blocks id) (visited_at id context) s) (some_same found)
 
 -- a loop over a context from its end on, which has met the scopes of the places that are left so far
 module _ (env : Environment) (blocks met : List ScopeId) (left : List Place)

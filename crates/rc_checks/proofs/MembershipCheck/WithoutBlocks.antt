@@ -4,11 +4,11 @@ use Rattle.std.proofs.Common.{Err, All, refl, sym, subst, if◌then◌else◌}
 use Rattle.std.proofs.lemmas.List.Elements.{All-cons, All-nil}
 use Rattle.rc_hir.specs.Model.{Environment, Fault, MutableRange}
 use Rattle.rc_names.specs.Numbers.{ScopeId}
+use Rattle.rc_ranges.specs.Ranges.{is_in_range}
 use Rattle.rc_tree.specs.Model.{ReactiveFunction}
 use Rattle.rc_tree.specs.Step.{bind}
 use Rattle.rc_tree.specs.TreeNames.{TreeInTables}
-use Rattle.rc_checks.specs.Membership.{IsFirstUnknown, IsInside, if_outside, is_in_range, is_outside, outside, range_of}
-use Rattle.rc_checks.specs.Membership.{scope_of}
+use Rattle.rc_checks.specs.Membership.{IsFirstUnknown, IsInside, if_outside, is_outside, outside, range_of, scope_of}
 use Rattle.rc_checks.specs.Membership.Visits.{PlacedOperand, Visit, visits_of}
 use Rattle.rc_checks.specs.ScopeBlocks.{scopes_in}
 use Rattle.rc_checks.proofs.FaultNames.{no_name_outside}

@@ -2,19 +2,23 @@
 
 ghost use Rattle.std.specs.Prelude.{◌≡◌};
 ghost use Rattle.rc_checks.specs.Membership as spec;
-ghost use Rattle.rc_checks.specs.inside.ContextVisits.{contexts_to_visit};
+ghost use Rattle.rc_checks.specs.inside.ContextVisits.{contexts_to_visit, visited_at};
 ghost use Rattle.rc_checks.specs.inside.MembershipSteps.{membership_steps};
 ghost use Rattle.rc_tree.specs.Step.{IsStep, each};
 
+use crate::membership::contexts::ContextToVisit;
 use crate::membership::look_ups::{range_of, scope_of};
 use crate::membership::open_scopes::OpenScopes;
-use rc_hir::{Environment, Fault, MutableRange, Place};
+use rc_hir::{Environment, Fault, Place};
 use rc_names::{EvaluationOrder, FunctionId, KeySet, List, Name, ScopeId};
+use rc_ranges::is_in_range;
 use rc_tree::{
     Enter, PrunedReactiveScopeBlock, ReactiveBlock, ReactiveInstruction, ReactiveScopeBlock,
     ReactiveTerminalStatement, ReactiveValue,
 };
 use rc_walk::ReactiveFunctionVisitor;
+use std::alloc::Global;
+use std::slice;
 
 /// An operand outside the blocks of its scope.
 #[derive(Clone, Copy)]
@@ -30,12 +34,13 @@ pub struct Seen {
     pub outside: Option<Outside>,
 }
 
-/// The check's hooks, with the scopes that have a scope block, and the places to visit of each function's context.
+/// The check's hooks, with the scopes that have a scope block, and what is visited of each function's context.
 #[derive(Drop)]
 pub struct Membership<'a> {
+    pub alloc: Global,
     pub env: &'a Environment,
     pub blocks: &'a KeySet<ScopeId>,
-    pub contexts: List<List<Place>>,
+    pub contexts: List<ContextToVisit>,
     ghost listed: { contexts ≡ contexts_to_visit env.now blocks.now },
 }
 
@@ -95,13 +100,23 @@ impl<'a> Membership<'a> {
         }
         Ok(())
     }
-}
 
-/// Whether the id is in the range, whose end is outside.
-fn is_in_range(id: EvaluationOrder, range: MutableRange) -> bool
-    ensures { result ≡ spec.is_in_range id range }
-{
-    range.start.0 <= id.0 && id.0 < range.end.0
+    /// Visits what is to be visited of a context at that id.
+    fn visit_context_at(
+        &self,
+        id: EvaluationOrder,
+        context: &ContextToVisit,
+        state: &mut Seen,
+    ) -> Result<(), Fault>
+        ensures { IsStep (each ((membership_steps self.now.env.now self.now.blocks.now).visit_place id)
+            (visited_at id context.now) state.old) result state.new }
+    {
+        if let Some(place) = &context.unknown {
+            return self.visit_operands(id, slice::from_ref(place), state);
+        }
+        let places = context.known.at(self.alloc, id)?;
+        self.visit_operands(id, places.as_slice(), state)
+    }
 }
 
 impl<'a> ReactiveFunctionVisitor for Membership<'a> {
@@ -143,7 +158,7 @@ impl<'a> ReactiveFunctionVisitor for Membership<'a> {
         state: &mut Seen,
     ) -> Result<(), Fault> {
         match self.contexts.get(function.index()) {
-            Some(left) => self.visit_operands(id, left.as_slice(), state),
+            Some(context) => self.visit_context_at(id, context, state),
             None => self.visit_operands(id, places, state),
         }
     }
