@@ -20,7 +20,7 @@ use Rattle.rc_memo.specs.declared.level.MemoizationLevel.{MemoizationLevel}
 use Rattle.rc_memo.specs.declared.level.MemoizationLevel.TheVariants.{Never}
 use Rattle.rc_memo.specs.declared.record.MemoNode.{MemoNode}
 use Rattle.rc_memo.specs.inside.Alike.{AreAlike, AreOf}
-use Rattle.rc_memo.specs.inside.Gathering.{HoldsAlike, HoldsNodes, NamesHold, NodesHold}
+use Rattle.rc_memo.specs.inside.Gathering.{HoldsAlike, HoldsNodes, NamesAlone, NodesAlone}
 use Rattle.rc_memo.specs.inside.ToldFacts.{AreTold, IsOneOf, IsTold}
 
 -- the facts of a list that are there
@@ -270,10 +270,10 @@ nodes_alike f g nodes alike holds = record {
   grounded = λ k none. sym (alike.nodes k) ∙ holds.grounded k (ap (list_any (same_id k)) alike.names ∙ none);
 }
 
-pub nodes_hold_alike : (nodes : List (DeclarationId × MemoNode)) → HoldsAlike NodesHold nodes
+pub nodes_hold_alike : (nodes : List (DeclarationId × MemoNode)) → HoldsAlike NodesAlone nodes
 unfolding HoldsAlike
 nodes_hold_alike nodes rows facts others alike holds = nodes_alike facts others nodes alike holds
 
-pub names_hold_alike : (names : List DeclarationId) → HoldsAlike NamesHold names
+pub names_hold_alike : (names : List DeclarationId) → HoldsAlike NamesAlone names
 unfolding HoldsAlike
 names_hold_alike names rows facts others alike holds = holds ∙ alike.names

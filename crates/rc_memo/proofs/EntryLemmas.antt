@@ -5,6 +5,7 @@ use Rattle.std.specs.Prelude.{◌||◌}
 use Rattle.std.specs.List.{list_any}
 use Rattle.std.specs.Map.{keys_of, lookup, set_value}
 use Rattle.indexmap.specs.IndexMap.{insert_entry}
+use Rattle.rc_names.proofs.KeyedLemmas.{lookup-insert_other, lookup-insert_there}
 use Rattle.rc_names.proofs.NumbersLemmas.{ids_equivalence, same_id-eq}
 use Rattle.rc_names.specs.Numbers.{DeclarationId, FunctionId, same_id}
 use Rattle.rc_memo.specs.inside.Gathering.{at_name}
@@ -82,6 +83,31 @@ put_there key value found (e ∷ es) there = go (same_id key e.0) there (put_the
       ≡ cond b ((e.0, value) ∷ es) (e ∷ insert_entry same_id es key value)
   go true is later = refl
   go false is later = ap (λ w. e ∷ w) (later is)
+
+-- and nothing changes where it is put as it is
+pub put_same : {V : Type 0} (key : FunctionId) (value : V) (es : List (FunctionId × V))
+    → lookup (same_id key) es ≡ Some value → insert_entry same_id es key value ≡ es
+put_same key value [] there = cc
+put_same key value (e ∷ es) there = go (same_id key e.0) there (put_same key value es) where
+  go : (b : Bool) → cond b (Some e.1) (lookup (same_id key) es) ≡ Some value
+      → (lookup (same_id key) es ≡ Some value → insert_entry same_id es key value ≡ es)
+      → cond b ((e.0, value) ∷ es) (e ∷ insert_entry same_id es key value) ≡ e ∷ es
+  go true is later = let one : value ≡ e.1 = cc in ap (λ v. (e.0, v) ∷ es) one
+  go false is later = ap (λ w. e ∷ w) (later is)
+
+-- the entry of a key that was put, and those of the others
+module _ {V : Type 0} (key other : FunctionId) (value found : V) (old new : List (FunctionId × V))
+    (put : new ≡ insert_entry same_id old key value) (there : lookup (same_id other) new ≡ Some found) where
+  pub entry_put : same_id key other ≡ true → value ≡ found
+  entry_put is =
+      let first = ap (λ w. lookup (same_id key) w) put ∙ lookup-insert_there ids_equivalence key value old in
+      let one : Some value ≡ Some found =
+      sym first ∙ ap (λ (w : FunctionId). lookup (same_id w) new) (same_id-eq key other is) ∙ there in
+      cc
+
+  pub entry_kept : same_id key other ≡ false → lookup (same_id other) old ≡ Some found
+  entry_kept is = sym (ap (λ w. lookup (same_id other) w) put
+      ∙ lookup-insert_other ids_equivalence key value old other is) ∙ there
 
 module _ {V : Type 0} (d : DeclarationId) where
   -- a change of nothing

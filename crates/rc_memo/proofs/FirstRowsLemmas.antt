@@ -6,15 +6,14 @@ use Rattle.std.specs.List.{flat_map}
 use Rattle.std.specs.Map.{lookup}
 use Rattle.indexmap.specs.IndexMap.{insert_entry}
 use Rattle.rc_hir.specs.Model.{Environment, Place}
-use Rattle.rc_names.proofs.KeyedLemmas.{lookup-insert_other, lookup-insert_there}
-use Rattle.rc_names.proofs.NumbersLemmas.{ids_equivalence, same_id-eq}
+use Rattle.rc_names.proofs.NumbersLemmas.{same_id-eq}
 use Rattle.rc_names.specs.Numbers.{EvaluationOrder, FunctionId, same_id}
+use Rattle.rc_memo.proofs.ContextsWaitLemmas.{contexts_first}
+use Rattle.rc_memo.proofs.EntryLemmas.{entry_kept, entry_put}
 use Rattle.rc_memo.proofs.IndexLemmas.{last_found}
-use Rattle.rc_memo.proofs.KnownRowsLemmas.{inner_later, known_later, rows_alike, wait_later}
-use Rattle.rc_memo.proofs.RepeatedLemmas.{mentioned_all, mentioned_put}
+use Rattle.rc_memo.proofs.KnownRowsLemmas.{inner_later, known_later, rows_alike}
 use Rattle.rc_memo.proofs.RowPartsLemmas.{levels_joined, row_filled}
 use Rattle.rc_memo.proofs.SameEventsLemmas.{same_more}
-use Rattle.rc_memo.proofs.WaitingLemmas.{waiting_first}
 use Rattle.rc_memo.specs.Mentions.{mention_of, target_of}
 use Rattle.rc_memo.specs.Table.{if_mutable}
 use Rattle.rc_memo.specs.declared.event.MemoEvent.{MemoEvent}
@@ -23,32 +22,14 @@ use Rattle.rc_memo.specs.declared.event.Target.{Target}
 use Rattle.rc_memo.specs.declared.known_rows.KnownRow.{KnownRow}
 use Rattle.rc_memo.specs.declared.known_rows.Told.{Told}
 use Rattle.rc_memo.specs.declared.table.LevelGiven.{LevelGiven}
-use Rattle.rc_memo.specs.declared.waiting.WaitingGroup.{WaitingGroup}
 use Rattle.rc_memo.specs.inside.Alike.{TellTheSame}
 use Rattle.rc_memo.specs.inside.FunctionRows.{context_of, function_row}
-use Rattle.rc_memo.specs.inside.Growing.{insert_all}
-use Rattle.rc_memo.specs.inside.KnownRows.{IsKnown, IsWithin, Knows, Tells, Waiting}
+use Rattle.rc_memo.specs.inside.KnownRows.{BeginWithContext, IsKnown, IsWithin, Knows, Tells}
 use Rattle.rc_memo.specs.inside.RowsAdded.{with_levels}
-use Rattle.rc_memo.specs.inside.RepeatedRows.{AreMentioned}
-use Rattle.rc_memo.specs.inside.WaitingPlaces.{AreAllCovered, AreWaiting, WaitFor, idle_places, place_name}
-use Rattle.rc_memo.specs.inside.WaitingPlaces.{places_waiting}
-
--- the entry of a key that was put, and those of the others
-module _ {V : Type 0} (key other : FunctionId) (value found : V) (old new : List (FunctionId × V))
-    (put : new ≡ insert_entry same_id old key value) (there : lookup (same_id other) new ≡ Some found) where
-  pub entry_put : same_id key other ≡ true → value ≡ found
-  entry_put is =
-      let first = ap (λ w. lookup (same_id key) w) put ∙ lookup-insert_there ids_equivalence key value old in
-      let one : Some value ≡ Some found =
-      sym first ∙ ap (λ (w : FunctionId). lookup (same_id w) new) (same_id-eq key other is) ∙ there in
-      cc
-
-  pub entry_kept : same_id key other ≡ false → lookup (same_id other) old ≡ Some found
-  entry_kept is = sym (ap (λ w. lookup (same_id other) w) put
-      ∙ lookup-insert_other ids_equivalence key value old other is) ∙ there
+use Rattle.rc_memo.specs.inside.WaitingPlaces.{PutsContext}
 
 module _ (env : Environment) (id : EvaluationOrder) (function : FunctionId) (given : List LevelGiven)
-    (known : KnownRow) (groups : List WaitingGroup) (old new : Told) (one two three : List MemoEvent)
+    (known : KnownRow) (old new : Told) (one two three : List MemoEvent)
     (first : one ≡ old.events ++ events.Row (map (mention_of env id) (context_of env function)) [] ∷ [])
     (second : two ≡ with_levels env id (flat_map if_mutable (context_of env function)) one)
     (third : three ≡ with_levels env id given two) (last : new.events ≡ three)
@@ -56,11 +37,7 @@ module _ (env : Environment) (id : EvaluationOrder) (function : FunctionId) (giv
     (shared : known.shared ≡ length (flat_map if_mutable (context_of env function)))
     (alike : (other : EvaluationOrder) → IsWithin known.ids other
     → map (mention_of env other) (context_of env function) ≡ map (mention_of env id) (context_of env function))
-    (named : new.waiting.mentioned
-    ≡ insert_all old.waiting.mentioned (map (place_name env) (context_of env function)))
-    (waits : new.waiting.groups ≡ insert_entry same_id old.waiting.groups function groups)
-    (placed : places_waiting groups ≡ idle_places env id (context_of env function))
-    (covered : AreAllCovered env groups) (inner : new.inner ≡ old.inner) where
+    (waits : PutsContext env id function old.waiting new.waiting) (inner : new.inner ≡ old.inner) where
   abbrev context : List Place
   context = context_of env function
 
@@ -100,66 +77,20 @@ module _ (env : Environment) (id : EvaluationOrder) (function : FunctionId) (giv
   known_by other row knows found false is = known_later env old.events more new.events other row all
       (knows other row (entry_kept function other known row old.known new.known put found is))
 
-  waits_here : WaitFor env new.events function known new.waiting.mentioned groups
-  waits_here = record {
-    id = id;
-    rest = own;
-    event = ap (λ w. slice_get w known.row) all ∙ last_found old.events (function_row env id function own) known.row at;
-    shared = shared;
-    places = subst (λ w. AreWaiting env w id context (places_waiting groups)) (sym all)
-        (subst (λ w. AreWaiting env (old.events ++ more) id context w) (sym placed)
-        (waiting_first env old.events id context (map (target_of env id) mutable ++ own)));
-    covered = covered;
-    names = subst (λ w. AreMentioned w (map (place_name env) context)) (sym named)
-        (mentioned_put old.waiting.mentioned (map (place_name env) context));
-  }
-
-  -- places that wait, wait on as more is mentioned
-  wait_on : (other : FunctionId) (row : KnownRow) (those : List WaitingGroup)
-      → WaitFor env old.events other row old.waiting.mentioned those
-      → WaitFor env new.events other row new.waiting.mentioned those
-  wait_on other row those h =
-      let later = wait_later env old.events more other row old.waiting.mentioned those refl h in
-      subst (λ w. WaitFor env w other row new.waiting.mentioned those) (sym all)
-      (subst (λ w. WaitFor env (old.events ++ more) other row w those) (sym named) (record {
-        id = later.id;
-        rest = later.rest;
-        event = later.event;
-        shared = later.shared;
-        places = later.places;
-        covered = later.covered;
-        names = mentioned_all old.waiting.mentioned (map (place_name env) context)
-            (map (place_name env) (context_of env other)) later.names;
-      }))
-
-  waits_by : (other : FunctionId) (row : KnownRow) (those : List WaitingGroup) → Waiting env old
-      → lookup (same_id other) new.known ≡ Some row → lookup (same_id other) new.waiting.groups ≡ Some those
-      → (b : Bool) → same_id function other ≡ b → WaitFor env new.events other row new.waiting.mentioned those
-  unfolding Waiting
-  waits_by other row those waiting found there true is =
-      subst (λ w. WaitFor env new.events w row new.waiting.mentioned those) (same_id-eq function other is)
-      (subst (λ w. WaitFor env new.events function w new.waiting.mentioned those)
-      (entry_put function other known row old.known new.known put found is)
-      (subst (λ w. WaitFor env new.events function known new.waiting.mentioned w)
-      (entry_put function other _ those old.waiting.groups new.waiting.groups waits there is) waits_here))
-  waits_by other row those waiting found there false is = wait_on other row those (waiting other row those
-      (entry_kept function other known row old.known new.known put found is)
-      (entry_kept function other _ those old.waiting.groups new.waiting.groups waits there is))
-
   pub tells_known : Tells env more old new
-  unfolding Tells Knows Waiting
+  unfolding Tells Knows
   tells_known before h = record {
     same = subst (λ w. TellTheSame w (before ++ more)) (sym all) (same_more old.events before more h.same);
     known = λ other row found. known_by other row h.known found (same_id function other) refl;
-    waiting = λ other row those found there.
-        waits_by other row those h.waiting found there (same_id function other) refl;
+    waiting = contexts_first env (λ (row : KnownRow). row.row) (BeginWithContext env) old.events new.events id function
+        (map (target_of env id) mutable ++ own) known old.known new.known old.waiting new.waiting all at (own, refl) put
+        waits h.waiting;
     inner = inner_later env old new more all inner refl h.inner;
   }
 
 -- the same, where the context was looked up
 module _ (env : Environment) (id : EvaluationOrder) (function : FunctionId) (given : List LevelGiven) where
-  pub tells_first : (known : KnownRow) (groups : List WaitingGroup) (context : List Place) (old new : Told)
-      (one two three : List MemoEvent)
+  pub tells_first : (known : KnownRow) (context : List Place) (old new : Told) (one two three : List MemoEvent)
       → context ≡ context_of env function
       → one ≡ old.events ++ events.Row (map (mention_of env id) context) [] ∷ []
       → two ≡ with_levels env id (flat_map if_mutable context) one → three ≡ with_levels env id given two
@@ -167,17 +98,13 @@ module _ (env : Environment) (id : EvaluationOrder) (function : FunctionId) (giv
       → known.row ≡ length old.events → known.shared ≡ length (flat_map if_mutable context)
       → ((other : EvaluationOrder) → IsWithin known.ids other
       → map (mention_of env other) context ≡ map (mention_of env id) context)
-      → new.waiting.mentioned ≡ insert_all old.waiting.mentioned (map (place_name env) context)
-      → new.waiting.groups ≡ insert_entry same_id old.waiting.groups function groups
-      → places_waiting groups ≡ idle_places env id context → AreAllCovered env groups → new.inner ≡ old.inner
+      → PutsContext env id function old.waiting new.waiting → new.inner ≡ old.inner
       → Tells env (function_row env id function (map (target_of env id) given) ∷ []) old new
-  tells_first known groups found old new one two three is first second third last put at shared alike named waits
-      placed covered inner =
-      tells_known env id function given known groups old new one two three
+  tells_first known found old new one two three is first second third last put at shared alike waits inner =
+      tells_known env id function given known old new one two three
       (subst (λ w. one ≡ old.events ++ events.Row (map (mention_of env id) w) [] ∷ []) is first)
       (subst (λ w. two ≡ with_levels env id (flat_map if_mutable w) one) is second) third last put at
       (subst (λ w. known.shared ≡ length (flat_map if_mutable w)) is shared)
       (subst (λ w. (other : EvaluationOrder) → IsWithin known.ids other
       → map (mention_of env other) w ≡ map (mention_of env id) w) is alike)
-      (subst (λ w. new.waiting.mentioned ≡ insert_all old.waiting.mentioned (map (place_name env) w)) is named)
-      waits (subst (λ w. places_waiting groups ≡ idle_places env id w) is placed) covered inner
+      waits inner

@@ -510,10 +510,6 @@ module _ (some : List Mention) (others : List Target) (numbers : List ScopeId) (
         kind_at-front heads (at_ends (kinds.Repeats row shared) ∷ []) row below ∙ is,
       )
 
-  pub sound-repeats : (row shared : ℕ) → kind_at heads row ≡ Some kinds.Row
-      → AreSound some others numbers (heads ++ at_ends (kinds.Repeats row shared) ∷ [])
-  sound-repeats row shared is = sound-bare (kinds.Repeats row shared) (refers_to_row row shared is)
-
   pub held-repeats : (row shared : ℕ) → kind_at heads row ≡ Some kinds.Row
       → events_held some others numbers (heads ++ at_ends (kinds.Repeats row shared) ∷ [])
       ≡ events_held some others numbers heads

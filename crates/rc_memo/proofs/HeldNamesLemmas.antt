@@ -14,12 +14,12 @@ use Rattle.rc_memo.specs.Facts.{target_told}
 use Rattle.rc_memo.specs.declared.event.Mention.{Mention}
 use Rattle.rc_memo.specs.declared.event.Target.{Target}
 use Rattle.rc_memo.specs.declared.level.MemoizationLevel.{MemoizationLevel}
-use Rattle.rc_memo.specs.inside.Gathering.{Adds, AddsAt, Gathers, HoldsNames, NamesHold, target_names}
+use Rattle.rc_memo.specs.inside.Gathering.{Adds, AddsAt, Gathers, HoldsNames, NamesAlone, target_names}
 use Rattle.rc_memo.specs.inside.Growing.{insert_all}
 
 -- a target gets a node
 pub names_level : (d : DeclarationId) (l : MemoizationLevel) (old new : List DeclarationId)
-    → new ≡ insert_key same_id old d → Adds NamesHold (GivesLevel d l ∷ []) old (Ok tt) new
+    → new ≡ insert_key same_id old d → Adds NamesAlone (GivesLevel d l ∷ []) old (Ok tt) new
 unfolding Adds Gathers
 names_level d l old new put rows fs held =
     (refl, put ∙ ap (λ names. insert_key same_id names d) held ∙ sym (names_more fs d l))
@@ -33,7 +33,7 @@ module _ (fact : Fact) (d : DeclarationId) (needs : needed_by fact ≡ Some d) w
 
   -- a name that is needed and has a node
   pub names_needed : (old : List DeclarationId) → target_told fact ≡ None → list_any (same_id d) old ≡ true
-      → Adds NamesHold (fact ∷ []) old (Ok tt) old
+      → Adds NamesAlone (fact ∷ []) old (Ok tt) old
   unfolding Adds Gathers
   names_needed old no_target found rows fs held = (
     ap (λ now. or_else now None) (asked fs old held ∙ ap (λ b. cond b None (Some d)) found),
@@ -42,7 +42,7 @@ module _ (fact : Fact) (d : DeclarationId) (needs : needed_by fact ≡ Some d) w
 
   -- one that has none
   pub names_missing : (old new : List DeclarationId) → list_any (same_id d) old ≡ false
-      → Adds NamesHold (fact ∷ []) old (Err (Uninitialised d)) new
+      → Adds NamesAlone (fact ∷ []) old (Err (Uninitialised d)) new
   unfolding Adds Gathers
   names_missing old new found rows fs held =
       inr (d, refl, ap (λ now. or_else now None) (asked fs old held ∙ ap (λ b. cond b None (Some d)) found))
@@ -67,24 +67,24 @@ any_inserted d names = go (list_any (same_id d) names) refl where
 module _ (resolve : DeclarationId → DeclarationId) (d : DeclarationId) where
   -- the facts of a name that has a node add nothing
   names_operands : (operands : List Mention) (names : List DeclarationId) → list_any (same_id d) names ≡ true
-      → Adds NamesHold (flat_map (operand_facts resolve d) operands) names (Ok tt) names
+      → Adds NamesAlone (flat_map (operand_facts resolve d) operands) names (Ok tt) names
   unfolding operand_facts
-  names_operands [] names there = adds_nothing NamesHold names
+  names_operands [] names there = adds_nothing NamesAlone names
   names_operands (operand ∷ operands) names there =
-      adds_next NamesHold (dependency_facts d (resolve operand.name)) (flat_map (operand_facts resolve d) operands)
+      adds_next NamesAlone (dependency_facts d (resolve operand.name)) (flat_map (operand_facts resolve d) operands)
       (Ok tt) names names names (go (same_id d (resolve operand.name))) (names_operands operands names there)
     where
-      go : (b : Bool) → Adds NamesHold (cond b [] (DependsOn d (resolve operand.name) ∷ [])) names (Ok tt) names
-      go true = adds_nothing NamesHold names
+      go : (b : Bool) → Adds NamesAlone (cond b [] (DependsOn d (resolve operand.name) ∷ [])) names (Ok tt) names
+      go true = adds_nothing NamesAlone names
       go false = names_needed (DependsOn d (resolve operand.name)) d refl names refl there
 
   names_scope : (scope : Option ScopeId) (names : List DeclarationId) → list_any (same_id d) names ≡ true
-      → Adds NamesHold (scope_facts d scope) names (Ok tt) names
-  names_scope None names there = adds_nothing NamesHold names
+      → Adds NamesAlone (scope_facts d scope) names (Ok tt) names
+  names_scope None names there = adds_nothing NamesAlone names
   names_scope (Some scope) names there = names_needed (HasScope d scope) d refl names refl there
 
 names_target : (resolve : DeclarationId → DeclarationId) (operands : List Mention) (target : Target)
-    (names : List DeclarationId) → Adds NamesHold (target_facts resolve operands target) names (Ok tt)
+    (names : List DeclarationId) → Adds NamesAlone (target_facts resolve operands target) names (Ok tt)
     (insert_key same_id names (resolve target.mention.name))
 unfolding target_facts
 names_target resolve operands target names =
@@ -93,34 +93,34 @@ names_target resolve operands target names =
     let more = scope_facts d target.mention.scope in
     let after = insert_key same_id names d in
     let there = any_inserted d names in
-    adds_next NamesHold (GivesLevel d target.level ∷ []) (facts ++ more) (Ok tt) names after after
+    adds_next NamesAlone (GivesLevel d target.level ∷ []) (facts ++ more) (Ok tt) names after after
     (names_level d target.level names after refl)
-    (adds_next NamesHold facts more (Ok tt) after after after (names_operands resolve d operands after there)
+    (adds_next NamesAlone facts more (Ok tt) after after after (names_operands resolve d operands after there)
     (names_scope resolve d target.mention.scope after there))
 
 names_all : (resolve : DeclarationId → DeclarationId) (operands : List Mention) (targets : List Target)
-    (names : List DeclarationId) → Adds NamesHold (flat_map (target_facts resolve operands) targets) names (Ok tt)
+    (names : List DeclarationId) → Adds NamesAlone (flat_map (target_facts resolve operands) targets) names (Ok tt)
     (insert_all names (target_names resolve targets))
-names_all resolve operands [] names = adds_nothing NamesHold names
+names_all resolve operands [] names = adds_nothing NamesAlone names
 names_all resolve operands (target ∷ targets) names =
     let after = insert_key same_id names (resolve target.mention.name) in
-    adds_next NamesHold (target_facts resolve operands target) (flat_map (target_facts resolve operands) targets)
+    adds_next NamesAlone (target_facts resolve operands target) (flat_map (target_facts resolve operands) targets)
     (Ok tt) names after (insert_all after (target_names resolve targets)) (names_target resolve operands target names)
     (names_all resolve operands targets after)
 
 names_targets : (resolve : DeclarationId → DeclarationId) (operands : List Mention) (targets : List Target)
     (old new : List DeclarationId) → new ≡ insert_all old (target_names resolve targets)
-    → Adds NamesHold (flat_map (target_facts resolve operands) targets) old (Ok tt) new
+    → Adds NamesAlone (flat_map (target_facts resolve operands) targets) old (Ok tt) new
 names_targets resolve operands targets old new put =
-    subst (λ w. Adds NamesHold (flat_map (target_facts resolve operands) targets) old (Ok tt) w) (sym put)
+    subst (λ w. Adds NamesAlone (flat_map (target_facts resolve operands) targets) old (Ok tt) w) (sym put)
     (names_all resolve operands targets old)
 
 pub names_targets_at : (resolve : DeclarationId → DeclarationId) (row : Option ℕ) (others : List DeclarationId)
     (operands : List Mention) (targets : List Target) (old new : List DeclarationId)
     → new ≡ insert_all old (target_names resolve targets)
-    → AddsAt NamesHold row others (flat_map (target_facts resolve operands) targets) old (Ok tt) new
+    → AddsAt NamesAlone row others (flat_map (target_facts resolve operands) targets) old (Ok tt) new
 names_targets_at resolve row others operands targets old new put =
-    adds_at NamesHold row others (flat_map (target_facts resolve operands) targets) old new (Ok tt)
+    adds_at NamesAlone row others (flat_map (target_facts resolve operands) targets) old new (Ok tt)
     (names_targets resolve operands targets old new put)
 
 -- before the first fact no name has a node

@@ -13,7 +13,7 @@ use Rattle.rc_memo.specs.Facts.{Fact, GivesLevel, DependsOn, HasScope, NeedsNode
 use Rattle.rc_memo.specs.Facts.{or_else}
 use Rattle.rc_memo.specs.declared.level.MemoizationLevel.{MemoizationLevel}
 use Rattle.rc_memo.specs.declared.record.MemoNode.{MemoNode}
-use Rattle.rc_memo.specs.inside.Gathering.{Adds, Gathers, Held, HoldsNodes, NodesHold, at_name, empty_node}
+use Rattle.rc_memo.specs.inside.Gathering.{Adds, Gathers, Held, HoldsNodes, NodesAlone, at_name, empty_node}
 use Rattle.rc_memo.specs.inside.Gathering.{with_dependency, with_level}
 use Rattle.rc_memo.specs.inside.Gathering.{with_scope}
 
@@ -32,7 +32,7 @@ there fs nodes d b holds e = ap (list_any (same_id d)) (sym (keys_are fs nodes h
 
 pub adds_dependency : (d e : DeclarationId) (old new : List (DeclarationId × MemoNode)) → new
     ≡ at_name d (with_dependency e) old → list_any (same_id d) (keys_of old) ≡ true
-    → Adds NodesHold (DependsOn d e ∷ []) old (Ok tt) new
+    → Adds NodesAlone (DependsOn d e ∷ []) old (Ok tt) new
 unfolding Adds Gathers
 adds_dependency d e old new is found rows fs holds = let t = there fs old d true holds found in (
   ap (λ w. or_else (cond w None (Some d)) None) t,
@@ -41,14 +41,14 @@ adds_dependency d e old new is found rows fs holds = let t = there fs old d true
 )
 
 pub adds_dependency_missing : (d e : DeclarationId) (old new : List (DeclarationId × MemoNode))
-    → list_any (same_id d) (keys_of old) ≡ false → Adds NodesHold (DependsOn d e ∷ []) old (Err (Uninitialised d)) new
+    → list_any (same_id d) (keys_of old) ≡ false → Adds NodesAlone (DependsOn d e ∷ []) old (Err (Uninitialised d)) new
 unfolding Adds Gathers
 adds_dependency_missing d e old new found rows fs holds =
     inr (d, refl, ap (λ w. or_else (cond w None (Some d)) None) (there fs old d false holds found))
 
 pub adds_scope : (d : DeclarationId) (c : ScopeId) (old new : List (DeclarationId × MemoNode)) → new
     ≡ at_name d (with_scope c) old → list_any (same_id d) (keys_of old) ≡ true
-    → Adds NodesHold (HasScope d c ∷ []) old (Ok tt) new
+    → Adds NodesAlone (HasScope d c ∷ []) old (Ok tt) new
 unfolding Adds Gathers
 adds_scope d c old new is found rows fs holds = let t = there fs old d true holds found in (
   ap (λ w. or_else (cond w None (Some d)) None) t,
@@ -57,14 +57,14 @@ adds_scope d c old new is found rows fs holds = let t = there fs old d true hold
 )
 
 pub adds_scope_missing : (d : DeclarationId) (c : ScopeId) (old new : List (DeclarationId × MemoNode))
-    → list_any (same_id d) (keys_of old) ≡ false → Adds NodesHold (HasScope d c ∷ []) old (Err (Uninitialised d)) new
+    → list_any (same_id d) (keys_of old) ≡ false → Adds NodesAlone (HasScope d c ∷ []) old (Err (Uninitialised d)) new
 unfolding Adds Gathers
 adds_scope_missing d c old new found rows fs holds =
     inr (d, refl, ap (λ w. or_else (cond w None (Some d)) None) (there fs old d false holds found))
 
 pub adds_level : (d : DeclarationId) (l : MemoizationLevel) (old new : List (DeclarationId × MemoNode)) → new
     ≡ at_name d (with_level l) old → list_any (same_id d) (keys_of old) ≡ true
-    → Adds NodesHold (GivesLevel d l ∷ []) old (Ok tt) new
+    → Adds NodesAlone (GivesLevel d l ∷ []) old (Ok tt) new
 unfolding Adds Gathers
 adds_level d l old new is found rows fs holds = (
   refl,
@@ -76,7 +76,7 @@ adds_level d l old new is found rows fs holds = (
 pub adds_first : (d : DeclarationId) (l : MemoizationLevel) (old between new : List (DeclarationId × MemoNode))
     (node : MemoNode) → between ≡ at_name d (with_level l) old → list_any (same_id d) (keys_of old) ≡ false → node
     ≡ with_level l empty_node →
-    new ≡ insert_entry same_id between d node → Adds NodesHold (GivesLevel d l ∷ []) old (Ok tt) new
+    new ≡ insert_entry same_id between d node → Adds NodesAlone (GivesLevel d l ∷ []) old (Ok tt) new
 unfolding Adds Gathers
 adds_first d l old between new node is found node_is put rows fs holds =
     let same = is ∙ at_absent d (with_level l) old found in
@@ -88,13 +88,13 @@ adds_first d l old between new node is found node_is put rows fs holds =
     )
 
 pub adds_asked : (d : DeclarationId) (nodes : List (DeclarationId × MemoNode)) → list_any (same_id d) (keys_of nodes)
-    ≡ true → Adds NodesHold (NeedsNode d ∷ []) nodes (Ok tt) nodes
+    ≡ true → Adds NodesAlone (NeedsNode d ∷ []) nodes (Ok tt) nodes
 unfolding Adds Gathers
 adds_asked d nodes found rows fs holds =
     (ap (λ w. or_else (cond w None (Some d)) None) (there fs nodes d true holds found), told_asked fs d nodes holds)
 
 pub adds_asked_missing : (d : DeclarationId) (nodes : List (DeclarationId × MemoNode))
-    → list_any (same_id d) (keys_of nodes) ≡ false → Adds NodesHold (NeedsNode d ∷ []) nodes (Err (Uninitialised d))
+    → list_any (same_id d) (keys_of nodes) ≡ false → Adds NodesAlone (NeedsNode d ∷ []) nodes (Err (Uninitialised d))
     nodes
 unfolding Adds Gathers
 adds_asked_missing d nodes found rows fs holds =

@@ -28,7 +28,7 @@ use Rattle.rc_memo.specs.declared.level.MemoizationLevel.{MemoizationLevel}
 use Rattle.rc_memo.specs.declared.nodes.rows.HeldRows.{HeldRows}
 use Rattle.rc_memo.specs.declared.nodes.rows.RowTarget.{RowTarget}
 use Rattle.rc_memo.specs.declared.row_record.RowNode.{RowNode}
-use Rattle.rc_memo.specs.inside.Gathering.{Adds, AddsAt, Gathers, HoldsAlike, HoldsNodes, IsRow, NodesHold}
+use Rattle.rc_memo.specs.inside.Gathering.{Adds, AddsAt, Gathers, HoldsAlike, HoldsNodes, IsRow, NodesAlone}
 use Rattle.rc_memo.specs.inside.Gathering.{PutsOperands, RowOperands, at_name, empty_node, operand_names, with_level}
 use Rattle.rc_memo.specs.inside.Gathering.{with_scope}
 use Rattle.rc_memo.specs.inside.GatheringRows.{FindsRow, HeldRowNodes, HoldsRows, PutsRow, RowsBelow, at_name_or}
@@ -83,7 +83,7 @@ empty_is ops d = refl
 adds_seen : (facts : List Fact) (old : HeldRows) (nodes : HeldRowNodes)
     → (AllByRecursion (RowsBelow (length old.operands)) old.nodes
     → AllByRecursion (RowsBelow (length old.operands)) nodes)
-    → Adds NodesHold facts (nodes_of_rows old.operands old.nodes) (Ok tt) (nodes_of_rows old.operands nodes)
+    → Adds NodesAlone facts (nodes_of_rows old.operands old.nodes) (Ok tt) (nodes_of_rows old.operands nodes)
     → Adds HoldsRows facts old (Ok tt) (record { nodes = nodes; operands = old.operands })
 unfolding Adds Gathers
 adds_seen facts old nodes keeps adds rows before holds = let a = adds rows before holds.nodes in (
@@ -101,7 +101,7 @@ adds_row_level d level old nodes is =
     (λ h. subst (AllByRecursion (RowsBelow (length old.operands))) (sym is)
     (below_or (length old.operands) d (with_target told)
     (λ node g. all_both (λ row. row < length old.operands) node.rows [] g tt) old.nodes h))
-    (subst (λ w. Adds NodesHold (GivesLevel d level ∷ []) (nodes_of_rows old.operands old.nodes) (Ok tt) w)
+    (subst (λ w. Adds NodesAlone (GivesLevel d level ∷ []) (nodes_of_rows old.operands old.nodes) (Ok tt) w)
     (sym (ap (nodes_of_rows old.operands) is
     ∙ seen_or (node_of_rows old.operands) d (with_target told) (with_level level)
     (grown old.operands d told [] refl) empty_row_node empty_node (empty_is old.operands d) old.nodes))
@@ -130,7 +130,7 @@ adds_row_scope d scope old nodes is found =
 
 -- facts of a name without a node
 stopped : (facts : List Fact) (d : DeclarationId) (old new : HeldRows)
-    → Adds NodesHold facts (nodes_of_rows old.operands old.nodes) (Err (Uninitialised d))
+    → Adds NodesAlone facts (nodes_of_rows old.operands old.nodes) (Err (Uninitialised d))
     (nodes_of_rows old.operands old.nodes) → Adds HoldsRows facts old (Err (Uninitialised d)) new
 unfolding Adds Gathers
 stopped facts d old new adds rows before holds = adds rows before holds.nodes
@@ -167,7 +167,7 @@ module _ (resolve : DeclarationId → DeclarationId) (mentions : List Mention) (
       (with_target_at resolve row target nodes)
       (λ h. below_or (length ops) d (with_target told)
       (λ node g. all_both (λ row. row < length ops) node.rows (option_to_list row) g there) nodes h)
-      (subst (λ w. Adds NodesHold (target_facts resolve mentions target) (nodes_of_rows ops nodes) (Ok tt) w)
+      (subst (λ w. Adds NodesAlone (target_facts resolve mentions target) (nodes_of_rows ops nodes) (Ok tt) w)
       (sym (seen_or (node_of_rows ops) d (with_target told)
       (with_parts target.level (names_but d (operand_names resolve mentions)) target.mention.scope)
       (grown ops d told (operand_names resolve mentions) those) empty_row_node empty_node (empty_is ops d) nodes))

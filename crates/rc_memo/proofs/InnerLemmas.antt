@@ -1,25 +1,23 @@
 -- The contexts of functions inside expressions: what is active of one is told with fewer places, and a row repeats its
 -- operands.
-use Rattle.std.proofs.Common.{◌≡◌, ◌∙◌, ℕ, Bool, true, false, List, [], ◌∷◌, ◌++◌, Option, Some, ap, append-nil}
-use Rattle.std.proofs.Common.{length, map, refl, slice_get, subst, sym}
+use Rattle.std.proofs.Common.{◌≡◌, ◌∙◌, ℕ, List, [], ◌∷◌, ◌++◌, Option, ap, append-nil, length, map, refl}
+use Rattle.std.proofs.Common.{subst, sym}
 use Rattle.std.specs.List.{flat_map}
-use Rattle.std.specs.Map.{lookup}
 use Rattle.indexmap.specs.IndexMap.{insert_entry}
 use Rattle.rc_hir.specs.Model.{Environment, InstructionValue, Place}
-use Rattle.rc_names.proofs.NumbersLemmas.{same_id-eq}
 use Rattle.rc_names.specs.Numbers.{DeclarationId, EvaluationOrder, FunctionId, same_id}
+use Rattle.rc_ranges.specs.Ranges.{places_at}
 use Rattle.rc_memo.proofs.AlikeLemmas.{alike_before, alike_more, alike_sym, alike_trans, there_right, there_through}
-use Rattle.rc_memo.proofs.FirstRowsLemmas.{entry_kept, entry_put}
+use Rattle.rc_memo.proofs.ContextsWaitLemmas.{context_at, contexts_first, contexts_resumed}
 use Rattle.rc_memo.proofs.GrowingLemmas.{distinct_more, flat-both}
 use Rattle.rc_memo.proofs.GrownEventsLemmas.{last_grown-push}
-use Rattle.rc_memo.proofs.IndexLemmas.{front_found, last_found}
-use Rattle.rc_memo.proofs.KnownRowsLemmas.{context_later, inner_later, knows_later, waiting_later}
-use Rattle.rc_memo.proofs.RepeatedLemmas.{mentioned_all, mentioned_put}
+use Rattle.rc_memo.proofs.KnownRowsLemmas.{inner_later, knows_later, waiting_later}
+use Rattle.rc_memo.proofs.RangedLemmas.{found_active}
 use Rattle.rc_memo.proofs.RepeatedScopes.{known_before}
 use Rattle.rc_memo.proofs.RowsToldLemmas.{facts_of_row, no_loads_behind}
 use Rattle.rc_memo.proofs.SameEventsLemmas.{same_more}
 use Rattle.rc_memo.proofs.WaitingLemmas.{active_facts, active_scopes, all_among, all_there, mention_facts_alike}
-use Rattle.rc_memo.proofs.WaitingLemmas.{mention_scopes_alike, same_target_facts, waiting_first, waiting_resumed}
+use Rattle.rc_memo.proofs.WaitingLemmas.{mention_scopes_alike, same_target_facts}
 use Rattle.rc_memo.specs.Events.{escaping_in, facts_behind, facts_told, loads_in, mention_facts, mention_scopes}
 use Rattle.rc_memo.specs.Events.{params_facts, resolved_after, row_facts, scopes_in, target_facts, target_scopes}
 use Rattle.rc_memo.specs.Facts.{distinct}
@@ -32,17 +30,13 @@ use Rattle.rc_memo.specs.declared.event.MemoEvent.TheVariants as events
 use Rattle.rc_memo.specs.declared.event.Target.{Target}
 use Rattle.rc_memo.specs.declared.known_rows.Told.{Told}
 use Rattle.rc_memo.specs.declared.level.MemoizationLevel.TheVariants.{Conditional}
-use Rattle.rc_memo.specs.declared.waiting.WaitingGroup.{WaitingGroup}
 use Rattle.rc_memo.specs.inside.Alike.{AreAlike, AreOf, MentionsTold, TellTheSame}
 use Rattle.rc_memo.specs.inside.FunctionRows.{NamesFunction, context_of, expression, method}
-use Rattle.rc_memo.specs.inside.Growing.{insert_all}
 use Rattle.rc_memo.specs.inside.HeldEvents.{last_grown, repeated}
-use Rattle.rc_memo.specs.inside.KnownRows.{AddsActive, HasTold, Inner, IsInner, RepeatsContext, Tells, TellsPiece}
+use Rattle.rc_memo.specs.inside.KnownRows.{AddsActive, AnyTargets, HasTold, RepeatsContext, Tells, TellsPiece}
 use Rattle.rc_memo.specs.inside.KnownRows.{expression_row, operands_row}
-use Rattle.rc_memo.specs.inside.RepeatedRows.{AreMentioned}
 use Rattle.rc_memo.specs.inside.RowsAdded.{with_levels}
-use Rattle.rc_memo.specs.inside.WaitingPlaces.{AllLeaveIdle, AreAllCovered, AreWaiting, active_places, idle_places}
-use Rattle.rc_memo.specs.inside.WaitingPlaces.{place_name, places_waiting}
+use Rattle.rc_memo.specs.inside.WaitingPlaces.{ContextWaits, PutsContext, active_places, places_of}
 
 -- the name that a name stands for behind events
 abbrev resolve : List MemoEvent → DeclarationId → DeclarationId
@@ -81,14 +75,6 @@ module _ (before others : List MemoEvent) (a b : List Mention) (own : List Targe
         ∙ ap (distinct same_id) (sym (scopes_of_row others b));
   }
 
--- the context that an inner row has
-context_at : (env : Environment) (told : Told) (function : FunctionId) (row : ℕ) (groups : List WaitingGroup)
-    → Inner env told → lookup (same_id function) told.inner.rows ≡ Some row
-    → lookup (same_id function) told.inner.waiting.groups ≡ Some groups
-    → IsInner env told.events function row told.inner.waiting.mentioned groups
-unfolding Inner
-context_at env told function row groups inner is_known are_waiting = inner function row groups is_known are_waiting
-
 -- the operands of an instruction that names a function are its context
 module _ (env : Environment) where
   pub recorded-function : (value : InstructionValue) (function : FunctionId) → NamesFunction function value
@@ -110,20 +96,19 @@ module _ (env : Environment) (id : EvaluationOrder) (function : FunctionId) wher
   -- what became active of a context
   module _ (before : List MemoEvent) (old new : Told) (adds : AddsActive env id function old new)
       (h : HasTold env before old)
-      (found : IsInner env old.events function adds.row old.inner.waiting.mentioned adds.groups)
-      (left : List WaitingGroup) (leaves : AllLeaveIdle env id adds.groups left)
-      (taken : new.inner.waiting.groups ≡ insert_entry same_id old.inner.waiting.groups function left) where
+      (found : ContextWaits env old.events (AnyTargets env function) function adds.row old.inner.waiting.mentioned
+      adds.places) where
     abbrev waited : List Place
-    waited = places_waiting adds.groups
+    waited = places_of adds.places
 
     abbrev active : List Mention
-    active = map (mention_of env id) (active_places env id waited)
+    active = map (mention_of env id) (places_at id adds.places)
+
+    active_are : active ≡ map (mention_of env id) (active_places env id waited)
+    active_are = ap (map (mention_of env id)) (found_active env id adds.places found.ranges)
 
     abbrev added : List MemoEvent
     added = events.Row active [] ∷ []
-
-    is_added : new.events ≡ old.events ++ added
-    is_added = adds.events found.covered
 
     active_same : TellTheSame (old.events ++ added) (before ++ operands_row env id context ∷ [])
     active_same =
@@ -137,7 +122,8 @@ module _ (env : Environment) (id : EvaluationOrder) (function : FunctionId) wher
         subst (λ w. AreAlike (old_facts ++ w) (asked ++ (whole ++ []))) (sym (append-nil some))
         (subst (λ w. AreAlike (old_facts ++ some) (asked ++ w)) (sym (append-nil whole))
         (subst (λ w. AreAlike (old_facts ++ w) (asked ++ whole))
-        (sym (active_facts env (resolve old.events) id waited))
+        (sym (ap (flat_map (mention_facts (resolve old.events))) active_are
+        ∙ active_facts env (resolve old.events) id waited))
         (alike_trans (old_facts ++ flat_map (mention_facts (resolve old.events)) (map (mention_of env id) waited))
         (old_facts ++ whole) (asked ++ whole)
         (alike_sym (old_facts ++ whole)
@@ -146,145 +132,46 @@ module _ (env : Environment) (id : EvaluationOrder) (function : FunctionId) wher
         (there_right (params_facts params) (facts_behind [] old.events)) found.places))
         (alike_more old_facts asked whole (h.same.facts params))))))
         (let known = flat_map scopes_in old.events in
-        ap (λ w. distinct same_id (known ++ w)) (append-nil (mention_scopes active) ∙ active_scopes env id waited)
+        ap (λ w. distinct same_id (known ++ w)) (append-nil (mention_scopes active) ∙ ap mention_scopes active_are
+        ∙ active_scopes env id waited)
         ∙ sym (mention_scopes_alike env old.events known id found.id context waited (λ scope is. is) found.places)
         ∙ distinct_more known (flat_map scopes_in before) (mention_scopes operands) h.same.scopes
         ∙ ap (λ w. distinct same_id (flat_map scopes_in before ++ w)) (sym (append-nil (mention_scopes operands))))
 
-    inner_here : IsInner env new.events function adds.row new.inner.waiting.mentioned left
-    inner_here = record {
-      id = found.id;
-      targets = found.targets;
-      event = ap (λ w. slice_get w adds.row) is_added
-          ∙ front_found old.events added adds.row (events.Row (map (mention_of env found.id) context) found.targets)
-          found.event;
-      places = subst (λ w. AreWaiting env w found.id context (places_waiting left)) (sym is_added)
-          (subst (λ w. AreWaiting env (old.events ++ added) found.id context w) (sym (leaves.places found.covered))
-          (waiting_resumed env old.events id found.id context waited [] refl found.places));
-      covered = leaves.covered found.covered;
-      names = subst (λ w. AreMentioned w (map (place_name env) context)) (sym adds.inner.mentioned) found.names;
-    }
-
-    inner_by : (other : FunctionId) (row : ℕ) (those : List WaitingGroup)
-        → lookup (same_id other) new.inner.rows ≡ Some row
-        → lookup (same_id other) new.inner.waiting.groups ≡ Some those → (b : Bool) → same_id function other ≡ b
-        → IsInner env new.events other row new.inner.waiting.mentioned those
-    inner_by other row those is_known there true is =
-        let one : Some adds.row ≡ Some row =
-        sym (ap (λ w. lookup (same_id function) w) adds.rows ∙ adds.is_known)
-        ∙ ap (λ (w : FunctionId). lookup (same_id w) new.inner.rows) (same_id-eq function other is) ∙ is_known in
-        let row_is : adds.row ≡ row = cc in
-        subst (λ w. IsInner env new.events w row new.inner.waiting.mentioned those) (same_id-eq function other is)
-        (subst (λ w. IsInner env new.events function w new.inner.waiting.mentioned those) row_is
-        (subst (λ w. IsInner env new.events function adds.row new.inner.waiting.mentioned w)
-        (entry_put function other left those old.inner.waiting.groups new.inner.waiting.groups taken there is)
-        inner_here))
-    inner_by other row those is_known there false is =
-        subst (λ w. IsInner env w other row new.inner.waiting.mentioned those) (sym is_added)
-        (subst (λ w. IsInner env (old.events ++ added) other row w those) (sym adds.inner.mentioned)
-        (context_later env old.events added other row old.inner.waiting.mentioned those refl
-        (context_at env old other row those h.inner (ap (λ w. lookup (same_id other) w) (sym adds.rows) ∙ is_known)
-        (entry_kept function other left those old.inner.waiting.groups new.inner.waiting.groups taken there is))))
-
     told_active : HasTold env (before ++ operands_row env id context ∷ []) new
-    unfolding Inner
     told_active = record {
-      same = subst (λ w. TellTheSame w (before ++ operands_row env id context ∷ [])) (sym is_added) active_same;
-      known = knows_later env old new added is_added adds.known h.known;
-      waiting = waiting_later env old new added is_added adds.known adds.waiting refl h.waiting;
-      inner = λ other row those is_known there.
-          inner_by other row those is_known there (same_id function other) refl;
+      same = subst (λ w. TellTheSame w (before ++ operands_row env id context ∷ [])) (sym adds.events) active_same;
+      known = knows_later env old new added adds.events adds.known h.known;
+      waiting = waiting_later env old new added adds.events adds.known adds.waiting refl h.waiting;
+      inner = contexts_resumed env (λ (row : ℕ). row) (AnyTargets env) old.events [] new.events id function adds.row
+          adds.places old.inner.rows new.inner.rows old.inner.waiting new.inner.waiting adds.events refl adds.is_known
+          adds.are_waiting adds.rows adds.inner h.inner;
     }
 
   pub tells_active : (old new : Told) → AddsActive env id function old new
       → Tells env (operands_row env id context ∷ []) old new
   unfolding Tells
   tells_active old new adds before h =
-      let left = adds.inner.groups adds.groups adds.are_waiting in
       told_active before old new adds h
-      (context_at env old function adds.row adds.groups h.inner adds.is_known adds.are_waiting) left.0 left.2 left.1
+      (context_at env (λ (row : ℕ). row) (AnyTargets env) old.events old.inner.rows old.inner.waiting h.inner function
+      adds.row adds.places adds.is_known adds.are_waiting)
 
   -- the first row with a context inside an expression
-  module _ (row : ℕ) (groups : List WaitingGroup) (old new : Told)
-      (all : new.events ≡ old.events ++ operands_row env id context ∷ [])
-      (known : new.known ≡ old.known) (waiting : new.waiting ≡ old.waiting)
-      (put : new.inner.rows ≡ insert_entry same_id old.inner.rows function row) (at : row ≡ length old.events)
-      (named : new.inner.waiting.mentioned ≡ insert_all old.inner.waiting.mentioned (map (place_name env) context))
-      (waits : new.inner.waiting.groups ≡ insert_entry same_id old.inner.waiting.groups function groups)
-      (placed : places_waiting groups ≡ idle_places env id context) (covered : AreAllCovered env groups) where
-    abbrev more : List MemoEvent
-    more = operands_row env id context ∷ []
-
-    first_here : IsInner env new.events function row new.inner.waiting.mentioned groups
-    first_here = record {
-      id = id;
-      targets = [];
-      event = ap (λ w. slice_get w row) all ∙ last_found old.events (operands_row env id context) row at;
-      places = subst (λ w. AreWaiting env w id context (places_waiting groups)) (sym all)
-          (subst (λ w. AreWaiting env (old.events ++ more) id context w) (sym placed)
-          (waiting_first env old.events id context []));
-      covered = covered;
-      names = subst (λ w. AreMentioned w (map (place_name env) context)) (sym named)
-          (mentioned_put old.inner.waiting.mentioned (map (place_name env) context));
-    }
-
-    -- the other contexts stay, as more is mentioned
-    stays_inner : (other : FunctionId) (at_other : ℕ) (those : List WaitingGroup)
-        → IsInner env old.events other at_other old.inner.waiting.mentioned those
-        → IsInner env new.events other at_other new.inner.waiting.mentioned those
-    stays_inner other at_other those h =
-        let later = context_later env old.events more other at_other old.inner.waiting.mentioned those refl h in
-        subst (λ w. IsInner env w other at_other new.inner.waiting.mentioned those) (sym all)
-        (subst (λ w. IsInner env (old.events ++ more) other at_other w those) (sym named) (record {
-          id = later.id;
-          targets = later.targets;
-          event = later.event;
-          places = later.places;
-          covered = later.covered;
-          names = mentioned_all old.inner.waiting.mentioned (map (place_name env) context)
-              (map (place_name env) (context_of env other)) later.names;
-        }))
-
-    first_by : (other : FunctionId) (at_other : ℕ) (those : List WaitingGroup) → Inner env old
-        → lookup (same_id other) new.inner.rows ≡ Some at_other
-        → lookup (same_id other) new.inner.waiting.groups ≡ Some those → (b : Bool) → same_id function other ≡ b
-        → IsInner env new.events other at_other new.inner.waiting.mentioned those
-    first_by other at_other those inner is_known there true is =
-        subst (λ w. IsInner env new.events w at_other new.inner.waiting.mentioned those) (same_id-eq function other is)
-        (subst (λ w. IsInner env new.events function w new.inner.waiting.mentioned those)
-        (entry_put function other row at_other old.inner.rows new.inner.rows put is_known is)
-        (subst (λ w. IsInner env new.events function row new.inner.waiting.mentioned w)
-        (entry_put function other groups those old.inner.waiting.groups new.inner.waiting.groups waits there is)
-        first_here))
-    first_by other at_other those inner is_known there false is = stays_inner other at_other those
-        (context_at env old other at_other those inner
-        (entry_kept function other row at_other old.inner.rows new.inner.rows put is_known is)
-        (entry_kept function other groups those old.inner.waiting.groups new.inner.waiting.groups waits there is))
-
-    tells_here : Tells env more old new
-    unfolding Tells Inner
-    tells_here before h = record {
-      same = subst (λ w. TellTheSame w (before ++ more)) (sym all) (same_more old.events before more h.same);
-      known = knows_later env old new more all known h.known;
-      waiting = waiting_later env old new more all known waiting refl h.waiting;
-      inner = λ other at_other those is_known there.
-          first_by other at_other those h.inner is_known there (same_id function other) refl;
-    }
-
-  -- the same, where the context was looked up
-  pub tells_first_context : (row : ℕ) (groups : List WaitingGroup) (there : List Place) (old new : Told)
-      → there ≡ context → new.events ≡ old.events ++ operands_row env id there ∷ []
+  pub tells_first_context : (row : ℕ) (old new : Told) → new.events ≡ old.events ++ operands_row env id context ∷ []
       → new.known ≡ old.known → new.waiting ≡ old.waiting
       → new.inner.rows ≡ insert_entry same_id old.inner.rows function row → row ≡ length old.events
-      → new.inner.waiting.mentioned ≡ insert_all old.inner.waiting.mentioned (map (place_name env) there)
-      → new.inner.waiting.groups ≡ insert_entry same_id old.inner.waiting.groups function groups
-      → places_waiting groups ≡ idle_places env id there → AreAllCovered env groups
+      → PutsContext env id function old.inner.waiting new.inner.waiting
       → Tells env (operands_row env id context ∷ []) old new
-  tells_first_context row groups there old new is all known waiting put at named waits placed covered =
-      tells_here row groups old new
-      (subst (λ w. new.events ≡ old.events ++ operands_row env id w ∷ []) is all) known waiting put at
-      (subst (λ w. new.inner.waiting.mentioned ≡ insert_all old.inner.waiting.mentioned (map (place_name env) w)) is
-      named) waits (subst (λ w. places_waiting groups ≡ idle_places env id w) is placed) covered
+  unfolding Tells
+  tells_first_context row old new all known waiting put at puts before h =
+      let more = operands_row env id context ∷ [] in
+      record {
+        same = subst (λ w. TellTheSame w (before ++ more)) (sym all) (same_more old.events before more h.same);
+        known = knows_later env old new more all known h.known;
+        waiting = waiting_later env old new more all known waiting refl h.waiting;
+        inner = contexts_first env (λ (row : ℕ). row) (AnyTargets env) old.events new.events id function [] row
+            old.inner.rows new.inner.rows old.inner.waiting new.inner.waiting all at tt put puts h.inner;
+      }
 
   -- the row of an expression that repeats the operands of an inner context
   module _ (target : Option Place) (before : List MemoEvent) (old mid new : Told)
@@ -292,7 +179,8 @@ module _ (env : Environment) (id : EvaluationOrder) (function : FunctionId) wher
       (put : new.events ≡ with_levels env id (own target Conditional) mid.events) (known : new.known ≡ mid.known)
       (waits : new.waiting ≡ mid.waiting) (inner : new.inner ≡ mid.inner)
       (mentions : MentionsTold before (map (mention_of env id) context)) (h : HasTold env before old)
-      (found : IsInner env old.events function repeats.row old.inner.waiting.mentioned repeats.groups) where
+      (found : ContextWaits env old.events (AnyTargets env function) function repeats.row old.inner.waiting.mentioned
+      repeats.places) where
     abbrev targets : List Target
     targets = map (target_of env id) (own target Conditional)
 
@@ -321,7 +209,7 @@ module _ (env : Environment) (id : EvaluationOrder) (function : FunctionId) wher
         alike_trans (old_facts ++ (told found.id ++ given found.id)) (old_facts ++ given found.id)
         (asked ++ (told id ++ given id))
         (alike_before old_facts (told found.id) (given found.id)
-        (all_there env old.events old_facts found.id context (places_waiting repeats.groups)
+        (all_there env old.events old_facts found.id context (places_of repeats.places)
         (there_right (params_facts params) (facts_behind [] old.events)) found.places))
         (alike_trans (old_facts ++ given found.id) (asked ++ given found.id) (asked ++ (told id ++ given id))
         (alike_more old_facts asked (given found.id) (h.same.facts params))
@@ -334,7 +222,7 @@ module _ (env : Environment) (id : EvaluationOrder) (function : FunctionId) wher
         (subst (λ w. AreOf (facts_behind [] before) (flat_map (mention_facts (resolved_after w)) (operands id)))
         (sym h.same.loads) mentions.facts)))))))
         (known_before known_scopes (mention_scopes (operands found.id)) (target_scopes targets)
-        (all_among env old.events known_scopes found.id context (places_waiting repeats.groups) (λ scope is. is)
+        (all_among env old.events known_scopes found.id context (places_of repeats.places) (λ scope is. is)
         found.places)
         ∙ distinct_more known_scopes asked_scopes (target_scopes targets) h.same.scopes
         ∙ sym (known_before asked_scopes (mention_scopes (operands id)) (target_scopes targets) mentions.scopes))
@@ -355,4 +243,5 @@ module _ (env : Environment) (id : EvaluationOrder) (function : FunctionId) wher
   unfolding TellsPiece
   tells_context_piece target old mid new repeats put known waits inner before mentions h =
       told_again target before old mid new repeats put known waits inner mentions h
-      (context_at env old function repeats.row repeats.groups h.inner repeats.is_known repeats.are_waiting)
+      (context_at env (λ (row : ℕ). row) (AnyTargets env) old.events old.inner.rows old.inner.waiting h.inner function
+      repeats.row repeats.places repeats.is_known repeats.are_waiting)

@@ -1,7 +1,7 @@
 -- Rows that are known, as events are added, and rows that repeat one of them.
 use Rattle.std.proofs.Common.{◌≡◌, ◌∙◌, ◌+◌, ◌<◌, ◌≤◌, ℕ, Bool, true, false, List, [], ◌∷◌, ◌++◌}
 use Rattle.std.proofs.Common.{None, Option, Some, ap, append-nil, append_assoc, get_or, length, map, refl, slice_get}
-use Rattle.std.proofs.Common.{inl, inr, is_some, subst, sym, take, true≢false, if◌then◌else◌}
+use Rattle.std.proofs.Common.{is_some, subst, sym, take, true≢false, if◌then◌else◌}
 use Rattle.std.proofs.Math.Seq.{take-append_seam}
 use Rattle.std.proofs.lemmas.List.{flat_map_more, length-map, take_more}
 use Rattle.std.specs.List.{flat_map}
@@ -9,10 +9,10 @@ use Rattle.std.specs.Map.{lookup}
 use Rattle.rc_hir.specs.Model.{Environment, Place}
 use Rattle.rc_names.specs.Numbers.{DeclarationId, EvaluationOrder, FunctionId, same_id}
 use Rattle.rc_memo.proofs.AddingLemmas.{take_all}
+use Rattle.rc_memo.proofs.ContextsWaitLemmas.{contexts_load, contexts_more}
 use Rattle.rc_memo.proofs.GrownEventsLemmas.{last_grown-push}
 use Rattle.rc_memo.proofs.IndexLemmas.{front_found}
 use Rattle.rc_memo.proofs.SameEventsLemmas.{same_more, same_refl}
-use Rattle.rc_memo.proofs.WaitingLemmas.{waiting_load, waiting_more}
 use Rattle.rc_memo.specs.Events.{loads_in}
 use Rattle.rc_hir.specs.Types.{is_mutable}
 use Rattle.rc_memo.specs.Mentions.{mention_of, target_of}
@@ -29,15 +29,10 @@ use Rattle.rc_memo.specs.declared.known_rows.KnownRow.{KnownRow}
 use Rattle.rc_memo.specs.declared.known_rows.Told.{Told}
 use Rattle.rc_memo.specs.inside.FunctionRows.{context_of, function_row}
 use Rattle.rc_memo.specs.inside.HeldEvents.{last_grown, repeated}
-use Rattle.rc_memo.specs.declared.waiting.WaitingGroup.{WaitingGroup}
-use Rattle.rc_memo.specs.declared.waiting.WaitingPlaces.{WaitingPlaces}
 use Rattle.rc_memo.specs.inside.Alike.{TellTheSame}
-use Rattle.rc_memo.specs.inside.KnownRows.{HasTold, Inner, IsInner, IsKnown, IsWithin, Knows, Loads, Repeats, Tells}
-use Rattle.rc_memo.specs.inside.KnownRows.{Waiting}
-use Rattle.rc_memo.specs.inside.WaitingPlaces.{ForgetsName, WaitFor, places_waiting}
-
-none_waits : {groups : List WaitingGroup} → ◌≡◌ {A = Option (List WaitingGroup)} None (Some groups) → ⊥
-none_waits is = true≢false (sym (ap is_some is))
+use Rattle.rc_memo.specs.inside.KnownRows.{AnyTargets, BeginWithContext, HasTold, Inner, IsKnown, IsWithin, Knows}
+use Rattle.rc_memo.specs.inside.KnownRows.{Loads, Repeats, Tells, Waiting}
+use Rattle.rc_memo.specs.inside.WaitingPlaces.{ContextsWait}
 
 none_known : {known : KnownRow} → ◌≡◌ {A = Option KnownRow} None (Some known) → ⊥
 none_known is = true≢false (sym (ap is_some is))
@@ -61,53 +56,19 @@ module _ (env : Environment) where
       known_later old.events more new.events function known events
       (knows function known (ap (λ w. lookup (same_id function) w) (sym same) ∙ found))
 
-  pub wait_later : (old more : List MemoEvent) (function : FunctionId) (known : KnownRow) (mentioned : List DeclarationId)
-      (groups : List WaitingGroup) → flat_map loads_in more ≡ [] → WaitFor env old function known mentioned groups
-      → WaitFor env (old ++ more) function known mentioned groups
-  wait_later old more function known mentioned groups quiet h = record {
-    id = h.id;
-    rest = h.rest;
-    event = front_found old more known.row (function_row env h.id function h.rest) h.event;
-    shared = h.shared;
-    places = waiting_more env old more h.id (context_of env function) (places_waiting groups) quiet h.places;
-    covered = h.covered;
-    names = h.names;
-  }
-
   pub waiting_later : (old new : Told) (more : List MemoEvent) → new.events ≡ old.events ++ more
       → new.known ≡ old.known → new.waiting ≡ old.waiting → flat_map loads_in more ≡ [] → Waiting env old
       → Waiting env new
-  unfolding Waiting
-  waiting_later old new more events known same quiet h function row groups is_known are_waiting =
-      let before = h function row groups (ap (λ w. lookup (same_id function) w) (sym known) ∙ is_known)
-      (ap (λ (w : WaitingPlaces). lookup (same_id function) w.groups) (sym same) ∙ are_waiting) in
-      subst (λ w. WaitFor env w function row new.waiting.mentioned groups) (sym events)
-      (subst (λ (w : WaitingPlaces). WaitFor env (old.events ++ more) function row w.mentioned groups) (sym same)
-      (wait_later old.events more function row old.waiting.mentioned groups quiet before))
-
-  pub context_later : (old more : List MemoEvent) (function : FunctionId) (row : ℕ) (mentioned : List DeclarationId)
-      (groups : List WaitingGroup) → flat_map loads_in more ≡ [] → IsInner env old function row mentioned groups
-      → IsInner env (old ++ more) function row mentioned groups
-  context_later old more function row mentioned groups quiet h = record {
-    id = h.id;
-    targets = h.targets;
-    event = front_found old more row (events.Row (map (mention_of env h.id) (context_of env function)) h.targets)
-        h.event;
-    places = waiting_more env old more h.id (context_of env function) (places_waiting groups) quiet h.places;
-    covered = h.covered;
-    names = h.names;
-  }
+  waiting_later old new more events known same quiet h =
+      contexts_more env (λ (known : KnownRow). known.row) (BeginWithContext env) old.events more new.events old.known
+      new.known old.waiting new.waiting events quiet known same h
 
   pub inner_later : (old new : Told) (more : List MemoEvent) → new.events ≡ old.events ++ more
       → new.inner ≡ old.inner → flat_map loads_in more ≡ [] → Inner env old → Inner env new
-  unfolding Inner
-  inner_later old new more events same quiet h function row groups is_known are_waiting =
-      let before = h function row groups
-      (ap (λ (w : InnerContexts). lookup (same_id function) w.rows) (sym same) ∙ is_known)
-      (ap (λ (w : InnerContexts). lookup (same_id function) w.waiting.groups) (sym same) ∙ are_waiting) in
-      subst (λ w. IsInner env w function row new.inner.waiting.mentioned groups) (sym events)
-      (subst (λ (w : InnerContexts). IsInner env (old.events ++ more) function row w.waiting.mentioned groups)
-      (sym same) (context_later old.events more function row old.inner.waiting.mentioned groups quiet before))
+  inner_later old new more events same quiet h =
+      contexts_more env (λ (row : ℕ). row) (AnyTargets env) old.events more new.events old.inner.rows new.inner.rows
+      old.inner.waiting new.inner.waiting events quiet (ap (λ (w : InnerContexts). w.rows) same)
+      (ap (λ (w : InnerContexts). w.waiting) same) h
 
   -- events without loads, none, a load, and what is added in two steps
 
@@ -130,53 +91,6 @@ module _ (env : Environment) where
       → Tells env whole old new
   tells_same more whole old new is told = subst (λ w. Tells env w old new) (sym is) told
 
-  -- a load of another name; a load of a name that is mentioned forgets all places
-  load_waits : (target loaded : DeclarationId) (old new : Told)
-      → new.events ≡ old.events ++ events.Load target loaded ∷ [] → new.known ≡ old.known
-      → ForgetsName target old.waiting new.waiting → Waiting env old → Waiting env new
-  unfolding Waiting
-  load_waits target loaded old new told known (inr none) h function row groups is_known are_waiting =
-      absurd (none_waits (ap (lookup (same_id function)) (sym none) ∙ are_waiting))
-  load_waits target loaded old new told known (inl kept) h function row groups is_known are_waiting =
-      let more = events.Load target loaded ∷ [] in
-      let before = h function row groups (ap (λ w. lookup (same_id function) w) (sym known) ∙ is_known)
-      (ap (λ (w : WaitingPlaces). lookup (same_id function) w.groups) (sym kept.1) ∙ are_waiting) in
-      subst (λ w. WaitFor env w function row new.waiting.mentioned groups) (sym told)
-      (subst (λ (w : WaitingPlaces). WaitFor env (old.events ++ more) function row w.mentioned groups) (sym kept.1)
-      (record {
-        id = before.id;
-        rest = before.rest;
-        event = front_found old.events more row.row (function_row env before.id function before.rest) before.event;
-        shared = before.shared;
-        places = waiting_load env old.events target loaded old.waiting.mentioned before.id (context_of env function)
-            (places_waiting groups) kept.0 before.names before.places;
-        covered = before.covered;
-        names = before.names;
-      }))
-
-  load_inner : (target loaded : DeclarationId) (old new : Told)
-      → new.events ≡ old.events ++ events.Load target loaded ∷ [] → new.inner.rows ≡ old.inner.rows
-      → ForgetsName target old.inner.waiting new.inner.waiting → Inner env old → Inner env new
-  unfolding Inner
-  load_inner target loaded old new told rows (inr none) h function row groups is_known are_waiting =
-      absurd (none_waits (ap (lookup (same_id function)) (sym none) ∙ are_waiting))
-  load_inner target loaded old new told rows (inl kept) h function row groups is_known are_waiting =
-      let more = events.Load target loaded ∷ [] in
-      let before = h function row groups (ap (λ w. lookup (same_id function) w) (sym rows) ∙ is_known)
-      (ap (λ (w : WaitingPlaces). lookup (same_id function) w.groups) (sym kept.1) ∙ are_waiting) in
-      subst (λ w. IsInner env w function row new.inner.waiting.mentioned groups) (sym told)
-      (subst (λ (w : WaitingPlaces). IsInner env (old.events ++ more) function row w.mentioned groups) (sym kept.1)
-      (record {
-        id = before.id;
-        targets = before.targets;
-        event = front_found old.events more row
-            (events.Row (map (mention_of env before.id) (context_of env function)) before.targets) before.event;
-        places = waiting_load env old.events target loaded old.inner.waiting.mentioned before.id
-            (context_of env function) (places_waiting groups) kept.0 before.names before.places;
-        covered = before.covered;
-        names = before.names;
-      }))
-
   pub tells_load : (target loaded : DeclarationId) (old new : Told) → Loads target loaded old new
       → Tells env (events.Load target loaded ∷ []) old new
   unfolding Tells
@@ -185,8 +99,11 @@ module _ (env : Environment) where
       record {
         same = subst (λ w. TellTheSame w (before ++ more)) (sym loads.events) (same_more old.events before more h.same);
         known = knows_later old new more loads.events loads.known h.known;
-        waiting = load_waits target loaded old new loads.events loads.known loads.waiting h.waiting;
-        inner = load_inner target loaded old new loads.events loads.rows loads.inner h.inner;
+        waiting = contexts_load env (λ (known : KnownRow). known.row) (BeginWithContext env) old.events new.events
+            target loaded old.known new.known old.waiting new.waiting loads.events loads.known loads.waiting h.waiting;
+        inner = contexts_load env (λ (row : ℕ). row) (AnyTargets env) old.events new.events target loaded
+            old.inner.rows new.inner.rows old.inner.waiting new.inner.waiting loads.events loads.rows loads.inner
+            h.inner;
       }
 
   pub tells_joined : (old mid new : Told) (a b whole : List MemoEvent) → whole ≡ a ++ b → Tells env a old mid
@@ -213,13 +130,13 @@ module _ (env : Environment) where
   -- from no events
   pub all_told : (more : List MemoEvent) (old new : Told) → old.events ≡ [] → old.known ≡ [] → old.inner.rows ≡ []
       → Tells env more old new → TellTheSame new.events more
-  unfolding Tells Knows Waiting Inner
+  unfolding Tells Knows ContextsWait
   all_told more old new events known rows told = (told [] (record {
     same = subst (λ w. TellTheSame w []) (sym events) (same_refl []);
     known = λ function row found. absurd (none_known (ap (lookup (same_id function)) (sym known) ∙ found));
-    waiting = λ function row groups is_known are_waiting.
+    waiting = λ function row places is_known are_waiting.
         absurd (none_known (ap (lookup (same_id function)) (sym known) ∙ is_known));
-    inner = λ function row groups is_known are_waiting.
+    inner = λ function row places is_known are_waiting.
         absurd (none_inner (ap (lookup (same_id function)) (sym rows) ∙ is_known));
   })).same
 

@@ -23,7 +23,8 @@ pub mod RepeatedScopes
 pub mod RowsToldLemmas
 pub mod PiecesLemmas
 pub mod WaitingLemmas
-pub mod GroupsLemmas
+pub mod RangedLemmas
+pub mod ContextsWaitLemmas
 pub mod KnownRowsLemmas
 pub mod FirstRowsLemmas
 pub mod ResumedRowsLemmas

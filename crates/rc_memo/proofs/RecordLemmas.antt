@@ -15,7 +15,7 @@ use Rattle.rc_memo.specs.declared.collecting.RecordParts.{RecordParts}
 use Rattle.rc_memo.specs.declared.event.MemoEvent.{MemoEvent}
 use Rattle.rc_memo.specs.declared.nodes.rows.HeldRows.{HeldRows}
 use Rattle.rc_memo.specs.inside.Alike.{TellTheSame}
-use Rattle.rc_memo.specs.inside.Gathering.{Held, HoldsAlike, NodesHold, RowOperands}
+use Rattle.rc_memo.specs.inside.Gathering.{Held, HoldsAlike, NodesAlone, RowOperands}
 use Rattle.rc_memo.specs.inside.GatheringEvents.{HasGathered}
 use Rattle.rc_memo.specs.inside.GatheringRows.{HoldsRows}
 use Rattle.rc_memo.specs.inside.RecordParts.{HasRecordParts}
@@ -34,7 +34,7 @@ module _ (func : ReactiveFunction) (env : Environment) where
     scopes = scopes ∙ ap (recorded_scopes env) same.scopes;
   }
 
-  pub record_is : (parts : RecordParts Held) → HasRecordParts NodesHold func env parts → IsRecordOf func env (record {
+  pub record_is : (parts : RecordParts Held) → HasRecordParts NodesAlone func env parts → IsRecordOf func env (record {
     nodes = parts.found.held;
     scopes = parts.scopes;
     definitions = parts.found.definitions;

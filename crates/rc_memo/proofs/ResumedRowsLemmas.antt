@@ -1,23 +1,22 @@
 -- The row of a function behind what became active of its context: it makes the same record as the whole row.
-use Rattle.std.proofs.Common.{◌≡◌, ◌∙◌, Bool, true, false, List, [], ◌∷◌, ◌++◌, Some, ap, append-nil, append_assoc}
-use Rattle.std.proofs.Common.{map, refl, subst, sym, take}
+use Rattle.std.proofs.Common.{◌≡◌, ◌∙◌, List, [], ◌∷◌, ◌++◌, Some, ap, append-nil, append_assoc, length, map, refl}
+use Rattle.std.proofs.Common.{subst, sym, take}
 use Rattle.std.proofs.Math.Seq.{take-append_seam}
 use Rattle.std.proofs.lemmas.List.{length-map}
 use Rattle.std.specs.Prelude.{slice_get}
 use Rattle.std.specs.List.{flat_map}
 use Rattle.std.specs.Map.{lookup}
-use Rattle.indexmap.specs.IndexMap.{insert_entry}
 use Rattle.rc_hir.specs.Model.{Environment, Place}
-use Rattle.rc_names.proofs.NumbersLemmas.{same_id-eq}
 use Rattle.rc_names.specs.Numbers.{DeclarationId, EvaluationOrder, FunctionId, same_id}
+use Rattle.rc_ranges.specs.Ranges.{places_at}
 use Rattle.rc_memo.proofs.AlikeLemmas.{alike_more, alike_sym, alike_trans, there_right}
-use Rattle.rc_memo.proofs.FirstRowsLemmas.{entry_kept, entry_put}
+use Rattle.rc_memo.proofs.ContextsWaitLemmas.{context_at, contexts_resumed}
 use Rattle.rc_memo.proofs.GrowingLemmas.{distinct-all, flat-both}
 use Rattle.rc_memo.proofs.GrownEventsLemmas.{last_grown-push}
-use Rattle.rc_memo.proofs.IndexLemmas.{front_found}
-use Rattle.rc_memo.proofs.KnownRowsLemmas.{inner_later, knows_later, wait_later}
+use Rattle.rc_memo.proofs.KnownRowsLemmas.{inner_later, knows_later}
+use Rattle.rc_memo.proofs.RangedLemmas.{found_active}
 use Rattle.rc_memo.proofs.RowsToldLemmas.{facts_of_row, no_loads_behind}
-use Rattle.rc_memo.proofs.WaitingLemmas.{row_alike, row_scopes_alike, waiting_resumed}
+use Rattle.rc_memo.proofs.WaitingLemmas.{row_alike, row_scopes_alike}
 use Rattle.rc_memo.specs.Events.{escaping_in, facts_behind, facts_told, loads_in, mention_facts, mention_scopes}
 use Rattle.rc_memo.specs.Events.{params_facts, resolved_after, row_facts, scopes_in, target_scopes}
 use Rattle.rc_memo.specs.Facts.{distinct}
@@ -30,38 +29,32 @@ use Rattle.rc_memo.specs.declared.event.Target.{Target}
 use Rattle.rc_memo.specs.declared.known_rows.KnownRow.{KnownRow}
 use Rattle.rc_memo.specs.declared.known_rows.Told.{Told}
 use Rattle.rc_memo.specs.declared.table.LevelGiven.{LevelGiven}
-use Rattle.rc_memo.specs.declared.waiting.WaitingGroup.{WaitingGroup}
-use Rattle.rc_memo.specs.declared.waiting.WaitingPlaces.{WaitingPlaces}
 use Rattle.rc_memo.specs.inside.Alike.{AreAlike}
 use Rattle.rc_memo.specs.inside.FunctionRows.{context_of, function_row}
 use Rattle.rc_memo.specs.inside.Growing.{insert_all}
 use Rattle.rc_memo.specs.inside.HeldEvents.{last_grown, repeated}
-use Rattle.rc_memo.specs.inside.KnownRows.{HasTold, Resumes, Tells, Waiting}
-use Rattle.rc_memo.specs.inside.RepeatedRows.{AreMentioned}
+use Rattle.rc_memo.specs.inside.KnownRows.{BeginWithContext, HasTold, Knows, Resumes, Tells}
 use Rattle.rc_memo.specs.inside.RowsAdded.{with_levels}
-use Rattle.rc_memo.specs.inside.WaitingPlaces.{AllLeaveIdle, AreWaiting, WaitFor, active_places, place_name}
-use Rattle.rc_memo.specs.inside.WaitingPlaces.{places_waiting}
+use Rattle.rc_memo.specs.inside.WaitingPlaces.{ContextWaits, ContextsWait, active_places, places_of}
 
--- what waits of a function that is known
-waits_for : (env : Environment) (told : Told) (function : FunctionId) (row : KnownRow) (groups : List WaitingGroup)
-    → Waiting env told → lookup (same_id function) told.known ≡ Some row
-    → lookup (same_id function) told.waiting.groups ≡ Some groups
-    → WaitFor env told.events function row told.waiting.mentioned groups
-unfolding Waiting
-waits_for env told function row groups waiting is_known there = waiting function row groups is_known there
+-- how many targets of a known row are places of the context
+shared_known : (env : Environment) (told : Told) (function : FunctionId) (row : KnownRow) → Knows env told
+    → lookup (same_id function) told.known ≡ Some row
+    → row.shared ≡ length (flat_map if_mutable (context_of env function))
+unfolding Knows
+shared_known env told function row knows is_known = (knows function row is_known).shared
 
 module _ (env : Environment) (id : EvaluationOrder) (function : FunctionId) (given : List LevelGiven)
     (before : List MemoEvent) (old mid new : Told) (resumes : Resumes env id function old mid)
     (put : new.events ≡ with_levels env id given mid.events) (known : new.known ≡ mid.known)
     (waits : new.waiting ≡ mid.waiting) (inner : new.inner ≡ mid.inner) (h : HasTold env before old)
-    (found : WaitFor env old.events function resumes.row old.waiting.mentioned resumes.groups)
-    (left : List WaitingGroup) (leaves : AllLeaveIdle env id resumes.groups left)
-    (taken : new.waiting.groups ≡ insert_entry same_id old.waiting.groups function left) where
+    (found : ContextWaits env old.events (BeginWithContext env function) function resumes.row.row old.waiting.mentioned
+    resumes.places) (enough : resumes.row.shared ≡ length (flat_map if_mutable (context_of env function))) where
   abbrev context : List Place
   context = context_of env function
 
   abbrev places : List Place
-  places = places_waiting resumes.groups
+  places = places_of resumes.places
 
   abbrev own : List Target
   own = map (target_of env id) given
@@ -73,7 +66,7 @@ module _ (env : Environment) (id : EvaluationOrder) (function : FunctionId) (giv
   shared at = map (target_of env at) (flat_map if_mutable context)
 
   abbrev active : List Mention
-  active = map (mention_of env id) (active_places env id places)
+  active = map (mention_of env id) (places_at id resumes.places)
 
   -- what is there behind the old events: the active places, and the known row with its own target
   abbrev front : List MemoEvent
@@ -86,14 +79,15 @@ module _ (env : Environment) (id : EvaluationOrder) (function : FunctionId) (giv
       ≡ function_row env found.id function [] ∷ []
   row_repeated =
       ap (repeated resumes.row.shared) found.event
-      ∙ ap (λ w. events.Row (operands found.id) (take w (shared found.id ++ found.rest)) ∷ [])
-      (found.shared ∙ sym (length-map (flat_map if_mutable context) (target_of env found.id)))
-      ∙ ap (λ w. events.Row (operands found.id) w ∷ []) (take-append_seam (shared found.id) found.rest
+      ∙ ap (λ w. events.Row (operands found.id) (take resumes.row.shared w) ∷ []) found.fit.1
+      ∙ ap (λ w. events.Row (operands found.id) (take w (shared found.id ++ found.fit.0)) ∷ [])
+      (enough ∙ sym (length-map (flat_map if_mutable context) (target_of env found.id)))
+      ∙ ap (λ w. events.Row (operands found.id) w ∷ []) (take-append_seam (shared found.id) found.fit.0
       ∙ sym (append-nil (shared found.id)))
 
   all : new.events ≡ front ++ last ∷ []
   unfolding with_levels
-  all = put ∙ ap (λ w. last_grown own [] w) (resumes.events found.covered
+  all = put ∙ ap (λ w. last_grown own [] w) (resumes.events
       ∙ ap (λ w. old.events ++ events.Row active [] ∷ w) row_repeated
       ∙ sym (append_assoc old.events (events.Row active [] ∷ []) (function_row env found.id function [] ∷ [])))
       ∙ last_grown-push own [] front (function_row env found.id function [])
@@ -101,6 +95,9 @@ module _ (env : Environment) (id : EvaluationOrder) (function : FunctionId) (giv
 
   told : new.events ≡ old.events ++ (events.Row active [] ∷ last ∷ [])
   told = all ∙ append_assoc old.events (events.Row active [] ∷ []) (last ∷ [])
+
+  active_are : map (mention_of env id) (active_places env id places) ≡ active
+  active_are = ap (map (mention_of env id)) (sym (found_active env id resumes.places found.ranges))
 
   abbrev whole : MemoEvent
   whole = function_row env id function own
@@ -122,8 +119,10 @@ module _ (env : Environment) (id : EvaluationOrder) (function : FunctionId) (giv
       let asked = facts_of_row params before (operands id) (shared id ++ own)
       ∙ ap (λ w. facts_told params before ++ row_facts (resolved_after w) (operands id) (shared id ++ own))
       (sym h.same.loads) in
-      let resumed = row_alike env old.events old_facts id found.id context places own
-      (there_right (params_facts params) (facts_behind [] old.events)) found.places in
+      let resumed = subst (λ w. AreAlike (old_facts ++ row id)
+      ((old_facts ++ flat_map (mention_facts resolve) w) ++ row found.id)) active_are
+      (row_alike env old.events old_facts id found.id context places own
+      (there_right (params_facts params) (facts_behind [] old.events)) found.places) in
       subst (λ w. AreAlike w (facts_told params (before ++ whole ∷ []))) (sym held)
       (subst (AreAlike ((old_facts ++ news) ++ row found.id)) (sym asked)
       (alike_trans ((old_facts ++ news) ++ row found.id) (old_facts ++ row id) (facts_told params before ++ row id)
@@ -143,6 +142,7 @@ module _ (env : Environment) (id : EvaluationOrder) (function : FunctionId) (giv
       let asked : flat_map scopes_in (before ++ whole ∷ []) ≡ flat_map scopes_in before ++ row id =
       flat-both scopes_in before (whole ∷ []) ∙ ap (λ w. flat_map scopes_in before ++ w) (append-nil (row id)) in
       ap (distinct same_id) held
+      ∙ ap (λ w. distinct same_id (old_scopes ++ (mention_scopes w ++ row found.id))) (sym active_are)
       ∙ sym (row_scopes_alike env old.events old_scopes id found.id context places own (λ scope is. is)
       found.places)
       ∙ distinct-all old_scopes (row id) ∙ ap (λ w. insert_all w (row id)) h.same.scopes
@@ -162,54 +162,14 @@ module _ (env : Environment) (id : EvaluationOrder) (function : FunctionId) (giv
   same_known : new.known ≡ old.known
   same_known = known ∙ resumes.known
 
-  same_mentioned : new.waiting.mentioned ≡ old.waiting.mentioned
-  same_mentioned = ap (λ (w : WaitingPlaces). w.mentioned) waits ∙ resumes.waiting.mentioned
-
-  waits_here : WaitFor env new.events function resumes.row new.waiting.mentioned left
-  waits_here = record {
-    id = found.id;
-    rest = found.rest;
-    event = ap (λ w. slice_get w resumes.row.row) told
-        ∙ front_found old.events (events.Row active [] ∷ last ∷ []) resumes.row.row
-        (function_row env found.id function found.rest) found.event;
-    shared = found.shared;
-    places = subst (λ w. AreWaiting env w found.id context (places_waiting left)) (sym told)
-        (subst (λ w. AreWaiting env (old.events ++ (events.Row active [] ∷ last ∷ [])) found.id context w)
-        (sym (leaves.places found.covered))
-        (waiting_resumed env old.events id found.id context places (last ∷ []) refl found.places));
-    covered = leaves.covered found.covered;
-    names = subst (λ w. AreMentioned w (map (place_name env) context)) (sym same_mentioned) found.names;
-  }
-
-  waits_by : (other : FunctionId) (row : KnownRow) (those : List WaitingGroup)
-      → lookup (same_id other) new.known ≡ Some row → lookup (same_id other) new.waiting.groups ≡ Some those
-      → (b : Bool) → same_id function other ≡ b → WaitFor env new.events other row new.waiting.mentioned those
-  waits_by other row those is_known there true is =
-      let one : Some resumes.row ≡ Some row =
-      sym (ap (λ w. lookup (same_id function) w) same_known ∙ resumes.is_known)
-      ∙ ap (λ (w : FunctionId). lookup (same_id w) new.known) (same_id-eq function other is) ∙ is_known in
-      let row_is : resumes.row ≡ row = cc in
-      subst (λ w. WaitFor env new.events w row new.waiting.mentioned those) (same_id-eq function other is)
-      (subst (λ w. WaitFor env new.events function w new.waiting.mentioned those) row_is
-      (subst (λ w. WaitFor env new.events function resumes.row new.waiting.mentioned w)
-      (entry_put function other left those old.waiting.groups new.waiting.groups
-      taken there is) waits_here))
-  waits_by other row those is_known there false is =
-      subst (λ w. WaitFor env w other row new.waiting.mentioned those) (sym told)
-      (subst (λ w. WaitFor env (old.events ++ (events.Row active [] ∷ last ∷ [])) other row w those)
-      (sym same_mentioned)
-      (wait_later env old.events (events.Row active [] ∷ last ∷ []) other row old.waiting.mentioned those refl
-      (waits_for env old other row those h.waiting (ap (λ w. lookup (same_id other) w) (sym same_known) ∙ is_known)
-      (entry_kept function other left those old.waiting.groups new.waiting.groups
-      taken there is))))
-
   resumed : HasTold env (before ++ whole ∷ []) new
-  unfolding Waiting
   resumed = record {
     same = record { facts = facts_are; loads = loads_are; escaping = escaping_are; scopes = scopes_are };
     known = knows_later env old new (events.Row active [] ∷ last ∷ []) told same_known h.known;
-    waiting = λ other row those is_known there.
-        waits_by other row those is_known there (same_id function other) refl;
+    waiting = subst (ContextsWait env new.events (λ (row : KnownRow). row.row) (BeginWithContext env) new.known)
+        (sym waits) (contexts_resumed env (λ (row : KnownRow). row.row) (BeginWithContext env) old.events (last ∷ [])
+        new.events id function resumes.row resumes.places old.known new.known old.waiting mid.waiting told refl
+        resumes.is_known resumes.are_waiting same_known resumes.waiting h.waiting);
     inner = inner_later env old new (events.Row active [] ∷ last ∷ []) told (inner ∙ resumes.inner) refl h.inner;
   }
 
@@ -220,7 +180,7 @@ module _ (env : Environment) (id : EvaluationOrder) (function : FunctionId) (giv
       → Tells env (function_row env id function (map (target_of env id) given) ∷ []) old new
   unfolding Tells
   tells_resumed resumes put known waits inner before h =
-      let left = resumes.waiting.groups resumes.groups resumes.are_waiting in
       resumed env id function given before old mid new resumes put known waits inner h
-      (waits_for env old function resumes.row resumes.groups h.waiting resumes.is_known resumes.are_waiting)
-      left.0 left.2 (ap (λ (w : WaitingPlaces). w.groups) waits ∙ left.1)
+      (context_at env (λ (row : KnownRow). row.row) (BeginWithContext env) old.events old.known old.waiting h.waiting
+      function resumes.row resumes.places resumes.is_known resumes.are_waiting)
+      (shared_known env old function resumes.row h.known resumes.is_known)

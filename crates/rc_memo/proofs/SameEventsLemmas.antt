@@ -2,7 +2,7 @@
 use Rattle.std.proofs.Common.{◌≡◌, ◌∙◌, ◌++◌, List, [], ap, append_assoc, refl, subst, sym}
 use Rattle.std.specs.List.{flat_map}
 use Rattle.rc_names.specs.Numbers.{DeclarationId, same_id}
-use Rattle.rc_memo.proofs.AlikeLemmas.{alike_more, alike_refl, alike_sym, alike_trans}
+use Rattle.rc_memo.proofs.AlikeLemmas.{alike_more, alike_refl, alike_trans}
 use Rattle.rc_memo.proofs.EventsLemmas.{facts_behind-append}
 use Rattle.rc_memo.proofs.GrowingLemmas.{distinct_more, flat-both}
 use Rattle.rc_memo.specs.Events.{definitions_told, escaping_in, facts_behind, facts_told, loads_in, params_facts}
@@ -20,14 +20,6 @@ same_refl events = record {
   loads = refl;
   escaping = refl;
   scopes = refl;
-}
-
-pub same_sym : (events others : List MemoEvent) → TellTheSame events others → TellTheSame others events
-same_sym events others same = record {
-  facts = λ params. alike_sym (facts_told params events) (facts_told params others) (same.facts params);
-  loads = sym same.loads;
-  escaping = sym same.escaping;
-  scopes = sym same.scopes;
 }
 
 pub same_trans : (a b c : List MemoEvent) → TellTheSame a b → TellTheSame b c → TellTheSame a c

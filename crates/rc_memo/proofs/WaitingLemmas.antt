@@ -8,6 +8,7 @@ use Rattle.std.specs.Option.{option_map}
 use Rattle.rc_hir.specs.Model.{Environment, Place, ReactiveScope}
 use Rattle.rc_hir.specs.Types.{is_mutable}
 use Rattle.rc_names.specs.Numbers.{DeclarationId, EvaluationOrder, ScopeId, is_among, same_id}
+use Rattle.rc_ranges.specs.Ranges.{is_in_range}
 use Rattle.rc_memo.proofs.AlikeLemmas.{alike_before, alike_more, alike_refl, alike_sym, alike_told, alike_trans}
 use Rattle.rc_memo.proofs.AlikeLemmas.{there_both, there_first, there_left, there_right, there_second, there_through}
 use Rattle.rc_memo.proofs.GrowingLemmas.{distinct_more, flat-both}
@@ -18,7 +19,7 @@ use Rattle.rc_memo.specs.Events.{dependency_facts, facts_behind, listed, loads_i
 use Rattle.rc_memo.specs.Events.{operand_facts, resolved_after, row_facts, scope_facts, scopes_in, target_facts}
 use Rattle.rc_memo.specs.Events.{target_scopes}
 use Rattle.rc_memo.specs.Facts.{Fact, GivesLevel, distinct}
-use Rattle.rc_memo.specs.Mentions.{active_scope, if_active, is_in_range, mention_of, target_of}
+use Rattle.rc_memo.specs.Mentions.{active_scope, if_active, mention_of, target_of}
 use Rattle.rc_memo.specs.Table.{gives, if_mutable}
 use Rattle.rc_memo.specs.declared.event.Mention.{Mention}
 use Rattle.rc_memo.specs.declared.event.MemoEvent.{MemoEvent}

@@ -7,8 +7,9 @@ use Rattle.std.proofs.lemmas.List.{flat_map_more, length-append, map-append, tak
 use Rattle.rc_hir.specs.Model.{Environment, MutableRange, Place, ReactiveScope}
 use Rattle.rc_names.specs.Numbers.{DeclarationId, EvaluationOrder, ScopeId}
 use Rattle.std.specs.List.{flat_map}
+use Rattle.rc_ranges.specs.Ranges.{is_in_range}
 use Rattle.rc_memo.specs.Table.{if_mutable}
-use Rattle.rc_memo.specs.Mentions.{active_scope, declaration_of, if_active, is_in_range, mention_of}
+use Rattle.rc_memo.specs.Mentions.{active_scope, declaration_of, if_active, mention_of}
 use Rattle.rc_memo.specs.declared.event.Mention.{Mention}
 use Rattle.rc_memo.specs.inside.FunctionRows.{scope_range}
 

@@ -1,17 +1,14 @@
 -- What a place in a row names: its declaration, and its scope where that is active at the row.
 --
 -- A number outside its table is in no scope, and stands for the declaration of its own number.
-use Rattle.std.specs.Prelude.{Bool, ◌&&◌, nat_le, nat_lt, Option, None, Some, slice_get, option_and_then, if◌then◌else◌}
+use Rattle.std.specs.Prelude.{Option, None, Some, slice_get, option_and_then, if◌then◌else◌}
 use Rattle.std.specs.Option.{option_map_or}
-use Rattle.rc_hir.specs.Model.{Environment, MutableRange, Place}
+use Rattle.rc_hir.specs.Model.{Environment, Place}
 use Rattle.rc_names.specs.Numbers.{DeclarationId, EvaluationOrder, IdentifierId, ScopeId, to_id}
+use Rattle.rc_ranges.specs.Ranges.{is_in_range}
 use Rattle.rc_memo.specs.declared.event.Mention.{Mention}
 use Rattle.rc_memo.specs.declared.event.Target.{Target}
 use Rattle.rc_memo.specs.declared.table.LevelGiven.{LevelGiven}
-
--- the id is in the range: not before its start, and before its end
-abbrev pub is_in_range : EvaluationOrder → MutableRange → Bool
-is_in_range id range = nat_le range.start.0 id.0 && nat_lt id.0 range.end.0
 
 module _ (env : Environment) where
   -- the declaration of an identifier

@@ -6,14 +6,14 @@
 //! and none of them stands twice.
 
 ghost use Rattle.std.specs.Prelude.{◌≡◌, ◌+◌, ◌<◌, ◌≤◌, [], ◌∷◌, ◌++◌, Some, length, map, slice_get, slice_index_or};
-ghost use Rattle.std.specs.Prelude.{true, take, IfOk, OnOk, if◌then◌else◌};
+ghost use Rattle.std.specs.Prelude.{true, take, IfOk, OnErr, OnOk, if◌then◌else◌};
 ghost use Rattle.std.specs.List.{slice_range};
 ghost use Rattle.rc_memo.specs.Mentions.{mention_of};
 ghost use Rattle.rc_memo.specs.declared.event.MemoEvent.TheVariants as kinds;
 ghost use Rattle.rc_memo.specs.declared.events.EventKind.TheVariants as forms;
 ghost use Rattle.rc_memo.specs.inside.HeldEvents.{AreSound, HasNoRow, IsInside, RefersToRow, RepeatsRow, as_event};
 ghost use Rattle.rc_memo.specs.inside.HeldEvents.{begun, ends, event_between, events_held, kind_at, last_grown};
-ghost use Rattle.rc_memo.specs.inside.HeldEvents.{repeated, start_at};
+ghost use Rattle.rc_memo.specs.inside.HeldEvents.{own_row, repeated, start_at};
 
 use crate::event::{Mention, Target};
 use crate::reader::RowReader;
@@ -165,11 +165,14 @@ impl Events {
             ≡ self.old ++ kinds.Row (map (mention_of reader.now.env.now id) operands.now) [] ∷ []) }
     {
         let start = ends_of(&self.operands, &self.targets, &self.scopes);
-        reader.push_mentions(&mut self.operands, id, operands)?;
-        self.heads.push(EventHead {
-            kind: EventKind::Row,
+        push_own_row(
+            &mut self.heads,
+            &mut self.operands,
             start,
-        })?;
+            reader,
+            id,
+            operands,
+        )?;
         Ok(())
     }
 
@@ -208,11 +211,14 @@ impl Events {
             return Ok(false);
         }
         let start = ends_of(&self.operands, &self.targets, &self.scopes);
-        reader.push_mentions(&mut self.operands, id, operands)?;
-        self.heads.push(EventHead {
-            kind: EventKind::Row,
+        push_own_row(
+            &mut self.heads,
+            &mut self.operands,
             start,
-        })?;
+            reader,
+            id,
+            operands,
+        )?;
         let start = ends_of(&self.operands, &self.targets, &self.scopes);
         self.heads.push(EventHead {
             kind: EventKind::Repeats { row, shared },
@@ -276,6 +282,28 @@ fn ends_of(operands: &List<Mention>, targets: &List<Target>, scopes: &List<Scope
         targets: targets.len(),
         scopes: scopes.len(),
     }
+}
+
+/// Adds the head of a row whose parts begin at a place, and its operands: what these places name in a row of that id.
+fn push_own_row(
+    heads: &mut List<EventHead>,
+    operands: &mut List<Mention>,
+    start: Start,
+    reader: &RowReader<'_>,
+    id: EvaluationOrder,
+    places: &[Place],
+) -> Result<(), AllocError>
+    ensures heads { OnOk result (heads.new ≡ heads.old ++ own_row start ∷ []) }
+    ensures operands { OnOk result (operands.new
+        ≡ operands.old ++ map (mention_of reader.now.env.now id) places.now) }
+    ensures failed { OnErr result (heads.new ≡ heads.old) }
+    ensures longer { length operands.old ≤ length operands.new }
+{
+    reader.push_mentions(operands, id, places)?;
+    heads.push(EventHead {
+        kind: EventKind::Row,
+        start,
+    })
 }
 
 /// Returns the head at an index.

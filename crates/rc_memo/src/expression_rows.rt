@@ -37,12 +37,15 @@ impl<'a> RowReader<'a> {
         if told.inner.rows.get(function).is_none() {
             return Ok(false);
         }
-        let Some(groups) = told.inner.waiting.groups.get(function) else {
+        let Some(places) = told.inner.waiting.places.get(function) else {
             return Ok(false);
         };
-        let active = self.active_of(id, groups.as_slice())?;
-        told.events.push_row(self, id, active.as_slice())?;
-        self.drop_waiting(&mut told.inner.waiting, id, function)?;
+        let active = places.at(self.alloc, id)?;
+        let active = active.as_slice();
+        told.events.push_row(self, id, active)?;
+        told.inner
+            .waiting
+            .drop_active(self.alloc, id, function, active)?;
         Ok(true)
     }
 
@@ -56,14 +59,10 @@ impl<'a> RowReader<'a> {
         ensures { OnOk result (Tells self.now.env.now
             (operands_row self.now.env.now id (context_of self.now.env.now function) ∷ []) told.old told.new) }
     {
-        let context = self.context_of(function);
         let row = told.events.len();
-        told.events.push_row(self, id, context)?;
-        let groups = self.groups_of(id, context)?;
-        self.put_names(&mut told.inner.waiting.mentioned, context)?;
+        told.events.push_row(self, id, self.context_of(function))?;
         told.inner.rows.insert(function, row)?;
-        told.inner.waiting.groups.insert(function, groups)?;
-        Ok(())
+        self.put_context(&mut told.inner.waiting, id, function)
     }
 
     /// Adds what a row without targets tells that has the context of a function.
@@ -159,7 +158,7 @@ impl<'a> RowReader<'a> {
         let Some(row) = told.inner.rows.get(function).copied() else {
             return Ok(false);
         };
-        if told.inner.waiting.groups.get(function).is_none() {
+        if told.inner.waiting.places.get(function).is_none() {
             return Ok(false);
         }
         let added = told.events.push_repeated(row, 0)?;

@@ -74,17 +74,18 @@ impl<'a> RowReader<'a> {
         let Some(known) = told.known.get(function).copied() else {
             return Ok(false);
         };
-        let Some(groups) = told.waiting.groups.get(function) else {
+        let Some(places) = told.waiting.places.get(function) else {
             return Ok(false);
         };
-        let active = self.active_of(id, groups.as_slice())?;
+        let active = places.at(self.alloc, id)?;
         if !told
             .events
             .push_repeated_behind(self, id, active.as_slice(), known.row, known.shared)?
         {
             return Ok(false);
         }
-        self.drop_waiting(&mut told.waiting, id, function)?;
+        told.waiting
+            .drop_active(self.alloc, id, function, active.as_slice())?;
         Ok(true)
     }
 
@@ -109,11 +110,8 @@ impl<'a> RowReader<'a> {
         told.events.push_row(self, id, context)?;
         levels.put_mutable(&mut told.events, context)?;
         levels.put_own(&mut told.events, target, MemoizationLevel::Memoized)?;
-        let groups = self.groups_of(id, context)?;
-        self.put_names(&mut told.waiting.mentioned, context)?;
         told.known.insert(function, known)?;
-        told.waiting.groups.insert(function, groups)?;
-        Ok(())
+        self.put_context(&mut told.waiting, id, function)
     }
 
     /// Adds the row of a function.

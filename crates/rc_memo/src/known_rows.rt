@@ -6,11 +6,12 @@
 
 ghost use Rattle.std.specs.Prelude.{◌≡◌, ◌≤◌, [], false, map, length, nat_le, true, OnOk};
 ghost use Rattle.std.specs.List.{flat_map};
-ghost use Rattle.rc_memo.specs.Mentions.{is_in_range, mention_of};
+ghost use Rattle.rc_memo.specs.Mentions.{mention_of};
 ghost use Rattle.rc_memo.specs.Table.{if_mutable};
 ghost use Rattle.rc_memo.specs.inside.FunctionRows.{scope_range};
 ghost use Rattle.rc_memo.specs.inside.KnownRows.{IsWithin, Loads};
 ghost use Rattle.rc_names.specs.Numbers.{EvaluationOrder as Order};
+ghost use Rattle.rc_ranges.specs.Ranges.{is_in_range};
 
 use crate::events::Events;
 use crate::reader::RowReader;
@@ -71,7 +72,7 @@ impl Told {
         ensures events { result.events ≡ [] }
         ensures known { result.known ≡ [] }
         ensures inner { result.inner.rows ≡ [] }
-        ensures waiting { result.waiting.groups ≡ [] }
+        ensures waiting { result.waiting.places ≡ [] }
     {
         Told {
             events: Events::new(alloc),

@@ -5,8 +5,9 @@ ghost use Rattle.rc_memo.specs.Mentions as spec;
 
 use crate::event::{Mention, Target};
 use crate::table::LevelGiven;
-use rc_hir::{Environment, MutableRange, Place};
+use rc_hir::{Environment, Place};
 use rc_names::{DeclarationId, EvaluationOrder, IdentifierId, List, ScopeId};
+use rc_ranges::is_in_range;
 use std::alloc::{AllocError, Global};
 
 /// Reads the rows of a tree. Its methods fail only when out of memory.
@@ -14,13 +15,6 @@ use std::alloc::{AllocError, Global};
 pub struct RowReader<'a> {
     pub alloc: Global,
     pub env: &'a Environment,
-}
-
-/// Returns whether the id is in the range, whose end is outside.
-pub fn is_in_range(id: EvaluationOrder, range: MutableRange) -> bool
-    ensures { result ≡ spec.is_in_range id range }
-{
-    range.start.0 <= id.0 && id.0 < range.end.0
 }
 
 impl<'a> RowReader<'a> {

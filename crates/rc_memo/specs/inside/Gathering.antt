@@ -51,12 +51,12 @@ HoldsNames facts names = names ≡ names_told facts
 abbrev pub RowOperands : Type 0
 RowOperands = List (List DeclarationId)
 
--- the same, whatever operands of rows are kept
-abbrev pub NodesHold : RowOperands → List Fact → Held → Type 0
-NodesHold rows = HoldsNodes
+-- nodes alone, and names alone, are held so whatever the operands of rows are, of which they keep none
+abbrev pub NodesAlone : RowOperands → List Fact → Held → Type 0
+NodesAlone rows = HoldsNodes
 
-abbrev pub NamesHold : RowOperands → List Fact → List DeclarationId → Type 0
-NamesHold rows = HoldsNames
+abbrev pub NamesAlone : RowOperands → List Fact → List DeclarationId → Type 0
+NamesAlone rows = HoldsNames
 
 -- what is held of facts
 module _ {S : Type 0} (Holds : List Fact → S → Type 0) where

@@ -38,6 +38,10 @@ abbrev pub HasNoRow : EventKind → Type 0
 HasNoRow (kind.Repeats row shared) = ⊥
 HasNoRow _ = Unit {0}
 
+-- the head of a row with its own operands
+abbrev pub own_row : Start → EventHead
+own_row start = record { kind = kind.Row; start = start }
+
 -- an event without parts
 abbrev pub begun : EventKind → MemoEvent
 begun kind.Row = events.Row [] []

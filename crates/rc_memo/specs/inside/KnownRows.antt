@@ -5,7 +5,9 @@ use Rattle.std.specs.List.{flat_map}
 use Rattle.std.specs.Map.{lookup}
 use Rattle.rc_hir.specs.Model.{Environment, Place}
 use Rattle.rc_names.specs.Numbers.{DeclarationId, EvaluationOrder, FunctionId, same_id}
-use Rattle.rc_memo.specs.Mentions.{mention_of}
+use Rattle.rc_ranges.specs.Ranges.{places_at}
+use Rattle.rc_ranges.specs.declared.ranged_place.RangedPlace.{RangedPlace}
+use Rattle.rc_memo.specs.Mentions.{mention_of, target_of}
 use Rattle.rc_memo.specs.RowEvents.{row_event}
 use Rattle.rc_memo.specs.Table.{if_mutable, own}
 use Rattle.rc_memo.specs.declared.event.MemoEvent.{MemoEvent}
@@ -15,13 +17,10 @@ use Rattle.rc_memo.specs.declared.level.MemoizationLevel.TheVariants.{Conditiona
 use Rattle.rc_memo.specs.declared.known_rows.KnownRow.{KnownRow}
 use Rattle.rc_memo.specs.declared.known_rows.Told.{Told}
 use Rattle.rc_memo.specs.declared.known_rows.Window.{Window}
-use Rattle.rc_memo.specs.declared.waiting.WaitingGroup.{WaitingGroup}
 use Rattle.rc_memo.specs.inside.Alike.{MentionsTold, TellTheSame}
 use Rattle.rc_memo.specs.inside.FunctionRows.{context_of, function_row}
 use Rattle.rc_memo.specs.inside.HeldEvents.{repeated}
-use Rattle.rc_memo.specs.inside.RepeatedRows.{AreMentioned}
-use Rattle.rc_memo.specs.inside.WaitingPlaces.{AreAllCovered, AreWaiting, DropsActive, ForgetsName, WaitFor}
-use Rattle.rc_memo.specs.inside.WaitingPlaces.{active_places, place_name, places_waiting}
+use Rattle.rc_memo.specs.inside.WaitingPlaces.{ContextsWait, DropsActive, ForgetsName}
 
 -- a call adds a load, and forgets places whose names it gives another meaning
 pub record Loads (target loaded : DeclarationId) (old new : Told) : Type 0 where
@@ -48,30 +47,21 @@ module _ (env : Environment) where
   Knows told = (function : FunctionId) (known : KnownRow) → lookup (same_id function) told.known ≡ Some known
       → IsKnown told.events function known
 
-  -- the waiting groups of each known function do
-  unfoldable pub Waiting : Told → Type 0
-  Waiting told = (function : FunctionId) (known : KnownRow) (groups : List WaitingGroup)
-      → lookup (same_id function) told.known ≡ Some known
-      → lookup (same_id function) told.waiting.groups ≡ Some groups
-      → WaitFor env told.events function known told.waiting.mentioned groups
+  -- the targets of a function's row at an id: those places of the context that it may change, and others behind them
+  abbrev pub BeginWithContext : FunctionId → EvaluationOrder → List Target → Type 0
+  BeginWithContext function id targets =
+      (rest : List Target) × (targets ≡ map (target_of env id) (flat_map if_mutable (context_of env function)) ++ rest)
 
-  -- the event at an index has the context of a function as operands, of which the places of these groups wait, and
-  -- whose names are mentioned
-  pub record IsInner (told : List MemoEvent) (function : FunctionId) (row : ℕ) (mentioned : List DeclarationId)
-      (groups : List WaitingGroup) : Type 0 where
-    pub id : EvaluationOrder
-    pub targets : List Target
-    pub event : slice_get told row ≡ Some (events.Row (map (mention_of env id) (context_of env function)) targets)
-    pub places : AreWaiting env told id (context_of env function) (places_waiting groups)
-    pub covered : AreAllCovered env groups
-    pub names : AreMentioned mentioned (map (place_name env) (context_of env function))
+  -- or any targets
+  abbrev pub AnyTargets : FunctionId → EvaluationOrder → List Target → Type 0
+  AnyTargets function id targets = Unit {0}
 
-  -- all inner contexts have
-  unfoldable pub Inner : Told → Type 0
-  Inner told = (function : FunctionId) (row : ℕ) (groups : List WaitingGroup)
-      → lookup (same_id function) told.inner.rows ≡ Some row
-      → lookup (same_id function) told.inner.waiting.groups ≡ Some groups
-      → IsInner told.events function row told.inner.waiting.mentioned groups
+  -- the context of each known function waits, and so does each inner context
+  abbrev pub Waiting : Told → Type 0
+  Waiting told = ContextsWait env told.events (λ (known : KnownRow). known.row) BeginWithContext told.known told.waiting
+
+  abbrev pub Inner : Told → Type 0
+  Inner told = ContextsWait env told.events (λ (row : ℕ). row) AnyTargets told.inner.rows told.inner.waiting
 
   -- what was told makes the memo record of these events
   pub record HasTold (events : List MemoEvent) (told : Told) : Type 0 where
@@ -96,35 +86,33 @@ module _ (env : Environment) where
   -- known one
   pub record Resumes (id : EvaluationOrder) (function : FunctionId) (old new : Told) : Type 0 where
     pub row : KnownRow
-    pub groups : List WaitingGroup
+    pub places : List RangedPlace
     pub is_known : lookup (same_id function) old.known ≡ Some row
-    pub are_waiting : lookup (same_id function) old.waiting.groups ≡ Some groups
-    pub events : AreAllCovered env groups → new.events
-        ≡ old.events ++ events.Row (map (mention_of env id) (active_places env id (places_waiting groups))) []
+    pub are_waiting : lookup (same_id function) old.waiting.places ≡ Some places
+    pub events : new.events ≡ old.events ++ events.Row (map (mention_of env id) (places_at id places)) []
         ∷ repeated row.shared (slice_get old.events row.row)
     pub known : new.known ≡ old.known
-    pub waiting : DropsActive env id function old.waiting new.waiting
+    pub waiting : DropsActive id function places old.waiting new.waiting
     pub inner : new.inner ≡ old.inner
 
   -- a call adds a row without targets that has those places of an inner context whose scope is active now
   pub record AddsActive (id : EvaluationOrder) (function : FunctionId) (old new : Told) : Type 0 where
     pub row : ℕ
-    pub groups : List WaitingGroup
+    pub places : List RangedPlace
     pub is_known : lookup (same_id function) old.inner.rows ≡ Some row
-    pub are_waiting : lookup (same_id function) old.inner.waiting.groups ≡ Some groups
-    pub events : AreAllCovered env groups → new.events
-        ≡ old.events ++ events.Row (map (mention_of env id) (active_places env id (places_waiting groups))) [] ∷ []
+    pub are_waiting : lookup (same_id function) old.inner.waiting.places ≡ Some places
+    pub events : new.events ≡ old.events ++ events.Row (map (mention_of env id) (places_at id places)) [] ∷ []
     pub known : new.known ≡ old.known
     pub waiting : new.waiting ≡ old.waiting
     pub rows : new.inner.rows ≡ old.inner.rows
-    pub inner : DropsActive env id function old.inner.waiting new.inner.waiting
+    pub inner : DropsActive id function places old.inner.waiting new.inner.waiting
 
   -- a call adds a row that has an inner context's operands, and no targets yet
   pub record RepeatsContext (function : FunctionId) (old new : Told) : Type 0 where
     pub row : ℕ
-    pub groups : List WaitingGroup
+    pub places : List RangedPlace
     pub is_known : lookup (same_id function) old.inner.rows ≡ Some row
-    pub are_waiting : lookup (same_id function) old.inner.waiting.groups ≡ Some groups
+    pub are_waiting : lookup (same_id function) old.inner.waiting.places ≡ Some places
     pub events : new.events ≡ old.events ++ repeated 0 (slice_get old.events row)
     pub known : new.known ≡ old.known
     pub waiting : new.waiting ≡ old.waiting

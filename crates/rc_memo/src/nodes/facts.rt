@@ -7,7 +7,7 @@ ghost use Rattle.indexmap.specs.IndexMap.{insert_entry};
 ghost use Rattle.rc_names.specs.Numbers.{is_among, same_id};
 ghost use Rattle.rc_memo.specs.Events.{operand_facts, scope_facts, target_facts};
 ghost use Rattle.rc_memo.specs.Facts.{DependsOn};
-ghost use Rattle.rc_memo.specs.inside.Gathering.{Adds, NodesHold, at_name, resolved as spec_resolved};
+ghost use Rattle.rc_memo.specs.inside.Gathering.{Adds, NodesAlone, at_name, resolved as spec_resolved};
 ghost use Rattle.rc_memo.specs.inside.Gathering.{with_dependency, with_level, with_scope};
 
 use crate::event::{Mention, Target};
@@ -77,7 +77,7 @@ fn put_node(nodes: &mut Nodes, name: DeclarationId, node: MemoNode) -> Result<()
 /// Adds that a name depends on another.
 #[tactic(auto, using(crate::proofs::AddingLemmas::adds_memory, crate::proofs::HeldNodesLemmas::adds_dependency, crate::proofs::HeldNodesLemmas::adds_dependency_missing))]
 fn add_dependency(nodes: &mut Nodes, name: DeclarationId, other: DeclarationId) -> Result<(), Fault>
-    ensures { Adds NodesHold (DependsOn name other ∷ []) nodes.old result nodes.new }
+    ensures { Adds NodesAlone (DependsOn name other ∷ []) nodes.old result nodes.new }
 {
     match put_dependency(nodes, name, other) {
         Ok(true) => Ok(()),
@@ -89,7 +89,7 @@ fn add_dependency(nodes: &mut Nodes, name: DeclarationId, other: DeclarationId) 
 /// Adds the scope of a name, where it has one.
 #[tactic(auto, using(crate::proofs::AddingLemmas::adds_nothing))]
 fn add_scope_if(nodes: &mut Nodes, name: DeclarationId, scope: Option<ScopeId>) -> Result<(), Fault>
-    ensures { Adds NodesHold (scope_facts name scope) nodes.old result nodes.new }
+    ensures { Adds NodesAlone (scope_facts name scope) nodes.old result nodes.new }
 {
     match scope {
         Some(scope) => nodes.add_scope(name, scope),
@@ -105,7 +105,7 @@ fn add_operand(
     name: DeclarationId,
     operand: Mention,
 ) -> Result<(), Fault>
-    ensures { Adds NodesHold (operand_facts (spec_resolved definitions.now) name operand) nodes.old result nodes.new }
+    ensures { Adds NodesAlone (operand_facts (spec_resolved definitions.now) name operand) nodes.old result nodes.new }
 {
     let other = resolved(definitions, operand.name);
     if name == other {
@@ -123,7 +123,7 @@ fn add_operands(
     name: DeclarationId,
     operands: &[Mention],
 ) -> Result<(), Fault>
-    ensures { Adds NodesHold (flat_map (operand_facts (spec_resolved definitions.now) name) operands.now) nodes.old
+    ensures { Adds NodesAlone (flat_map (operand_facts (spec_resolved definitions.now) name) operands.now) nodes.old
         result nodes.new }
 {
     for operand in operands {
@@ -144,7 +144,7 @@ fn add_parts(
     operands: &[Mention],
     scope: Option<ScopeId>,
 ) -> Result<(), Fault>
-    ensures { Adds NodesHold (flat_map (operand_facts (spec_resolved definitions.now) name) operands.now
+    ensures { Adds NodesAlone (flat_map (operand_facts (spec_resolved definitions.now) name) operands.now
         ++ scope_facts name scope) nodes.old result nodes.new }
 {
     match add_operands(definitions, nodes, name, operands) {
@@ -162,7 +162,7 @@ fn add_target(
     operands: &[Mention],
     target: Target,
 ) -> Result<(), Fault>
-    ensures { Adds NodesHold (target_facts (spec_resolved definitions.now) operands.now target) nodes.old result
+    ensures { Adds NodesAlone (target_facts (spec_resolved definitions.now) operands.now target) nodes.old result
         nodes.new }
 {
     let name = resolved(definitions, target.mention.name);
@@ -181,7 +181,7 @@ fn add_targets(
     operands: &[Mention],
     targets: &[Target],
 ) -> Result<(), Fault>
-    ensures { Adds NodesHold (flat_map (target_facts (spec_resolved definitions.now) operands.now) targets.now)
+    ensures { Adds NodesAlone (flat_map (target_facts (spec_resolved definitions.now) operands.now) targets.now)
         nodes.old result nodes.new }
 {
     for target in targets {
@@ -194,7 +194,7 @@ fn add_targets(
 }
 
 impl HoldsFacts for Nodes {
-    ghost holds = { NodesHold };
+    ghost holds = { NodesAlone };
 
     #[tactic(auto, using(crate::proofs::HeldNodesLemmas::no_nodes))]
     fn none(alloc: Global) -> Nodes {

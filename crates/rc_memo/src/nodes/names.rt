@@ -2,7 +2,7 @@
 
 ghost use Rattle.std.specs.Prelude.{◌≡◌, ◌∷◌, [], None, Some, OnOk};
 ghost use Rattle.rc_memo.specs.Facts.{Fact, needed_by, target_told};
-ghost use Rattle.rc_memo.specs.inside.Gathering.{Adds, NamesHold, resolved as spec_resolved, target_names};
+ghost use Rattle.rc_memo.specs.inside.Gathering.{Adds, NamesAlone, resolved as spec_resolved, target_names};
 ghost use Rattle.rc_memo.specs.inside.Growing.{insert_all};
 
 use crate::event::{Mention, Target};
@@ -17,7 +17,7 @@ use std::alloc::{AllocError, Global};
 #[tactic(auto, using(crate::proofs::HeldNamesLemmas::names_needed, crate::proofs::HeldNamesLemmas::names_missing))]
 fn need(names: &DeclSet, name: DeclarationId) -> Result<(), Fault>
     ensures { (fact : Fact) → needed_by fact ≡ Some name → target_told fact ≡ None
-        → Adds NamesHold (fact ∷ []) names.now result names.now }
+        → Adds NamesAlone (fact ∷ []) names.now result names.now }
 {
     if names.contains(name) {
         Ok(())
@@ -42,7 +42,7 @@ fn put_targets(
 }
 
 impl HoldsFacts for KeySet<DeclarationId> {
-    ghost holds = { NamesHold };
+    ghost holds = { NamesAlone };
 
     #[tactic(auto, using(crate::proofs::HeldNamesLemmas::no_names))]
     fn none(alloc: Global) -> KeySet<DeclarationId> {

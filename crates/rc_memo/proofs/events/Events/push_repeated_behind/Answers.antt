@@ -9,11 +9,11 @@ returns c =
     let held = c.self.inside in
     let row = ap (λ w. kind_at w c.args.row) (sym c.as_slice.ensures) ∙ c.is_row.ensures (search rules) in
     rw (
-      c.in_ok-push-2.ensures.ok,
       c.in_ok-push.ensures.ok,
+      c.in_ok-push_own_row.ensures.heads,
       c.ends_of-start-2.ensures,
       c.ends_of-start.ensures,
-      c.in_ok-push_mentions.ensures.ok,
+      c.in_ok-push_own_row.ensures.operands,
       ← c.self.view_is,
     )
     (held-behind held.operands (map (mention_of c.args.reader.now.env.now c.args.id) c.args.operands.now)

@@ -1,4 +1,5 @@
 use Rattle.std.proofs.Common.{refl}
+use Rattle.rc_memo.proofs.AddingLemmas.{onward}
 use Rattle.rc_memo.proofs.FirstRowsLemmas.{tells_first}
 use Rattle.rc_memo.specs.Table.{own}
 use Rattle.rc_memo.specs.declared.level.MemoizationLevel.TheVariants.{Memoized}
@@ -6,17 +7,16 @@ use Rattle.rc_memo.proofs.reader.RowReader.add_first.Goals as goal
 
 pub returns : goal.returns
 returns c =
-    tells_first c.args.self.now.env.now c.args.id c.args.function (own c.args.target Memoized)
+    onward c.put_context.result (λ puts. tells_first c.args.self.now.env.now c.args.id c.args.function
+    (own c.args.target Memoized)
     (record { row = c.len.result; shared = c.count_mutable.result; ids = c.window.result })
-    c.in_ok-groups.groups c.context_of-context.result.now c.args.told.now
+    c.context_of-context.result.now c.args.told.now
     (record {
       events = c.put_own.new.events;
       known = c.insert.new.self;
-      waiting = record { groups = c.insert-2.new.self; mentioned = c.put_names.new.names };
+      waiting = c.put_context.new.waiting;
       inner = c.args.told.now.inner;
     })
     c.push_row.new.self c.put_mutable.new.events c.put_own.new.events c.context_of-context.ensures
     c.in_ok-push_row.ensures c.in_ok-put_mutable.ensures c.in_ok-put_own.ensures refl c.in_ok-insert.ensures.entries
-    c.len.ensures c.count_mutable.ensures c.window.ensures
-    c.in_ok-put_names.ensures c.in_ok-insert-2.ensures.entries c.in_ok-groups.ensures.places
-    c.in_ok-groups.ensures.covered refl
+    c.len.ensures c.count_mutable.ensures c.window.ensures puts refl) c.put_context.ensures

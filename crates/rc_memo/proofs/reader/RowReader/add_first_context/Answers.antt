@@ -1,20 +1,19 @@
-use Rattle.std.proofs.Common.{refl}
+use Rattle.std.proofs.Common.{◌∙◌, [], ◌∷◌, ◌++◌, ap, refl}
+use Rattle.rc_memo.proofs.AddingLemmas.{onward}
 use Rattle.rc_memo.proofs.InnerLemmas.{tells_first_context}
+use Rattle.rc_memo.specs.inside.KnownRows.{operands_row}
 use Rattle.rc_memo.proofs.reader.RowReader.add_first_context.Goals as goal
 
 pub returns : goal.returns
 returns c =
-    tells_first_context c.args.self.now.env.now c.args.id c.args.function c.len-row.result c.in_ok-groups.groups
-    c.context_of-context.result.now c.args.told.now
+    let env = c.args.self.now.env.now in
+    let old = c.args.told.now in
+    onward c.put_context.result (λ puts. tells_first_context env c.args.id c.args.function c.len-row.result old
     (record {
       events = c.push_row.new.self;
-      known = c.args.told.now.known;
-      waiting = c.args.told.now.waiting;
-      inner = record {
-        rows = c.insert.new.self;
-        waiting = record { groups = c.insert-2.new.self; mentioned = c.put_names.new.names };
-      };
+      known = old.known;
+      waiting = old.waiting;
+      inner = record { rows = c.insert.new.self; waiting = c.put_context.new.waiting };
     })
-    c.context_of-context.ensures c.in_ok-push_row.ensures refl refl c.in_ok-insert.ensures.entries c.len-row.ensures
-    c.in_ok-put_names.ensures c.in_ok-insert-2.ensures.entries c.in_ok-groups.ensures.places
-    c.in_ok-groups.ensures.covered
+    (c.in_ok-push_row.ensures ∙ ap (λ w. old.events ++ operands_row env c.args.id w ∷ []) c.context_of.ensures)
+    refl refl c.in_ok-insert.ensures.entries c.len-row.ensures puts) c.put_context.ensures
