@@ -47,5 +47,6 @@ mod LoopKindLemmas
 mod CanBuildTurnsLemmas
 mod LoopLemmas
 mod LoopStatementLemmas
+mod LoopBodyLemmas
 mod BuildLemmas
 mod BuildCausesLemmas

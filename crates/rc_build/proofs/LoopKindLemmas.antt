@@ -1,5 +1,6 @@
 -- What the five kinds of loops have in common: their fallthrough, where their turns begin, their values and blocks.
 use Rattle.std.proofs.Common.{◌≡◌, ◌≤◌, true, List, [], ◌∷◌, ◌++◌, Option, Some, None, refl, sym, ap, subst, arith}
+use Rattle.std.specs.Prelude.{IsSome}
 use Rattle.std.specs.Option.{option_to_list}
 use Rattle.std.proofs.lemmas.Bool.{or_left, or_right}
 use Rattle.rc_names.specs.Numbers.{BlockId, is_among, same_id, times}
@@ -22,6 +23,15 @@ among_first key later = or_left (same_id key key) (is_among later key) (ids_equi
 pub among_next : (first key : BlockId) (later : List BlockId) → is_among later key ≡ true
     → is_among (first ∷ later) key ≡ true
 among_next first key later h = or_right (same_id key first) (is_among later key) h
+
+-- a loop that is found
+pub loop_there : {found : Option LoopTerminal} → IsSome found → (t : LoopTerminal) × (found ≡ Some t)
+loop_there {found = Some t} there = (t, refl)
+loop_there {found = None} there = let bad : ⊥ = cc in absurd bad
+
+-- a loop is found once
+pub one_loop : {found : Option LoopTerminal} {t other : LoopTerminal} → found ≡ Some t → found ≡ Some other → t ≡ other
+one_loop is also = cc (is, also)
 
 -- a terminal that is a loop
 pub loop_same : (terminal : Terminal) (found : LoopTerminal) → loop_of terminal ≡ Some found

@@ -6,7 +6,6 @@ use Rattle.std.specs.Option.{option_to_list}
 use Rattle.rc_names.specs.Numbers.{BlockId, is_among}
 use Rattle.rc_hir.specs.Model.{Fault, HirFunction, Environment}
 use Rattle.rc_tree.specs.Model.{ReactiveStatement, ReactiveValue}
-use Rattle.rc_runs.specs.declared.frames.Frame.{Frame}
 use Rattle.rc_runs.specs.Frames.{is_jump_target}
 use Rattle.rc_runs.specs.ListContext.{ListContext, ValueContext, value_context}
 use Rattle.rc_runs.specs.LoopParts.{LoopBlocks, first_of, loop_frame, turn_start}
@@ -21,9 +20,11 @@ use Rattle.rc_runs.proofs.OneValue.{one_test}
 use Rattle.rc_build.specs.declared.builder.Builder.{Builder}
 use Rattle.rc_build.specs.declared.builder.Site.{Site}
 use Rattle.rc_build.specs.declared.loops.LoopTerminal.{LoopTerminal}
+use Rattle.rc_build.specs.declared.loops.TurnValues.{TurnValues}
 use Rattle.rc_build.specs.inside.CanBuild.{AreMarked, IsUsed}
 use Rattle.rc_build.specs.inside.LoopKinds.{before_of, blocks_of, is_flat, value_blocks}
-use Rattle.rc_build.specs.inside.Loops.{BuildsBefore, SpellsTurnsOf, TurnsBuilt}
+use Rattle.rc_build.specs.inside.Loops.{BuildsBefore, SpellsLoopBefore, SpellsLoopTest, SpellsTurnsOf, TurnValuesBuilt}
+use Rattle.rc_build.specs.inside.Loops.{TurnsBuilt}
 use Rattle.rc_build.specs.inside.Marks.{MarksBlocks}
 use Rattle.rc_build.specs.inside.Setting.{Setting, part_setting, setting_of}
 use Rattle.rc_build.specs.inside.Task.{FromBlock, Progress, Spells, progress_of}
@@ -101,117 +102,99 @@ value_used {key = key} d =
     let starts = value_starts d in subst (λ z. is_among z key ≡ true) (sym starts.1) (among_first key starts.0)
 
 module _ (s : Setting) (t : LoopTerminal) where
-  -- what the setting asks for as the loop's test, and before it
-  abbrev pub SpellsLoopTest : Value → List BlockId → Type 0
-  SpellsLoopTest value used =
-      SpellsTest s.hir s.env (is_flat t.kind) t.test (value_context t.span s.context) t.body t.fallthrough value used
-
-  abbrev pub SpellsLoopBefore : Option Value → List BlockId → Type 0
-  SpellsLoopBefore value used = SpellsBefore s.hir s.env (blocks_of t) s.context (before_of t.kind) value used
-
   -- what is built before the test in the same setting
   before_built : {before : Option ReactiveValue} {old new : Progress} (later : Setting) → later ≡ s
       → BuiltPart (option_map value_of)
       (SpellsBefore later.hir later.env (blocks_of t) later.context (before_of t.kind)) later.hir
       (option_to_list (before_of t.kind)) before old new
-      → BuiltPart (option_map value_of) SpellsLoopBefore s.hir (option_to_list (before_of t.kind)) before old new
+      → BuiltPart (option_map value_of) (SpellsLoopBefore s t) s.hir (option_to_list (before_of t.kind)) before old new
   before_built {before} {old} {new} later same built = subst (λ (z : Setting). BuiltPart (option_map value_of)
       (SpellsBefore z.hir z.env (blocks_of t) z.context (before_of t.kind)) z.hir (option_to_list (before_of t.kind))
       before old new) same built
 
   -- the block with which the turns begin is used by their values
   pub start_used : {test : Value} {front : List BlockId} (at : Option BlockId) {before : Option Value}
-      {back : List BlockId} → SpellsLoopTest test front → SpellsBefore s.hir s.env (blocks_of t) s.context at before back
+      {back : List BlockId} → SpellsLoopTest s t test front → SpellsBefore s.hir s.env (blocks_of t) s.context at before back
       → is_among (front ++ back) (first_of at t.test) ≡ true
   start_used {front = front} None {back = back} d no_value = among_front front [] t.test (value_used d.spelled)
   start_used {front = front} (Some key) {back = back} d (some_value e) =
       among_back front back key (value_used e.spelled)
 
-  module _ {test : ReactiveValue} {old first : Progress}
-      (f : BuiltPart value_of SpellsLoopTest s.hir (t.test ∷ []) test old first) where
-    module _ {before : Option ReactiveValue} {second : Progress}
-        (b : BuiltPart (option_map value_of) SpellsLoopBefore s.hir (option_to_list (before_of t.kind)) before first
-        second) where
-      -- the values of a turn are marked
-      pub values_marked : MarksBlocks s.hir (value_blocks t) [] old.marks second.marks (f.newly ++ b.newly)
-      values_marked = marking_then s.hir (marking_beside s.hir f.marking) b.marking
+  abbrev turn_with : Option ReactiveValue → ReactiveValue → TurnValues
+  turn_with before test = record { before = before; test = test }
 
-      pub start_marked : IsUsed second.marks (turn_start (blocks_of t))
-      start_marked = subst (λ z. is_among z (turn_start (blocks_of t)) ≡ true) (sym values_marked.used)
-          (among_back old.marks.used (f.newly ++ b.newly) (turn_start (blocks_of t))
-          (start_used (before_of t.kind) f.spelled b.spelled))
+  module _ {turn : TurnValues} {old second : Progress} (built : TurnValuesBuilt s t turn old second) where
+    -- the values of a turn are marked
+    pub values_marked : MarksBlocks s.hir (value_blocks t) [] old.marks second.marks
+        (built.tested.newly ++ built.begun.newly)
+    values_marked = marking_then s.hir (marking_beside s.hir built.tested.marking) built.begun.marking
 
-      -- the turns are built where their parts are
-      pub turns_built : {body : List ReactiveStatement} {last : Progress}
-          → is_jump_target s.context.frames t.fallthrough ≡ false
-          → is_jump_target s.context.frames (turn_start (blocks_of t)) ≡ false
-          → BuiltList (part_setting (Some t.fallthrough) (loop_frame (blocks_of t)) s) t.body body second last
-          → TurnsBuilt s t (record { before = before; test = test; body = body }) old last
-      turns_built {body} falls starts d = record {
-        value = record { before = b.value; test = f.value; body = d.value };
-        newly = f.newly ++ (b.newly ++ d.newly);
-        is = cc (b.is, f.is, d.is);
-        spelled = turns falls starts f.spelled b.spelled d.spelled refl;
-        marking = marking_then s.hir (marking_beside s.hir f.marking)
-            (marking_then s.hir (marking_beside s.hir b.marking) d.marking);
-        kept = d.kept ∙ b.kept ∙ f.kept;
-      }
+    pub start_marked : IsUsed second.marks (turn_start (blocks_of t))
+    start_marked = subst (λ z. is_among z (turn_start (blocks_of t)) ≡ true) (sym values_marked.used)
+        (among_back old.marks.used (built.tested.newly ++ built.begun.newly) (turn_start (blocks_of t))
+        (start_used (before_of t.kind) built.tested.spelled built.begun.spelled))
 
-      -- turns whose body is refused behind their values are refused
-      pub turns_refused_body :
-          Refused s.hir (Spells (part_setting (Some t.fallthrough) (loop_frame (blocks_of t)) s) (FromBlock t.body))
-          second.marks.used
-          → Refused s.hir (SpellsTurnsOf s t) old.marks.used
-      turns_refused_body none parts blocks
-          (turns {test_used = front} {before_used = middle} {body_used = back} x y td bd ld w) sound =
-          none parts.body back ld (refused_back s.hir first.marks.used b.newly back
-          (refused_back s.hir old.marks.used f.newly (middle ++ back) sound
-          (w ∙ ap (λ z. z ++ (middle ++ back)) (one_test td f.spelled).1) f.marking.used)
-          (ap (λ z. z ++ back) (one_before bd b.spelled).1) b.marking.used)
+    -- the turns are built where their parts are
+    pub turns_built : {body : List ReactiveStatement} {last : Progress}
+        → is_jump_target s.context.frames t.fallthrough ≡ false
+        → is_jump_target s.context.frames (turn_start (blocks_of t)) ≡ false
+        → BuiltList (part_setting (Some t.fallthrough) (loop_frame (blocks_of t)) s) t.body body second last
+        → TurnsBuilt s t (turn, body) old last
+    turns_built {body} falls starts d =
+        let f = built.tested in
+        let b = built.begun in record {
+          value = record { before = b.value; test = f.value; body = d.value };
+          newly = f.newly ++ (b.newly ++ d.newly);
+          is = ap (λ z. (turn_with z turn.test, body)) b.is
+              ∙ ap (λ z. (turn_with (option_map value_of b.value) z, body)) f.is
+              ∙ ap (λ z. (turn_with (option_map value_of b.value) (value_of f.value), z)) d.is;
+          spelled = turns falls starts f.spelled b.spelled d.spelled refl;
+          marking = marking_then s.hir (marking_beside s.hir f.marking)
+              (marking_then s.hir (marking_beside s.hir b.marking) d.marking);
+          kept = d.kept ∙ b.kept ∙ f.kept;
+        }
 
-    -- so are turns whose value before the test is refused behind it
-    pub turns_refused_before : Refused s.hir SpellsLoopBefore first.marks.used
+    -- turns whose body is refused behind their values are refused
+    pub turns_refused_body :
+        Refused s.hir (Spells (part_setting (Some t.fallthrough) (loop_frame (blocks_of t)) s) (FromBlock t.body))
+        second.marks.used
         → Refused s.hir (SpellsTurnsOf s t) old.marks.used
-    turns_refused_before none parts blocks
+    turns_refused_body none parts blocks
         (turns {test_used = front} {before_used = middle} {body_used = back} x y td bd ld w) sound =
-        none parts.before middle bd (refused_front s.hir first.marks.used middle back
-        (refused_back s.hir old.marks.used f.newly (middle ++ back) sound
-        (w ∙ ap (λ z. z ++ (middle ++ back)) (one_test td f.spelled).1) f.marking.used) refl)
+        none parts.body back ld (refused_back s.hir built.mid.marks.used built.begun.newly back
+        (refused_back s.hir old.marks.used built.tested.newly (middle ++ back) sound
+        (w ∙ ap (λ z. z ++ (middle ++ back)) (one_test td built.tested.spelled).1) built.tested.marking.used)
+        (ap (λ z. z ++ back) (one_before bd built.begun.spelled).1) built.begun.marking.used)
+
+  -- so are turns whose value before the test is refused behind it
+  pub turns_refused_before : {test : ReactiveValue} {old first : Progress}
+      → BuiltPart value_of (SpellsLoopTest s t) s.hir (t.test ∷ []) test old first
+      → Refused s.hir (SpellsLoopBefore s t) first.marks.used
+      → Refused s.hir (SpellsTurnsOf s t) old.marks.used
+  turns_refused_before {old = old} {first} f none parts blocks
+      (turns {test_used = front} {before_used = middle} {body_used = back} x y td bd ld w) sound =
+      none parts.before middle bd (refused_front s.hir first.marks.used middle back
+      (refused_back s.hir old.marks.used f.newly (middle ++ back) sound
+      (w ∙ ap (λ z. z ++ (middle ++ back)) (one_test td f.spelled).1) f.marking.used) refl)
 
   -- and turns whose test is refused
-  pub turns_refused_test : (used : List BlockId) → Refused s.hir SpellsLoopTest used
+  pub turns_refused_test : (used : List BlockId) → Refused s.hir (SpellsLoopTest s t) used
       → Refused s.hir (SpellsTurnsOf s t) used
   turns_refused_test used none parts blocks
       (turns {test_used = front} {before_used = middle} {body_used = back} x y td bd ld w) sound =
       none parts.test front td (refused_front s.hir used front (middle ++ back) sound w)
 
--- what holds in the frame that is entered holds in the loop's
-pub in_frame : (P : Setting → Type 0) (t : LoopTerminal) {frame : Frame} {later s : Setting}
-    → frame ≡ loop_frame (blocks_of t) → later ≡ s → P (part_setting (Some t.fallthrough) frame later)
-    → P (part_setting (Some t.fallthrough) (loop_frame (blocks_of t)) s)
-in_frame P t {frame} {later} {s} e same holds =
-    subst (λ z. P (part_setting (Some t.fallthrough) (loop_frame (blocks_of t)) z)) same
-    (subst (λ z. P (part_setting (Some t.fallthrough) z later)) e holds)
-
--- the values of a turn are built: its test, and what stands before it
-pub record ValuesBuilt (s : Setting) (t : LoopTerminal) (later : Setting) (test : ReactiveValue)
-    (before : Option ReactiveValue) (old second : Progress) : Type 0 where
-  pub first : Progress
-  pub tested : BuiltPart value_of (SpellsLoopTest s t) s.hir (t.test ∷ []) test old first
-  pub begun : BuiltPart (option_map value_of) (SpellsLoopBefore s t) s.hir (option_to_list (before_of t.kind)) before
-      first second
-  pub same : later ≡ s
-
+-- the values of a turn are built one after the other
 pub values_built : (t : LoopTerminal) {old mid late : Builder} (site : Site) {flat : Bool} {at : Option BlockId}
     {test : ReactiveValue} {before : Option ReactiveValue} → flat ≡ is_flat t.kind → at ≡ before_of t.kind
     → BuildsTest old mid site t flat (Ok test) → BuildsBefore mid late site t flat at (Ok before)
-    → ValuesBuilt (setting_of old site) t (setting_of late site) test before (progress_of old) (progress_of late)
-values_built t {old} {mid} {late} site f e test before =
+    → TurnValuesBuilt (setting_of old site) t (record { before = before; test = test }) (progress_of old)
+    (progress_of late)
+values_built t {old} {mid} site f e test before =
     let s = setting_of old site in
     let tested = test_at t f test in
     let begun = before_at t e f before in record {
-      first = progress_of mid;
+      mid = progress_of mid;
       tested = tested.ok;
       begun = before_built s t (setting_of mid site) tested.frames begun.ok;
-      same = begun.frames ∙ tested.frames;
     }

@@ -24,17 +24,17 @@ use Rattle.rc_runs.specs.Grammar.{no_value, some_value, turns, while_loop, do_wh
 use Rattle.rc_runs.specs.Grammar.{for_in_loop}
 use Rattle.rc_runs.proofs.OneTree.{one_before}
 use Rattle.rc_build.specs.declared.builder.Marks.{Marks}
-use Rattle.rc_build.specs.declared.loops.BuiltTurns.{BuiltTurns}
 use Rattle.rc_build.specs.declared.loops.LoopKind.{LoopKind}
 use Rattle.rc_build.specs.declared.loops.LoopKind.TheVariants as kinds
 use Rattle.rc_build.specs.declared.loops.LoopTerminal.{LoopTerminal}
+use Rattle.rc_build.specs.declared.loops.TurnValues.{TurnValues}
 use Rattle.rc_build.specs.References.{fallthrough_of, is_while, turn_block}
 use Rattle.rc_build.specs.BlockFacts.{IsFramedApart}
 use Rattle.rc_build.specs.RuleFacts.{RuleFact}
 use Rattle.rc_build.specs.inside.CanBuild.{CanBuildTerminal}
-use Rattle.rc_build.specs.inside.LoopKinds.{blocks_of, blocks_with, init_of, is_flat, is_while_kind, shown_blocks}
+use Rattle.rc_build.specs.inside.LoopKinds.{blocks_of, blocks_with, init_of, is_flat, is_while_kind}
 use Rattle.rc_build.specs.inside.LoopKinds.{terminal_of, terminal_with, value_blocks}
-use Rattle.rc_build.specs.inside.Loops.{SpellsTurnsOf, TurnsBuilt, tree_of, tree_with, turns_of}
+use Rattle.rc_build.specs.inside.Loops.{SpellsInit, SpellsTurnsOf, TurnsBuilt, tree_of, tree_with, values_of}
 use Rattle.rc_build.specs.inside.Setting.{Setting, label_at, terminal_statement}
 use Rattle.rc_build.specs.inside.Task.{FromTerminal, Progress, Spells, left}
 use Rattle.rc_build.specs.inside.Built.{BuiltPart, BuiltPrefix, Refused}
@@ -169,7 +169,7 @@ module _ {s : Setting} {t : LoopTerminal} where
 record IsLoopTree (s : Setting) (kind : LoopKind) (t : LoopTerminal) (init : Option Value) (parts : LoopParts)
     (used : List BlockId) : Type 0 where
   whole : TreeTerminal
-  is : tree_with kind t (option_map value_of init) (turns_of parts) ≡ Some (plain.terminal_of whole)
+  is : tree_with kind t (values_of init parts) (statements_of parts.body) ≡ Some (plain.terminal_of whole)
   spelled : SpellsStatement s.hir s.env (terminal_with kind t) s.context true t.fallthrough
       (TerminalStatement whole (label_of true t.fallthrough)) used
 
@@ -212,11 +212,11 @@ module _ {s : Setting} {t : LoopTerminal} where
   loop_tree kinds.ForIn {parts = parts} reached no_value d =
       record { whole = ForIn parts.test parts.body t.span t.id; is = refl; spelled = for_in_loop d }
 
--- what the setting asks for before all turns
-abbrev pub SpellsInit : Setting → LoopTerminal → Option Value → List BlockId → Type 0
-SpellsInit s t value used = SpellsBefore s.hir s.env (shown_blocks true t) s.context (init_of t.kind) value used
+-- the tree of a loop whose parts are built
+abbrev built_tree : LoopTerminal → Option ReactiveValue → TurnValues × List ReactiveStatement → Option ReactiveTerminal
+built_tree t init built = tree_of t (record { init = init; turn = built.0 }) built.1
 
--- it is built, as a part
+-- what runs before all turns is built, as a part
 abbrev pub InitBuilt : Setting → LoopTerminal → Option ReactiveValue → Progress → Progress → Type 0
 InitBuilt s t built old new =
     BuiltPart (option_map value_of) (SpellsInit s t) s.hir (option_to_list (init_of t.kind)) built old new
@@ -260,21 +260,21 @@ module _ (s : Setting) (t : LoopTerminal) where
         (refused_front s.hir old.marks.used (p.init_used ++ p.turns_used) p.rest_used sound p.whole)
         (ap (λ z. z ++ p.turns_used) (one_before p.init_spelled i.spelled).1) i.marking.used)
 
-    module _ {built : BuiltTurns} {last : Progress} (b : TurnsBuilt s t built mid last)
+    module _ {built : TurnValues × List ReactiveStatement} {last : Progress} (b : TurnsBuilt s t built mid last)
         (reached : is_while_kind t.kind ≡ true → ends_unreachable s.hir t.fallthrough ≡ false) where
       whole_tree : IsLoopTree s t.kind t i.value b.value (i.newly ++ b.newly)
       whole_tree = loop_tree t.kind reached i.spelled b.spelled
 
-      tree_is : tree_of t init built ≡ Some (plain.terminal_of whole_tree.whole)
-      tree_is = ap (λ z. tree_of t z built) i.is ∙ ap (tree_of t (option_map value_of i.value)) b.is ∙ whole_tree.is
+      tree_is : built_tree t init built ≡ Some (plain.terminal_of whole_tree.whole)
+      tree_is = ap (λ z. built_tree t z built) i.is ∙ ap (built_tree t (option_map value_of i.value)) b.is ∙ whole_tree.is
 
       -- the parts are there that the loop's kind has
-      pub tree_there : IsSome (tree_of t init built)
+      pub tree_there : IsSome (built_tree t init built)
       tree_there = ap is_some tree_is
 
       -- the statement stands where it is to stand
       pub loop_built : {made : ReactiveTerminal} {statement : ReactiveStatement} {whole : List ReactiveStatement}
-          → tree_of t init built ≡ Some made
+          → built_tree t init built ≡ Some made
           → statement ≡ terminal_statement made (label_at (Some t.fallthrough))
           → whole ≡ last.out ++ statement ∷ []
           → BuiltPrefix s (FromTerminal (terminal_of t)) (left (Some t.fallthrough)) old

@@ -1,6 +1,6 @@
 -- The cases of a switch, built from the last to the first, and the switch around them.
-use Rattle.std.proofs.Common.{◌≡◌, suc, ◌+◌, true, List, [], ◌∷◌, ◌++◌, Option, Some, None, drop, length, reverse, refl}
-use Rattle.std.proofs.Common.{sym, ap, ◌∙◌, subst, arith, append_assoc, length-append}
+use Rattle.std.proofs.Common.{◌≡◌, ◌<◌, suc, ◌+◌, true, List, [], ◌∷◌, ◌++◌, Option, Some, None, drop, length}
+use Rattle.std.proofs.Common.{reverse, refl, sym, ap, ◌∙◌, subst, arith, append_assoc, length-append}
 use Rattle.std.specs.Prelude.{◌↔◌, is_some, IfSome, IsNone}
 use Rattle.std.proofs.lemmas.List.{append-nil, reverse-append}
 use Rattle.rc_names.specs.Numbers.{BlockId, is_among, times}
@@ -22,7 +22,7 @@ use Rattle.rc_build.specs.declared.builder.Site.{Site}
 use Rattle.rc_build.specs.inside.CanBuild.{IsUsed}
 use Rattle.rc_build.specs.inside.Marks.{MarksBlocks}
 use Rattle.rc_build.specs.inside.Setting.{Setting, setting_of}
-use Rattle.rc_build.specs.inside.Switches.{BuiltCases, CanBuildCases, CasesSoFar, SpellsKept, setting_after}
+use Rattle.rc_build.specs.inside.Switches.{BuiltCases, CanBuildCases, CasesSoFar, EndsAt, SpellsKept, setting_after}
 use Rattle.rc_build.specs.inside.Switches.{switch_case}
 use Rattle.rc_build.specs.inside.Task.{FromBlock, Spells, progress_of}
 use Rattle.rc_build.specs.inside.Built.{BuiltList, Refused}
@@ -69,14 +69,14 @@ marks_own {key = key} {old = old} {new} (from_block {used = used} f l d w) m =
     subst (λ z. is_among z key ≡ true) (sym m.used) (among_back old.used (key ∷ used) key
     (among_front (key ∷ []) used key (among_alone key key (ids_equivalence.refl key))))
 
--- the last waiting case, or none, as it is taken
-pub popped_last : (waiting front : List Case) {result : Option Case} {case : Case} → result ≡ Some case
-    → IfSome result (λ last. waiting ≡ front ++ last ∷ []) → waiting ≡ front ++ case ∷ []
-popped_last waiting front is last = subst (λ z. IfSome z (λ x. waiting ≡ front ++ x ∷ [])) is last
+-- the block of the last waiting case, or of none
+pub ends_at : (waiting : List Case) {result : Option BlockId} {block : BlockId} → result ≡ Some block
+    → IfSome result (EndsAt waiting) → EndsAt waiting block
+ends_at waiting is last = subst (λ z. IfSome z (EndsAt waiting)) is last
 
-pub popped_none : (waiting : List Case) {result : Option Case} → result ≡ None → (IsNone result ↔ (waiting ≡ []))
+pub ends_nowhere : (waiting : List Case) {result : Option BlockId} → result ≡ None → (IsNone result ↔ (waiting ≡ []))
     → waiting ≡ []
-popped_none waiting is none = none.0 (ap is_some is)
+ends_nowhere waiting is none = none.0 (ap is_some is)
 
 -- the loop over the cases: nothing is built yet
 pub cases_start : (old : Builder) (site : Site) (kept : List Case) {parts : List ReactiveSwitchCase} → parts ≡ []
@@ -102,11 +102,17 @@ pub cases_setting : {old now : Builder} {site : Site} {kept waiting : List Case}
     → length now.hir.now.body.blocks ≡ length old.hir.now.body.blocks
 cases_setting so_far = ap (λ (z : Setting). length z.hir.body.blocks) so_far.setting
 
+-- one case less waits
+pub fewer_cases : {waiting front left : List Case} (case : Case) → waiting ≡ front ++ case ∷ [] → left ≡ front
+    → length left < length waiting
+fewer_cases {waiting} {front} {left} case split taken =
+    omega (arith, ap length split, length-append front (case ∷ []), ap length taken)
+
 module _ {old now : Builder} {site : Site} {kept waiting : List Case} {parts : List ReactiveSwitchCase}
     {next : Option BlockId} (front : List Case) (case : Case) (split : waiting ≡ front ++ case ∷ [])
     (so_far : CasesSoFar old now site kept waiting parts next) where
   -- one case more is built
-  pub cases_further : (mid : Builder) {new : Builder} {list : List ReactiveStatement} {longer : List ReactiveSwitchCase}
+  case_further : (mid : Builder) {new : Builder} {list : List ReactiveStatement} {longer : List ReactiveSwitchCase}
       → BuiltList (setting_of now (record { block = case.block; next = next; handler = site.handler })) case.block list
       (progress_of now)
       (progress_of mid)
@@ -115,7 +121,7 @@ module _ {old now : Builder} {site : Site} {kept waiting : List Case} {parts : L
       → new.hir.now ≡ mid.hir.now → new.env.now ≡ mid.env.now → new.marks ≡ mid.marks → new.out ≡ mid.out
       → new.frames ≡ frame_kinds.Case case.block ∷ mid.frames → longer ≡ parts ++ switch_case case.test list ∷ []
       → CasesSoFar old new site kept front longer (Some case.block)
-  cases_further mid {new} {list} {longer} step same h v k o f put =
+  case_further mid {new} {list} {longer} step same h v k o f put =
       let hir : now.hir.now ≡ old.hir.now = same_graph so_far.setting in
       let hirs : new.hir.now ≡ old.hir.now = h ∙ same_graph same ∙ hir in
       let frames : mid.frames ≡ now.frames = ap (λ (z : Setting). z.context.frames) same in
@@ -172,11 +178,11 @@ module _ {old now : Builder} {site : Site} {kept waiting : List Case} {parts : L
       after h v f = cc
 
   -- a case is refused
-  pub cases_refused : Refused now.hir.now
+  case_refused : Refused now.hir.now
       (Spells (setting_of now (record { block = case.block; next = next; handler = site.handler }))
       (FromBlock case.block)) now.marks.used
       → Refused old.hir.now (SpellsKept (setting_of old site) kept) old.marks.used
-  cases_refused none all blocks d sound =
+  case_refused none all blocks d sound =
       go (behind front (case ∷ so_far.later) (subst (λ z. SpellsKept (setting_of old site) z all blocks)
       (so_far.split ∙ ap (λ z. z ++ so_far.later) split ∙ append_assoc front (case ∷ []) so_far.later) d))
     where
@@ -192,6 +198,29 @@ module _ {old now : Builder} {site : Site} {kept waiting : List Case} {parts : L
 
       go : CasesBehind (setting_of old site) (case ∷ so_far.later) blocks → ⊥
       go h = inner h.spelled (refused_front old.hir.now old.marks.used h.newly h.rest sound h.parts)
+
+module _ {old now : Builder} {site : Site} {kept waiting : List Case} {parts : List ReactiveSwitchCase}
+    {next : Option BlockId} (front : List Case) (case : Case) (split : waiting ≡ front ++ case ∷ []) {block : BlockId}
+    (is : case.block ≡ block) (so_far : CasesSoFar old now site kept waiting parts next) where
+  abbrev here : Site
+  here = record { block = block; next = next; handler = site.handler }
+
+  -- the same of the block that the last case has
+  pub cases_further : (mid : Builder) {new : Builder} {list : List ReactiveStatement} {longer : List ReactiveSwitchCase}
+      {left : List Case} → BuiltList (setting_of now here) block list (progress_of now) (progress_of mid)
+      → setting_of mid here ≡ setting_of now here
+      → new.hir.now ≡ mid.hir.now → new.env.now ≡ mid.env.now → new.marks ≡ mid.marks → new.out ≡ mid.out
+      → new.frames ≡ frame_kinds.Case block ∷ mid.frames → longer ≡ parts ++ switch_case case.test list ∷ []
+      → left ≡ front → CasesSoFar old new site kept left longer (Some block)
+  cases_further mid {list = list} step same h v k o f put taken =
+      rw (taken, sym is) (case_further front case split so_far mid
+      (subst (λ (z : BlockId). BuiltList (setting_of now here) z list (progress_of now) (progress_of mid)) (sym is) step)
+      same h v k o (f ∙ ap (λ z. frame_kinds.Case z ∷ mid.frames) (sym is)) put)
+
+  pub cases_refused : Refused now.hir.now (Spells (setting_of now here) (FromBlock block)) now.marks.used
+      → Refused old.hir.now (SpellsKept (setting_of old site) kept) old.marks.used
+  cases_refused none = case_refused front case split so_far
+      (subst (λ z. Refused now.hir.now (Spells (setting_of now here) (FromBlock z)) now.marks.used) (sym is) none)
 
 -- the cases are built
 pub cases_done : {old now : Builder} {site : Site} {kept waiting : List Case} {parts : List ReactiveSwitchCase}

@@ -127,7 +127,7 @@ impl<'g> Builder<'g> {
             | Terminal::While { .. }
             | Terminal::For { .. }
             | Terminal::ForOf { .. }
-            | Terminal::ForIn { .. } => self.build_loop_of(site, terminal),
+            | Terminal::ForIn { .. } => self.build_loop(site, terminal),
             Terminal::Logical { .. }
             | Terminal::Ternary { .. }
             | Terminal::Optional { .. }

@@ -9,6 +9,7 @@ ghost use Rattle.rc_runs.specs.Frames.{is_jump_target};
 ghost use Rattle.rc_runs.specs.Graph.{ends_unreachable};
 ghost use Rattle.rc_runs.specs.LoopParts.{loop_frame, turn_start};
 ghost use Rattle.rc_build.specs.inside.LoopKinds as kinds;
+ghost use Rattle.rc_build.specs.declared.loops.LoopTerminal.{LoopTerminal};
 ghost use Rattle.rc_build.specs.inside.Loops as spec;
 ghost use Rattle.rc_build.specs.inside.Setting.{setting_of};
 ghost use Rattle.rc_build.specs.inside.Task.{FromTerminal, left, progress_of};
@@ -50,12 +51,27 @@ pub enum LoopKind {
     ForIn,
 }
 
-/// What is built of a loop's turns.
+/// The values of a loop, which are built before its body.
 #[derive(Drop)]
-pub struct BuiltTurns {
+pub struct LoopValues {
+    /// The value that runs once, before all turns.
+    init: Option<Boxed<ReactiveValue>>,
+    turn: TurnValues,
+}
+
+/// The values of a loop's turns: the test, and what runs before it.
+#[derive(Drop)]
+pub struct TurnValues {
     before: Option<Boxed<ReactiveValue>>,
     test: Boxed<ReactiveValue>,
-    body: List<ReactiveStatement>,
+}
+
+/// Where the body of a loop stands.
+#[derive(Clone, Copy)]
+pub struct LoopBody {
+    pub block: BlockId,
+    pub frame: Frame,
+    pub fallthrough: BlockId,
 }
 
 impl LoopKind {
@@ -147,43 +163,71 @@ impl LoopTerminal {
 }
 
 impl<'g> Builder<'g> {
-    /// Builds the loop that a terminal is; returns where the list goes on. The faults are those of `build_loop`.
+    /// Builds the loop that a terminal is: its values, and then its body inside the loop's frame; returns where the list
+    /// goes on.
+    ///
+    /// `Malformed`, `Todo`, `BadName`: as for its values and its body.
     // Not inlined, so that the frames of other statements have no room for its parts.
     #[inline(never)]
     #[cycle(builder)]
-    pub fn build_loop_of(
-        &mut self,
-        site: Site,
-        terminal: &Terminal,
-    ) -> Result<Option<BlockId>, Fault>
+    pub fn build_loop(&mut self, site: Site, terminal: &Terminal) -> Result<Option<BlockId>, Fault>
         requires { CanBuildTerminal self.old.hir.now self.old.marks site.handler self.old.frames site.block terminal.now
             × IsSome (kinds.loop_of terminal.now) }
         ensures { BuildsTask self.old self.new site (FromTerminal terminal.now) left result }
     {
-        let found = loop_of(terminal).unwrap();
-        self.build_loop(site, &found)
+        let values = self.build_values_of(site, terminal)?;
+        let LoopBody {
+            block,
+            frame,
+            fallthrough,
+        } = body_of(terminal);
+        match self.build_part(site, block, frame, Some(fallthrough)) {
+            Ok(body) => {
+                put_loop(self.alloc, &mut self.out, terminal, values, body)?;
+                Ok(Some(fallthrough))
+            }
+            Err(fault) => {
+                let_go(values);
+                Err(fault)
+            }
+        }
     }
 
-    /// Builds a loop; returns where the list goes on.
+    /// Builds the values of the loop that a terminal is. The faults are those of `build_values`.
+    // Not inlined, so that the frames of nested loops have no room for the parts of the terminal; and boxed, so that they
+    // have little for the values.
+    #[inline(never)]
+    fn build_values_of(
+        &mut self,
+        site: Site,
+        terminal: &Terminal,
+    ) -> Result<Boxed<LoopValues>, Fault>
+        requires { CanBuildTerminal self.old.hir.now self.old.marks site.handler self.old.frames site.block terminal.now
+            × IsSome (kinds.loop_of terminal.now) }
+        ensures { (t : LoopTerminal) → kinds.loop_of terminal.now ≡ Some t → spec.BuildsLoopValues self.old self.new site t
+            result }
+    {
+        let found = loop_of(terminal).unwrap();
+        let values = self.build_values(site, &found)?;
+        Ok(Boxed::new(self.alloc, values)?)
+    }
+
+    /// Builds the values of a loop: first the one that runs before all turns, where there is one.
     ///
     /// - `Malformed` with `LoopLive`: a jump can name its fallthrough already, or the block with which its turns begin,
     ///   or it is a while whose fallthrough ends in `Unreachable`.
-    /// - `Malformed`, `Todo`, `BadName`: as for its values and its body.
-    #[cycle(builder)]
-    fn build_loop(&mut self, site: Site, terminal: &LoopTerminal) -> Result<Option<BlockId>, Fault>
+    /// - `Malformed`, `Todo`, `BadName`: as for its values.
+    fn build_values(&mut self, site: Site, terminal: &LoopTerminal) -> Result<LoopValues, Fault>
         requires { CanBuildTerminal self.old.hir.now self.old.marks site.handler self.old.frames site.block
             (kinds.terminal_of terminal.now) }
-        ensures { BuildsTask self.old self.new site (FromTerminal (kinds.terminal_of terminal.now)) left result }
+        ensures { spec.BuildsLoopValues self.old self.new site terminal.now result }
     {
         if self.is_live(terminal) {
             return Err(malformed(site.block, Rule::LoopLive));
         }
         let init = self.build_before(site, terminal, terminal.init(), true)?;
-        match self.build_turns(site, terminal) {
-            Ok(turns) => {
-                put_loop(self.alloc, &mut self.out, terminal, init, turns)?;
-                Ok(Some(terminal.fallthrough))
-            }
+        match self.build_turn_values(site, terminal) {
+            Ok(turn) => Ok(LoopValues { init, turn }),
             Err(fault) => {
                 let_go(init);
                 Err(fault)
@@ -191,12 +235,15 @@ impl<'g> Builder<'g> {
         }
     }
 
-    /// Builds the turns of a loop: its test, what stands before it, and then the body inside the loop's frame.
-    #[cycle(builder)]
-    fn build_turns(&mut self, site: Site, terminal: &LoopTerminal) -> Result<BuiltTurns, Fault>
+    /// Builds the values of a loop's turns: the test, and then what runs before it.
+    fn build_turn_values(
+        &mut self,
+        site: Site,
+        terminal: &LoopTerminal,
+    ) -> Result<TurnValues, Fault>
         requires { spec.CanBuildTurns self.old.hir.now self.old.marks site.handler self.old.frames terminal.now }
         ensures { Builds self.old self.new site
-            (λ built. spec.TurnsBuilt (setting_of self.old site) terminal.now built (progress_of self.old)
+            (λ turn. spec.TurnValuesBuilt (setting_of self.old site) terminal.now turn (progress_of self.old)
             (progress_of self.new))
             (Refused self.old.hir.now (spec.SpellsTurnsOf (setting_of self.old site) terminal.now) self.old.marks.used)
             result }
@@ -212,18 +259,9 @@ impl<'g> Builder<'g> {
             terminal.fallthrough,
             showing,
         )?;
-        let before = match self.build_before(site, terminal, terminal.before(), showing.flat) {
-            Ok(before) => before,
+        match self.build_before(site, terminal, terminal.before(), showing.flat) {
+            Ok(before) => Ok(TurnValues { before, test }),
             Err(fault) => {
-                let_go(test);
-                return Err(fault);
-            }
-        };
-        let opened = Some(terminal.fallthrough);
-        match self.build_part(site, terminal.body, terminal.frame(), opened) {
-            Ok(body) => Ok(BuiltTurns { before, test, body }),
-            Err(fault) => {
-                let_go(before);
                 let_go(test);
                 Err(fault)
             }
@@ -231,8 +269,6 @@ impl<'g> Builder<'g> {
     }
 
     /// Builds the value that goes on at a loop's test, where there is one.
-    // Not inlined, so that the frames of nested loops have no room for the value.
-    #[inline(never)]
     fn build_before(
         &mut self,
         site: Site,
@@ -330,34 +366,53 @@ fn for_of(terminal: &Terminal) -> Option<LoopTerminal>
     }
 }
 
-/// Puts the statement of a loop whose parts are built behind others. The only error is out of memory.
+/// Where the body of the loop that a terminal is stands.
+// Not inlined, so that the frames of nested loops have no room for the parts of the terminal.
+#[inline(never)]
+fn body_of(terminal: &Terminal) -> LoopBody
+    requires { IsSome (kinds.loop_of terminal.now) }
+    ensures { (t : LoopTerminal) → kinds.loop_of terminal.now ≡ Some t → result ≡ spec.body_of t }
+{
+    let found = loop_of(terminal).unwrap();
+    LoopBody {
+        block: found.body,
+        frame: found.frame(),
+        fallthrough: found.fallthrough,
+    }
+}
+
+/// Puts the statement of the loop that a terminal is, whose parts are built, behind others. The only error is out of
+/// memory.
 #[inline(never)]
 fn put_loop(
     alloc: Global,
     out: &mut List<ReactiveStatement>,
-    terminal: &LoopTerminal,
-    init: Option<Boxed<ReactiveValue>>,
-    turns: BuiltTurns,
+    terminal: &Terminal,
+    values: Boxed<LoopValues>,
+    body: List<ReactiveStatement>,
 ) -> Result<(), AllocError>
-    requires { IsSome (spec.tree_of terminal.now init turns) }
-    ensures { OnOk result (spec.PutsLoop out.old out.new terminal.now init turns) }
+    requires { (t : LoopTerminal) × (kinds.loop_of terminal.now ≡ Some t) × IsSome (spec.tree_of t values body) }
+    ensures { (t : LoopTerminal) → kinds.loop_of terminal.now ≡ Some t
+        → OnOk result (spec.PutsLoop out.old out.new t values body) }
 {
-    let tree = loop_tree(*terminal, init, turns);
-    let label = label_at(Some(terminal.fallthrough));
+    let found = loop_of(terminal).unwrap();
+    let tree = loop_tree(found, values.into_inner(), body);
+    let label = label_at(Some(found.fallthrough));
     put_terminal(alloc, out, tree, label)
 }
 
 /// The tree of a loop whose parts are built.
 fn loop_tree(
     terminal: LoopTerminal,
-    init: Option<Boxed<ReactiveValue>>,
-    turns: BuiltTurns,
+    values: LoopValues,
+    body: List<ReactiveStatement>,
 ) -> ReactiveTerminal
-    requires { IsSome (spec.tree_of terminal init turns) }
-    ensures { spec.tree_of terminal init turns ≡ Some result }
+    requires { IsSome (spec.tree_of terminal values body) }
+    ensures { spec.tree_of terminal values body ≡ Some result }
 {
     let LoopTerminal { kind, id, span, .. } = terminal;
-    let BuiltTurns { before, test, body } = turns;
+    let LoopValues { init, turn } = values;
+    let TurnValues { before, test } = turn;
     let loop_block = ReactiveBlock { statements: body };
     match kind {
         LoopKind::While => ReactiveTerminal::While {

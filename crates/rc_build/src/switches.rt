@@ -1,8 +1,10 @@
 //! Switches: their cases are built from the last to the first, each inside the frames of those after it.
 
-ghost use Rattle.std.specs.Prelude.{◌≡◌, ◌&&◌, ◌||◌, ◌++◌, ◌∷◌, [], Option, IfOk, OnOk, is_some, not};
+ghost use Rattle.std.specs.Prelude.{◌≡◌, ◌↔◌, ◌&&◌, ◌||◌, ◌++◌, ◌∷◌, [], Option, is_some, not};
+ghost use Rattle.std.specs.Prelude.{List as Entries, IfOk, IfSome, IsNone, OnOk};
 ghost use Rattle.std.specs.List.{list_any};
 ghost use Rattle.rc_names.specs.declared.span.Span.{Span};
+ghost use Rattle.rc_hir.specs.Model.{Case};
 ghost use Rattle.rc_hir.specs.Successors as successors;
 ghost use Rattle.rc_hir.specs.declared.terminal.Terminal.TheVariants as terminals;
 ghost use Rattle.rc_tree.specs.declared.terminal.ReactiveTerminal.TheVariants as tree;
@@ -18,7 +20,7 @@ ghost use Rattle.rc_build.specs.inside.Switches as switches;
 ghost use Rattle.rc_build.specs.inside.Task.{FromTerminal, left};
 ghost use Rattle.rc_build.specs.inside.Built.{BuildsTask};
 
-use crate::builder::{Builder, Site, falls_to, label_at, malformed, put_terminal};
+use crate::builder::{Builder, Site, falls_to, label_at, let_go, malformed, put_terminal};
 use rc_hir::{Case, Fault, Place, Rule};
 use rc_names::{BlockId, EvaluationOrder, List};
 use rc_runs::Frame;
@@ -55,14 +57,22 @@ impl<'g> Builder<'g> {
         }
         let opened = self.open_reachable(fallthrough);
         let is_target = self.is_target_inside(fallthrough, opened);
-        let kept = kept_cases(self.alloc, cases, fallthrough, is_target)?;
+        let mut kept = kept_cases(self.alloc, cases, fallthrough, is_target)?;
         if leaves_elsewhere(&kept, fallthrough, opened, site.next) {
             return Err(malformed(site.block, Rule::FallsElsewhere));
         }
         let frame = Frame::Switch { block: fallthrough };
-        let parts = self.build_cases_inside(site, kept, frame, opened)?;
-        put_switch(self.alloc, &mut self.out, test, parts, id, label_at(opened))?;
-        Ok(opened)
+        let mut parts = List::new(self.alloc);
+        match self.build_cases_inside(site, &mut kept, frame, opened, &mut parts) {
+            Ok(()) => {
+                put_switch(self.alloc, &mut self.out, test, parts, id, label_at(opened))?;
+                Ok(opened)
+            }
+            Err(fault) => {
+                let_go(parts);
+                Err(fault)
+            }
+        }
     }
 
     /// Whether a jump in the cases of a switch can name its fallthrough.
@@ -72,54 +82,57 @@ impl<'g> Builder<'g> {
         opened.is_some() || self.frames.is_jump_target(fallthrough)
     }
 
-    /// Builds the cases of a switch inside its frame, where its fallthrough is opened.
+    /// Builds the cases of a switch inside its frame, where its fallthrough is opened, as `build_cases` does.
     #[cycle(builder)]
     fn build_cases_inside(
         &mut self,
         site: Site,
-        kept: List<Case>,
+        kept: &mut List<Case>,
         frame: Frame,
         opened: Option<BlockId>,
-    ) -> Result<List<ReactiveSwitchCase>, Fault>
+        parts: &mut List<ReactiveSwitchCase>,
+    ) -> Result<(), Fault>
         requires { CanBuildCases self.old.hir.now self.old.marks site.handler
-            (frames_inside opened frame self.old.frames) kept }
+            (frames_inside opened frame self.old.frames) kept.old × (parts.old ≡ []) }
         ensures { let inside = part_setting opened frame (setting_of self.old site) in
-            BuildsCases self.old self.new site inside kept result }
+            BuildsCases self.old self.new site inside kept.old parts.new result }
     {
         self.frames.enter(frame, opened)?;
-        let parts = self.build_cases(site.inside(site.block, frame, opened), kept)?;
+        self.build_cases(site.inside(site.block, frame, opened), kept, parts)?;
         self.frames.leave(opened);
-        Ok(parts)
+        Ok(())
     }
 
-    /// Builds cases from the last to the first. Each falls into the one after it, whose frame is around it.
+    /// Builds cases from the last to the first: takes each out of one list, and puts the case of the tree into another.
+    /// Each falls into the one after it, whose frame is around it.
+    // Both lists are the caller's, so that there is room for them once a level.
     #[cycle(builder)]
     fn build_cases(
         &mut self,
         site: Site,
-        kept: List<Case>,
-    ) -> Result<List<ReactiveSwitchCase>, Fault>
-        requires { CanBuildCases self.old.hir.now self.old.marks site.handler self.old.frames kept }
-        ensures { BuildsCases self.old self.new site (setting_of self.old site) kept result }
+        kept: &mut List<Case>,
+        parts: &mut List<ReactiveSwitchCase>,
+    ) -> Result<(), Fault>
+        requires { CanBuildCases self.old.hir.now self.old.marks site.handler self.old.frames kept.old
+            × (parts.old ≡ []) }
+        ensures { BuildsCases self.old self.new site (setting_of self.old site) kept.old parts.new result }
     {
-        let mut waiting = kept;
         let mut next = site.next;
-        let mut parts = List::new(self.alloc);
-        'cases: while let Some(case) = waiting.pop() {
+        'cases: while let Some(block) = last_block(kept) {
             let here = Site {
-                block: case.block,
+                block,
                 next,
                 handler: site.handler,
             };
             let statements = self.build_apart(here)?;
             // Before the frame is put, so that no statement is let go here after want of memory.
-            put_case(&mut parts, &case.test, statements)?;
-            self.frames.push(Frame::Case { block: case.block })?;
-            next = Some(case.block);
+            put_case(parts, kept, statements)?;
+            self.frames.push(Frame::Case { block })?;
+            next = Some(block);
         }
         self.frames.pop_many(parts.len());
         parts.reverse();
-        Ok(parts)
+        Ok(())
     }
 }
 
@@ -213,17 +226,32 @@ fn is_kept(case: Case, fallthrough: BlockId, is_target: bool) -> bool
     !(case.test.is_none() && case.block == fallthrough && is_target)
 }
 
-/// Puts the case of the tree with that test behind others. The only error is out of memory.
+/// The block of the last case, if there is one.
+fn last_block(cases: &List<Case>) -> Option<BlockId>
+    ensures none { IsNone result ↔ (cases.now ≡ []) }
+    ensures last { IfSome result (switches.EndsAt cases.now) }
+{
+    let last = cases.as_slice().last()?;
+    Some(last.block)
+}
+
+/// Takes the last case out of a list, and puts the case of the tree with its test behind others. The only error is out of
+/// memory.
+// Not inlined, so that the frames of nested switches have no room for a case.
 #[inline(never)]
 fn put_case(
-    cases: &mut List<ReactiveSwitchCase>,
-    test: &Option<Place>,
+    parts: &mut List<ReactiveSwitchCase>,
+    cases: &mut List<Case>,
     statements: List<ReactiveStatement>,
 ) -> Result<(), AllocError>
-    ensures { OnOk result (cases.new ≡ cases.old ++ switches.switch_case test.now statements ∷ []) }
+    ensures { (front : Entries Case) (last : Case) → cases.old ≡ front ++ last ∷ []
+        → OnOk result (switches.TakesCase front last statements parts.old parts.new cases.new) }
 {
-    cases.push(ReactiveSwitchCase {
-        test: *test,
+    let Some(case) = cases.pop() else {
+        return Ok(());
+    };
+    parts.push(ReactiveSwitchCase {
+        test: case.test,
         block: Some(ReactiveBlock { statements }),
     })
 }

@@ -1,5 +1,5 @@
 -- The cases of a switch: when they can be built, and what is built of them.
-use Rattle.std.specs.Prelude.{◌≡◌, true, List, ◌++◌, Option, Some, Result, length, reverse}
+use Rattle.std.specs.Prelude.{◌≡◌, true, List, [], ◌∷◌, ◌++◌, Option, Some, Result, length, reverse}
 use Rattle.rc_names.specs.Numbers.{BlockId, is_among}
 use Rattle.rc_hir.specs.Model.{Place, Case, Fault, HirFunction}
 use Rattle.rc_hir.specs.Successors.{case_blocks}
@@ -40,6 +40,19 @@ pub record CanBuildCases (hir : HirFunction) (marks : Marks) (handler : Option B
 abbrev pub switch_case : Option Place → List ReactiveStatement → ReactiveSwitchCase
 switch_case test list = roll-ReactiveSwitchCase (record { test = test; block = Some (record { statements = list }) })
 
+-- the last of these cases has that block
+pub record EndsAt (cases : List Case) (block : BlockId) : Type 0 where
+  pub front : List Case
+  pub last : Case
+  pub split : cases ≡ front ++ last ∷ []
+  pub is : last.block ≡ block
+
+-- the last case is taken, and stands with these statements behind others
+pub record TakesCase (front : List Case) (last : Case) (statements : List ReactiveStatement)
+    (old new : List ReactiveSwitchCase) (left : List Case) : Type 0 where
+  pub taken : left ≡ front
+  pub put : new ≡ old ++ switch_case last.test statements ∷ []
+
 -- the setting asks for these cases, which use these blocks
 abbrev pub SpellsKept : Setting → List Case → Cases → List BlockId → Type 0
 SpellsKept setting kept parts used = SpellsCases setting.hir setting.env kept setting.context parts used
@@ -50,9 +63,10 @@ BuiltCases setting kept built old new =
     BuiltPart cases_of (SpellsKept setting kept) setting.hir (case_blocks kept) built old new
 
 -- what a function ensures that builds cases in a setting
-abbrev pub BuildsCases : Builder → Builder → Site → Setting → List Case → Result (List ReactiveSwitchCase) Fault → Type 0
-BuildsCases old new site setting kept result = Builds old new site
-    (λ built. BuiltCases setting kept built (progress_of old) (progress_of new))
+abbrev pub BuildsCases : Builder → Builder → Site → Setting → List Case → List ReactiveSwitchCase
+    → Result (Unit {0}) Fault → Type 0
+BuildsCases old new site setting kept parts result = Builds old new site
+    (λ _. BuiltCases setting kept parts (progress_of old) (progress_of new))
     (Refused old.hir.now (SpellsKept setting kept) old.marks.used) result
 
 -- the setting of a case with these cases after it

@@ -240,23 +240,11 @@ build_enclosure-returns t c = λ span.
 
 -- the answers of a loop's functions
 
-pub build_loop_of-build_loop-requires : goal.build_loop_of-build_loop-requires
-build_loop_of-build_loop-requires = loops.build_loop_of-build_loop-requires
+pub build_loop-returns-in_err-values : goal.build_loop-returns-in_err-values
+build_loop-returns-in_err-values = loops.build_loop-returns-in_err-values
 
-pub build_loop_of-returns : goal.build_loop_of-returns
-build_loop_of-returns = loops.build_loop_of-returns
-
-pub build_loop-returns-then-is_live : goal.build_loop-returns-then-is_live
-build_loop-returns-then-is_live = loops.build_loop-returns-then-is_live
-
-pub build_loop-build_before-requires : goal.build_loop-build_before-requires
-build_loop-build_before-requires = loops.build_loop-build_before-requires
-
-pub build_loop-returns-in_err-init : goal.build_loop-returns-in_err-init
-build_loop-returns-in_err-init = loops.build_loop-returns-in_err-init
-
-pub build_loop-build_turns-requires : goal.build_loop-build_turns-requires
-build_loop-build_turns-requires = loops.build_loop-build_turns-requires
+pub build_loop-build_part-requires : goal.build_loop-build_part-requires
+build_loop-build_part-requires = loops.build_loop-build_part-requires
 
 pub build_loop-returns-in-Err : goal.build_loop-returns-in-Err
 build_loop-returns-in-Err = loops.build_loop-returns-in-Err
@@ -266,27 +254,6 @@ build_loop-put_loop-requires = loops.build_loop-put_loop-requires
 
 pub build_loop-returns-in_ok-put_loop-in-Ok : goal.build_loop-returns-in_ok-put_loop-in-Ok
 build_loop-returns-in_ok-put_loop-in-Ok = loops.build_loop-returns-in_ok-put_loop-in-Ok
-
-pub build_turns-build_test-requires : goal.build_turns-build_test-requires
-build_turns-build_test-requires = loops.build_turns-build_test-requires
-
-pub build_turns-returns-in_err-test : goal.build_turns-returns-in_err-test
-build_turns-returns-in_err-test = loops.build_turns-returns-in_err-test
-
-pub build_turns-build_before-requires : goal.build_turns-build_before-requires
-build_turns-build_before-requires = loops.build_turns-build_before-requires
-
-pub build_turns-returns-in-Err : goal.build_turns-returns-in-Err
-build_turns-returns-in-Err = loops.build_turns-returns-in-Err
-
-pub build_turns-build_part-requires : goal.build_turns-build_part-requires
-build_turns-build_part-requires = loops.build_turns-build_part-requires
-
-pub build_turns-returns-in-Err-build_part : goal.build_turns-returns-in-Err-build_part
-build_turns-returns-in-Err-build_part = loops.build_turns-returns-in-Err-build_part
-
-pub build_turns-returns-in-Ok-build_part : goal.build_turns-returns-in-Ok-build_part
-build_turns-returns-in-Ok-build_part = loops.build_turns-returns-in-Ok-build_part
 
 -- the answers of a switch's functions
 
@@ -299,17 +266,17 @@ build_switch-returns-then-leaves_elsewhere = switches.build_switch-returns-then-
 pub build_switch-build_cases_inside-requires : goal.build_switch-build_cases_inside-requires
 build_switch-build_cases_inside-requires = switches.build_switch-build_cases_inside-requires
 
-pub build_switch-returns-in_err-parts : goal.build_switch-returns-in_err-parts
-build_switch-returns-in_err-parts = switches.build_switch-returns-in_err-parts
-
 pub build_switch-returns : goal.build_switch-returns
 build_switch-returns = switches.build_switch-returns
+
+pub build_switch-returns-in-Ok : goal.build_switch-returns-in-Ok
+build_switch-returns-in-Ok = switches.build_switch-returns-in-Ok
 
 pub build_cases_inside-build_cases-requires : goal.build_cases_inside-build_cases-requires
 build_cases_inside-build_cases-requires = switches.build_cases_inside-build_cases-requires
 
-pub build_cases_inside-returns-in_err-parts : goal.build_cases_inside-returns-in_err-parts
-build_cases_inside-returns-in_err-parts = switches.build_cases_inside-returns-in_err-parts
+pub build_cases_inside-returns-in_err-build_cases : goal.build_cases_inside-returns-in_err-build_cases
+build_cases_inside-returns-in_err-build_cases = switches.build_cases_inside-returns-in_err-build_cases
 
 pub build_cases_inside-returns : goal.build_cases_inside-returns
 build_cases_inside-returns = switches.build_cases_inside-returns
@@ -325,6 +292,9 @@ build_cases-returns-in_err-statements = switches.build_cases-returns-in_err-stat
 
 pub build_cases-cases-preserved : goal.build_cases-cases-preserved
 build_cases-cases-preserved = switches.build_cases-cases-preserved
+
+pub build_cases-cases-smaller : goal.build_cases-cases-smaller
+build_cases-cases-smaller = switches.build_cases-cases-smaller
 
 pub build_cases-returns : goal.build_cases-returns
 build_cases-returns = switches.build_cases-returns

@@ -44,19 +44,13 @@ abbrev pub decreases-build_cases : goal.decreases-build_cases
 decreases-build_cases l = unused l.self.now + 5
 
 abbrev pub invariant-build_cases-cases : goal.invariant-build_cases-cases
-invariant-build_cases-cases l = CasesSoFar l.fn.self l.self l.fn.site l.fn.kept l.waiting l.parts l.next
+invariant-build_cases-cases l = CasesSoFar l.fn.self l.self l.fn.site l.fn.kept l.kept l.parts l.next
 
 abbrev pub decreases-build_cases-cases : goal.decreases-build_cases-cases
-decreases-build_cases-cases l = length l.waiting
-
-abbrev pub decreases-build_loop_of : goal.decreases-build_loop_of
-decreases-build_loop_of l = unused l.self.now + 8
+decreases-build_cases-cases l = length l.kept
 
 abbrev pub decreases-build_loop : goal.decreases-build_loop
 decreases-build_loop l = unused l.self.now + 7
-
-abbrev pub decreases-build_turns : goal.decreases-build_turns
-decreases-build_turns l = unused l.self.now + 6
 
 abbrev pub decreases-build_branch : goal.decreases-build_branch
 decreases-build_branch l = unused l.self.now + 7
