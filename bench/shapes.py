@@ -1,6 +1,6 @@
 """Documents of graphs with many blocks: statements and values in a row and nested, and scopes side by side; and of one
 block with many names."""
-import itertools, json
+import itertools, json, random
 
 
 def block(number, terminal, fields):
@@ -406,6 +406,21 @@ def names_in_scopes(count):
     return json.dumps(whole, separators=(",", ":")).encode()
 
 
+def names_in_scopes_in_no_order(count):
+    """The same, where the places of the context stand in no order."""
+    whole = json.loads(names_in_scopes(count))
+    random.Random(count).shuffle(whole["env"]["functions"][0]["context"])
+    return json.dumps(whole, separators=(",", ":")).encode()
+
+
+def names_that_are_loaded(count):
+    """So many rows that name one function, with a load in front of each into a place of the function's context, which has
+    as many places."""
+    rows = [{"k": "LoadLocal", "place": 0}, {"k": "FunctionExpression", "lowered_func": {"func": 0}}]
+    context = range(1, 2 * count, 2)
+    return names_document([*(rows * count), array_of((2 * count,))], 2 * count + 1, 0, [function_of([*context])])
+
+
 def functions_in_values(count):
     """So many `Ternary`s one after the other, both arms of which name one function, whose context has as many places."""
     whole = json.loads(values_in_a_row("Ternary", count))
@@ -416,9 +431,10 @@ def functions_in_values(count):
     return json.dumps(whole, separators=(",", ":")).encode()
 
 
-def scope_with_array(name):
-    """The two blocks of a scope with an array, the row, the identifier of the array, and the scope."""
-    head, at = 2 * name, 3 * name + 1
+def scope_with_array(name, ids):
+    """The two blocks of a scope with an array, the row, the identifier of the array, and the scope; of so many ids for
+    each scope it takes the last three."""
+    head, at = 2 * name, ids * (name + 1) - 2
     opens = {"k": "Scope", "fallthrough": head + 2, "block": head + 1, "scope": name, "id": at}
     ends = {"k": "Goto", "variant": "Break", "block": head + 2, "id": at + 2}
     value = {"k": "ArrayExpression", "elements": [{"k": "Place", "v": name}]}
@@ -431,17 +447,32 @@ def scope_with_array(name):
     )
 
 
-def scopes_with_arrays(count, answered):
+def scopes_with_arrays(count, answered, ids=3):
     """So many scopes one after the other, each with an array that holds that of the scope before, and the return of
     this name."""
-    parts = [scope_with_array(name) for name in range(count)]
-    last = {"id": 2 * count, "terminal": {"k": "Return", "value": answered, "id": 3 * count + 1}}
+    parts = [scope_with_array(name, ids) for name in range(count)]
+    last = {"id": 2 * count, "terminal": {"k": "Return", "value": answered, "id": ids * count + 1}}
     blocks = [block for part in parts for block in part[0]]
     hir = {"params": [{"k": "Place", "v": 0}], "body": {"entry": 0, "blocks": [*blocks, last]},
            "instructions": [part[1] for part in parts]}
     env = {"identifiers": [{"declaration_id": 0, "type_": 0}, *[part[2] for part in parts]], "types": ["Other"],
            "scopes": [part[3] for part in parts], "config": {}, "next_block": 2 * count + 1}
     return json.dumps({"hir": hir, "env": env}, separators=(",", ":")).encode()
+
+
+def scopes_in_one_function(count):
+    """The same, with a row in front of each scope that names one function, whose context has the names of all arrays; the
+    last array is returned."""
+    whole = json.loads(scopes_with_arrays(count, count, 4))
+    env, hir = whole["env"], whole["hir"]
+    for name in range(count):
+        head, row = hir["body"]["blocks"][2 * name], count + name
+        head["instructions"] = [row]
+        hir["instructions"].append({"id": head["terminal"]["id"] - 1, "lvalue": row + 1,
+                                    "value": {"k": "FunctionExpression", "lowered_func": {"func": 0}}})
+        env["identifiers"].append({"declaration_id": row + 1, "type_": 0})
+    env["functions"] = [function_of([*range(1, count + 1)])]
+    return json.dumps(whole, separators=(",", ":")).encode()
 
 
 def scopes_that_escape(count):
