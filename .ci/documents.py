@@ -92,8 +92,51 @@ def function_of_scopes(count=10_000):
     return document, printed
 
 
+def function_of_scopes_in_no_order(count=10_000):
+    """The same, where the places of the context stand in another order than their scopes."""
+    document, printed = function_of_scopes(count)
+    document["env"]["functions"][0]["context"] = [7_919 * number % count + 1 for number in range(count)]
+    return document, printed
+
+
+def scopes_of_one_function(count=5_000):
+    """Scopes one after the other, each with an array that holds that of the scope before, and in front of each a row that
+    names one function, whose context has all arrays. Row N has the array of scope N, and row COUNT + N stands in front of
+    it. The last array is returned."""
+    value = {"k": "FunctionExpression", "lowered_func": {"func": 0}}
+    document, blocks, scopes, lines = straight(0, 2 * count + 1), [], [], []
+    for name in range(count):
+        head, at = 2 * name, 4 * name + 1
+        blocks += [
+            {"id": head, "instructions": [count + name],
+             "terminal": {"k": "Scope", "fallthrough": head + 2, "block": head + 1, "scope": name, "id": at + 1}},
+            {"id": head + 1, "instructions": [name],
+             "terminal": {"k": "Goto", "variant": "Break", "block": head + 2, "id": at + 3}},
+        ]
+        declared = {"key": name + 1, "value": {"identifier": name + 1, "scope": name}}
+        scopes.append({"range": {"start": at + 1, "end": at + 4}, "declarations": [declared]})
+        document["env"]["identifiers"][name + 1]["scope"] = name
+        lines += [f'  {at} {count + name + 1} = {{"k":"FunctionExpression","lowered_func":{{"func":0}}}}',
+                  f"  scope {name}",
+                  f'    {at + 2} {name + 1} = {{"elements":[{{"k":"Place","v":{name}}}],"k":"ArrayExpression"}}']
+    blocks.append({"id": 2 * count, "terminal": {"k": "Return", "value": count, "id": 4 * count + 1}})
+    document["hir"]["instructions"] = [
+        *({"id": 4 * name + 3, "lvalue": name + 1,
+           "value": {"k": "ArrayExpression", "elements": [{"k": "Place", "v": name}]}} for name in range(count)),
+        *({"id": 4 * name + 1, "lvalue": count + name + 1, "value": value} for name in range(count)),
+    ]
+    document["hir"]["body"]["blocks"] = blocks
+    body = {"entry": 0, "blocks": [{"id": 0, "terminal": {"k": "Return", "value": 0, "id": 1}}]}
+    document["env"] |= {"functions": [{"context": list(range(1, count + 1)), "body": body}], "scopes": scopes,
+                        "next_block": 2 * count + 1}
+    fates = [f"  scope {name} kept" for name in range(count)]
+    printed = "\n".join([*lines, f"  return {count} id {4 * count + 1}", "fates", *fates])
+    return document, HEAD.format("null", 0) + printed + "\n"
+
+
 DOCUMENTS = {"text": text, "levels": levels, "identifiers": many_identifiers, "one_function": one_function,
-             "function_of_scopes": function_of_scopes}
+             "function_of_scopes": function_of_scopes, "in_no_order": function_of_scopes_in_no_order,
+             "scopes_of_one_function": scopes_of_one_function}
 
 for name, make in DOCUMENTS.items():
     document, printed = make()
