@@ -6,12 +6,10 @@ use Rattle.std.specs.Option.{option_to_list}
 use Rattle.std.proofs.lemmas.List.{append-nil}
 use Rattle.rc_names.specs.Numbers.{BlockId, same_id, is_among}
 use Rattle.rc_hir.specs.Terminal.{evaluation_order}
-use Rattle.rc_hir.specs.Model.{BasicBlock, Terminal, HirFunction, Environment}
-use Rattle.rc_hir.specs.declared.terminal.Terminal.TheVariants as terminals
-use Rattle.rc_runs.specs.Graph.{basic_block, usable_block}
+use Rattle.rc_hir.specs.Model.{BasicBlock, HirFunction, Environment}
+use Rattle.rc_runs.specs.Graph.{basic_block}
 use Rattle.rc_runs.specs.ListContext.{is_current}
 use Rattle.rc_runs.specs.Silent.{is_unset}
-use Rattle.rc_runs.specs.Spelled.{scope_named}
 use Rattle.rc_runs.specs.ShortArms.{SpellsSilentArm, silent_block, silent_chain}
 use Rattle.rc_build.specs.declared.builder.Builder.{Builder}
 use Rattle.rc_build.specs.declared.builder.Marks.{Marks}
@@ -26,25 +24,14 @@ use Rattle.rc_build.specs.inside.SilentArms.{ArmBlockBuilt, ArmBuilt, ArmPrefix,
 use Rattle.rc_build.specs.inside.SilentArms.{HasSilentRows, SpellsArmRest}
 use Rattle.rc_build.specs.inside.Task.{Progress, progress_of}
 use Rattle.rc_build.specs.inside.Throws.{may_throw}
-use Rattle.rc_build.specs.inside.Values.{CanMark, Marked, goes_to}
+use Rattle.rc_build.specs.inside.Values.{Marked, goes_to}
 use Rattle.rc_build.proofs.BuiltLemmas.{marking_drop, marking_none, marking_then, refused_back, refused_front}
 use Rattle.rc_build.proofs.MarksLemmas.{among_front, among_push}
-use Rattle.rc_build.proofs.SilentArmLemmas.{all_listed, silent_ids, silent_rows, silent_usable}
+use Rattle.rc_build.proofs.SilentArmLemmas.{all_listed, silent_rows, silent_usable}
 use Rattle.rc_build.proofs.MayThrowLemmas.{throws_as}
 use Rattle.rc_build.proofs.ValueLemmas.{goes_to-goto, same_terminal}
-use Rattle.rc_build.proofs.WalkLemmas.{none_used}
-
--- a terminal that goes somewhere opens no scope
-pub goes_to-unscoped : (terminal : Terminal) (next : BlockId) → goes_to terminal next ≡ true → scope_named terminal ≡ None
-goes_to-unscoped (terminals.Goto block variant id span) next goes = refl
-goes_to-unscoped terminal next goes = let bad : ⊥ = cc in absurd bad
 
 module _ {hir : HirFunction} {env : Environment} {handler : Option BlockId} {next key : BlockId} where
-  -- each block of a silent arm may be used
-  pub arm_missing : usable_block hir key ≡ None → {used : List BlockId} → SpellsSilentArm hir env handler next key used → ⊥
-  arm_missing none (silent_block found silent goes) = let bad : ⊥ = cc in bad
-  arm_missing none (silent_chain found silent throws current d) = let bad : ⊥ = cc in bad
-
   -- an arm whose block no tree may use is refused
   pub arm_unusable : (marks : Marks) → IsUnusable hir [] key marks → HasNoArm hir env handler next key marks.used
   arm_unusable marks none blocks (silent_block {block = block} found silent goes) sound = none block found refl sound
@@ -124,24 +111,6 @@ module _ {hir : HirFunction} {env : Environment} {handler : Option BlockId} {nex
             };
             newly_is = refl;
           }
-
--- a block of an arm can be marked
-pub arm_can_mark : {hir : HirFunction} {env : Environment} {key arm : BlockId} {marks : Marks} {block : BasicBlock} → basic_block hir key ≡ Some block
-    → CanBuildArm hir marks arm key → (h : HasSilentRows hir env block.instructions)
-    → is_unset (evaluation_order block.terminal) ≡ false → scope_named block.terminal ≡ None
-    → CanMark hir marks key block
-arm_can_mark {marks = marks} {block = block} found can h set unscoped = record {
-  can = record {
-    marked = can.marked;
-    handled = tt;
-    referenced = can.referenced;
-    used_before = none_used marks;
-    owned = tt;
-  };
-  found = found;
-  ids = record { rows = h.rows; filled = h.filled; set = silent_ids block h set };
-  unscoped = unscoped;
-}
 
 -- the block of an arm that is looked at, and the arm itself
 pub arm_there : {hir : HirFunction} {marks : Marks} {arm key : BlockId} {block : BasicBlock}

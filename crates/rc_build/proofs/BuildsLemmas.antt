@@ -1,5 +1,5 @@
 -- What a function of the builder ensures where a fault ends it, and where it goes on with another one.
-use Rattle.std.proofs.Common.{◌≡◌, List, Result, Ok, Err, Option, Some, None, IfOk, IfErr, IsErrAnd, sym, ap, ◌∙◌}
+use Rattle.std.proofs.Common.{◌≡◌, List, Result, Ok, Err, Option, None, IfOk, IfErr, IsErrAnd, sym, ap, ◌∙◌}
 use Rattle.std.proofs.Common.{subst}
 use Rattle.std.proofs.lemmas.Result.{err_from_is_err_and}
 use Rattle.rc_names.specs.Numbers.{BlockId}
@@ -75,17 +75,6 @@ fails {old = old} {site = site} {Built = Built} {N = N} {fault = fault} {result 
       facts = fact;
       frames = tt;
     })
-
--- want of memory refuses nothing
-no_refusal : (block : BlockId) (rule : Option Rule) → ◌≡◌ {A = Fault} faults.NoMemory (refusal block rule) → ⊥
-no_refusal block None e = let bad : ⊥ = cc in bad
-no_refusal block (Some rule) e = let bad : ⊥ = cc in bad
-
--- out of memory
-pub out_of_memory : {A : Type 0} {old new : Builder} {site : Site} {Built : A → Type 0} {N : Type 0}
-    {result : Result A Fault} → IsErrAnd result (λ passed. passed ≡ faults.NoMemory)
-    → Builds old new site Built N result
-out_of_memory passed = fails passed tt (λ named rule e. absurd (no_refusal named rule e))
 
 -- a `?` passes on the fault of a function that builds from the same graph
 pub passes_on : {A B : Type 0} {old now later new : Builder} {site there : Site} {Built : A → Type 0}

@@ -1,5 +1,5 @@
 -- Flattening, sequence by sequence.
-use Rattle.std.proofs.Common.{ℕ, suc, ◌<◌, arith, ◌≡◌, List, [], ◌++◌, refl, sym, ap, ◌∙◌, append_assoc}
+use Rattle.std.proofs.Common.{ℕ, suc, ◌<◌, arith, ◌≡◌, List, ◌++◌, sym, ap, ◌∙◌, append_assoc}
 use Rattle.std.proofs.lemmas.List.{append-nil}
 use Rattle.rc_names.specs.Numbers.{EvaluationOrder}
 use Rattle.rc_tree.specs.Model.{ReactiveInstruction, ReactiveValue}
@@ -14,16 +14,6 @@ use Rattle.rc_runs.proofs.TreeOfLemmas.{value_of-injective}
 use Rattle.rc_build.specs.declared.flatten.Opened.TheVariants as opened
 use Rattle.rc_build.specs.inside.Flattening.{FlatSoFar, IsOpened}
 use Rattle.rc_build.proofs.ValueRowsLemmas.{instructions_of-rows_join}
-
--- nothing is flattened yet
-pub flat_start : (plain : Value) {value : ReactiveValue} {rows : List ReactiveInstruction} → value ≡ value_of plain
-    → rows ≡ [] → FlatSoFar plain rows value
-flat_start plain is none = record {
-  rest = plain;
-  is = is;
-  rows_are = ap (λ z. z ++ instructions_of (flat_rows plain)) (sym none);
-  final = refl;
-}
 
 -- how many sequences stand inside each other
 abbrev pub deep : Value → ℕ

@@ -1,9 +1,8 @@
 -- A value that is a silent arm besides: its blocks are silent, and none of them ends in a value terminal.
 use Rattle.std.proofs.Common.{◌≡◌, ◌≤◌, ◌<◌, ◌+◌, ℕ, zero, suc, true, false, List, [], ◌∷◌, ◌++◌, Option, Some, None, refl}
-use Rattle.std.proofs.Common.{sym, ap, ◌∙◌, subst, arith, drop, length, inl, inr}
-use Rattle.std.specs.Prelude.{slice_get, ◌⊎◌, is_some}
+use Rattle.std.proofs.Common.{sym, ap, ◌∙◌, subst, arith, drop, length}
+use Rattle.std.specs.Prelude.{slice_get, is_some}
 use Rattle.std.proofs.lemmas.Bool.{or_left, or_right}
-use Rattle.std.proofs.Math.Nat.{eq-or-lt_of_le}
 use Rattle.rc_names.proofs.NumbersLemmas.{ids_equivalence}
 use Rattle.rc_build.specs.declared.value_terminals.ValueTerminal.{ValueTerminal}
 use Rattle.rc_names.specs.Numbers.{BlockId, EvaluationOrder, is_among, same_id}
@@ -164,17 +163,6 @@ module _ (hir : HirFunction) (env : Environment) where
   checked_at (suc before) (first ∷ used) all zero key from at = absurd (omega (arith, from))
   checked_at (suc before) (first ∷ used) all (suc i) key from at =
       checked_at before used all i key (omega (arith, from)) at
-
-  -- one more block is looked at
-  pub checked_further : (before place : ℕ) (used : List BlockId)
-      → ((i : ℕ) (key : BlockId) → before ≤ i → i < place → slice_get used i ≡ Some key → IsArmBlock hir env key)
-      → ((key : BlockId) → slice_get used place ≡ Some key → IsArmBlock hir env key) → (i : ℕ) (key : BlockId)
-      → before ≤ i → i < place + 1 → slice_get used i ≡ Some key → IsArmBlock hir env key
-  checked_further before place used checked here i key from below at = go (eq-or-lt_of_le (omega (arith, below)))
-    where
-      go : (i ≡ place) ⊎ (i < place) → IsArmBlock hir env key
-      go (inl same) = here key (sym (ap (slice_get used) same) ∙ at)
-      go (inr earlier) = checked i key from earlier at
 
 drop-front : (front back : List BlockId) → drop (length front) (front ++ back) ≡ back
 drop-front [] back = refl

@@ -15,13 +15,11 @@ use Rattle.rc_build.specs.declared.value_terminals.ValueKind.TheVariants as kind
 use Rattle.rc_build.specs.declared.value_terminals.ValueTerminal.{ValueTerminal}
 use Rattle.rc_build.specs.BlockFacts.{BlockIs}
 use Rattle.rc_build.specs.inside.Task.{Progress}
-use Rattle.rc_build.specs.inside.Throws.{may_throw, throw_at}
+use Rattle.rc_build.specs.inside.Throws.{may_throw}
 use Rattle.rc_build.specs.inside.ValueKinds.{terminal_of, value_terminal}
 use Rattle.rc_build.specs.inside.ValueSteps.{step_at, step_behind}
 use Rattle.rc_build.specs.inside.StepRows.{CanBuildRow, CanBuildStep, CanBuildThrowing, IsRow, IsStep, IsThrowing}
 use Rattle.rc_build.specs.inside.StepRows.{RowBuilt, nested_row, throwing_row}
-use Rattle.rc_build.specs.inside.ValueEnds.{CanBuildEnd, CanBuildLast, CanBuildLastThrow}
-use Rattle.rc_build.proofs.MayThrowLemmas.{throws_as}
 
 -- a terminal that is a value terminal
 pub terminal_same : (terminal : Terminal) (found : ValueTerminal) → value_terminal terminal ≡ Some found
@@ -43,24 +41,6 @@ terminal_same (terminals.Optional optional test fallthrough id span) found e =
 terminal_same terminal found e = let bad : ⊥ = cc in absurd bad
 
 module _ (hir : HirFunction) where
-  -- behind a value terminal
-  pub steps_nested : (terminal : Terminal) (found : ValueTerminal) → value_terminal terminal ≡ Some found
-      → step_behind hir terminal ≡ Some (steps.Nested found)
-  steps_nested (terminals.MaybeThrow continuation handler id span) found e = let bad : ⊥ = cc in absurd bad
-  steps_nested terminal found e = ap (option_map steps.Nested) e
-
-  -- behind a block that may throw
-  pub steps_throws : (terminal : Terminal) (throw : MayThrow) → may_throw terminal ≡ Some throw
-      → step_behind hir terminal
-      ≡ (if is_empty_goto (block_at hir throw.continuation) then None else Some (steps.Throws throw))
-  steps_throws terminal throw e = ap (step_behind hir) (throws_as terminal throw e).2
-
-  -- and behind another one
-  pub steps_none : (terminal : Terminal) → value_terminal terminal ≡ None → may_throw terminal ≡ None
-      → step_behind hir terminal ≡ None
-  steps_none (terminals.MaybeThrow continuation handler id span) last stays = let bad : ⊥ = cc in absurd bad
-  steps_none terminal last stays = ap (option_map steps.Nested) last
-
   -- a value goes on behind a value terminal where there is one
   some_nested : (found : Option ValueTerminal) (terminal : ValueTerminal)
       → option_map steps.Nested found ≡ Some (steps.Nested terminal) → found ≡ Some terminal
@@ -71,10 +51,6 @@ module _ (hir : HirFunction) where
       → option_map steps.Nested found ≡ Some (steps.Throws throw) → ⊥
   no_nested None throw e = let bad : ⊥ = cc in bad
   no_nested (Some found) throw e = let bad : ⊥ = cc in bad
-
-  none_nested : (found : Option ValueTerminal) → option_map steps.Nested found ≡ None → found ≡ None
-  none_nested None e = refl
-  none_nested (Some found) e = let bad : ⊥ = cc in absurd bad
 
   pub nested_step : (terminal : Terminal) (found : ValueTerminal)
       → step_behind hir terminal ≡ Some (steps.Nested found) → terminal ≡ terminal_of found
@@ -104,22 +80,6 @@ module _ (hir : HirFunction) where
           (ap Some same, ap (λ (z : MayThrow). is_empty_goto (block_at hir z.continuation)) (sym same) ∙ q)
   throws_step terminal throw e = absurd (no_nested (value_terminal terminal) throw e)
 
-  -- where a value doesn't go on, there is no value terminal, and a block that may throw is before an empty one
-  pub last_step : (terminal : Terminal) → step_behind hir terminal ≡ None → value_terminal terminal ≡ None
-  last_step (terminals.MaybeThrow continuation handler id span) e = refl
-  last_step terminal e = none_nested (value_terminal terminal) e
-
-  pub last_throw_step : (terminal : Terminal) (throw : MayThrow) → step_behind hir terminal ≡ None
-      → may_throw terminal ≡ Some throw → is_empty_goto (block_at hir throw.continuation) ≡ true
-  last_throw_step terminal throw none throws =
-      go (is_empty_goto (block_at hir throw.continuation)) refl (sym (steps_throws terminal throw throws) ∙ none)
-    where
-      go : (empty : Bool) → is_empty_goto (block_at hir throw.continuation) ≡ empty
-          → ◌≡◌ {A = Option Step} (if empty then None else Some (steps.Throws throw)) None
-          → is_empty_goto (block_at hir throw.continuation) ≡ true
-      go true q h = q
-      go false q h = let bad : ⊥ = cc in absurd bad
-
   -- the block under a key, of which that was found
   pub step_there : (key : BlockId) (step : Step) → step_at hir key ≡ Some step
       → BlockIs hir key (λ block. step_behind hir block.terminal ≡ Some step)
@@ -130,22 +90,6 @@ module _ (hir : HirFunction) where
           → BlockIs hir key (λ block. step_behind hir block.terminal ≡ Some step)
       go None p h = let bad : ⊥ = cc in absurd bad
       go (Some block) p h = record { block = block; found = p; holds = h }
-
-  throw_there : (key : BlockId) (throw : MayThrow) → throw_at hir key ≡ Some throw
-      → BlockIs hir key (λ block. may_throw block.terminal ≡ Some throw)
-  throw_there key throw e = go (basic_block hir key) refl e
-    where
-      go : (found : Option BasicBlock) → basic_block hir key ≡ found
-          → option_and_then (λ (z : BasicBlock). may_throw z.terminal) found ≡ Some throw
-          → BlockIs hir key (λ block. may_throw block.terminal ≡ Some throw)
-      go None p h = let bad : ⊥ = cc in absurd bad
-      go (Some block) p h = record { block = block; found = p; holds = h }
-
-  last_there : (key : BlockId) (found : Option BasicBlock)
-      → option_and_then (λ (z : BasicBlock). step_behind hir z.terminal) found ≡ None
-      → option_and_then (λ (z : BasicBlock). value_terminal z.terminal) found ≡ None
-  last_there key None e = refl
-  last_there key (Some block) e = last_step block.terminal e
 
 module _ {hir : HirFunction} {marks : Marks} {key : BlockId} where
   -- a row can be built behind which the value goes on
@@ -168,23 +112,6 @@ module _ {hir : HirFunction} {marks : Marks} {key : BlockId} where
         can = can.can;
         here = record { block = can.here.block; found = can.here.found; holds = both.0 };
         goes_on = both.1;
-      }
-
-  -- the last block, which doesn't throw
-  pub end_block_can : CanBuildLast hir marks key → throw_at hir key ≡ None → CanBuildEnd hir marks key
-  end_block_can can stays =
-      record { can = can.can; ends = last_there hir key (basic_block hir key) can.ends; stays = stays }
-
-  -- and the last two, of which the first one does
-  pub last_throw_can : (throw : MayThrow) → CanBuildLast hir marks key → throw_at hir key ≡ Some throw
-      → CanBuildLastThrow hir marks key throw
-  last_throw_can throw can throws =
-      let here = throw_there hir key throw throws in record {
-        can = can.can;
-        here = here;
-        goes = last_throw_step hir here.block.terminal throw
-            (sym (ap (option_and_then (λ (z : BasicBlock). step_behind hir z.terminal)) here.found) ∙ can.ends)
-            here.holds;
       }
 
 module _ {hir : HirFunction} {env : Environment} {around : Around} {key : BlockId} {row : ValueRow} {old new : Progress}

@@ -180,10 +180,6 @@ module _ {hir : HirFunction} {env : Environment} where
   nested_terminal (logical_value t c d s e h u) none = let bad : ⊥ = cc in bad
   nested_terminal (optional_value t c a d g u) none = let bad : ⊥ = cc in bad
 
-  pub spells_none : (key : BlockId) → usable_block hir key ≡ None → SpellsNoValue hir env key
-  spells_none key none context value end blocks d =
-      let at = value_block d in let found = at.usable in let bad : ⊥ = cc in bad
-
   pub spells_unusable : (key : BlockId) (marks : Marks) (context : ValueContext) (Q : ValueEnd → Type 0)
       → IsUnusable hir [] key marks → HasNoValue hir env key context Q marks.used
   spells_unusable key marks context Q none value end blocks d asked sound =

@@ -6,10 +6,7 @@ use Rattle.std.proofs.lemmas.List.Folds.{list_any-append}
 use Rattle.rc_names.specs.Numbers.{BlockId, InstructionId, same_id, is_among}
 use Rattle.rc_hir.specs.Terminal.{evaluation_order}
 use Rattle.rc_hir.specs.Model.{Instruction, Terminal, Fault, HirFunction, Environment}
-use Rattle.rc_hir.specs.declared.fault.Fault.TheVariants as faults
-use Rattle.rc_hir.specs.declared.fault.Rule.TheVariants as rules
 use Rattle.rc_hir.specs.declared.instruction.InstructionValue.TheVariants as kinds
-use Rattle.rc_hir.specs.declared.terminal.Terminal.TheVariants as terminals
 use Rattle.rc_tree.specs.Model.{ReactiveInstruction}
 use Rattle.rc_runs.specs.Graph.{Block, rows_of, has_all_ids}
 use Rattle.rc_runs.specs.Silent.{is_unset}
@@ -20,7 +17,6 @@ use Rattle.rc_runs.specs.ValueGrammar.{named_test, last_block, last_throw, may_t
 use Rattle.rc_runs.proofs.GraphLemmas.{usable_block-at}
 use Rattle.rc_runs.proofs.OneValue.{not_empty}
 use Rattle.rc_build.specs.BlockFacts.{ValueBlockIs}
-use Rattle.rc_build.specs.RuleFacts.{FaultFact, OnlyGoesOn}
 use Rattle.rc_build.specs.declared.short_arms.ShortArm.{ShortArm}
 use Rattle.rc_build.specs.declared.value_ends.NamedPlace.{NamedPlace}
 use Rattle.rc_build.specs.declared.values.BuiltValue.{BuiltValue}
@@ -110,14 +106,6 @@ module _ {hir : HirFunction} (front : List InstructionId) (last : InstructionId)
 
 module _ {hir : HirFunction} {key : BlockId} {terminal : Terminal} {numbers : List InstructionId}
     (read : IsRead hir key terminal numbers) where
-  -- the rows of a block that is read are listed
-  pub read_listed : AreListed hir key numbers
-  read_listed = record {
-    block = read.block;
-    found = read.found;
-    holds = λ number among. subst (λ z. is_among z number ≡ true) (sym read.lists) among;
-  }
-
   -- where they aren't there, no value is
   pub read_refused : {env : Environment} → ((made : List ReactiveInstruction) → HasRows hir numbers made → ⊥) → SpellsNoValue hir env key
   read_refused none context value end blocks d =
@@ -160,12 +148,6 @@ module _ {hir : HirFunction} {key : BlockId} {terminal : Terminal} {numbers : Li
   read_result env (Ok built) r = read_made r
   read_result env (Err fault) r = tt
 
--- a terminal that ends a value and names no place only goes on
-only_on : (hir : HirFunction) (terminal : Terminal) → place_named terminal ≡ None → ends_value terminal ≡ true
-    → OnlyGoesOn hir terminal
-only_on hir (terminals.Goto block variant id span) none ends = tt
-only_on hir terminal none ends = let bad : ⊥ = cc in absurd bad
-
 module _ (hir : HirFunction) (key : BlockId) (terminal : Terminal) (read : IsRead hir key terminal []) where
   no_rows : rows_of hir.instructions read.block.instructions ≡ Some []
   no_rows = ap (rows_of hir.instructions) read.lists
@@ -194,20 +176,6 @@ module _ (hir : HirFunction) (key : BlockId) (terminal : Terminal) (read : IsRea
       let at = found_block hir key read.block [] read.found no_rows in
       let same : whole ≡ filled read.block [] = (let z = usable_block-at hir key whole usable in cc) in
       not_empty rows row (ap (λ (z : Block). z.rows) (sym same) ∙ all)
-
-  -- the fact of a block without rows that ends in a `Goto`
-  pub empty_fact : place_named terminal ≡ None → FaultFact hir (faults.Malformed key rules.EmptyValue)
-  empty_fact none = record {
-    referenced = read.referenced;
-    here = record {
-      block = read.block;
-      found = read.found;
-      holds = (
-        read.lists,
-        subst (OnlyGoesOn hir) (sym read.is) (only_on hir terminal none read.ends.ends),
-      );
-    };
-  }
 
   -- the value of a `Branch` alone
   pub named_made : {env : Environment} (named : NamedPlace) (built : BuiltValue) → place_named terminal ≡ Some named

@@ -9,7 +9,7 @@ use Rattle.rc_runs.specs.declared.frames.Frame.{Frame}
 use Rattle.rc_runs.specs.declared.frames.Frame.TheVariants as frame_kinds
 use Rattle.rc_build.specs.declared.builder.Marks.{Marks}
 use Rattle.rc_hir.specs.Successors.{case_blocks}
-use Rattle.rc_build.specs.References.{referenced_blocks, tested_blocks, fallthrough_of, cases_of}
+use Rattle.rc_build.specs.References.{referenced_blocks, cases_of}
 use Rattle.rc_build.specs.BlockFacts.{BlockIs}
 use Rattle.rc_build.specs.inside.CanBuild.{AreReferenced, AreUsed, CanBuildList, CanBuildTerminal, IsUsed, IsUsedApart, IsFrameOf}
 use Rattle.rc_build.specs.inside.CanBuild.{pending_at, used_at, pending_blocks, used_blocks}
@@ -18,7 +18,7 @@ use Rattle.rc_build.specs.inside.Depths.{frames_inside}
 use Rattle.rc_build.proofs.MarksLemmas.{referenced_fewer, times_append, among_push, among_front, among_parts, among_same}
 use Rattle.rc_build.proofs.MarksLemmas.{alone_same}
 use Rattle.rc_build.proofs.OwnersLemmas.{owned_weaker}
-use Rattle.rc_build.proofs.BuiltLemmas.{marking_none, marking_drop, marking_more, marking_beside}
+use Rattle.rc_build.proofs.BuiltLemmas.{marking_none, marking_drop}
 use Rattle.rc_build.proofs.TakenLemmas.{used_apart}
 
 -- nothing is to be used before the parts of an `If`, a `Switch` or a scope
@@ -135,19 +135,6 @@ module _ (hir : HirFunction) where
       → CanBuildList hir marks handler (frames_inside at frame frames) part
   at_first_part {marks = marks} {terminal = terminal} frame at a f w n =
       at_part frame at a f w (marking_drop hir n (marking_none hir (referenced_blocks terminal) marks a.marked))
-
-  -- and the body of a loop, once what it tests is marked
-  pub at_turn : {old new : Marks} {key body fallthrough : BlockId} {terminal : Terminal} {blocks : List BlockId}
-      {handler : Option BlockId} {frames : List Frame} (again : BlockId)
-      → CanBuildTerminal hir old handler frames key terminal
-      → fallthrough_of terminal ≡ Some fallthrough → is_among (tested_blocks terminal) again ≡ true → IsUsed new again
-      → MarksBlocks hir (tested_blocks terminal) [] old new blocks
-      → ((other : BlockId) → times other (tested_blocks terminal ++ body ∷ fallthrough ∷ []) ≤ times other
-      (referenced_blocks terminal))
-      → CanBuildList hir new handler (frame_kinds.Loop fallthrough again ∷ frames) body
-  at_turn {new = new} {fallthrough = fallthrough} again a f t u m n =
-      at_part (frame_kinds.Loop fallthrough again) (Some fallthrough) a (f, t) (used_alone new again u)
-      (marking_more hir n (marking_beside hir m))
 
   -- and a case inside the frame of a later one, once that one's block is used
   pub at_case : {old new : Marks} {handler : Option BlockId} {outer frames : List Frame} {key block later : BlockId}

@@ -53,17 +53,6 @@ module _ {env : Environment} {fault : Fault} {X : Type 0} {Ends : X → Type 0} 
       by (inl here) = named_left env fault names others (one.named here)
       by (inr later) = named_right env fault names others (other.named later)
 
-  -- the same where the numbers of the second parts come first
-  pub exchanged : {names others : List Name} {first second : List X} → Covers env fault Ends names second →
-      Covers env fault Ends others first → Covers env fault Ends (names ++ others) (first ++ second)
-  exchanged {names = names} {others = others} {first = first} {second = second} one other = record {
-    named = λ some. by (Any-cases Ends first second some);
-  }
-    where
-      by : Any Ends first ⊎ Any Ends second → IsNamed env fault (names ++ others)
-      by (inl here) = named_right env fault names others (other.named here)
-      by (inr later) = named_left env fault names others (one.named later)
-
   -- numbers that no part needs
   pub behind : (names : List Name) {others : List Name} {parts : List X} → Covers env fault Ends others parts →
       Covers env fault Ends (names ++ others) parts

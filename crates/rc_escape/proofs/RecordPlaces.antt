@@ -82,11 +82,6 @@ module _ (r : RowRecord) where
   unfolding progress
   seen_is s d p m at is = ap says_seen (mark_is s d p at ∙ is)
 
-  pub memoized_is : (s : WalkState) (d : DeclarationId) (p : ℕ) (m : NodeMark) → node_place r d ≡ Some p
-      → entry_or Unseen s.marks p ≡ m → (progress r s).memoized d ≡ says_memoized m
-  unfolding progress
-  memoized_is s d p m at is = ap says_memoized (mark_is s d p at ∙ is)
-
   pub taken_is : (s : WalkState) (c : ScopeId) (p : ℕ) → scope_place r c ≡ Some p
       → (progress r s).taken c ≡ is_set s.taken p
   unfolding progress is_set

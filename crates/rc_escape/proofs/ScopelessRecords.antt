@@ -4,7 +4,6 @@
 -- Each scope of a node is that of an operand or of a target, which is recorded, since no event tells scopes around a
 -- name.
 use Rattle.std.proofs.Common.{◌≡◌, ◌∙◌, Bool, true, false, List, [], ◌∷◌, ◌++◌, Option, None, Some, ap, cond, refl}
-use Rattle.std.proofs.Common.{Contains, arith, subst}
 use Rattle.std.specs.Prelude.{⊤, ◌||◌, filter, flat_map, is_none, map}
 use Rattle.std.specs.List.{AllByRecursion as Each, cons_option, filter_map}
 use Rattle.std.specs.Map.{lookup}
@@ -29,13 +28,12 @@ use Rattle.rc_memo.specs.declared.record.MemoNode.{MemoNode}
 use Rattle.rc_memo.specs.declared.record.MemoRecord.{MemoRecord}
 use Rattle.rc_escape.proofs.EachLemmas.{each-append, each-back, each-distinct, each-flat_map, each-front}
 use Rattle.rc_escape.proofs.EachLemmas.{each-weaker, filter-none}
-use Rattle.rc_escape.proofs.OneRecord.{one_record}
 use Rattle.rc_escape.proofs.ScopelessEvents.{NoneWithin, none_within}
 use Rattle.rc_escape.proofs.WalkEnds.{every_walk_ends}
 use Rattle.rc_escape.specs.MemoSet.{scopes_without_record}
 use Rattle.rc_escape.specs.MemoWalk.{dependencies_of}
 use Rattle.rc_escape.specs.Outputs.{block_scopes}
-use Rattle.rc_escape.specs.WholeRecord.{AreMemoized, HasWholeRecord, LacksScope}
+use Rattle.rc_escape.specs.WholeRecord.{AreMemoized}
 
 -- the facts tell only scopes for which something holds
 module _ (P : ScopeId → Type 0) where
@@ -212,17 +210,6 @@ module _ (env : Environment) where
         (joined Known (params_facts (map (param_name env) func.params)) _
         (params_tell Known (map (param_name env) func.params))
         (events_tell Known [] told (none_within env func.body none) (among_itself scopes))) (names_told facts)
-
-    -- no scope of a node lacks a record
-    pub scopeless_lacks_none : block_scopes func.body ≡ [] → (scope : ScopeId) → LacksScope env func scope → ⊥
-    scopeless_lacks_none none scope lack =
-        let same = one_record func env rec lack.rec (recorded lack.recorded.complete) lack.recorded in
-        let all = subst (λ r. scopes_without_record r ≡ []) same (whole none) in
-        let among = subst (λ scopes. Contains scopes scope) all lack.lowest.among in
-        absurd (omega (arith, among.1))
-
-    pub scopeless_is_whole : block_scopes func.body ≡ [] → NoneLacks → HasWholeRecord env func
-    scopeless_is_whole none complete = record { rec = rec; recorded = recorded complete; whole = whole none }
 
     pub scopeless_is_memoized : block_scopes func.body ≡ [] → NoneLacks
         → (set : List DeclarationId) × AreMemoized env func set

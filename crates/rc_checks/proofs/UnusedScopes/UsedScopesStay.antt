@@ -235,13 +235,6 @@ module _ (env : Environment) where
       (every_block_stays before false) in
       (ap (λ it. it.blocks) known.1, ap (λ it. it.returns) known.1)
 
-  -- the state behind a tree tells whether a `Return` stands in it outside its scope blocks
-  pub state_tells_returns : (before after : ReactiveBlock) (h : IsWithoutUnusedScopes env before after)
-      → h.returns ≡ returns_in before
-  unfolding Stays
-  state_tells_returns before after h =
-      (subst (λ e. Stays env contents (contents before) false e) h.rebuilt (every_block_stays before false)).0
-
   -- a fault names the scope of one of the scope blocks, and that is outside the table
   pub names_a_scope_block : (before : ReactiveBlock) (fault : Fault) → IsFirstScopeOutside env before fault
       → (block : ScopeBlock) × Contains (scope_blocks before) block × IsBlockOutside env fault block

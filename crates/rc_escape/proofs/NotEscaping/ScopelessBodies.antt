@@ -1,5 +1,5 @@
 -- In a body without a scope block it makes no difference which names are memoized.
-use Rattle.std.proofs.Common.{◌≡◌, ◌∙◌, List, [], None, ap, map, refl}
+use Rattle.std.proofs.Common.{◌≡◌, ◌∙◌, List, [], None, map, refl}
 use Rattle.rc_hir.specs.Model.{Environment}
 use Rattle.rc_names.specs.Numbers.{DeclarationId}
 use Rattle.rc_tree.specs.Model.{ReactiveBlock, ReactiveFunction}
@@ -7,12 +7,12 @@ use Rattle.rc_memo.specs.Events.{facts_told}
 use Rattle.rc_memo.specs.Facts.{first_missing}
 use Rattle.rc_memo.specs.Record.{param_name}
 use Rattle.rc_memo.specs.TreeEvents.{events_in}
-use Rattle.rc_escape.proofs.NotEscaping.LeftScopes.{scopes_left, without_not_escaping}
+use Rattle.rc_escape.proofs.NotEscaping.LeftScopes.{without_not_escaping}
 use Rattle.rc_escape.proofs.ScopelessRecords.{scopeless_is_memoized}
 use Rattle.rc_escape.proofs.ScopelessRules.{AlikeOutside, scopeless_alike}
 use Rattle.rc_escape.specs.Met.{nothing_met}
 use Rattle.rc_escape.specs.NotEscaping.{IsRebuiltFor, IsWithoutNotEscaping, not_escaping_rules}
-use Rattle.rc_escape.specs.Outputs.{block_scopes, staying_scopes}
+use Rattle.rc_escape.specs.Outputs.{block_scopes}
 
 module _ (env : Environment) where
   alike : (one other : List DeclarationId) → AlikeOutside (not_escaping_rules env one) (not_escaping_rules env other)
@@ -31,12 +31,6 @@ module _ (env : Environment) where
         scopeless_alike (not_escaping_rules env other) (not_escaping_rules env one) (alike other one) before none
         nothing_met ∙ is.rebuilt;
   }
-
-  -- no scope block comes
-  pub none_comes : (set : List DeclarationId) (before after : ReactiveBlock) → block_scopes before ≡ []
-      → IsRebuiltFor env set before after → block_scopes after ≡ []
-  none_comes set before after none is =
-      scopes_left env set before after is ∙ ap (staying_scopes env set) none
 
   -- a body that is rebuilt for any names is the one without the blocks that compute no memoized name, where no name
   -- lacks a node

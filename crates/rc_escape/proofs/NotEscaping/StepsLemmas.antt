@@ -1,5 +1,5 @@
 -- The steps of the pass follow its rules, which never refuse.
-use Rattle.std.proofs.Common.{◌≡◌, ◌⊎◌, Bool, true, false, List, Result, Ok, Err, IfErr, OnOk, inl, inr, map, refl, subst, sym}
+use Rattle.std.proofs.Common.{◌≡◌, ◌⊎◌, Bool, true, false, List, Result, Ok, Err, IfErr, OnOk, inl, inr, refl, subst, sym}
 use Rattle.std.proofs.lemmas.Result.{IfErr-weaker}
 use Rattle.rc_hir.specs.Model.{Environment, Fault, HirFunction}
 use Rattle.rc_hir.specs.declared.fault.Fault.TheVariants.{NoMemory}
@@ -10,8 +10,7 @@ use Rattle.rc_tree.specs.Rebuilt.{FaultsOnly, rebuilt_block}
 use Rattle.rc_tree.specs.Rewrite.{in_place, rewrite_block}
 use Rattle.rc_tree.specs.Step.{IsStep}
 use Rattle.rc_tree.specs.inside.Refines.{RebuildsTo, Refines}
-use Rattle.rc_memo.specs.Record.{IsRecordOf, IsUninitialised, param_name}
-use Rattle.rc_memo.specs.TreeEvents.{events_in}
+use Rattle.rc_memo.specs.Record.{IsRecordOf}
 use Rattle.rc_memo.specs.declared.record.MemoRecord.{MemoRecord}
 use Rattle.rc_tree.specs.Model.{ReactiveBlock, ReactiveFunction, ReactiveScopeBlock}
 use Rattle.rc_tree.specs.declared.statement.ReactiveStatement.TheVariants as reactive
@@ -97,12 +96,6 @@ module _ {T : Type 0} (env_of : T → Environment) (set_of : T → List Declarat
 module _ (env : Environment) (func : ReactiveFunction) (fault : Fault) where
   pub memory_fault : fault ≡ NoMemory → IsEscapeFault env func fault
   memory_fault e = subst (IsEscapeFault env func) (sym e) tt
-
-  pub node_fault : (fault ≡ NoMemory)
-      ⊎ IsUninitialised (map (param_name env) func.params) (events_in env func.body) fault
-      → IsEscapeFault env func fault
-  node_fault (inl e) = memory_fault e
-  node_fault (inr lacks) = subst (IsEscapeFault env func) (sym lacks.names_it) lacks.first
 
   pub scope_fault : (rec : MemoRecord) → IsRecordOf func env rec → (fault ≡ NoMemory) ⊎ IsNoScopeNode rec fault
       → IsEscapeFault env func fault
