@@ -51,35 +51,49 @@ def levels(depth=500):
     return document, HEAD.format("null", 0) + "\n".join(lines) + f"\n  return 0 id {2 * depth + 2}\nfates\n"
 
 
-def one_function(count=10_000):
-    """Rows that name one function, whose context has as many places, and a scope whose array holds the last of them."""
+def shown(value):
+    return json.dumps(value, separators=(",", ":"), sort_keys=True)
+
+
+def one_function(count=10_000, loads=False):
+    """Rows that name one function, whose context has as many places, and a scope whose array holds the last of them; with
+    loads, in front of each row another place of the context is loaded into."""
     value = {"k": "FunctionExpression", "lowered_func": {"func": 0}}
     array = {"k": "ArrayExpression", "elements": [{"k": "Place", "v": count}]}
     document = straight(0, 2 * count + 2)
+    rows = []
+    for number in range(1, count + 1):
+        if loads:
+            rows.append((count + 1 + number, {"k": "LoadLocal", "place": 0}))
+        rows.append((number, value))
+    last = len(rows)
     document["hir"]["instructions"] = [
-        *({"id": number, "lvalue": number, "value": value} for number in range(1, count + 1)),
-        {"id": count + 2, "lvalue": count + 1, "value": array},
+        *({"id": at, "lvalue": name, "value": row} for at, (name, row) in enumerate(rows, 1)),
+        {"id": last + 2, "lvalue": count + 1, "value": array},
     ]
     document["hir"]["body"]["blocks"] = [
-        {"id": 0, "instructions": list(range(count)),
-         "terminal": {"k": "Scope", "fallthrough": 2, "block": 1, "scope": 0, "id": count + 1}},
-        {"id": 1, "instructions": [count],
-         "terminal": {"k": "Goto", "variant": "Break", "block": 2, "id": count + 3}},
-        {"id": 2, "terminal": {"k": "Return", "value": count + 1, "id": count + 4}},
+        {"id": 0, "instructions": list(range(last)),
+         "terminal": {"k": "Scope", "fallthrough": 2, "block": 1, "scope": 0, "id": last + 1}},
+        {"id": 1, "instructions": [last],
+         "terminal": {"k": "Goto", "variant": "Break", "block": 2, "id": last + 3}},
+        {"id": 2, "terminal": {"k": "Return", "value": count + 1, "id": last + 4}},
     ]
     body = {"entry": 0, "blocks": [{"id": 0, "terminal": {"k": "Return", "value": 0, "id": 1}}]}
     declared = {"key": count + 1, "value": {"identifier": count + 1, "scope": 0}}
     document["env"]["identifiers"][count + 1]["scope"] = 0
     document["env"] |= {
         "functions": [{"context": list(range(count + 2, 2 * count + 2)), "body": body}],
-        "scopes": [{"range": {"start": count + 1, "end": count + 4}, "declarations": [declared]}],
+        "scopes": [{"range": {"start": last + 1, "end": last + 4}, "declarations": [declared]}],
         "next_block": 3,
     }
-    lines = [f'  {number} {number} = {{"k":"FunctionExpression","lowered_func":{{"func":0}}}}'
-             for number in range(1, count + 1)]
-    lines += ["  scope 0", f'    {count + 2} {count + 1} = {{"elements":[{{"k":"Place","v":{count}}}],'
-              '"k":"ArrayExpression"}', f"  return {count + 1} id {count + 4}", "fates", "  scope 0 kept"]
+    lines = [f"  {at} {name} = {shown(row)}" for at, (name, row) in enumerate(rows, 1)]
+    lines += ["  scope 0", f"    {last + 2} {count + 1} = {shown(array)}", f"  return {count + 1} id {last + 4}", "fates",
+              "  scope 0 kept"]
     return document, HEAD.format("null", 0) + "\n".join(lines) + "\n"
+
+
+def loaded_context():
+    return one_function(loads=True)
 
 
 def function_of_scopes(count=10_000):
@@ -135,6 +149,7 @@ def scopes_of_one_function(count=5_000):
 
 
 DOCUMENTS = {"text": text, "levels": levels, "identifiers": many_identifiers, "one_function": one_function,
+             "loaded_context": loaded_context,
              "function_of_scopes": function_of_scopes, "in_no_order": function_of_scopes_in_no_order,
              "scopes_of_one_function": scopes_of_one_function}
 

@@ -7,7 +7,8 @@ use Rattle.std.specs.Map.{keys_of, lookup, set_value}
 use Rattle.indexmap.specs.IndexMap.{insert_entry}
 use Rattle.rc_names.proofs.KeyedLemmas.{lookup-insert_other, lookup-insert_there}
 use Rattle.rc_names.proofs.NumbersLemmas.{ids_equivalence, same_id-eq}
-use Rattle.rc_names.specs.Numbers.{DeclarationId, FunctionId, same_id}
+use Rattle.rc_names.specs.Numbers.{DeclarationId, same_id}
+use Rattle.rc_names.specs.declared.numbers.Id.{Id}
 use Rattle.rc_memo.specs.inside.Gathering.{at_name}
 use Rattle.rc_memo.specs.inside.GatheringRows.{at_name_or}
 
@@ -72,37 +73,41 @@ insert_absent d v (e ∷ es) h = go (same_id d e.0) h (λ g. insert_absent d v e
   go false g r = ap (λ w. e ∷ w) (r g)
 
 -- an entry that is there is put where it stands
-pub put_there : {V : Type 0} (key : FunctionId) (value found : V) (es : List (FunctionId × V))
-    → lookup (same_id key) es ≡ Some found → set_value (same_id key) es value ≡ insert_entry same_id es key value
-put_there key value found [] there = cc
-put_there key value found (e ∷ es) there = go (same_id key e.0) there (put_there key value found es) where
-  go : (b : Bool) → cond b (Some e.1) (lookup (same_id key) es) ≡ Some found
-      → (lookup (same_id key) es ≡ Some found
-      → set_value (same_id key) es value ≡ insert_entry same_id es key value)
-      → cond b ((e.0, value) ∷ es) (e ∷ set_value (same_id key) es value)
-      ≡ cond b ((e.0, value) ∷ es) (e ∷ insert_entry same_id es key value)
-  go true is later = refl
-  go false is later = ap (λ w. e ∷ w) (later is)
+module _ {K V : Type 0} (same : K → K → Bool) (key : K) where
+  pub put_there_by : (value found : V) (es : List (K × V)) → lookup (same key) es ≡ Some found
+      → set_value (same key) es value ≡ insert_entry same es key value
+  put_there_by value found [] there = cc
+  put_there_by value found (e ∷ es) there = go (same key e.0) there (put_there_by value found es) where
+    go : (b : Bool) → cond b (Some e.1) (lookup (same key) es) ≡ Some found
+        → (lookup (same key) es ≡ Some found → set_value (same key) es value ≡ insert_entry same es key value)
+        → cond b ((e.0, value) ∷ es) (e ∷ set_value (same key) es value)
+        ≡ cond b ((e.0, value) ∷ es) (e ∷ insert_entry same es key value)
+    go true is later = refl
+    go false is later = ap (λ w. e ∷ w) (later is)
 
--- and nothing changes where it is put as it is
-pub put_same : {V : Type 0} (key : FunctionId) (value : V) (es : List (FunctionId × V))
-    → lookup (same_id key) es ≡ Some value → insert_entry same_id es key value ≡ es
-put_same key value [] there = cc
-put_same key value (e ∷ es) there = go (same_id key e.0) there (put_same key value es) where
-  go : (b : Bool) → cond b (Some e.1) (lookup (same_id key) es) ≡ Some value
-      → (lookup (same_id key) es ≡ Some value → insert_entry same_id es key value ≡ es)
-      → cond b ((e.0, value) ∷ es) (e ∷ insert_entry same_id es key value) ≡ e ∷ es
-  go true is later = let one : value ≡ e.1 = cc in ap (λ v. (e.0, v) ∷ es) one
-  go false is later = ap (λ w. e ∷ w) (later is)
+  -- and nothing changes where it is put as it is
+  pub put_same_by : (value : V) (es : List (K × V)) → lookup (same key) es ≡ Some value
+      → insert_entry same es key value ≡ es
+  put_same_by value [] there = cc
+  put_same_by value (e ∷ es) there = go (same key e.0) there (put_same_by value es) where
+    go : (b : Bool) → cond b (Some e.1) (lookup (same key) es) ≡ Some value
+        → (lookup (same key) es ≡ Some value → insert_entry same es key value ≡ es)
+        → cond b ((e.0, value) ∷ es) (e ∷ insert_entry same es key value) ≡ e ∷ es
+    go true is later = let one : value ≡ e.1 = cc in ap (λ v. (e.0, v) ∷ es) one
+    go false is later = ap (λ w. e ∷ w) (later is)
+
+pub put_same : {M V : Type 0} (key : Id M) (value : V) (es : List (Id M × V)) → lookup (same_id key) es ≡ Some value
+    → insert_entry same_id es key value ≡ es
+put_same = put_same_by same_id
 
 -- the entry of a key that was put, and those of the others
-module _ {V : Type 0} (key other : FunctionId) (value found : V) (old new : List (FunctionId × V))
+module _ {M V : Type 0} (key other : Id M) (value found : V) (old new : List (Id M × V))
     (put : new ≡ insert_entry same_id old key value) (there : lookup (same_id other) new ≡ Some found) where
   pub entry_put : same_id key other ≡ true → value ≡ found
   entry_put is =
       let first = ap (λ w. lookup (same_id key) w) put ∙ lookup-insert_there ids_equivalence key value old in
       let one : Some value ≡ Some found =
-      sym first ∙ ap (λ (w : FunctionId). lookup (same_id w) new) (same_id-eq key other is) ∙ there in
+      sym first ∙ ap (λ (w : Id M). lookup (same_id w) new) (same_id-eq key other is) ∙ there in
       cc
 
   pub entry_kept : same_id key other ≡ false → lookup (same_id other) old ≡ Some found

@@ -3,7 +3,6 @@ use Rattle.std.proofs.Common.{◌≡◌, ◌⊎◌, ◌∙◌, ◌++◌, ◌+◌
 use Rattle.std.proofs.Common.{ap, append-nil, append_assoc, drop, get_or, length, refl, subst, sym, take}
 use Rattle.std.specs.Prelude.{None}
 use Rattle.std.specs.List.{flat_map}
-use Rattle.std.specs.Map.{lookup}
 use Rattle.std.proofs.lemmas.List.{take_more}
 use Rattle.indexmap.specs.IndexMap.{insert_entry}
 use Rattle.rc_hir.specs.Model.{Fault}
@@ -31,9 +30,10 @@ use Rattle.rc_memo.specs.declared.nodes.repeated.RepeatedRows.{RepeatedRows}
 use Rattle.rc_memo.specs.inside.Gathering.{Adds, AddsAt, Gathers, HoldsAlike, IsRow, PutsOperands, RowOperands}
 use Rattle.rc_memo.specs.inside.Gathering.{operand_names, resolved}
 use Rattle.rc_memo.specs.inside.GatheringEvents.{AddsEvents, AddsShared, GathersEvents, HasGathered, IsGatheredOf}
-use Rattle.rc_memo.specs.inside.GatheringEvents.{IsMissing, IsShared}
+use Rattle.rc_memo.specs.inside.GatheringEvents.{IsMissing, IsShared, PutsLoad}
 use Rattle.rc_memo.specs.inside.HeldEvents.{as_event}
-use Rattle.rc_memo.specs.inside.RepeatedRows.{AreGathered, FindsGathered, Forgets, PutsGathered}
+use Rattle.rc_memo.specs.inside.RepeatedRows.{AreGathered, FindsGathered, PutsAtIndex}
+use Rattle.rc_memo.specs.inside.UntilLoad.{known_at}
 
 -- the facts of some events and more
 pub facts_behind-append : (loads : List Loaded) (xs ys : List MemoEvent)
@@ -102,9 +102,8 @@ module _ {S : Type 0} (Holds : RowOperands → List Fact → S → Type 0) (all 
           held = g.1;
           definitions = definitions ∙ gathered.definitions;
           repeated = subst (λ (w : RepeatedRows). AreGathered all gathered.rows (before ++ told) (resolved_after loads)
-              w.mentioned w.rows) (sym repeated)
-              (gathered_facts all (resolved_after loads) old.repeated.mentioned old.repeated.rows gathered.rows before
-              told
+              w.rows) (sym repeated)
+              (gathered_facts all (resolved_after loads) old.repeated.rows gathered.rows before told
               gathered.repeated);
         }),
       )
@@ -117,22 +116,20 @@ module _ {S : Type 0} (Holds : RowOperands → List Fact → S → Type 0) (all 
       (adds_plain (events.Escape name) old old (Ok tt) refl refl refl (adds_nothing Holds old.held))
 
   -- a load
-  pub adds_load : (target loaded : DeclarationId) (old new : Gathered S) → new.held ≡ old.held
-      → new.definitions ≡ insert_entry same_id old.definitions target loaded
-      → Forgets target old.repeated new.repeated
+  pub adds_load : (target loaded : DeclarationId) (old new : Gathered S) → PutsLoad target loaded old new
       → AddsEvents Holds all (events.Load target loaded ∷ []) old (Ok tt) new
   unfolding AddsEvents GathersEvents
-  adds_load target loaded old new held definitions forgets before loads gathered = (
+  adds_load target loaded old new puts before loads gathered = (
     refl,
     record {
       rows = gathered.rows;
       held = subst (λ w. Holds gathered.rows w new.held) (sym (append-nil before))
-          (subst (Holds gathered.rows before) (sym held) gathered.held);
-      definitions = definitions ∙ ap (λ w. insert_entry same_id w target loaded) gathered.definitions
+          (subst (Holds gathered.rows before) (sym puts.held) gathered.held);
+      definitions = puts.definitions ∙ ap (λ w. insert_entry same_id w target loaded) gathered.definitions
           ∙ sym (definitions_push loads target loaded);
       repeated = subst (λ w. AreGathered all gathered.rows w (resolved_after (loads ++ (target, loaded) ∷ []))
-          new.repeated.mentioned new.repeated.rows) (sym (append-nil before))
-          (gathered_load all gathered.rows before loads target loaded old.repeated new.repeated forgets
+          new.repeated.rows) (sym (append-nil before))
+          (gathered_load all gathered.rows before loads target loaded old.repeated.rows new.repeated.rows puts.repeated
           gathered.repeated);
     },
   )
@@ -158,9 +155,8 @@ module _ {S : Type 0} (Holds : RowOperands → List Fact → S → Type 0) (all 
               (alike_sym (before ++ facts) before (alike_told before facts (told_there before facts found.0)))
               gathered.held;
           definitions = gathered.definitions;
-          repeated = gathered_facts all (resolved_after loads) old.repeated.mentioned old.repeated.rows gathered.rows
-              before
-              facts gathered.repeated;
+          repeated = gathered_facts all (resolved_after loads) old.repeated.rows gathered.rows before facts
+              gathered.repeated;
         },
         found.1,
       )
@@ -171,7 +167,8 @@ module _ {S : Type 0} (Holds : RowOperands → List Fact → S → Type 0) (all 
       → PutsOperands Holds (operand_names (resolved old.definitions) operands) position old.held put
       → AddsAt Holds position (operand_names (resolved old.definitions) operands)
       (row_facts (resolved old.definitions) operands shared) put (Ok u) held
-      → PutsGathered row (record { position = position; targets = length shared }) operands shared old.repeated repeated
+      → PutsAtIndex row (record { position = position; targets = length shared }) operands shared old.repeated.rows
+      repeated.rows
       → AddsShared Holds all row operands shared old (Ok position)
       (record { held = held; definitions = old.definitions; repeated = repeated })
   unfolding AddsShared AddsAt PutsOperands Gathers
@@ -191,12 +188,10 @@ module _ {S : Type 0} (Holds : RowOperands → List Fact → S → Type 0) (all 
           rows = rows;
           held = added.1;
           definitions = gathered.definitions;
-          repeated = gathered_put all rows (before ++ facts) resolve row position operands shared is.0 old.repeated
-              repeated
-              stored is.1 first.2 (added_are_told before facts added.0)
-              (gathered_facts all resolve old.repeated.mentioned old.repeated.rows rows before facts
-              (gathered_rows all resolve old.repeated.mentioned old.repeated.rows gathered.rows first.0 before
-              gathered.repeated));
+          repeated = gathered_put all rows (before ++ facts) resolve row position operands shared is.0
+              old.repeated.rows repeated.rows stored is.1 first.2 (added_are_told before facts added.0)
+              (gathered_facts all resolve old.repeated.rows rows before facts
+              (gathered_rows all resolve old.repeated.rows gathered.rows first.0 before gathered.repeated));
         },
         first.2,
       )
@@ -269,9 +264,8 @@ module _ {S : Type 0} (Holds : RowOperands → List Fact → S → Type 0) (all 
                   rows = state.rows;
                   held = g.1;
                   definitions = state.definitions;
-                  repeated = gathered_facts all (resolved_after loads) mid.repeated.mentioned mid.repeated.rows
-                      state.rows
-                      (before ++ facts) own state.repeated;
+                  repeated = gathered_facts all (resolved_after loads) mid.repeated.rows state.rows (before ++ facts)
+                      own state.repeated;
                 })),
           )
       go (Err fault) none state g =
@@ -360,7 +354,7 @@ module _ {S : Type 0} (Holds : RowOperands → List Fact → S → Type 0) where
 
   begun : (params : List DeclarationId) (told : List MemoEvent) (start : S) (between : Gathered S) (u : Unit {0})
       → Holds [] [] start → Adds Holds (params_facts params) start (Ok u) between.held → between.definitions ≡ []
-      → between.repeated.rows ≡ [] → (first_missing [] (params_facts params) ≡ None)
+      → between.repeated.rows.values ≡ [] → (first_missing [] (params_facts params) ≡ None)
       × IsGatheredOf Holds told (params_facts params) [] between
   unfolding Adds Gathers
   begun params told start between u empty first none no_rows = let a = first [] [] empty in (
@@ -369,13 +363,13 @@ module _ {S : Type 0} (Holds : RowOperands → List Fact → S → Type 0) where
       rows = [];
       held = a.1;
       definitions = none;
-      repeated = λ index known there. absurd (none_is_some (ap (lookup (same_id index)) (sym no_rows) ∙ there));
+      repeated = λ index known there. absurd (none_is_some (ap (known_at same_id index) (sym no_rows) ∙ there));
     },
   )
 
   pub gathers_ok : (params : List DeclarationId) (told : List MemoEvent) (start : S) (between found : Gathered S)
       (u v : Unit {0}) → Holds [] [] start → Adds Holds (params_facts params) start (Ok u) between.held
-      → between.definitions ≡ [] → between.repeated.rows ≡ [] → AddsEvents Holds told told between (Ok v) found
+      → between.definitions ≡ [] → between.repeated.rows.values ≡ [] → AddsEvents Holds told told between (Ok v) found
       → HasGathered Holds params told found
   unfolding AddsEvents GathersEvents
   gathers_ok params told start between found u v empty first none no_rows next =
@@ -404,7 +398,7 @@ module _ {S : Type 0} (Holds : RowOperands → List Fact → S → Type 0) where
   pub gathers_no_events : (params : List DeclarationId) (told : List MemoEvent) (fault : Fault) (start : S)
       (between found : Gathered S) (u : Unit {0}) → Holds [] [] start
       → Adds Holds (params_facts params) start (Ok u) between.held → between.definitions ≡ []
-      → between.repeated.rows ≡ [] → AddsEvents Holds told told between (Err fault) found
+      → between.repeated.rows.values ≡ [] → AddsEvents Holds told told between (Err fault) found
       → (fault ≡ NoMemory) ⊎ IsUninitialised params told fault
   unfolding AddsEvents GathersEvents
   gathers_no_events params told fault start between found u empty first none no_rows next =

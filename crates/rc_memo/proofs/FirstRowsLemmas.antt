@@ -8,10 +8,10 @@ use Rattle.indexmap.specs.IndexMap.{insert_entry}
 use Rattle.rc_hir.specs.Model.{Environment, Place}
 use Rattle.rc_names.proofs.NumbersLemmas.{same_id-eq}
 use Rattle.rc_names.specs.Numbers.{EvaluationOrder, FunctionId, same_id}
-use Rattle.rc_memo.proofs.ContextsWaitLemmas.{contexts_first}
 use Rattle.rc_memo.proofs.EntryLemmas.{entry_kept, entry_put}
 use Rattle.rc_memo.proofs.IndexLemmas.{last_found}
-use Rattle.rc_memo.proofs.KnownRowsLemmas.{inner_later, known_later, rows_alike}
+use Rattle.rc_memo.proofs.KnownRowsLemmas.{function_places, known_later, parts_later, rows_alike}
+use Rattle.rc_memo.proofs.PlacesWaitLemmas.{places_first}
 use Rattle.rc_memo.proofs.RowPartsLemmas.{levels_joined, row_filled}
 use Rattle.rc_memo.proofs.SameEventsLemmas.{same_more}
 use Rattle.rc_memo.specs.Mentions.{mention_of, target_of}
@@ -26,7 +26,7 @@ use Rattle.rc_memo.specs.inside.Alike.{TellTheSame}
 use Rattle.rc_memo.specs.inside.FunctionRows.{context_of, function_row}
 use Rattle.rc_memo.specs.inside.KnownRows.{BeginWithContext, IsKnown, IsWithin, Knows, Tells}
 use Rattle.rc_memo.specs.inside.RowsAdded.{with_levels}
-use Rattle.rc_memo.specs.inside.WaitingPlaces.{PutsContext}
+use Rattle.rc_memo.specs.inside.WaitingPlaces.{PutsWaiting}
 
 module _ (env : Environment) (id : EvaluationOrder) (function : FunctionId) (given : List LevelGiven)
     (known : KnownRow) (old new : Told) (one two three : List MemoEvent)
@@ -37,7 +37,8 @@ module _ (env : Environment) (id : EvaluationOrder) (function : FunctionId) (giv
     (shared : known.shared ≡ length (flat_map if_mutable (context_of env function)))
     (alike : (other : EvaluationOrder) → IsWithin known.ids other
     → map (mention_of env other) (context_of env function) ≡ map (mention_of env id) (context_of env function))
-    (waits : PutsContext env id function old.waiting new.waiting) (inner : new.inner ≡ old.inner) where
+    (waits : PutsWaiting env same_id id function (context_of env function) old.waiting new.waiting)
+    (parts : new.parts ≡ old.parts) where
   abbrev context : List Place
   context = context_of env function
 
@@ -82,10 +83,10 @@ module _ (env : Environment) (id : EvaluationOrder) (function : FunctionId) (giv
   tells_known before h = record {
     same = subst (λ w. TellTheSame w (before ++ more)) (sym all) (same_more old.events before more h.same);
     known = λ other row found. known_by other row h.known found (same_id function other) refl;
-    waiting = contexts_first env (λ (row : KnownRow). row.row) (BeginWithContext env) old.events new.events id function
-        (map (target_of env id) mutable ++ own) known old.known new.known old.waiting new.waiting all at (own, refl) put
-        waits h.waiting;
-    inner = inner_later env old new more all inner refl h.inner;
+    waiting = places_first env (function_places env) (λ (row : KnownRow). row.row) (BeginWithContext env) old.events
+        new.events id function context (map (target_of env id) mutable ++ own) known old.known new.known old.waiting
+        new.waiting all at refl (own, refl) put waits h.waiting;
+    parts = parts_later env old new more all parts refl h.parts;
   }
 
 -- the same, where the context was looked up
@@ -98,13 +99,13 @@ module _ (env : Environment) (id : EvaluationOrder) (function : FunctionId) (giv
       → known.row ≡ length old.events → known.shared ≡ length (flat_map if_mutable context)
       → ((other : EvaluationOrder) → IsWithin known.ids other
       → map (mention_of env other) context ≡ map (mention_of env id) context)
-      → PutsContext env id function old.waiting new.waiting → new.inner ≡ old.inner
+      → PutsWaiting env same_id id function context old.waiting new.waiting → new.parts ≡ old.parts
       → Tells env (function_row env id function (map (target_of env id) given) ∷ []) old new
-  tells_first known found old new one two three is first second third last put at shared alike waits inner =
+  tells_first known found old new one two three is first second third last put at shared alike waits parts =
       tells_known env id function given known old new one two three
       (subst (λ w. one ≡ old.events ++ events.Row (map (mention_of env id) w) [] ∷ []) is first)
       (subst (λ w. two ≡ with_levels env id (flat_map if_mutable w) one) is second) third last put at
       (subst (λ w. known.shared ≡ length (flat_map if_mutable w)) is shared)
       (subst (λ w. (other : EvaluationOrder) → IsWithin known.ids other
       → map (mention_of env other) w ≡ map (mention_of env id) w) is alike)
-      waits inner
+      (subst (λ w. PutsWaiting env same_id id function w old.waiting new.waiting) is waits) parts

@@ -502,14 +502,6 @@ module _ (some : List Mention) (others : List Target) (numbers : List ScopeId) (
 
   -- a row that repeats another
 
-  refers_to_row : (row shared : ℕ) → kind_at heads row ≡ Some kinds.Row
-      → RefersToRow (heads ++ at_ends (kinds.Repeats row shared) ∷ []) (kinds.Repeats row shared)
-  refers_to_row row shared is =
-      let below = kind_at-below heads row kinds.Row is in (
-        omega (arith, below, length-append heads (at_ends (kinds.Repeats row shared) ∷ [])),
-        kind_at-front heads (at_ends (kinds.Repeats row shared) ∷ []) row below ∙ is,
-      )
-
   pub held-repeats : (row shared : ℕ) → kind_at heads row ≡ Some kinds.Row
       → events_held some others numbers (heads ++ at_ends (kinds.Repeats row shared) ∷ [])
       ≡ events_held some others numbers heads

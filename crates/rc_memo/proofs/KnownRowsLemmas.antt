@@ -8,15 +8,18 @@ use Rattle.std.specs.List.{flat_map}
 use Rattle.std.specs.Map.{lookup}
 use Rattle.rc_hir.specs.Model.{Environment, Place}
 use Rattle.rc_names.specs.Numbers.{DeclarationId, EvaluationOrder, FunctionId, same_id}
+use Rattle.rc_names.specs.declared.numbers.Id.{Id}
 use Rattle.rc_memo.proofs.AddingLemmas.{take_all}
-use Rattle.rc_memo.proofs.ContextsWaitLemmas.{contexts_load, contexts_more}
 use Rattle.rc_memo.proofs.GrownEventsLemmas.{last_grown-push}
 use Rattle.rc_memo.proofs.IndexLemmas.{front_found}
+use Rattle.rc_memo.proofs.PlacesWaitLemmas.{places_load, places_more}
 use Rattle.rc_memo.proofs.SameEventsLemmas.{same_more, same_refl}
 use Rattle.rc_memo.specs.Events.{loads_in}
 use Rattle.rc_hir.specs.Types.{is_mutable}
 use Rattle.rc_memo.specs.Mentions.{mention_of, target_of}
 use Rattle.rc_memo.specs.Table.{gives, if_mutable}
+use Rattle.rc_memo.specs.declared.context_part.PartOfContext.{PartOfContext}
+use Rattle.rc_memo.specs.declared.context_part.PartRow.{PartRow}
 use Rattle.rc_memo.specs.declared.event.Mention.{Mention}
 use Rattle.rc_memo.specs.declared.event.MemoEvent.TheVariants as events
 use Rattle.rc_memo.specs.declared.level.MemoizationLevel.TheVariants.{Memoized}
@@ -24,23 +27,28 @@ use Rattle.rc_memo.specs.declared.table.LevelGiven.{LevelGiven}
 use Rattle.rc_memo.specs.inside.RowsAdded.{with_levels}
 use Rattle.rc_memo.specs.declared.event.MemoEvent.{MemoEvent}
 use Rattle.rc_memo.specs.declared.event.Target.{Target}
-use Rattle.rc_memo.specs.declared.known_rows.InnerContexts.{InnerContexts}
+use Rattle.rc_memo.specs.declared.known_rows.KnownParts.{KnownParts}
 use Rattle.rc_memo.specs.declared.known_rows.KnownRow.{KnownRow}
 use Rattle.rc_memo.specs.declared.known_rows.Told.{Told}
 use Rattle.rc_memo.specs.inside.FunctionRows.{context_of, function_row}
 use Rattle.rc_memo.specs.inside.HeldEvents.{last_grown, repeated}
 use Rattle.rc_memo.specs.inside.Alike.{TellTheSame}
-use Rattle.rc_memo.specs.inside.KnownRows.{AnyTargets, BeginWithContext, HasTold, Inner, IsKnown, IsWithin, Knows}
-use Rattle.rc_memo.specs.inside.KnownRows.{Loads, Repeats, Tells, Waiting}
-use Rattle.rc_memo.specs.inside.WaitingPlaces.{ContextsWait}
+use Rattle.rc_memo.specs.inside.ContextParts.{part_places}
+use Rattle.rc_memo.specs.inside.KnownRows.{AnyTargets, BeginWithContext, HasTold, IsKnown, IsWithin, Knows, Loads}
+use Rattle.rc_memo.specs.inside.KnownRows.{PartsWait, Repeats, Tells, Waiting}
+use Rattle.rc_memo.specs.inside.WaitingPlaces.{PlacesWait}
 
-none_known : {known : KnownRow} → ◌≡◌ {A = Option KnownRow} None (Some known) → ⊥
+none_known : {V : Type 0} {known : V} → ◌≡◌ {A = Option V} None (Some known) → ⊥
 none_known is = true≢false (sym (ap is_some is))
 
-none_inner : {row : ℕ} → ◌≡◌ {A = Option ℕ} None (Some row) → ⊥
-none_inner is = true≢false (sym (ap is_some is))
-
 module _ (env : Environment) where
+  -- the places of which a known row tells
+  abbrev pub function_places : FunctionId → KnownRow → List Place
+  function_places function known = context_of env function
+
+  abbrev pub known_places : Id PartOfContext → PartRow → List Place
+  known_places key known = part_places env known.part
+
   pub known_later : (old more new : List MemoEvent) (function : FunctionId) (known : KnownRow) → new ≡ old ++ more
       → IsKnown env old function known → IsKnown env new function known
   known_later old more new function known is h = record {
@@ -60,27 +68,27 @@ module _ (env : Environment) where
       → new.known ≡ old.known → new.waiting ≡ old.waiting → flat_map loads_in more ≡ [] → Waiting env old
       → Waiting env new
   waiting_later old new more events known same quiet h =
-      contexts_more env (λ (known : KnownRow). known.row) (BeginWithContext env) old.events more new.events old.known
-      new.known old.waiting new.waiting events quiet known same h
+      places_more env function_places (λ (known : KnownRow). known.row) (BeginWithContext env) old.events more
+      new.events old.known new.known old.waiting new.waiting events quiet known same h
 
-  pub inner_later : (old new : Told) (more : List MemoEvent) → new.events ≡ old.events ++ more
-      → new.inner ≡ old.inner → flat_map loads_in more ≡ [] → Inner env old → Inner env new
-  inner_later old new more events same quiet h =
-      contexts_more env (λ (row : ℕ). row) (AnyTargets env) old.events more new.events old.inner.rows new.inner.rows
-      old.inner.waiting new.inner.waiting events quiet (ap (λ (w : InnerContexts). w.rows) same)
-      (ap (λ (w : InnerContexts). w.waiting) same) h
+  pub parts_later : (old new : Told) (more : List MemoEvent) → new.events ≡ old.events ++ more
+      → new.parts ≡ old.parts → flat_map loads_in more ≡ [] → PartsWait env old → PartsWait env new
+  parts_later old new more events same quiet h =
+      places_more env known_places (λ (known : PartRow). known.row) (AnyTargets env) old.events more new.events
+      old.parts.rows new.parts.rows old.parts.waiting new.parts.waiting events quiet
+      (ap (λ (w : KnownParts). w.rows) same) (ap (λ (w : KnownParts). w.waiting) same) h
 
   -- events without loads, none, a load, and what is added in two steps
 
   pub tells_events : (old new : Told) (more : List MemoEvent) → new.events ≡ old.events ++ more
-      → new.known ≡ old.known → new.waiting ≡ old.waiting → new.inner ≡ old.inner → flat_map loads_in more ≡ []
+      → new.known ≡ old.known → new.waiting ≡ old.waiting → new.parts ≡ old.parts → flat_map loads_in more ≡ []
       → Tells env more old new
   unfolding Tells
-  tells_events old new more events known waiting inner quiet before h = record {
+  tells_events old new more events known waiting parts quiet before h = record {
     same = subst (λ w. TellTheSame w (before ++ more)) (sym events) (same_more old.events before more h.same);
     known = knows_later old new more events known h.known;
     waiting = waiting_later old new more events known waiting quiet h.waiting;
-    inner = inner_later old new more events inner quiet h.inner;
+    parts = parts_later old new more events parts quiet h.parts;
   }
 
   pub tells_nothing : (told : Told) → Tells env [] told told
@@ -99,11 +107,12 @@ module _ (env : Environment) where
       record {
         same = subst (λ w. TellTheSame w (before ++ more)) (sym loads.events) (same_more old.events before more h.same);
         known = knows_later old new more loads.events loads.known h.known;
-        waiting = contexts_load env (λ (known : KnownRow). known.row) (BeginWithContext env) old.events new.events
-            target loaded old.known new.known old.waiting new.waiting loads.events loads.known loads.waiting h.waiting;
-        inner = contexts_load env (λ (row : ℕ). row) (AnyTargets env) old.events new.events target loaded
-            old.inner.rows new.inner.rows old.inner.waiting new.inner.waiting loads.events loads.rows loads.inner
-            h.inner;
+        waiting = places_load env function_places (λ (known : KnownRow). known.row) (BeginWithContext env) old.events
+            new.events target loaded old.known new.known old.waiting new.waiting loads.events loads.known loads.waiting
+            h.waiting;
+        parts = places_load env known_places (λ (known : PartRow). known.row) (AnyTargets env) old.events new.events
+            target loaded old.parts.rows new.parts.rows old.parts.waiting new.parts.waiting loads.events loads.rows
+            loads.parts h.parts;
       }
 
   pub tells_joined : (old mid new : Told) (a b whole : List MemoEvent) → whole ≡ a ++ b → Tells env a old mid
@@ -128,16 +137,16 @@ module _ (env : Environment) where
       tells_same (flat_map f (take i xs)) (flat_map f xs) old new (ap (flat_map f) (sym (take_all xs i past))) told
 
   -- from no events
-  pub all_told : (more : List MemoEvent) (old new : Told) → old.events ≡ [] → old.known ≡ [] → old.inner.rows ≡ []
+  pub all_told : (more : List MemoEvent) (old new : Told) → old.events ≡ [] → old.known ≡ [] → old.parts.rows ≡ []
       → Tells env more old new → TellTheSame new.events more
-  unfolding Tells Knows ContextsWait
+  unfolding Tells Knows PlacesWait
   all_told more old new events known rows told = (told [] (record {
     same = subst (λ w. TellTheSame w []) (sym events) (same_refl []);
     known = λ function row found. absurd (none_known (ap (lookup (same_id function)) (sym known) ∙ found));
     waiting = λ function row places is_known are_waiting.
         absurd (none_known (ap (lookup (same_id function)) (sym known) ∙ is_known));
-    inner = λ function row places is_known are_waiting.
-        absurd (none_inner (ap (lookup (same_id function)) (sym rows) ∙ is_known));
+    parts = λ function row places is_known are_waiting.
+        absurd (none_known (ap (lookup (same_id function)) (sym rows) ∙ is_known));
   })).same
 
   abbrev a_target : Mention → Target
@@ -178,13 +187,13 @@ module _ (env : Environment) where
   -- a row that repeats the one that is known
   pub repeats_known : (id : EvaluationOrder) (function : FunctionId) (known : KnownRow) (added : Bool) (old new : Told)
       → Some known ≡ lookup (same_id function) old.known → IsWithin known.ids id → new.known ≡ old.known
-      → new.waiting ≡ old.waiting → new.inner ≡ old.inner
+      → new.waiting ≡ old.waiting → new.parts ≡ old.parts
       → new.events ≡ old.events ++ (if added then repeated known.shared (slice_get old.events known.row) else [])
       → Repeats env id function added old new
   unfolding Knows
-  repeats_known id function known false old new found within same waits inner told =
-      record { events = λ knows. told; known = same; waiting = waits; inner = inner }
-  repeats_known id function known true old new found within same waits inner told = record {
+  repeats_known id function known false old new found within same waits parts told =
+      record { events = λ knows. told; known = same; waiting = waits; parts = parts }
+  repeats_known id function known true old new found within same waits parts told = record {
     events = λ knows.
         let is = knows function known (sym found) in
         let event = is.event id within in
@@ -198,21 +207,21 @@ module _ (env : Environment) where
         ∙ sym (append-nil targets));
     known = same;
     waiting = waits;
-    inner = inner;
+    parts = parts;
   }
 
   pub repeats_nothing : (id : EvaluationOrder) (function : FunctionId) (told : Told)
       → Repeats env id function false told told
   repeats_nothing id function told =
-      record { events = λ knows. sym (append-nil told.events); known = refl; waiting = refl; inner = refl }
+      record { events = λ knows. sym (append-nil told.events); known = refl; waiting = refl; parts = refl }
 
   -- the row of a function that repeats one, with its own target
   pub tells_repeated : (id : EvaluationOrder) (function : FunctionId) (given : List LevelGiven) (old mid new : Told)
       → Repeats env id function true old mid → new.events ≡ with_levels env id given mid.events
-      → new.known ≡ mid.known → new.waiting ≡ mid.waiting → new.inner ≡ mid.inner
+      → new.known ≡ mid.known → new.waiting ≡ mid.waiting → new.parts ≡ mid.parts
       → Tells env (function_row env id function (map (target_of env id) given) ∷ []) old new
   unfolding Tells with_levels
-  tells_repeated id function given old mid new first put same waits inner before h =
+  tells_repeated id function given old mid new first put same waits parts before h =
       let context = context_of env function in
       let operands = map (mention_of env id) context in
       let targets = map (target_of env id) (flat_map if_mutable context) in
@@ -221,7 +230,7 @@ module _ (env : Environment) where
       ∙ last_grown-push own [] old.events (function_row env id function [])
       ∙ ap (λ w. old.events ++ events.Row operands (w ++ own) ∷ []) (append-nil targets) in
       tells_events old new (function_row env id function own ∷ []) all (same ∙ first.known) (waits ∙ first.waiting)
-      (inner ∙ first.inner) refl before h
+      (parts ∙ first.parts) refl before h
 
   -- the row of a function behind one that could not be repeated
   pub tells_unrepeated : (id : EvaluationOrder) (function : FunctionId) (more : List MemoEvent) (old mid new : Told)
@@ -229,5 +238,5 @@ module _ (env : Environment) where
   unfolding Tells
   tells_unrepeated id function more old mid new first second before h =
       subst (λ w. HasTold env (w ++ more) new) (append-nil before)
-      (second (before ++ []) (tells_events old mid [] (first.events h.known) first.known first.waiting first.inner refl
+      (second (before ++ []) (tells_events old mid [] (first.events h.known) first.known first.waiting first.parts refl
       before h))

@@ -2,6 +2,7 @@ pub mod LevelLaws
 pub mod DistinctLemmas
 pub mod NodesLemmas
 pub mod EntryLemmas
+pub mod UntilLoadLemmas
 pub mod AddingLemmas
 pub mod HeldNodesLemmas
 pub mod HeldNamesLemmas
@@ -22,13 +23,15 @@ pub mod WindowLemmas
 pub mod RepeatedScopes
 pub mod RowsToldLemmas
 pub mod PiecesLemmas
+pub mod PartsToldLemmas
+pub mod ContextPartsLemmas
 pub mod WaitingLemmas
 pub mod RangedLemmas
-pub mod ContextsWaitLemmas
+pub mod PlacesWaitLemmas
 pub mod KnownRowsLemmas
 pub mod FirstRowsLemmas
 pub mod ResumedRowsLemmas
-pub mod InnerLemmas
+pub mod PartRowsLemmas
 pub mod RowEventsLemmas
 pub mod ExpressionLemmas
 pub mod TreeEventsLemmas

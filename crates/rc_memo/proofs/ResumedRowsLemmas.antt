@@ -10,10 +10,10 @@ use Rattle.rc_hir.specs.Model.{Environment, Place}
 use Rattle.rc_names.specs.Numbers.{DeclarationId, EvaluationOrder, FunctionId, same_id}
 use Rattle.rc_ranges.specs.Ranges.{places_at}
 use Rattle.rc_memo.proofs.AlikeLemmas.{alike_more, alike_sym, alike_trans, there_right}
-use Rattle.rc_memo.proofs.ContextsWaitLemmas.{context_at, contexts_resumed}
 use Rattle.rc_memo.proofs.GrowingLemmas.{distinct-all, flat-both}
 use Rattle.rc_memo.proofs.GrownEventsLemmas.{last_grown-push}
-use Rattle.rc_memo.proofs.KnownRowsLemmas.{inner_later, knows_later}
+use Rattle.rc_memo.proofs.KnownRowsLemmas.{function_places, knows_later, parts_later}
+use Rattle.rc_memo.proofs.PlacesWaitLemmas.{places_at_key, places_resumed}
 use Rattle.rc_memo.proofs.RangedLemmas.{found_active}
 use Rattle.rc_memo.proofs.RowsToldLemmas.{facts_of_row, no_loads_behind}
 use Rattle.rc_memo.proofs.WaitingLemmas.{row_alike, row_scopes_alike}
@@ -35,7 +35,7 @@ use Rattle.rc_memo.specs.inside.Growing.{insert_all}
 use Rattle.rc_memo.specs.inside.HeldEvents.{last_grown, repeated}
 use Rattle.rc_memo.specs.inside.KnownRows.{BeginWithContext, HasTold, Knows, Resumes, Tells}
 use Rattle.rc_memo.specs.inside.RowsAdded.{with_levels}
-use Rattle.rc_memo.specs.inside.WaitingPlaces.{ContextWaits, ContextsWait, active_places, places_of}
+use Rattle.rc_memo.specs.inside.WaitingPlaces.{ContextWaits, PlacesWait, active_places, places_of}
 
 -- how many targets of a known row are places of the context
 shared_known : (env : Environment) (told : Told) (function : FunctionId) (row : KnownRow) → Knows env told
@@ -47,9 +47,10 @@ shared_known env told function row knows is_known = (knows function row is_known
 module _ (env : Environment) (id : EvaluationOrder) (function : FunctionId) (given : List LevelGiven)
     (before : List MemoEvent) (old mid new : Told) (resumes : Resumes env id function old mid)
     (put : new.events ≡ with_levels env id given mid.events) (known : new.known ≡ mid.known)
-    (waits : new.waiting ≡ mid.waiting) (inner : new.inner ≡ mid.inner) (h : HasTold env before old)
-    (found : ContextWaits env old.events (BeginWithContext env function) function resumes.row.row old.waiting.mentioned
-    resumes.places) (enough : resumes.row.shared ≡ length (flat_map if_mutable (context_of env function))) where
+    (waits : new.waiting ≡ mid.waiting) (parts : new.parts ≡ mid.parts) (h : HasTold env before old)
+    (found : ContextWaits env old.events (BeginWithContext env function) function (context_of env function)
+    resumes.row.row old.waiting.mentioning resumes.places)
+    (enough : resumes.row.shared ≡ length (flat_map if_mutable (context_of env function))) where
   abbrev context : List Place
   context = context_of env function
 
@@ -166,21 +167,22 @@ module _ (env : Environment) (id : EvaluationOrder) (function : FunctionId) (giv
   resumed = record {
     same = record { facts = facts_are; loads = loads_are; escaping = escaping_are; scopes = scopes_are };
     known = knows_later env old new (events.Row active [] ∷ last ∷ []) told same_known h.known;
-    waiting = subst (ContextsWait env new.events (λ (row : KnownRow). row.row) (BeginWithContext env) new.known)
-        (sym waits) (contexts_resumed env (λ (row : KnownRow). row.row) (BeginWithContext env) old.events (last ∷ [])
-        new.events id function resumes.row resumes.places old.known new.known old.waiting mid.waiting told refl
-        resumes.is_known resumes.are_waiting same_known resumes.waiting h.waiting);
-    inner = inner_later env old new (events.Row active [] ∷ last ∷ []) told (inner ∙ resumes.inner) refl h.inner;
+    waiting = subst (PlacesWait env new.events (function_places env) (λ (row : KnownRow). row.row)
+        (BeginWithContext env) new.known) (sym waits) (places_resumed env (function_places env)
+        (λ (row : KnownRow). row.row) (BeginWithContext env) old.events (last ∷ []) new.events id function resumes.row
+        resumes.places old.known new.known old.waiting mid.waiting told refl resumes.is_known resumes.are_waiting
+        same_known resumes.waiting h.waiting);
+    parts = parts_later env old new (events.Row active [] ∷ last ∷ []) told (parts ∙ resumes.parts) refl h.parts;
   }
 
 module _ (env : Environment) (id : EvaluationOrder) (function : FunctionId) (given : List LevelGiven)
     (old mid new : Told) where
   pub tells_resumed : Resumes env id function old mid → new.events ≡ with_levels env id given mid.events
-      → new.known ≡ mid.known → new.waiting ≡ mid.waiting → new.inner ≡ mid.inner
+      → new.known ≡ mid.known → new.waiting ≡ mid.waiting → new.parts ≡ mid.parts
       → Tells env (function_row env id function (map (target_of env id) given) ∷ []) old new
   unfolding Tells
-  tells_resumed resumes put known waits inner before h =
-      resumed env id function given before old mid new resumes put known waits inner h
-      (context_at env (λ (row : KnownRow). row.row) (BeginWithContext env) old.events old.known old.waiting h.waiting
-      function resumes.row resumes.places resumes.is_known resumes.are_waiting)
+  tells_resumed resumes put known waits parts before h =
+      resumed env id function given before old mid new resumes put known waits parts h
+      (places_at_key env (function_places env) (λ (row : KnownRow). row.row) (BeginWithContext env) old.events old.known
+      old.waiting h.waiting function resumes.row resumes.places resumes.is_known resumes.are_waiting)
       (shared_known env old function resumes.row h.known resumes.is_known)

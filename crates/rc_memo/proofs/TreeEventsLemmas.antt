@@ -1,6 +1,6 @@
 -- The events of parts that are added one after the other.
 use Rattle.std.proofs.Common.{◌≡◌, ◌∙◌, ℕ, ◌+◌, ◌<◌, ◌≤◌, List, [], ◌∷◌, ◌++◌, ap, append-nil, arith, drop, get_or}
-use Rattle.std.proofs.Common.{length, map, refl, subst, suc, sym, zero}
+use Rattle.std.proofs.Common.{length, refl, subst, suc, sym, zero}
 use Rattle.std.specs.List.{flat_map}
 use Rattle.std.proofs.lemmas.List.{drop_more}
 use Rattle.rc_hir.specs.Model.{Environment}

@@ -7,7 +7,7 @@ use Rattle.std.specs.List.{flat_map}
 use Rattle.std.specs.Option.{option_map}
 use Rattle.rc_hir.specs.Model.{Environment, Place, ReactiveScope}
 use Rattle.rc_hir.specs.Types.{is_mutable}
-use Rattle.rc_names.specs.Numbers.{DeclarationId, EvaluationOrder, ScopeId, is_among, same_id}
+use Rattle.rc_names.specs.Numbers.{DeclarationId, EvaluationOrder, ScopeId, same_id}
 use Rattle.rc_ranges.specs.Ranges.{is_in_range}
 use Rattle.rc_memo.proofs.AlikeLemmas.{alike_before, alike_more, alike_refl, alike_sym, alike_told, alike_trans}
 use Rattle.rc_memo.proofs.AlikeLemmas.{there_both, there_first, there_left, there_right, there_second, there_through}
@@ -15,6 +15,7 @@ use Rattle.rc_memo.proofs.GrowingLemmas.{distinct_more, flat-both}
 use Rattle.rc_memo.proofs.RepeatedLemmas.{Agree, agree}
 use Rattle.rc_memo.proofs.RepeatedScopes.{among_behind, among_both, among_front, known_before}
 use Rattle.rc_memo.proofs.RowsToldLemmas.{facts_stay, row_scopes_told, row_told, same_loads, scopes_stay}
+use Rattle.rc_memo.proofs.UntilLoadLemmas.{AreApart}
 use Rattle.rc_memo.specs.Events.{dependency_facts, facts_behind, listed, loads_in, mention_facts, mention_scopes}
 use Rattle.rc_memo.specs.Events.{operand_facts, resolved_after, row_facts, scope_facts, scopes_in, target_facts}
 use Rattle.rc_memo.specs.Events.{target_scopes}
@@ -29,7 +30,6 @@ use Rattle.rc_memo.specs.declared.level.MemoizationLevel.TheVariants.{Memoized}
 use Rattle.rc_memo.specs.inside.Alike.{AreAlike, AreOf}
 use Rattle.rc_memo.specs.inside.FunctionRows.{scope_range}
 use Rattle.rc_memo.specs.inside.Growing.{AreAmong}
-use Rattle.rc_memo.specs.inside.RepeatedRows.{AreMentioned}
 use Rattle.rc_memo.specs.inside.WaitingPlaces.{AreWaiting, IsToldPlace, active_places, idle_places, is_idle}
 use Rattle.rc_memo.specs.inside.WaitingPlaces.{place_name, resolve_now}
 
@@ -386,15 +386,15 @@ module _ (env : Environment) where
       (same_loads told more none))
 
   -- and behind a load into a name that is none of theirs
-  pub waiting_load : (told : List MemoEvent) (target loaded : DeclarationId) (mentioned : List DeclarationId)
-      (id : EvaluationOrder) (places waiting : List Place) → is_among mentioned target ≡ false
-      → AreMentioned mentioned (map (place_name env) places) → AreWaiting env told id places waiting
+  pub waiting_load : (told : List MemoEvent) (target loaded : DeclarationId) (id : EvaluationOrder)
+      (places waiting : List Place) → AreApart target (map (place_name env) places)
+      → AreWaiting env told id places waiting
       → AreWaiting env (told ++ events.Load target loaded ∷ []) id places waiting
-  waiting_load told target loaded mentioned id places waiting apart named =
+  waiting_load told target loaded id places waiting apart =
       waiting_stay told (events.Load target loaded ∷ []) id places waiting
       (subst (λ w. Agree (resolve_now env told) (resolved_after w) (map (place_name env) places))
       (sym (flat-both loads_in told (events.Load target loaded ∷ [])))
-      (agree (flat_map loads_in told) target loaded mentioned apart (map (place_name env) places) named))
+      (agree (flat_map loads_in told) target loaded (map (place_name env) places) apart))
 
   -- a place that has no range, or whose scope is active at an id, has that scope at any other id, or none
 

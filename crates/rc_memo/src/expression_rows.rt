@@ -4,10 +4,10 @@
 //! is told in pieces, so that a context is told once: first rows without targets, one for each of the instructions, and
 //! then one for each with the target of the row. That makes the memo record of the whole row.
 
-ghost use Rattle.std.specs.Prelude.{◌≡◌, [], ◌∷◌, ◌++◌, None, false, map, true, IfOk, OnOk};
+ghost use Rattle.std.specs.Prelude.{◌≡◌, [], ◌∷◌, ◌++◌, None, OnOk};
 ghost use Rattle.rc_memo.specs.RowEvents as spec;
-ghost use Rattle.rc_memo.specs.inside.FunctionRows.{context_of};
-ghost use Rattle.rc_memo.specs.inside.KnownRows.{AddsActive, RepeatsContext, Tells, TellsPiece, operands_row};
+ghost use Rattle.rc_memo.specs.declared.level.MemoizationLevel.TheVariants.{Conditional};
+ghost use Rattle.rc_memo.specs.inside.KnownRows.{Tells, TellsPiece, operands_row};
 ghost use Rattle.rc_memo.specs.inside.RowsAdded.{AddsMentions, AddsOperands, AddsPieces};
 
 use crate::MemoizationLevel;
@@ -17,70 +17,11 @@ use crate::known_rows::Told;
 use crate::reader::RowReader;
 use crate::table::{Levels, memo_rule, recorded};
 use rc_hir::{InstructionValue, Place};
-use rc_names::{EvaluationOrder, FunctionId, List};
+use rc_names::{EvaluationOrder, List};
 use rc_tree::ReactiveValue;
 use std::alloc::AllocError;
 
 impl<'a> RowReader<'a> {
-    /// Adds a row without targets that has those places of a function's context whose scope is active now and was at no
-    /// row before, and returns true, if an earlier row has the context; else adds nothing.
-    fn add_active(
-        &self,
-        told: &mut Told,
-        id: EvaluationOrder,
-        function: FunctionId,
-    ) -> Result<bool, AllocError>
-        ensures active { IfOk result (λ added. added ≡ true
-            → AddsActive self.now.env.now id function told.old told.new) }
-        ensures nothing { IfOk result (λ added. added ≡ false → told.new ≡ told.old) }
-    {
-        if told.inner.rows.get(function).is_none() {
-            return Ok(false);
-        }
-        let Some(places) = told.inner.waiting.places.get(function) else {
-            return Ok(false);
-        };
-        let active = places.at(self.alloc, id)?;
-        let active = active.as_slice();
-        told.events.push_row(self, id, active)?;
-        told.inner
-            .waiting
-            .drop_active(self.alloc, id, function, active)?;
-        Ok(true)
-    }
-
-    /// Adds a row without targets that has the context of a function, of which later rows have less to tell.
-    fn add_first_context(
-        &self,
-        told: &mut Told,
-        id: EvaluationOrder,
-        function: FunctionId,
-    ) -> Result<(), AllocError>
-        ensures { OnOk result (Tells self.now.env.now
-            (operands_row self.now.env.now id (context_of self.now.env.now function) ∷ []) told.old told.new) }
-    {
-        let row = told.events.len();
-        told.events.push_row(self, id, self.context_of(function))?;
-        told.inner.rows.insert(function, row)?;
-        self.put_context(&mut told.inner.waiting, id, function)
-    }
-
-    /// Adds what a row without targets tells that has the context of a function.
-    fn add_context(
-        &self,
-        told: &mut Told,
-        id: EvaluationOrder,
-        function: FunctionId,
-    ) -> Result<(), AllocError>
-        ensures { OnOk result (Tells self.now.env.now
-            (operands_row self.now.env.now id (context_of self.now.env.now function) ∷ []) told.old told.new) }
-    {
-        if self.add_active(told, id, function)? {
-            return Ok(());
-        }
-        self.add_first_context(told, id, function)
-    }
-
     /// Adds a row with the operands that are recorded of an instruction, and no targets.
     fn push_operands(
         &self,
@@ -148,42 +89,6 @@ impl<'a> RowReader<'a> {
         Ok(())
     }
 
-    /// Adds a row that repeats the operands of a row with a function's context, and returns true, if there is one; else
-    /// adds nothing.
-    fn repeat_context(&self, told: &mut Told, function: FunctionId) -> Result<bool, AllocError>
-        ensures repeats { IfOk result (λ added. added ≡ true
-            → RepeatsContext self.now.env.now function told.old told.new) }
-        ensures nothing { IfOk result (λ added. added ≡ false → told.new ≡ told.old) }
-    {
-        let Some(row) = told.inner.rows.get(function).copied() else {
-            return Ok(false);
-        };
-        if told.inner.waiting.places.get(function).is_none() {
-            return Ok(false);
-        }
-        let added = told.events.push_repeated(row, 0)?;
-        Ok(added)
-    }
-
-    /// Adds the row of an expression with the context of a function, whose mentions are told.
-    fn add_context_piece(
-        &self,
-        told: &mut Told,
-        id: EvaluationOrder,
-        target: Option<Place>,
-        function: FunctionId,
-    ) -> Result<(), AllocError>
-        ensures { OnOk result (TellsPiece self.now.env.now id target (context_of self.now.env.now function) told.old
-            told.new) }
-    {
-        if !self.repeat_context(told, function)? {
-            told.events.push_row(self, id, self.context_of(function))?;
-        }
-        let levels = Levels { reader: *self, id };
-        levels.put_own(&mut told.events, target, MemoizationLevel::Conditional)?;
-        Ok(())
-    }
-
     /// Adds the row of an expression with the operands of an instruction, whose mentions are told.
     fn add_instruction_piece(
         &self,
@@ -192,11 +97,17 @@ impl<'a> RowReader<'a> {
         target: Option<Place>,
         value: &InstructionValue,
     ) -> Result<(), AllocError>
-        ensures { OnOk result (TellsPiece self.now.env.now id target
+        ensures { OnOk result (TellsPiece self.now.env.now id target Conditional
             (spec.recorded_operands self.now.env.now value.now) told.old told.new) }
     {
         if let Some(function) = function_named(value) {
-            return self.add_context_piece(told, id, target, function);
+            return self.add_context_piece(
+                told,
+                id,
+                target,
+                MemoizationLevel::Conditional,
+                function,
+            );
         }
         self.push_operands(&mut told.events, id, value)?;
         let levels = Levels { reader: *self, id };

@@ -1,8 +1,10 @@
-//! The rows that name a function: all but the first repeat one, where the context names the same.
+//! The rows that name a function: all but the first repeat one, where the context names the same. Behind a load of a
+//! name of the context they are told in parts, if they may change no place of it.
 
 ghost use Rattle.std.specs.Prelude.{◌≡◌, ◌∷◌, [], Some, false, map, true, IfOk, IfSome, OnOk};
+ghost use Rattle.std.specs.List.{flat_map};
 ghost use Rattle.rc_memo.specs.Mentions.{target_of};
-ghost use Rattle.rc_memo.specs.Table.{own};
+ghost use Rattle.rc_memo.specs.Table.{if_mutable, own};
 ghost use Rattle.rc_memo.specs.declared.level.MemoizationLevel.TheVariants as levels;
 ghost use Rattle.rc_memo.specs.inside.FunctionRows as rows;
 ghost use Rattle.rc_memo.specs.inside.KnownRows as spec;
@@ -12,6 +14,7 @@ use crate::MemoizationLevel;
 use crate::known_rows::{KnownRow, Told, count_mutable};
 use crate::reader::RowReader;
 use crate::table::Levels;
+use crate::waiting::drop_active;
 use rc_hir::{InstructionValue, InstructionValue as Kind, Place};
 use rc_names::{EvaluationOrder, FunctionId};
 use std::alloc::AllocError;
@@ -74,18 +77,18 @@ impl<'a> RowReader<'a> {
         let Some(known) = told.known.get(function).copied() else {
             return Ok(false);
         };
-        let Some(places) = told.waiting.places.get(function) else {
+        let Some(places) = told.waiting.get(function) else {
             return Ok(false);
         };
         let active = places.at(self.alloc, id)?;
+        let active = active.as_slice();
         if !told
             .events
-            .push_repeated_behind(self, id, active.as_slice(), known.row, known.shared)?
+            .push_repeated_behind(self, id, active, known.row, known.shared)?
         {
             return Ok(false);
         }
-        told.waiting
-            .drop_active(self.alloc, id, function, active.as_slice())?;
+        drop_active(&mut told.waiting, self.alloc, id, function, active)?;
         Ok(true)
     }
 
@@ -111,7 +114,34 @@ impl<'a> RowReader<'a> {
         levels.put_mutable(&mut told.events, context)?;
         levels.put_own(&mut told.events, target, MemoizationLevel::Memoized)?;
         told.known.insert(function, known)?;
-        self.put_context(&mut told.waiting, id, function)
+        self.put_waiting(&mut told.waiting, id, function, context)
+    }
+
+    /// Returns whether an earlier row of the function may change no place of the context, and a load of one's name lies
+    /// behind it.
+    fn is_in_parts(&self, told: &Told, function: FunctionId) -> bool
+        ensures { result ≡ true → spec.IsUnchanged function told.now }
+    {
+        match told.known.get(function) {
+            Some(known) => known.shared == 0 && told.waiting.get(function).is_none(),
+            None => false,
+        }
+    }
+
+    /// Adds the row of a function in parts, where it may change no place of the context.
+    fn add_in_parts(
+        &self,
+        told: &mut Told,
+        id: EvaluationOrder,
+        target: Option<Place>,
+        function: FunctionId,
+    ) -> Result<(), AllocError>
+        ensures { OnOk result (flat_map if_mutable (rows.context_of self.now.env.now function) ≡ []
+            → spec.Tells self.now.env.now (rows.function_row self.now.env.now id function
+            (map (target_of self.now.env.now id) (own target levels.Memoized)) ∷ []) told.old told.new) }
+    {
+        self.add_context(told, id, function)?;
+        self.add_context_piece(told, id, target, MemoizationLevel::Memoized, function)
     }
 
     /// Adds the row of a function.
@@ -126,6 +156,9 @@ impl<'a> RowReader<'a> {
         ensures { OnOk result (spec.Tells self.now.env.now (rows.function_row self.now.env.now id function
             (map (target_of self.now.env.now id) (own target levels.Memoized)) ∷ []) told.old told.new) }
     {
+        if self.is_in_parts(told, function) {
+            return self.add_in_parts(told, id, target, function);
+        }
         if self.add_repeated(told, id, function)? || self.add_resumed(told, id, function)? {
             let levels = Levels { reader: *self, id };
             return levels.put_own(&mut told.events, target, MemoizationLevel::Memoized);

@@ -13,11 +13,13 @@ ghost use Rattle.rc_memo.specs.inside.KnownRows.{IsWithin, Loads};
 ghost use Rattle.rc_names.specs.Numbers.{EvaluationOrder as Order};
 ghost use Rattle.rc_ranges.specs.Ranges.{is_in_range};
 
+use crate::context_part::{PartKey, PartRow};
 use crate::events::Events;
 use crate::reader::RowReader;
-use crate::waiting::WaitingPlaces;
+use crate::until_load::UntilLoad;
 use rc_hir::{MutableRange, Place};
 use rc_names::{DeclarationId, EvaluationOrder, FunctionId, IdentifierId, Keyed};
+use rc_ranges::PlacesByRange;
 use std::alloc::{AllocError, Global};
 
 /// The ids from the first up to the last, which is inside.
@@ -36,12 +38,11 @@ pub struct KnownRow {
     pub ids: Window,
 }
 
-/// The contexts of functions that stand inside expressions: for each, the index of an event that has its places as
-/// operands, and the places that wait.
+/// The parts of contexts: for each, the index of an event that has its places as operands, and the places that wait.
 #[derive(Drop)]
-pub struct InnerContexts {
-    pub rows: Keyed<FunctionId, usize>,
-    pub waiting: WaitingPlaces,
+pub struct KnownParts {
+    pub rows: Keyed<PartKey, PartRow>,
+    pub waiting: UntilLoad<PartKey, PlacesByRange>,
 }
 
 /// The events so far, with the last row of each function that has its own operands, and the places of which later rows
@@ -50,18 +51,18 @@ pub struct InnerContexts {
 pub struct Told {
     pub events: Events,
     pub known: Keyed<FunctionId, KnownRow>,
-    pub waiting: WaitingPlaces,
-    pub inner: InnerContexts,
+    pub waiting: UntilLoad<FunctionId, PlacesByRange>,
+    pub parts: KnownParts,
 }
 
-impl InnerContexts {
-    /// Returns no contexts. This takes no memory.
-    fn new(alloc: Global) -> InnerContexts
+impl KnownParts {
+    /// Returns no parts. This takes no memory.
+    fn new(alloc: Global) -> KnownParts
         ensures { result.rows ≡ [] }
     {
-        InnerContexts {
+        KnownParts {
             rows: Keyed::new(alloc),
-            waiting: WaitingPlaces::new(alloc),
+            waiting: UntilLoad::new(alloc),
         }
     }
 }
@@ -71,18 +72,17 @@ impl Told {
     pub fn new(alloc: Global) -> Told
         ensures events { result.events ≡ [] }
         ensures known { result.known ≡ [] }
-        ensures inner { result.inner.rows ≡ [] }
-        ensures waiting { result.waiting.places ≡ [] }
+        ensures parts { result.parts.rows ≡ [] }
     {
         Told {
             events: Events::new(alloc),
             known: Keyed::new(alloc),
-            waiting: WaitingPlaces::new(alloc),
-            inner: InnerContexts::new(alloc),
+            waiting: UntilLoad::new(alloc),
+            parts: KnownParts::new(alloc),
         }
     }
 
-    /// Adds a row that loads a name into another, of which no function's places tell any longer.
+    /// Adds a row that loads a name into another. What mentions that one is let go.
     pub fn push_load(
         &mut self,
         alloc: Global,
@@ -91,8 +91,8 @@ impl Told {
     ) -> Result<(), AllocError>
         ensures { OnOk result (Loads target loaded self.old self.new) }
     {
-        self.waiting.forget(alloc, target);
-        self.inner.waiting.forget(alloc, target);
+        self.waiting.forget(alloc, target)?;
+        self.parts.waiting.forget(alloc, target)?;
         self.events.push_load(target, loaded)?;
         Ok(())
     }

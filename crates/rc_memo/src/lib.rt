@@ -8,6 +8,8 @@
 #![tactic(auto)]
 
 mod collecting;
+mod context_part;
+mod context_rows;
 mod event;
 mod events;
 mod expression_rows;
@@ -21,6 +23,7 @@ mod row_record;
 mod rows;
 mod table;
 mod tree;
+mod until_load;
 mod waiting;
 
 pub use collecting::{check_nodes, collect, collect_rows};

@@ -13,7 +13,7 @@ ghost use Rattle.rc_memo.specs.Record.{IsUninitialised};
 ghost use Rattle.rc_memo.specs.declared.event.MemoEvent.{MemoEvent};
 ghost use Rattle.rc_memo.specs.declared.event.MemoEvent.TheVariants as kinds;
 ghost use Rattle.rc_memo.specs.inside.Gathering.{Adds, AddsAt, operand_names, resolved as spec_resolved};
-ghost use Rattle.rc_memo.specs.inside.GatheringEvents.{AddsEvents, AddsShared, HasGathered, IsShared};
+ghost use Rattle.rc_memo.specs.inside.GatheringEvents.{AddsEvents, AddsShared, HasGathered, IsShared, PutsLoad};
 ghost use Rattle.rc_memo.specs.inside.HeldEvents.{RepeatsRow, as_event};
 
 mod facts;
@@ -218,11 +218,24 @@ impl<H: HoldsFacts> Gathered<H> {
         ensures { (all : Entries MemoEvent) → AddsEvents H.holds all (kinds.Load target loaded ∷ []) self.old result
             self.new }
     {
-        self.repeated.forget(alloc, target);
-        match define(&mut self.definitions, target, loaded) {
+        match self.put_load(alloc, target, loaded) {
             Ok(()) => Ok(()),
             Err(_) => Err(Fault::NoMemory),
         }
+    }
+
+    /// Puts a load into the definitions, and forgets the rows that mention the name which it defines. Fails only when
+    /// out of memory.
+    fn put_load(
+        &mut self,
+        alloc: Global,
+        target: DeclarationId,
+        loaded: DeclarationId,
+    ) -> Result<(), AllocError>
+        ensures { OnOk result (PutsLoad target loaded self.old self.new) }
+    {
+        self.repeated.forget(alloc, target)?;
+        define(&mut self.definitions, target, loaded)
     }
 
     /// Adds a row that has its operands and first targets from another one, and then its own targets.
@@ -295,7 +308,7 @@ impl<H: HoldsFacts> Gathered<H> {
             position,
             targets: shared.len(),
         };
-        match self.repeated.put(row, gathered, operands, shared) {
+        match self.repeated.put(alloc, row, gathered, operands, shared) {
             Ok(()) => Ok(position),
             Err(_) => Err(Fault::NoMemory),
         }

@@ -3,7 +3,8 @@ use Rattle.std.specs.Prelude.{◌≡◌, ◌⊎◌, ℕ, List, [], ◌++◌, Opt
 use Rattle.std.specs.List.{flat_map}
 use Rattle.rc_hir.specs.Model.{Fault}
 use Rattle.rc_hir.specs.declared.fault.Fault.TheVariants.{NoMemory, Uninitialised}
-use Rattle.rc_names.specs.Numbers.{DeclarationId}
+use Rattle.indexmap.specs.IndexMap.{insert_entry}
+use Rattle.rc_names.specs.Numbers.{DeclarationId, same_id}
 use Rattle.rc_memo.specs.Events.{Loaded, definitions_told, facts_behind, facts_told, loads_in, resolved_after}
 use Rattle.rc_memo.specs.Events.{row_facts}
 use Rattle.rc_memo.specs.Facts.{Fact, first_missing}
@@ -14,6 +15,7 @@ use Rattle.rc_memo.specs.declared.event.MemoEvent.TheVariants as events
 use Rattle.rc_memo.specs.declared.nodes.Gathered.{Gathered}
 use Rattle.rc_memo.specs.inside.Gathering.{IsRow, RowOperands, operand_names}
 use Rattle.rc_memo.specs.inside.RepeatedRows.{AreGathered}
+use Rattle.rc_memo.specs.inside.UntilLoad.{Forgets}
 
 -- a row shares these operands and targets with the one at an index
 abbrev pub IsShared : List MemoEvent → ℕ → List Mention → List Target → Type 0
@@ -25,13 +27,19 @@ abbrev pub IsMissing : List Fact → List Fact → Fault → Type 0
 IsMissing before facts fault = (fault ≡ NoMemory)
     ⊎ ((name : DeclarationId) × (fault ≡ Uninitialised name) × (first_missing before facts ≡ Some name))
 
+-- a call puts a load into the definitions, and forgets the rows that mention its name
+pub record PutsLoad {S : Type 0} (target loaded : DeclarationId) (old new : Gathered S) : Type 0 where
+  pub held : new.held ≡ old.held
+  pub definitions : new.definitions ≡ insert_entry same_id old.definitions target loaded
+  pub repeated : Forgets same_id target old.repeated.rows new.repeated.rows
+
 module _ {S : Type 0} (Holds : RowOperands → List Fact → S → Type 0) (all : List MemoEvent) where
   -- these facts and loads of some of the events are gathered
   pub record IsGatheredOf (facts : List Fact) (loads : List Loaded) (state : Gathered S) : Type 0 where
     pub rows : RowOperands
     pub held : Holds rows facts state.held
     pub definitions : state.definitions ≡ definitions_told loads
-    pub repeated : AreGathered all rows facts (resolved_after loads) state.repeated.mentioned state.repeated.rows
+    pub repeated : AreGathered all rows facts (resolved_after loads) state.repeated.rows
 
   -- after the facts and loads before: what more events add
   unfoldable pub GathersEvents : List Fact → List Loaded → List MemoEvent → Result (Unit {0}) Fault → Gathered S

@@ -6,6 +6,7 @@ use Rattle.rc_tree.specs.Model.{ReactiveValue}
 use Rattle.rc_memo.specs.Mentions.{target_of}
 use Rattle.rc_memo.specs.RowEvents.{parts_of}
 use Rattle.rc_memo.specs.declared.event.MemoEvent.{MemoEvent}
+use Rattle.rc_memo.specs.declared.level.MemoizationLevel.TheVariants.{Conditional}
 use Rattle.rc_memo.specs.declared.table.LevelGiven.{LevelGiven}
 use Rattle.rc_memo.specs.declared.known_rows.Told.{Told}
 use Rattle.rc_memo.specs.inside.HeldEvents.{last_grown}
@@ -27,7 +28,7 @@ module _ (env : Environment) (value : ReactiveValue) where
 
   -- a value in a row, whose mentions are told, adds the row of an expression
   pub record AddsPieces (id : EvaluationOrder) (target : Option Place) (old new : Told) : Type 0 where
-    pub events : TellsPiece env id target (parts_of env value).places old new
+    pub events : TellsPiece env id target Conditional (parts_of env value).places old new
 
   -- a value in a row adds its operands
   pub record AddsOperands (old new : List Place) : Type 0 where

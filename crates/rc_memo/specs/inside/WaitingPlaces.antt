@@ -1,12 +1,13 @@
--- The places of a function's context of which not all is told yet, and those of which nothing new can be told.
-use Rattle.std.specs.Prelude.{ℕ, ◌≡◌, ◌⊎◌, ◌&&◌, not, is_some, Bool, false, List, [], ◌∷◌, None, Some, filter, map}
+-- The places of contexts of which not all is told yet, and those of which nothing new can be told.
+use Rattle.std.specs.Prelude.{ℕ, ◌≡◌, ◌⊎◌, ◌&&◌, not, is_some, Bool, List, [], ◌∷◌, None, Some, filter, map}
 use Rattle.std.specs.Prelude.{slice_get}
 use Rattle.std.specs.List.{AllByRecursion, filter_map, flat_map}
 use Rattle.std.specs.Map.{lookup}
 use Rattle.std.specs.Option.{option_map}
 use Rattle.indexmap.specs.IndexMap.{insert_entry}
 use Rattle.rc_hir.specs.Model.{Environment, MutableRange, Place}
-use Rattle.rc_names.specs.Numbers.{DeclarationId, EvaluationOrder, FunctionId, is_among, same_id}
+use Rattle.rc_names.specs.Numbers.{DeclarationId, EvaluationOrder, same_id}
+use Rattle.rc_names.specs.declared.numbers.Id.{Id}
 use Rattle.rc_ranges.specs.Ranges.{ranged_left}
 use Rattle.rc_ranges.specs.declared.ranged_place.RangedPlace.{RangedPlace}
 use Rattle.rc_memo.specs.Events.{facts_behind, listed, loads_in, mention_facts, resolved_after, scopes_in}
@@ -14,11 +15,15 @@ use Rattle.rc_memo.specs.Mentions.{active_scope, declaration_of, mention_of}
 use Rattle.rc_memo.specs.declared.event.MemoEvent.{MemoEvent}
 use Rattle.rc_memo.specs.declared.event.MemoEvent.TheVariants as events
 use Rattle.rc_memo.specs.declared.event.Target.{Target}
-use Rattle.rc_memo.specs.declared.waiting.WaitingPlaces.{WaitingPlaces}
+use Rattle.rc_memo.specs.declared.until_load.UntilLoad.{UntilLoad}
 use Rattle.rc_memo.specs.inside.Alike.{AreOf}
-use Rattle.rc_memo.specs.inside.FunctionRows.{context_of, scope_range}
-use Rattle.rc_memo.specs.inside.Growing.{AreAmong, insert_all}
-use Rattle.rc_memo.specs.inside.RepeatedRows.{AreMentioned}
+use Rattle.rc_memo.specs.inside.FunctionRows.{scope_range}
+use Rattle.rc_memo.specs.inside.Growing.{AreAmong}
+use Rattle.rc_memo.specs.inside.UntilLoad.{Mentioning, Mentions, known_at, with_mentions}
+
+-- the places that wait, by keys
+abbrev pub WaitingAt : Type 0 → Type 0
+WaitingAt K = UntilLoad K (List RangedPlace)
 
 -- places without their ranges
 abbrev pub places_of : List RangedPlace → List Place
@@ -76,37 +81,34 @@ module _ (env : Environment) where
         ⊎ ((rest : List Place) × (waiting ≡ place ∷ rest) × (active_scope env id place.identifier ≡ None)
         × AreWaiting id places rest)
 
-    -- the event at an index is a row that has the context of a function as operands, and such targets; of the context
-    -- these places wait, each with the range of its scope, and the names of all its places are mentioned
-    pub record ContextWaits (Fit : EvaluationOrder → List Target → Type 0) (function : FunctionId) (row : ℕ)
-        (mentioned : List DeclarationId) (waiting : List RangedPlace) : Type 0 where
+    -- the event at an index is a row that has these places as operands, and such targets; some of the places wait, each
+    -- with the range of its scope, and the key mentions the names of all of them
+    pub record ContextWaits {M : Type 0} (Fit : EvaluationOrder → List Target → Type 0) (key : Id M)
+        (context : List Place) (row : ℕ) (mentioning : Mentioning (Id M)) (waiting : List RangedPlace) : Type 0 where
       pub id : EvaluationOrder
       pub targets : List Target
-      pub event : slice_get told row ≡ Some (events.Row (map (mention_of env id) (context_of env function)) targets)
+      pub event : slice_get told row ≡ Some (events.Row (map (mention_of env id) context) targets)
       pub fit : Fit id targets
-      pub places : AreWaiting id (context_of env function) (places_of waiting)
+      pub places : AreWaiting id context (places_of waiting)
       pub ranges : AreRanged waiting
-      pub names : AreMentioned mentioned (map place_name (context_of env function))
+      pub names : Mentions key mentioning (map place_name context)
 
-    -- so do the places of each function that has a row, which tells its index, and places that wait
-    unfoldable pub ContextsWait : {V : Type 0} → (V → ℕ) → (FunctionId → EvaluationOrder → List Target → Type 0)
-        → List (FunctionId × V) → WaitingPlaces → Type 0
-    ContextsWait {V = V} index Fit rows waiting = (function : FunctionId) (row : V) (places : List RangedPlace)
-        → lookup (same_id function) rows ≡ Some row → lookup (same_id function) waiting.places ≡ Some places
-        → ContextWaits (Fit function) function (index row) waiting.mentioned places
+    -- so it is for each key that has a row, which tells its places and its index, and places that wait
+    unfoldable pub PlacesWait : {M V : Type 0} → (Id M → V → List Place) → (V → ℕ)
+        → (Id M → EvaluationOrder → List Target → Type 0) → List (Id M × V) → WaitingAt (Id M) → Type 0
+    PlacesWait {M = M} {V = V} context index Fit rows waiting = (key : Id M) (row : V) (places : List RangedPlace)
+        → lookup (same_id key) rows ≡ Some row → known_at same_id key waiting.values ≡ Some places
+        → ContextWaits (Fit key) key (context key row) (index row) waiting.mentioning places
 
-  -- the context of a function is mentioned, and its places wait that are idle at the id
-  pub record PutsContext (id : EvaluationOrder) (function : FunctionId) (old new : WaitingPlaces) : Type 0 where
-    pub mentioned : new.mentioned ≡ insert_all old.mentioned (map place_name (context_of env function))
-    pub places : new.places
-        ≡ insert_entry same_id old.places function (ranged_left id (ranged_places (context_of env function)))
+  -- a key mentions these places, and those of them wait that are idle at the id
+  pub record PutsWaiting {K : Type 0} (same : K → K → Bool) (id : EvaluationOrder) (key : K) (places : List Place)
+      (old new : WaitingAt K) : Type 0 where
+    pub mentioning : new.mentioning ≡ with_mentions key old.mentioning (map place_name places)
+    pub values : new.values
+        ≡ insert_entry same old.values key (Some (ranged_left id (ranged_places places)))
 
--- those of a function's places wait no longer that are active at the id
-pub record DropsActive (id : EvaluationOrder) (function : FunctionId) (waiting : List RangedPlace)
-    (old new : WaitingPlaces) : Type 0 where
-  pub mentioned : new.mentioned ≡ old.mentioned
-  pub places : new.places ≡ insert_entry same_id old.places function (ranged_left id waiting)
-
--- no function waits whose context mentions the name
-abbrev pub ForgetsName : DeclarationId → (old new : WaitingPlaces) → Type 0
-ForgetsName name old new = ((is_among old.mentioned name ≡ false) × (new ≡ old)) ⊎ (new.places ≡ [])
+-- those of a key's places wait no longer that are active at the id
+pub record DropsActive {K : Type 0} (same : K → K → Bool) (id : EvaluationOrder) (key : K) (waiting : List RangedPlace)
+    (old new : WaitingAt K) : Type 0 where
+  pub mentioning : new.mentioning ≡ old.mentioning
+  pub values : new.values ≡ insert_entry same old.values key (Some (ranged_left id waiting))

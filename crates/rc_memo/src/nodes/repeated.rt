@@ -1,15 +1,13 @@
 //! The rows that others repeat, as far as they were gathered.
 
 ghost use Rattle.std.specs.Prelude.{◌≡◌, ◌≤◌, [], Some, map, IfSome, OnOk};
-ghost use Rattle.std.specs.Map.{lookup};
 ghost use Rattle.rc_names.specs.Numbers.{same_id};
-ghost use Rattle.rc_memo.specs.inside.RepeatedRows.{FindsGathered, Forgets, PutsAtIndex, PutsGathered};
-ghost use Rattle.rc_memo.specs.inside.RepeatedRows.{mention_name, target_name};
-ghost use Rattle.rc_memo.specs.inside.Growing.{insert_all};
+ghost use Rattle.rc_memo.specs.inside.RepeatedRows.{FindsGathered, PutsAtIndex, PutsGathered, mention_name, target_name};
+ghost use Rattle.rc_memo.specs.inside.UntilLoad.{Forgets, known_at, with_mentions};
 
-use crate::DeclSet;
 use crate::event::{Mention, Target};
-use rc_names::{DeclarationId, Id, KeySet, Keyed, Name};
+use crate::until_load::UntilLoad;
+use rc_names::{DeclarationId, Id, Name};
 use std::alloc::{AllocError, Global};
 
 /// The marker type of `RowIndex`.
@@ -27,22 +25,21 @@ pub struct GatheredRow {
     pub targets: usize,
 }
 
-/// Rows that were gathered, with the names that they mention. No load behind them defines one of these.
+/// Rows that were gathered, none of which mentions a name that a load behind it defines. The methods that return a
+/// `Result` fail only when out of memory.
 #[derive(Drop)]
 pub struct RepeatedRows {
-    pub rows: Keyed<RowIndex, GatheredRow>,
-    pub mentioned: DeclSet,
+    pub rows: UntilLoad<RowIndex, GatheredRow>,
 }
 
 impl RepeatedRows {
     /// Returns no rows. This takes no memory.
     pub fn new(alloc: Global) -> RepeatedRows
-        ensures rows { result.rows ≡ [] }
-        ensures mentioned { result.mentioned ≡ [] }
+        ensures rows { result.rows.values ≡ [] }
+        ensures mentioning { result.rows.mentioning ≡ [] }
     {
         RepeatedRows {
-            rows: Keyed::new(alloc),
-            mentioned: KeySet::new(alloc),
+            rows: UntilLoad::new(alloc),
         }
     }
 
@@ -58,7 +55,7 @@ impl RepeatedRows {
 
     /// Returns a row, if it was gathered with so many targets.
     fn find_at(&self, index: RowIndex, targets: usize) -> Option<GatheredRow>
-        ensures { IfSome result (λ found. (lookup (same_id index) self.now.rows ≡ Some found)
+        ensures { IfSome result (λ found. (known_at same_id index self.now.rows.values ≡ Some found)
             × (targets ≤ found.targets)) }
     {
         match self.rows.get(index) {
@@ -67,65 +64,77 @@ impl RepeatedRows {
         }
     }
 
-    /// Forgets all rows if one of them mentions the name.
-    pub fn forget(&mut self, alloc: Global, name: DeclarationId)
-        ensures { Forgets name self.old self.new }
+    /// Forgets the rows that mention the name.
+    pub fn forget(&mut self, alloc: Global, name: DeclarationId) -> Result<(), AllocError>
+        ensures { OnOk result (Forgets same_id name self.old.rows self.new.rows) }
     {
-        if self.mentioned.contains(name) {
-            self.rows = Keyed::new(alloc);
-            self.mentioned = KeySet::new(alloc);
-        }
+        self.rows.forget(alloc, name)
     }
 
-    /// Puts a row with these operands and targets. Fails only when out of memory.
+    /// Puts a row with these operands and targets; one whose index no number has isn't put.
     pub fn put(
         &mut self,
+        alloc: Global,
         row: usize,
         gathered: GatheredRow,
         operands: &[Mention],
         targets: &[Target],
     ) -> Result<(), AllocError>
-        ensures { OnOk result (PutsGathered row gathered operands.now targets.now self.old self.new) }
+        ensures { OnOk result (PutsAtIndex row gathered operands.now targets.now self.old.rows self.new.rows) }
     {
-        put_mentions(&mut self.mentioned, operands)?;
-        put_targets(&mut self.mentioned, targets)?;
-        put_row(&mut self.rows, row, gathered)
-    }
-}
-
-/// Puts the names of operands. Fails only when out of memory.
-fn put_mentions(names: &mut DeclSet, operands: &[Mention]) -> Result<(), AllocError>
-    ensures { OnOk result (names.new ≡ insert_all names.old (map mention_name operands.now)) }
-{
-    for operand in operands {
-        names.insert(operand.name)?;
-    }
-    Ok(())
-}
-
-/// Puts the names of targets. Fails only when out of memory.
-fn put_targets(names: &mut DeclSet, targets: &[Target]) -> Result<(), AllocError>
-    ensures { OnOk result (names.new ≡ insert_all names.old (map target_name targets.now)) }
-{
-    for target in targets {
-        names.insert(target.mention.name)?;
-    }
-    Ok(())
-}
-
-/// Puts a row at its index; one whose index no number has isn't put. Fails only when out of memory.
-fn put_row(
-    rows: &mut Keyed<RowIndex, GatheredRow>,
-    row: usize,
-    gathered: GatheredRow,
-) -> Result<(), AllocError>
-    ensures { OnOk result (PutsAtIndex row gathered rows.old rows.new) }
-{
-    match RowIndex::from_index(row) {
-        Some(index) => {
-            rows.insert(index, gathered)?;
-            Ok(())
+        match RowIndex::from_index(row) {
+            Some(index) => self.put_at(alloc, index, gathered, operands, targets),
+            None => Ok(()),
         }
-        None => Ok(()),
+    }
+
+    /// Puts a row with these operands and targets at its index.
+    fn put_at(
+        &mut self,
+        alloc: Global,
+        index: RowIndex,
+        gathered: GatheredRow,
+        operands: &[Mention],
+        targets: &[Target],
+    ) -> Result<(), AllocError>
+        ensures { OnOk result (PutsGathered index gathered operands.now targets.now self.old.rows self.new.rows) }
+    {
+        self.mention_operands(alloc, index, operands)?;
+        self.mention_targets(alloc, index, targets)?;
+        self.rows.put(index, gathered)
+    }
+
+    /// Lets a row go when one of its operands is loaded.
+    fn mention_operands(
+        &mut self,
+        alloc: Global,
+        index: RowIndex,
+        operands: &[Mention],
+    ) -> Result<(), AllocError>
+        ensures values { OnOk result (self.new.rows.values ≡ self.old.rows.values) }
+        ensures mentioning { OnOk result (self.new.rows.mentioning
+            ≡ with_mentions index self.old.rows.mentioning (map mention_name operands.now)) }
+    {
+        for operand in operands {
+            self.rows.mention(alloc, index, operand.name)?;
+        }
+        Ok(())
+    }
+
+    /// Lets a row go when one of its targets is loaded.
+    fn mention_targets(
+        &mut self,
+        alloc: Global,
+        index: RowIndex,
+        targets: &[Target],
+    ) -> Result<(), AllocError>
+        ensures values { OnOk result (self.new.rows.values ≡ self.old.rows.values) }
+        ensures mentioning { OnOk result (self.new.rows.mentioning
+            ≡ with_mentions index self.old.rows.mentioning (map target_name targets.now)) }
+    {
+        for target in targets {
+            self.rows.mention(alloc, index, target.mention.name)?;
+        }
+        Ok(())
     }
 }

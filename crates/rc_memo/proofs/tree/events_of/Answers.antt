@@ -10,6 +10,6 @@ returns c =
     let env = c.args.reader.now.env.now in
     let body = c.args.body.now in
     all_told env (events_in env body) c.new-told.result c.add_block.new.told c.new-told.ensures.events
-    c.new-told.ensures.known c.new-told.ensures.inner
+    c.new-told.ensures.known c.new-told.ensures.parts
     (subst (λ w. Tells env (collected (events_of_parts env) body w) c.new-told.result c.add_block.new.told)
     c.new-around.ensures c.in_ok-add_block.ensures)

@@ -1,7 +1,8 @@
-use Rattle.rc_memo.proofs.InnerLemmas.{tells_active}
+use Rattle.std.proofs.Common.{◌∙◌, ap, length}
+use Rattle.rc_memo.proofs.ContextPartsLemmas.{whole_part}
 use Rattle.rc_memo.proofs.reader.RowReader.add_context.Goals as goal
 
-pub returns-then-branch : goal.returns-then-branch
-returns-then-branch c =
-    tells_active c.args.self.now.env.now c.args.id c.args.function c.args.told.now c.add_active.new.told
-    (c.in_ok-add_active.ensures.active c.if-branch.true)
+pub add_part-requires : goal.add_part-requires
+add_part-requires c =
+    c.context_of-context.ensures ∙ whole_part c.args.self.now.env.now c.args.function
+    (length c.context_of-context.result.now) (ap length c.context_of-context.ensures)

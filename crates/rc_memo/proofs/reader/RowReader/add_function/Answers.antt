@@ -1,6 +1,7 @@
 use Rattle.std.proofs.Common.{[], ◌∷◌, map, refl, subst, sym, true}
 use Rattle.rc_memo.proofs.AddingLemmas.{onward}
 use Rattle.rc_memo.proofs.KnownRowsLemmas.{tells_repeated, tells_unrepeated}
+use Rattle.rc_memo.proofs.PartRowsLemmas.{tells_unchanged}
 use Rattle.rc_memo.proofs.ResumedRowsLemmas.{tells_resumed}
 use Rattle.rc_memo.specs.Mentions.{target_of}
 use Rattle.rc_memo.specs.Table.{own}
@@ -10,6 +11,12 @@ use Rattle.rc_memo.specs.inside.KnownRows.{Repeats, Resumes, Tells}
 use Rattle.rc_memo.proofs.reader.RowReader.add_function.Goals as goal
 use Rattle.rc_memo.proofs.reader.RowReader.add_function.Goals.{then-branch-via-then-branch}
 use Rattle.rc_memo.proofs.reader.RowReader.add_function.Goals.{then-branch-via-else-branch+in_ok-add_resumed+then-branch-2}
+
+pub returns-then-is_in_parts : goal.returns-then-is_in_parts
+returns-then-is_in_parts c =
+    onward c.add_in_parts.result (tells_unchanged c.args.self.now.env.now c.args.id c.args.function
+    (map (target_of c.args.self.now.env.now c.args.id) (own c.args.target Memoized)) c.args.told.now
+    c.add_in_parts.new.told (c.is_in_parts.ensures c.if-is_in_parts.true)) c.add_in_parts.ensures
 
 pub returns-then-branch : goal.returns-then-branch
 returns-then-branch c =

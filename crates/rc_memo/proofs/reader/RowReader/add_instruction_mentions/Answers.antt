@@ -1,5 +1,5 @@
 use Rattle.std.proofs.Common.{refl}
-use Rattle.rc_memo.proofs.InnerLemmas.{recorded-function}
+use Rattle.rc_memo.proofs.PartRowsLemmas.{recorded-function}
 use Rattle.rc_memo.proofs.KnownRowsLemmas.{tells_events}
 use Rattle.rc_memo.proofs.reader.RowReader.add_instruction_mentions.Goals as goal
 
