@@ -1,6 +1,2 @@
 pub mod NumbersLemmas
 pub mod KeyedLemmas
-mod PositionsLemmas
-mod KeysLemmas
-mod NextKeyLemmas
-mod PairsLemmas

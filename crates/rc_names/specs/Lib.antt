@@ -1,4 +1,3 @@
 pub mod Numbers
 pub mod Lends
 pub mod formers
-pub mod inside

@@ -1,35 +1,33 @@
 //! Distinct keys, in the order of insertion.
 
-ghost use Rattle.std.specs.Prelude.{◌≡◌, [], ◌∷◌, ◌++◌, false, length, not, position, slice_get, IfOk, OnOk, OnErr};
+ghost use Rattle.std.specs.Prelude.{◌≡◌, ◌↔◌, ◌++◌, [], ◌∷◌, length, not, position, slice_get};
+ghost use Rattle.std.specs.Prelude.{IfNone, IfOk, IfSome, IsNone, OnErr, OnOk};
 ghost use Rattle.std.specs.List.{list_any, IsDistinct};
 ghost use Rattle.indexmap.specs.IndexSet.{insert_key};
 
-use crate::positions::Positions;
-use crate::{CloneIn, List, Name};
+use crate::{CloneIn, Name};
+use indexmap::IndexSet;
 use std::alloc::{AllocError, Global};
 use std::marker::Model;
 
-/// Keys and, if they are more than eight, their positions, which contracts see as the list of the keys. They are
-/// distinct.
+/// An `IndexSet` that contracts see as the list of its keys. The keys are distinct.
 #[derive(Drop)]
 pub struct KeySet<K: Name> {
-    keys: List<K>,
-    positions: Positions,
+    set: IndexSet<K>,
 }
 
 impl<K: Name> Model for KeySet<K> {
-    ghost use Rattle.std.specs.Prelude.{List as Keys};
+    ghost use Rattle.std.specs.Prelude.{List};
     ghost use Rattle.std.specs.List.{IsDistinct};
     ghost use Rattle.std.specs.Coded.{coded_list};
-    ghost use Rattle.rc_names.specs.inside.Positions.{FindKeys};
 
-    ghost Value = { Keys K };
+    ghost Value = { List K };
 
     ghost coded = { coded_list K.code };
 
-    ghost view = { λ it. it.keys };
+    ghost view = { λ it. it.set.keys };
 
-    ghost invariant = { λ it. IsDistinct K.eq it.keys × FindKeys K.number K.eq it.keys it.positions };
+    ghost invariant = { λ it. IsDistinct K.eq it.set.keys };
 }
 
 impl<K: Name> KeySet<K> {
@@ -38,8 +36,7 @@ impl<K: Name> KeySet<K> {
         ensures { result ≡ [] }
     {
         KeySet {
-            keys: List::new(alloc),
-            positions: Positions::new(alloc),
+            set: IndexSet::new(alloc),
         }
     }
 
@@ -48,8 +45,7 @@ impl<K: Name> KeySet<K> {
         ensures { IfOk result (λ set. set ≡ []) }
     {
         Ok(KeySet {
-            keys: List::with_capacity(alloc, n)?,
-            positions: Positions::new(alloc),
+            set: IndexSet::with_capacity(alloc, n)?,
         })
     }
 
@@ -58,35 +54,35 @@ impl<K: Name> KeySet<K> {
         ensures value { result ≡ length self.now }
         ensures distinct { IsDistinct K.eq self.now }
     {
-        self.keys.len()
+        self.set.len()
     }
 
     /// Returns whether the set has a key.
     pub fn contains(&self, key: K) -> bool
         ensures { result ≡ list_any (K.eq key) self.now }
     {
-        self.position(key).is_some()
+        self.set.contains(&key)
     }
 
     /// Returns the index of a key, and `None` if the key isn't there.
     pub fn position(&self, key: K) -> Option<usize>
         ensures { result ≡ position (K.eq key) self.now }
     {
-        self.positions.find_key(self.keys.as_slice(), key)
+        self.set.get_index_of(&key)
     }
 
     /// Returns the key at an index, and `None` past the end.
     pub fn at(&self, i: usize) -> Option<K>
         ensures { result ≡ slice_get self.now i }
     {
-        self.keys.get(i).copied()
+        self.set.get_index(i).copied()
     }
 
     /// Returns the keys, for a loop over them.
     pub fn as_slice(&self) -> &[K]
         ensures { result.now ≡ self.now }
     {
-        self.keys.as_slice()
+        self.set.as_slice()
     }
 
     /// Inserts a key and returns whether it is new. A new key goes last. Fails only when out of memory, and then
@@ -96,35 +92,23 @@ impl<K: Name> KeySet<K> {
         ensures added { IfOk result (λ added. added ≡ not (list_any (K.eq key) self.old)) }
         ensures err { OnErr result (self.new ≡ self.old) }
     {
-        if self.contains(key) {
-            return Ok(false);
-        }
-        self.push_new(key)?;
-        Ok(true)
+        Ok(self.set.insert(key)?)
     }
 
-    /// Puts a key that isn't there behind the others. Fails only when out of memory, and then nothing has changed.
-    pub(crate) fn push_new(&mut self, key: K) -> Result<(), AllocError>
-        requires { list_any (K.eq key) self.old ≡ false }
-        ensures keys { OnOk result (self.new ≡ self.old ++ key ∷ []) }
-        ensures err { OnErr result (self.new ≡ self.old) }
+    /// Removes and returns the last key; returns `None` if the set is empty.
+    pub fn pop(&mut self) -> Option<K>
+        ensures none { IsNone result ↔ (self.old ≡ []) }
+        ensures last { IfSome result (λ last. self.old ≡ self.new ++ last ∷ []) }
+        ensures empty { IfNone result (self.new ≡ []) }
     {
-        let last = self.keys.len();
-        self.keys.push(key)?;
-        match self.positions.put_last(self.keys.as_slice(), last) {
-            Ok(()) => Ok(()),
-            Err(error) => {
-                self.keys.pop();
-                Err(error)
-            }
-        }
+        self.set.pop()
     }
 }
 
 impl<K: Name> CloneIn for KeySet<K> {
     fn clone_in(&self, alloc: Global) -> Result<KeySet<K>, AllocError> {
         let mut copy = KeySet::new(alloc);
-        for key in self.keys.as_slice() {
+        for key in self.set.as_slice() {
             copy.insert(*key)?;
         }
         Ok(copy)

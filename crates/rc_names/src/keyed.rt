@@ -8,30 +8,30 @@ ghost use Rattle.std.specs.Option.{option_copied, option_copied_mut, option_map}
 ghost use Rattle.indexmap.specs.IndexMap.{insert_entry};
 ghost use Rattle.rc_names.specs.Lends.keyed.{lends_value};
 
-use crate::{CloneIn, KeySet, List, Name};
+use crate::{CloneIn, Name, Seed};
+use indexmap::IndexMap;
 use std::alloc::{AllocError, Global};
 use std::marker::Model;
-use std::mem;
 
-/// Distinct keys, each with a value, which contracts see as the list of the pairs.
+/// An `IndexMap` that contracts see as the list of its pairs. The keys are distinct.
 #[derive(Drop)]
 pub struct Keyed<K: Name, V> {
-    keys: KeySet<K>,
-    values: List<V>,
+    map: IndexMap<K, V, Seed>,
 }
 
 impl<K: Name, V> Model for Keyed<K, V> {
-    ghost use Rattle.std.specs.Prelude.{◌≡◌, List as Pairs, length};
+    ghost use Rattle.std.specs.Prelude.{List};
+    ghost use Rattle.std.specs.List.{IsDistinct};
     ghost use Rattle.std.specs.Coded.{coded_list, coded×};
-    ghost use Rattle.rc_names.specs.inside.Pairs.{pairs_of};
+    ghost use Rattle.std.specs.Map.{keys_of};
 
-    ghost Value = { Pairs (K × V) };
+    ghost Value = { List (K × V) };
 
     ghost coded = { coded_list (coded× K.code V.code) };
 
-    ghost view = { λ it. pairs_of it.keys it.values };
+    ghost view = { λ it. it.map.entries };
 
-    ghost invariant = { λ it. length it.values ≡ length it.keys };
+    ghost invariant = { λ it. IsDistinct K.eq (keys_of it.map.entries) };
 }
 
 impl<K: Name, V> Keyed<K, V> {
@@ -40,8 +40,7 @@ impl<K: Name, V> Keyed<K, V> {
         ensures { result ≡ [] }
     {
         Keyed {
-            keys: KeySet::new(alloc),
-            values: List::new(alloc),
+            map: IndexMap::with_hasher(alloc, Seed::new(0)),
         }
     }
 
@@ -50,8 +49,16 @@ impl<K: Name, V> Keyed<K, V> {
         ensures { IfOk result (λ map. map ≡ []) }
     {
         Ok(Keyed {
-            keys: KeySet::with_capacity(alloc, n)?,
-            values: List::with_capacity(alloc, n)?,
+            map: IndexMap::with_capacity_and_hasher(alloc, n, Seed::new(0))?,
+        })
+    }
+
+    /// Returns an empty map with room for so many pairs, whose keys are hashed with a seed. Fails only when out of memory.
+    pub fn with_seed(alloc: Global, n: usize, seed: Seed) -> Result<Keyed<K, V>, AllocError>
+        ensures { IfOk result (λ map. map ≡ []) }
+    {
+        Ok(Keyed {
+            map: IndexMap::with_capacity_and_hasher(alloc, n, seed)?,
         })
     }
 
@@ -60,17 +67,14 @@ impl<K: Name, V> Keyed<K, V> {
         ensures value { result ≡ length self.now }
         ensures distinct { IsDistinct K.eq (keys_of self.now) }
     {
-        self.keys.len()
+        self.map.len()
     }
 
     /// Returns the value under a key, and `None` if the key isn't there.
     pub fn get(&self, key: K) -> Option<&V>
         ensures { option_copied result ≡ lookup (K.eq key) self.now }
     {
-        match self.keys.position(key) {
-            Some(place) => self.values.get(place),
-            None => None,
-        }
+        self.map.get(&key)
     }
 
     /// Returns the value under a key, to be changed in its place, and `None` if the key isn't there.
@@ -78,42 +82,36 @@ impl<K: Name, V> Keyed<K, V> {
         ensures* writes_back { sem 𝓛 (lends_value K.row V.row K.Name self.entry key result) }
         ensures value { option_copied_mut result ≡ lookup (K.eq key) self.old }
     {
-        match self.keys.position(key) {
-            Some(place) => self.values.get_mut(place),
-            None => None,
-        }
+        self.map.get_mut(&key)
     }
 
     /// Returns the index of a key's pair, and `None` if the key isn't there.
     pub fn position(&self, key: K) -> Option<usize>
         ensures { result ≡ position (K.eq key) (keys_of self.now) }
     {
-        self.keys.position(key)
+        self.map.get_index_of(&key)
     }
 
     /// Returns the keys in their order.
     pub fn keys(&self) -> &[K]
         ensures { result.now ≡ keys_of self.now }
     {
-        self.keys.as_slice()
+        self.map.keys().as_slice()
     }
 
     /// Returns the values in the order of their keys.
     pub fn values(&self) -> &[V]
         ensures { result.now ≡ values_of self.now }
     {
-        self.values.as_slice()
+        self.map.values().as_slice()
     }
 
     /// Returns the pair at an index, and `None` past the end.
     pub fn at(&self, i: usize) -> Option<(K, &V)>
         ensures { option_map (λ p. (p.0, p.1.now)) result ≡ slice_get self.now i }
     {
-        let Some(key) = self.keys.at(i) else {
-            return None;
-        };
-        match self.values.get(i) {
-            Some(value) => Some((key, value)),
+        match self.map.get_index(i) {
+            Some((key, value)) => Some((*key, value)),
             None => None,
         }
     }
@@ -127,28 +125,16 @@ impl<K: Name, V: Drop> Keyed<K, V> {
         ensures old { IfOk result (λ old. old ≡ lookup (K.eq key) self.old) }
         ensures err { OnErr result (self.new ≡ self.old) }
     {
-        if let Some(place) = self.keys.position(key) {
-            let Some(held) = self.values.get_mut(place) else {
-                unreachable!()
-            };
-            return Ok(Some(mem::replace(held, value)));
-        }
-        self.values.push(value)?;
-        match self.keys.push_new(key) {
-            Ok(()) => Ok(None),
-            Err(error) => {
-                self.values.pop();
-                Err(error)
-            }
-        }
+        Ok(self.map.insert(key, value)?)
     }
 }
 
 impl<K: Name, V: CloneIn> CloneIn for Keyed<K, V> {
     fn clone_in(&self, alloc: Global) -> Result<Keyed<K, V>, AllocError> {
-        Ok(Keyed {
-            keys: self.keys.clone_in(alloc)?,
-            values: self.values.clone_in(alloc)?,
-        })
+        let mut copy = Keyed::with_seed(alloc, self.len(), *self.map.hasher())?;
+        for (key, value) in self.map.iter() {
+            copy.insert(*key, value.clone_in(alloc)?)?;
+        }
+        Ok(copy)
     }
 }

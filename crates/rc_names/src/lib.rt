@@ -6,13 +6,12 @@
 
 mod boxed;
 mod clone_in;
-mod key_positions;
 mod key_set;
 mod keyed;
 mod list;
 mod name;
 mod numbers;
-mod positions;
+mod seed;
 mod span;
 mod table;
 mod text;
@@ -27,6 +26,7 @@ pub use numbers::{
     BlockId, DeclarationId, EvaluationOrder, FunctionId, Id, IdentifierId, InstructionId, ScopeId,
     TypeId,
 };
+pub use seed::Seed;
 pub use span::Span;
 pub use table::Table;
 pub use text::Text;

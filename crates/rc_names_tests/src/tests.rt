@@ -1,6 +1,8 @@
 //! Each call once, with enough memory: no clause says that a call finds memory.
 
-use rc_names::{BlockId, Boxed, CloneIn, EvaluationOrder, KeySet, Keyed, List, Name, Table, Text};
+use rc_names::{
+    BlockId, Boxed, CloneIn, EvaluationOrder, KeySet, Keyed, List, Name, Seed, Table, Text,
+};
 use std::alloc::{AllocError, Global};
 use std::test::Fail;
 
@@ -311,8 +313,43 @@ fn has_each_in_turn(alloc: Global) -> Result<bool, AllocError> {
 
 // This holds for each call for memory that fails: `rt try --test --fail-alloc N`.
 #[test]
-fn a_ninth_key_is_found_as_the_others_are(rt: HostRuntime) -> Result<(), Fail> {
+fn each_key_is_found_while_a_set_grows(rt: HostRuntime) -> Result<(), Fail> {
     assert!(rt; has_each_in_turn(rt.alloc())?);
+    Ok(())
+}
+
+/// A map with that seed and twenty keys that lie apart, whose values are empty lists.
+fn map_with_seed(alloc: Global, seed: u64) -> Result<Keyed<BlockId, List<Text>>, AllocError> {
+    let mut keyed = Keyed::with_seed(alloc, 2, Seed::new(seed))?;
+    for index in 0..20 {
+        keyed.insert(apart(index), List::new(alloc))?;
+    }
+    Ok(keyed)
+}
+
+/// Whether a map has each of those keys at its index, and no other.
+fn has_twenty(keyed: &Keyed<BlockId, List<Text>>) -> bool {
+    for index in 0..20 {
+        if keyed.position(apart(index)) != Some(index as usize) {
+            return false;
+        }
+    }
+    keyed.len() == 20 && keyed.position(apart(20)).is_none()
+}
+
+/// Whether each key of a map with that seed, and of its copy, is found.
+fn finds_keys_under(alloc: Global, seed: u64) -> Result<bool, AllocError> {
+    let keyed = map_with_seed(alloc, seed)?;
+    let copy = keyed.clone_in(alloc)?;
+    Ok(has_twenty(&keyed) && has_twenty(&copy))
+}
+
+#[test]
+fn each_key_is_found_under_any_seed(rt: HostRuntime) -> Result<(), Fail> {
+    let alloc = rt.alloc();
+    for seed in [0, 1, 18_446_744_073_709_551_615] {
+        assert!(rt; finds_keys_under(alloc, seed)?);
+    }
     Ok(())
 }
 

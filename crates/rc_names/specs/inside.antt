@@ -1,3 +1,0 @@
--- What the containers' own functions say of each other; no public clause speaks of it.
-pub mod Positions
-pub mod Pairs
