@@ -2,7 +2,7 @@
 use Rattle.std.specs.Prelude.{◌≤◌, ◌-◌, ◌^◌, ◌⊎◌, ℕ, Bool, false, List, [], ◌∷◌, ◌++◌, Option, None}
 use Rattle.std.specs.Prelude.{length, slice_get, option_and_then}
 use Rattle.std.specs.Option.{option_map_or}
-use Rattle.rc_names.specs.Numbers.{IdentifierId, to_id}
+use Rattle.rc_names.specs.Numbers.{DeclarationId, IdentifierId, to_id}
 use Rattle.rc_names.specs.declared.span.Span.{Span}
 use Rattle.rc_hir.specs.Types.{signature_row}
 use Rattle.rc_hir.specs.Model.{HirType, ShapeRow, Identifier, Environment}
@@ -19,6 +19,11 @@ empty_environment = record {
   config = record { enable_forest = false; enable_preserve_existing_memoization_guarantees = false };
   next_block = 0;
 }
+
+-- the declaration of an identifier; a number outside its table stands for the declaration of its own number
+abbrev pub declaration_of : Environment → IdentifierId → DeclarationId
+declaration_of env number =
+    option_map_or (λ identifier. identifier.declaration_id) (slice_get env.identifiers number.0) (to_id number.0)
 
 -- the type of an identifier, if both are in their tables
 abbrev pub type_of : Environment → IdentifierId → Option HirType

@@ -11,4 +11,5 @@ pub mod GraphNames
 pub mod EnvironmentNames
 pub mod Names
 pub mod Environment
+pub mod KeptNumbers
 pub mod inside

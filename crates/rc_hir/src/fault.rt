@@ -59,8 +59,7 @@ pub enum Rule {
     /// The block's loop has a fallthrough or a continue block that a jump can name, or is a `While` whose fallthrough
     /// ends in `Unreachable`.
     LoopLive,
-    /// The block's `Switch` has a tested case that is the fallthrough, two defaults, or a case that a jump can name
-    /// and that isn't the fallthrough.
+    /// The block's `Switch` has two defaults, or a tested case whose block is the fallthrough.
     SwitchCase,
     /// The block must give a value, but it has no rows and ends in a `Goto`, or in a `MaybeThrow` to an empty block
     /// that ends in one.

@@ -26,6 +26,7 @@ pub use instruction::{
 };
 pub use names::check_names;
 pub use operands::{
+    borrowed_lvalues, borrowed_operands, borrowed_pattern_operands, borrowed_terminal_operands,
     each_instruction_value_lvalue, each_instruction_value_operand, each_pattern_operand,
     each_terminal_operand,
 };

@@ -26,7 +26,42 @@ use std::alloc::Global;
 ///
 /// Returns `BadName` if the value names a nested function that is outside the environment's table, and `NoMemory` when
 /// out of memory.
-pub fn each_instruction_value_operand<'p>(
+pub fn each_instruction_value_operand(
+    alloc: Global,
+    value: &InstructionValue,
+    env: &Environment,
+) -> Result<List<Place>, Fault>
+    ensures { IsExpected (table.operands env.now.functions value.now) result }
+{
+    Ok(borrowed_operands(alloc, value, env)?.into_list(alloc)?)
+}
+
+/// Returns the places that a value writes besides its row's target, in order. The only fault is `NoMemory`.
+pub fn each_instruction_value_lvalue(
+    alloc: Global,
+    value: &InstructionValue,
+) -> Result<List<Place>, Fault>
+    ensures { IsExpected (Ok (table.value_targets value.now)) result }
+{
+    Ok(borrowed_lvalues(alloc, value)?.into_list(alloc)?)
+}
+
+/// Returns the places of a pattern, in order; computed keys aren't among them. The only fault is `NoMemory`.
+pub fn each_pattern_operand(alloc: Global, pattern: &Pattern) -> Result<List<Place>, Fault>
+    ensures { IsExpected (Ok (table.pattern_places pattern.now)) result }
+{
+    Ok(borrowed_pattern_operands(alloc, pattern)?.into_list(alloc)?)
+}
+
+/// Returns the operands of a terminal, in order. The only fault is `NoMemory`.
+pub fn each_terminal_operand(alloc: Global, terminal: &Terminal) -> Result<List<Place>, Fault>
+    ensures { IsExpected (Ok (terminal_operands terminal.now)) result }
+{
+    Ok(borrowed_terminal_operands(alloc, terminal)?.into_list(alloc)?)
+}
+
+/// Does as `each_instruction_value_operand`, and leaves the places where they are as far as it can.
+pub fn borrowed_operands<'p>(
     alloc: Global,
     value: &'p InstructionValue,
     env: &'p Environment,
@@ -102,11 +137,8 @@ pub fn each_instruction_value_operand<'p>(
     }
 }
 
-/// Returns the places that a value writes besides its row's target, in order. The only fault is `NoMemory`.
-pub fn each_instruction_value_lvalue(
-    alloc: Global,
-    value: &InstructionValue,
-) -> Result<Places<'_>, Fault>
+/// Does as `each_instruction_value_lvalue`, and leaves the places where they are as far as it can.
+pub fn borrowed_lvalues(alloc: Global, value: &InstructionValue) -> Result<Places<'_>, Fault>
     ensures { IsExpected (Ok (table.value_targets value.now)) result }
 {
     match value {
@@ -114,7 +146,7 @@ pub fn each_instruction_value_lvalue(
         | Kind::DeclareContext { lvalue, .. }
         | Kind::StoreLocal { lvalue, .. }
         | Kind::StoreContext { lvalue, .. } => Ok(Places::one(&lvalue.place)),
-        Kind::Destructure { lvalue, .. } => each_pattern_operand(alloc, &lvalue.pattern),
+        Kind::Destructure { lvalue, .. } => borrowed_pattern_operands(alloc, &lvalue.pattern),
         Kind::PrefixUpdate { lvalue, .. } | Kind::PostfixUpdate { lvalue, .. } => Ok(Places::one(
             lvalue,
         )),
@@ -156,8 +188,8 @@ pub fn each_instruction_value_lvalue(
     }
 }
 
-/// Returns the places of a pattern, in order; computed keys aren't among them. The only fault is `NoMemory`.
-pub fn each_pattern_operand(alloc: Global, pattern: &Pattern) -> Result<Places<'_>, Fault>
+/// Does as `each_pattern_operand`, and leaves the places where they are as far as it can.
+pub fn borrowed_pattern_operands(alloc: Global, pattern: &Pattern) -> Result<Places<'_>, Fault>
     ensures { IsExpected (Ok (table.pattern_places pattern.now)) result }
 {
     match pattern {
@@ -166,8 +198,8 @@ pub fn each_pattern_operand(alloc: Global, pattern: &Pattern) -> Result<Places<'
     }
 }
 
-/// Returns the operands of a terminal, in order. The only fault is `NoMemory`.
-pub fn each_terminal_operand(alloc: Global, terminal: &Terminal) -> Result<Places<'_>, Fault>
+/// Does as `each_terminal_operand`, and leaves the places where they are as far as it can.
+pub fn borrowed_terminal_operands(alloc: Global, terminal: &Terminal) -> Result<Places<'_>, Fault>
     ensures { IsExpected (Ok (terminal_operands terminal.now)) result }
 {
     match terminal {

@@ -1,6 +1,6 @@
 //! The places of a part, in order, with no list of their own where none is needed.
 
-ghost use Rattle.std.specs.Prelude.{◌≡◌, [], ◌∷◌, ◌++◌, IfOk, OnOk};
+ghost use Rattle.std.specs.Prelude.{◌≡◌, ℕ, [], ◌∷◌, ◌++◌, take, IfOk, OnErr, OnOk};
 ghost use Rattle.rc_hir.specs.inside.PlaceForms.{places_in};
 
 use crate::place::Place;
@@ -73,16 +73,18 @@ impl<'p> Places<'p> {
         }
     }
 
-    /// Appends a place. Fails only when out of memory.
+    /// Appends a place. Fails only when out of memory, and then nothing has changed.
     pub fn push(&mut self, alloc: Global, place: Place) -> Result<(), AllocError>
-        ensures { OnOk result (self.new ≡ self.old ++ place ∷ []) }
+        ensures ok { OnOk result (self.new ≡ self.old ++ place ∷ []) }
+        ensures err { OnErr result (self.new ≡ self.old) }
     {
         self.form.push(alloc, place)
     }
 
-    /// Appends the places of a list. Fails only when out of memory.
+    /// Appends the places of a list. Fails only when out of memory, after which the first of them may be there.
     pub fn append(&mut self, alloc: Global, more: &'p List<Place>) -> Result<(), AllocError>
-        ensures { OnOk result (self.new ≡ self.old ++ more.now) }
+        ensures ok { OnOk result (self.new ≡ self.old ++ more.now) }
+        ensures err { OnErr result ((n : ℕ) × (self.new ≡ self.old ++ take n more.now)) }
     {
         if self.as_slice().is_empty() {
             *self = Places::borrowed(more);
@@ -135,7 +137,8 @@ impl<'p> Form<'p> {
     }
 
     fn push(&mut self, alloc: Global, place: Place) -> Result<(), AllocError>
-        ensures { OnOk result (places_in self.new ≡ places_in self.old ++ place ∷ []) }
+        ensures ok { OnOk result (places_in self.new ≡ places_in self.old ++ place ∷ []) }
+        ensures err { OnErr result (places_in self.new ≡ places_in self.old) }
     {
         if let Form::Gathered(places) = self {
             return places.push(place);

@@ -1,6 +1,6 @@
 //! The successors of a terminal: the blocks to which it leads.
 
-ghost use Rattle.std.specs.Prelude.{◌≡◌, ◌++◌, Some};
+ghost use Rattle.std.specs.Prelude.{◌≡◌, ◌++◌, [], IsNone, Some};
 ghost use Rattle.std.specs.List.{list_any};
 ghost use Rattle.std.specs.Option.{option_to_list};
 ghost use Rattle.rc_hir.specs.Successors as blocks;
@@ -18,10 +18,13 @@ pub struct Successors<'t> {
 }
 
 impl Terminal {
-    /// The blocks to which the terminal leads.
+    /// The blocks to which the terminal leads: those of a switch's cases, then `first`, then `second`. There is no
+    /// second without a first.
     pub fn successors(&self) -> Successors<'_>
-        ensures { blocks.case_blocks result.cases.now ++ option_to_list result.first ++ option_to_list result.second
-            ≡ blocks.successors self.now }
+        ensures blocks { blocks.case_blocks result.cases.now ++ option_to_list result.first
+            ++ option_to_list result.second ≡ blocks.successors self.now }
+        ensures cases { result.cases.now ≡ blocks.cases_of self.now }
+        ensures first { IsNone result.first → IsNone result.second }
     {
         match self {
             Terminal::If {
@@ -74,8 +77,10 @@ impl Terminal {
 
 /// One block, and perhaps another.
 fn both<'t>(first: BlockId, second: Option<BlockId>) -> Successors<'t>
-    ensures { blocks.case_blocks result.cases.now ++ option_to_list result.first ++ option_to_list result.second
-        ≡ option_to_list (Some first) ++ option_to_list second }
+    ensures blocks { blocks.case_blocks result.cases.now ++ option_to_list result.first
+        ++ option_to_list result.second ≡ option_to_list (Some first) ++ option_to_list second }
+    ensures cases { result.cases.now ≡ [] }
+    ensures first { result.first ≡ Some first }
 {
     Successors {
         cases: &[],
@@ -86,8 +91,11 @@ fn both<'t>(first: BlockId, second: Option<BlockId>) -> Successors<'t>
 
 /// The blocks of a switch's cases, and its fallthrough where no case is the default.
 fn of_cases(cases: &[Case], fallthrough: BlockId) -> Successors<'_>
-    ensures { blocks.case_blocks result.cases.now ++ option_to_list result.first ++ option_to_list result.second
+    ensures blocks { blocks.case_blocks result.cases.now ++ option_to_list result.first
+        ++ option_to_list result.second
         ≡ blocks.case_blocks cases.now ++ option_to_list (blocks.block_past cases.now fallthrough) }
+    ensures cases { result.cases.now ≡ cases.now }
+    ensures first { IsNone result.second }
 {
     let first = if has_default(cases) {
         None

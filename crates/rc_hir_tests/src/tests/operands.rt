@@ -3,7 +3,7 @@
 use super::graphs::{debugger, nested, one_block, one_function, read, with_row};
 use rc_hir::{
     ArrayPatternElement, Case, Effect, Environment, Fault, InstructionKind, InstructionValue,
-    LValue, Pattern, Place, PlaceOrSpread, SpreadPattern, TableName, Terminal,
+    LValue, Pattern, Place, PlaceOrSpread, SpreadPattern, TableName, Terminal, borrowed_operands,
     each_instruction_value_lvalue, each_instruction_value_operand, each_pattern_operand,
     each_terminal_operand,
 };
@@ -21,28 +21,28 @@ fn are(places: &List<Place>, numbers: &[u32]) -> bool {
             .all(|(place, number)| place.identifier.0 == *number)
 }
 
-/// The operands of a value, in a list of their own.
+/// The operands of a value.
 fn operands(
     alloc: Global,
     value: &InstructionValue,
     env: &Environment,
 ) -> Result<List<Place>, Fault> {
-    Ok(each_instruction_value_operand(alloc, value, env)?.into_list(alloc)?)
+    each_instruction_value_operand(alloc, value, env)
 }
 
 /// The targets of a value.
 fn targets(alloc: Global, value: &InstructionValue) -> Result<List<Place>, Fault> {
-    Ok(each_instruction_value_lvalue(alloc, value)?.into_list(alloc)?)
+    each_instruction_value_lvalue(alloc, value)
 }
 
 /// The places of a pattern.
 fn places(alloc: Global, pattern: &Pattern) -> Result<List<Place>, Fault> {
-    Ok(each_pattern_operand(alloc, pattern)?.into_list(alloc)?)
+    each_pattern_operand(alloc, pattern)
 }
 
 /// The operands of a terminal.
 fn reads(alloc: Global, terminal: &Terminal) -> Result<List<Place>, Fault> {
-    Ok(each_terminal_operand(alloc, terminal)?.into_list(alloc)?)
+    each_terminal_operand(alloc, terminal)
 }
 
 /// The operands of a call of place 1 with place 2 and, spread out, place 3.
@@ -196,11 +196,7 @@ fn store_operands(alloc: Global) -> Result<List<Place>, Fault> {
 
 /// How many operands a value has, where they stand.
 fn count(alloc: Global, value: &InstructionValue, env: &Environment) -> Result<usize, Fault> {
-    Ok(
-        each_instruction_value_operand(alloc, value, env)?
-            .as_slice()
-            .len(),
-    )
+    Ok(borrowed_operands(alloc, value, env)?.as_slice().len())
 }
 
 /// How many operands that store has.
