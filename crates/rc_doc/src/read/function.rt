@@ -8,13 +8,14 @@ ghost use Rattle.rc_doc.specs.Reading.{IsRead, all_items};
 ghost use Rattle.rc_doc.specs.inside.Blocks.{block_of_members};
 ghost use Rattle.rc_doc.specs.inside.Found.{found_data};
 
-use crate::fields::{Read, flag, list_or_empty, optional, or_refuse, required};
+use crate::fields::{Read, flag, list_or_empty, number, optional, or_refuse, required};
 use crate::members::{four_fields, ten_fields, two_fields};
 use crate::refusal::Refusal;
 use rc_hir::{BasicBlock, Hir, HirFunction, Instruction};
-use rc_names::{BlockId, Keyed};
+use rc_names::{BlockId, Keyed, Seed};
 use serde_json::Value;
 use std::alloc::Global;
+use std::hash::{DefaultHasher, Hasher};
 
 impl Read for Instruction {
     ghost reads = { instruction_of };
@@ -87,10 +88,31 @@ fn keyed_block(alloc: Global, from: &Value) -> Result<(BlockId, BasicBlock), Ref
     Ok((key.unwrap_or(block.id), block))
 }
 
+/// The key that a block has in its graph, where it can be read.
+fn key_of(block: &Value) -> Option<u32> {
+    block
+        .get("key")
+        .and_then(number)
+        .or(block.get("id").and_then(number))
+}
+
+/// A hash of all keys of the blocks. A document may choose its keys freely: who wants keys that collide under a seed has
+/// to choose them by the seed, and here each of them changes it.
+fn seed_of(blocks: &[Value]) -> Seed {
+    let mut keys = DefaultHasher::new();
+    for block in blocks {
+        if let Some(key) = key_of(block) {
+            keys.write(&key.to_le_bytes());
+        }
+    }
+    Seed::new(keys.finish())
+}
+
+/// The blocks, none of which has the key of another.
 fn distinct_blocks(alloc: Global, values: &[Value]) -> Result<Keyed<BlockId, BasicBlock>, Refusal>
     ensures { IsRead result (option_and_then if_distinct (all_items keyed_block_of (items_view values.now))) }
 {
-    let mut blocks = Keyed::with_capacity(alloc, values.len())?;
+    let mut blocks = Keyed::with_seed(alloc, values.len(), seed_of(values))?;
     for value in values {
         let (key, block) = keyed_block(alloc, value)?;
         if blocks.insert(key, block)?.is_some() {
