@@ -1,10 +1,8 @@
-mod JsonTexts
 mod KindsReadBack
-mod NameLemmas
 mod PartsReadBack
-mod PlaceLemmas
 mod PlainForms
 mod PlainValues
 pub mod ReadsBack
+mod SendingLemmas
+mod SentTexts
 mod ShownLists
-mod WritingLemmas

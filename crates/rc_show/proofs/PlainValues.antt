@@ -1,5 +1,5 @@
 -- A text with the tokens of a plain value reads as that value alone.
-use Rattle.std.proofs.Common.{◌≡◌, ℕ, List, [], ◌∷◌, true, false, Option, None, Some}
+use Rattle.std.proofs.Common.{◌≡◌, ℕ, ◌^◌, List, [], ◌∷◌, Bool, true, false, ◌&&◌, nat_lt, Option, None, Some}
 use Rattle.std.proofs.Common.{option_and_then, Ordering, Less, Equal, Greater, refl, sym, ap, ◌∙◌, arith, append-nil}
 use Rattle.std.proofs.Common.{le_refl}
 use Rattle.std.proofs.lemmas.Bool.{and_parts}
@@ -19,8 +19,27 @@ use Rattle.serde_json.specs.Written.{outline, items_outline, members_outline, ha
 use Rattle.serde_json.specs.Written.{members_have_float}
 use Rattle.serde_json.proofs.Numbers.{number_of-decimal}
 use Rattle.rc_show.specs.Showing.{add}
-use Rattle.rc_show.specs.inside.Plain.{are_small, comes_last, fields_plain, fields_small, is_plain, items_plain}
-use Rattle.rc_show.specs.inside.Plain.{items_small}
+use Rattle.rc_show.specs.inside.Plain.{comes_last, is_plain, items_plain, fields_plain}
+
+abbrev mutual
+  -- each number is one of a `Value`
+  pub are_small : Data → Bool
+  are_small null = true
+  are_small (boolean b) = true
+  are_small (number (unsigned n)) = nat_lt n (2 ^ 64)
+  are_small (number (negative z)) = false
+  are_small (number (float x)) = false
+  are_small (string text) = true
+  are_small (array items) = items_small items
+  are_small (object fields) = fields_small fields
+
+  pub items_small : Items → Bool
+  items_small no_items = true
+  items_small (item d items) = are_small d && items_small items
+
+  pub fields_small : Members → Bool
+  fields_small no_members = true
+  fields_small (member name d fields) = are_small d && fields_small fields
 
 pub fields_parts : (found : Members) (name : List ℕ) (d : Data) (fields : Members)
     → fields_plain found (member name d fields) ≡ true

@@ -1,4 +1,3 @@
 -- What private functions say of each other.
-pub mod Names
 pub mod Plain
-pub mod Writing
+pub mod Sending

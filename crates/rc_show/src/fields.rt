@@ -1,18 +1,13 @@
-//! Writing a printing form part by part: `Show` for types, and `Fields` for the fields of an object.
+//! Sending a printing form part by part: `Show` for types, and `Fields` for the fields of an object.
 
-ghost use Rattle.std.specs.Prelude.{◌≡◌, Option, OnOk, Some, codes, string_bytes, true, ⊤};
+ghost use Rattle.std.specs.Prelude.{◌≡◌, Option, OnOk, Some, codes, ⊤};
 ghost use Rattle.serde_json.specs.Data.{Data, Members, boolean, no_members, object, string};
 ghost use Rattle.rc_doc.specs.Reading.{flag_of, list_of, number_of, text_of};
 ghost use Rattle.rc_show.specs.Showing.{add, add_some, list_data, number_data, IsReadAgain, tagged, variant_data};
-ghost use Rattle.rc_show.specs.inside.Names.{stands_as_it_is};
-ghost use Rattle.rc_show.specs.inside.Writing.{Writes, WritesFields, has_members};
+ghost use Rattle.rc_show.specs.inside.Sending.{Sends, SendsFields};
 
-use crate::name::Name;
-use crate::text::{
-    mark, write_comma, write_flag, write_key, write_number, write_quoted, write_tag,
-};
 use rc_names::{List, Text};
-use std::alloc::AllocError;
+use serde::Serializer;
 
 /// A type that has a printing form.
 pub(crate) trait Show: Sized {
@@ -22,9 +17,9 @@ pub(crate) trait Show: Sized {
     /// The printing form.
     ghost shows: { Self → Data };
 
-    /// Writes the printing form of a value, which reads as that value again. Fails only when out of memory.
-    fn write(&self, out: &mut String) -> Result<(), AllocError>
-        ensures writes { OnOk result (Writes (shows self.now) (string_bytes out.old) (string_bytes out.new)) }
+    /// Sends the printing form of a value, which reads as that value again. Fails only when the serializer does.
+    fn send<S: Serializer>(&self, out: &mut S) -> Result<(), S::Error>
+        ensures sends { OnOk result (Sends (shows self.now) (S.written out.old) (S.written out.new)) }
         ensures again { OnOk result (Self.reads (shows self.now) ≡ Some self.now) };
 }
 
@@ -33,9 +28,9 @@ impl Show for u32 {
 
     ghost shows = { number_data };
 
-    #[tactic(auto, using(crate::proofs::ReadsBack::number_again, crate::proofs::WritingLemmas::number_written))]
-    fn write(&self, out: &mut String) -> Result<(), AllocError> {
-        write_number(out, *self)
+    #[tactic(auto, using(crate::proofs::ReadsBack::number_again, crate::proofs::SendingLemmas::number_sent))]
+    fn send<S: Serializer>(&self, out: &mut S) -> Result<(), S::Error> {
+        out.u64(u64::from(*self))
     }
 }
 
@@ -44,9 +39,9 @@ impl Show for bool {
 
     ghost shows = { boolean };
 
-    #[tactic(auto, using(crate::proofs::WritingLemmas::flag_written))]
-    fn write(&self, out: &mut String) -> Result<(), AllocError> {
-        write_flag(out, *self)
+    #[tactic(auto, using(crate::proofs::SendingLemmas::flag_sent))]
+    fn send<S: Serializer>(&self, out: &mut S) -> Result<(), S::Error> {
+        out.bool(*self)
     }
 }
 
@@ -55,9 +50,9 @@ impl Show for Text {
 
     ghost shows = { string };
 
-    #[tactic(auto, using(crate::proofs::WritingLemmas::text_written))]
-    fn write(&self, out: &mut String) -> Result<(), AllocError> {
-        write_quoted(out, self.as_str())
+    #[tactic(auto, using(crate::proofs::SendingLemmas::text_sent))]
+    fn send<S: Serializer>(&self, out: &mut S) -> Result<(), S::Error> {
+        out.str(self.as_str())
     }
 }
 
@@ -66,17 +61,16 @@ impl<T: Show> Show for List<T> {
 
     ghost shows = { list_data T.shows };
 
-    fn write(&self, out: &mut String) -> Result<(), AllocError> {
-        mark(out, '[')?;
-        for (i, x) in self.as_slice().iter().enumerate() {
-            write_comma(out, i > 0)?;
-            x.write(out)?;
+    fn send<S: Serializer>(&self, out: &mut S) -> Result<(), S::Error> {
+        out.begin_seq(None)?;
+        for x in self.as_slice() {
+            x.send(out)?;
         }
-        mark(out, ']')
+        out.end_seq()
     }
 }
 
-/// The fields of an object, in the order in which they are written.
+/// The fields of an object, in the order in which they are sent.
 pub(crate) trait Fields: Sized + Drop {
     /// The fields.
     ghost members: { Self → Members };
@@ -84,68 +78,57 @@ pub(crate) trait Fields: Sized + Drop {
     /// Each field reads as itself again.
     ghost again: { Self → Type 0 };
 
-    /// Returns whether there is a field.
-    fn has_fields(&self) -> bool
-        ensures { result ≡ has_members (members self.now) };
-
-    /// Writes the fields. Fails only when out of memory.
-    fn write_fields(self, out: &mut String) -> Result<(), AllocError>
-        ensures writes { OnOk result (WritesFields (members self) (string_bytes out.old) (string_bytes out.new)) }
+    /// Sends the fields. Fails only when the serializer does.
+    fn send_fields<S: Serializer>(self, out: &mut S) -> Result<(), S::Error>
+        ensures sends { OnOk result (SendsFields (members self) (S.written out.old) (S.written out.new)) }
         ensures again { OnOk result (again self) };
 
     /// Adds a field at the end.
-    #[inline(always)]
     final fn with<'a, T: Show>(self, name: &'a str, value: &'a T) -> With<'a, Self, T>
-        requires { stands_as_it_is name.now ≡ true }
-        ensures { result ≡ record { before = self; name = name.now; value = value.entry } }
+        ensures { result ≡ record { before = self; name = name.entry; value = value.entry } }
     {
         With {
             before: self,
-            name: Name::new(name),
+            name,
             value,
         }
     }
 
     /// Adds a field at the end, if it isn't `None`.
-    #[inline(always)]
     final fn with_some<'a, T: Show>(
         self,
         name: &'a str,
         value: &'a Option<T>,
     ) -> WithSome<'a, Self, T>
-        requires { stands_as_it_is name.now ≡ true }
-        ensures { result ≡ record { before = self; name = name.now; value = value.entry } }
+        ensures { result ≡ record { before = self; name = name.entry; value = value.entry } }
     {
         WithSome {
             before: self,
-            name: Name::new(name),
+            name,
             value,
         }
     }
 
     /// Adds the name of a variant at the end.
-    #[inline(always)]
     final fn tagged<'a>(self, variant: &'a str) -> Tagged<'a, Self>
-        requires { stands_as_it_is variant.now ≡ true }
-        ensures { result ≡ record { before = self; variant = variant.now } }
+        ensures { result ≡ record { before = self; variant = variant.entry } }
     {
         Tagged {
             before: self,
-            variant: Name::new(variant),
+            variant,
         }
     }
 
-    /// Writes the object with these fields. Fails only when out of memory.
-    #[inline(always)]
-    #[tactic(auto, using(crate::proofs::WritingLemmas::object_written))]
-    final fn write(self, out: &mut String) -> Result<(), AllocError>
-        ensures writes { OnOk result
-            (Writes (object (Self.members self)) (string_bytes out.old) (string_bytes out.new)) }
+    /// Sends the object with these fields. Fails only when the serializer does.
+    #[tactic(auto, using(crate::proofs::SendingLemmas::object_sent))]
+    final fn send<S: Serializer>(self, out: &mut S) -> Result<(), S::Error>
+        ensures sends { OnOk result
+            (Sends (object (Self.members self)) (S.written out.old) (S.written out.new)) }
         ensures again { OnOk result (Self.again self) }
     {
-        mark(out, '{')?;
-        self.write_fields(out)?;
-        mark(out, '}')
+        out.begin_map(None)?;
+        self.send_fields(out)?;
+        out.end_map()
     }
 }
 
@@ -158,14 +141,8 @@ impl Fields for NoFields {
 
     ghost again = { λ _. ⊤ };
 
-    #[inline(always)]
-    fn has_fields(&self) -> bool {
-        false
-    }
-
-    #[inline(always)]
-    #[tactic(auto, using(crate::proofs::WritingLemmas::no_fields_written))]
-    fn write_fields(self, _out: &mut String) -> Result<(), AllocError> {
+    #[tactic(auto, using(crate::proofs::SendingLemmas::no_fields_sent))]
+    fn send_fields<S: Serializer>(self, _out: &mut S) -> Result<(), S::Error> {
         Ok(())
     }
 }
@@ -174,34 +151,26 @@ impl Fields for NoFields {
 #[derive(Drop)]
 pub(crate) struct With<'a, F, T> {
     before: F,
-    name: Name<'a>,
+    name: &'a str,
     value: &'a T,
 }
 
 impl<F: Fields, T: Show> Fields for With<'_, F, T> {
-    ghost members = { λ fields. add fields.name (T.shows fields.value.now) (F.members fields.before) };
+    ghost members = { λ fields. add fields.name.now (T.shows fields.value.now) (F.members fields.before) };
 
     ghost again = { λ fields. F.again fields.before
         × (T.reads (T.shows fields.value.now) ≡ Some fields.value.now) };
 
-    #[inline(always)]
-    #[tactic(auto, using(crate::proofs::WritingLemmas::added_is_member))]
-    fn has_fields(&self) -> bool {
-        true
-    }
-
-    #[inline(always)]
-    #[tactic(auto, using(crate::proofs::WritingLemmas::field_written))]
-    fn write_fields(self, out: &mut String) -> Result<(), AllocError> {
+    #[tactic(auto, using(crate::proofs::SendingLemmas::field_sent))]
+    fn send_fields<S: Serializer>(self, out: &mut S) -> Result<(), S::Error> {
         let With {
             before,
             name,
             value,
         } = self;
-        let later = before.has_fields();
-        before.write_fields(out)?;
-        write_key(out, later, name.as_str())?;
-        value.write(out)
+        before.send_fields(out)?;
+        out.key(name)?;
+        value.send(out)
     }
 }
 
@@ -209,41 +178,26 @@ impl<F: Fields, T: Show> Fields for With<'_, F, T> {
 #[derive(Drop)]
 pub(crate) struct WithSome<'a, F, T> {
     before: F,
-    name: Name<'a>,
+    name: &'a str,
     value: &'a Option<T>,
 }
 
 impl<F: Fields, T: Show> Fields for WithSome<'_, F, T> {
     ghost members = { λ fields.
-        add_some T.shows fields.name fields.value.now (F.members fields.before) };
+        add_some T.shows fields.name.now fields.value.now (F.members fields.before) };
 
     ghost again = { λ fields. F.again fields.before × IsReadAgain T.reads T.shows fields.value.now };
 
-    #[inline(always)]
-    #[tactic(auto, using(crate::proofs::WritingLemmas::added_is_member), unfolding(crate::specs::Showing::add_some))]
-    fn has_fields(&self) -> bool {
-        match self.value {
-            Some(_) => true,
-            None => self.before.has_fields(),
-        }
-    }
-
-    #[inline(always)]
-    #[tactic(auto, using(crate::proofs::WritingLemmas::field_written), unfolding(crate::specs::Showing::add_some))]
-    fn write_fields(self, out: &mut String) -> Result<(), AllocError> {
+    #[tactic(auto, unfolding(crate::specs::Showing::add_some))]
+    fn send_fields<S: Serializer>(self, out: &mut S) -> Result<(), S::Error> {
         let WithSome {
             before,
             name,
             value,
         } = self;
-        let later = before.has_fields();
-        before.write_fields(out)?;
         match value {
-            Some(value) => {
-                write_key(out, later, name.as_str())?;
-                value.write(out)
-            }
-            None => Ok(()),
+            Some(value) => before.with(name, value).send_fields(out),
+            None => before.send_fields(out),
         }
     }
 }
@@ -252,41 +206,32 @@ impl<F: Fields, T: Show> Fields for WithSome<'_, F, T> {
 #[derive(Drop)]
 pub(crate) struct Tagged<'a, F> {
     before: F,
-    variant: Name<'a>,
+    variant: &'a str,
 }
 
 impl<F: Fields> Fields for Tagged<'_, F> {
-    ghost members = { λ fields. tagged fields.variant (F.members fields.before) };
+    ghost members = { λ fields. tagged fields.variant.now (F.members fields.before) };
 
     ghost again = { λ fields. F.again fields.before };
 
-    #[inline(always)]
-    #[tactic(auto, using(crate::proofs::WritingLemmas::added_is_member))]
-    fn has_fields(&self) -> bool {
-        true
-    }
-
-    #[inline(always)]
-    #[tactic(auto, using(crate::proofs::WritingLemmas::tag_written))]
-    fn write_fields(self, out: &mut String) -> Result<(), AllocError> {
+    #[tactic(auto, using(crate::proofs::SendingLemmas::field_sent, crate::proofs::SendingLemmas::text_sent))]
+    fn send_fields<S: Serializer>(self, out: &mut S) -> Result<(), S::Error> {
         let Tagged { before, variant } = self;
-        let later = before.has_fields();
-        before.write_fields(out)?;
-        write_tag(out, later, variant.as_str())
+        before.send_fields(out)?;
+        out.key("k")?;
+        out.str(variant)
     }
 }
 
-/// Writes a variant whose one field has no name of its own. Fails only when out of memory.
-#[inline(always)]
-pub(crate) fn write_variant<T: Show>(
-    out: &mut String,
+/// Sends a variant whose one field has no name of its own. Fails only when the serializer does.
+pub(crate) fn send_variant<S: Serializer, T: Show>(
+    out: &mut S,
     name: &str,
     content: &T,
-) -> Result<(), AllocError>
-    requires { stands_as_it_is name.now ≡ true }
-    ensures writes { OnOk result
-        (Writes (variant_data name.now (T.shows content.now)) (string_bytes out.old) (string_bytes out.new)) }
+) -> Result<(), S::Error>
+    ensures sends { OnOk result
+        (Sends (variant_data name.now (T.shows content.now)) (S.written out.old) (S.written out.new)) }
     ensures again { OnOk result (T.reads (T.shows content.now) ≡ Some content.now) }
 {
-    NoFields.tagged(name).with("v", content).write(out)
+    NoFields.tagged(name).with("v", content).send(out)
 }

@@ -12,17 +12,26 @@ ghost use Rattle.rc_doc.specs.Kinds.{instruction_value_of};
 ghost use Rattle.rc_show.specs.ShownKinds.{IsReadBack, value_data};
 
 use crate::fields::Show;
-use crate::shown::to_json;
+use crate::shown::{to_json, to_text};
 use rc_hir::InstructionValue;
+use serde::Serializer;
 use serde_json::Value;
 use std::alloc::{AllocError, Global};
 
+/// Returns the compact text of an instruction value's printing form. Fails only when out of memory.
+#[tactic(auto, using(crate::proofs::PlainForms::plain_value))]
+pub fn value_text(alloc: Global, value: &InstructionValue) -> Result<String, AllocError>
+    ensures { IfOk result (λ text. string_bytes text ≡ compact_text (value_data value.now)) }
+{
+    to_text(alloc, value)
+}
+
 /// Writes the compact text of an instruction value's printing form. Fails only when out of memory.
-#[tactic(auto, using(crate::proofs::WritingLemmas::text_of_written))]
 pub fn write_value(out: &mut String, value: &InstructionValue) -> Result<(), AllocError>
     ensures { OnOk result (string_bytes out.new ≡ string_bytes out.old ++ compact_text (value_data value.now)) }
 {
-    value.write(out)
+    let text = value_text(*out.allocator(), value)?;
+    out.push_str(text.as_str())
 }
 
 /// Returns the printing form of an instruction value, which reads as that value again. It has no float, so its text is
@@ -41,7 +50,7 @@ impl Show for InstructionValue {
 
     ghost shows = { value_data };
 
-    fn write(&self, out: &mut String) -> Result<(), AllocError> {
+    fn send<S: Serializer>(&self, out: &mut S) -> Result<(), S::Error> {
         match self {
             InstructionValue::LoadLocal { place, span } => variables::load_local(out, place, span),
             InstructionValue::LoadContext { place, span } => variables::load_context(

@@ -4,13 +4,12 @@
 
 mod fields;
 mod instruction;
-mod name;
 mod part;
 mod pattern;
 mod place;
 mod shown;
 mod text;
 
-pub use instruction::{value_json, write_value};
+pub use instruction::{value_json, value_text, write_value};
 pub use place::{is_short, place_json, write_place};
 pub use text::{write_number, write_quoted};

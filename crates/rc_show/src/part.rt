@@ -4,24 +4,23 @@ ghost use Rattle.rc_doc.specs.Parts.{binding_of, jsx_attribute_of, jsx_tag_of, l
 ghost use Rattle.rc_show.specs.ShownParts.{binding_data, jsx_attribute_data, jsx_tag_data, lowered_function_data};
 ghost use Rattle.rc_show.specs.ShownParts.{primitive_value_data};
 
-use crate::fields::{Fields, NoFields, Show, write_variant};
-use crate::text::write_name;
+use crate::fields::{Fields, NoFields, Show, send_variant};
 use rc_hir::{JsxAttribute, JsxTag, LoweredFunction, NonLocalBinding, PrimitiveValue};
-use std::alloc::AllocError;
+use serde::Serializer;
 
 impl Show for PrimitiveValue {
     ghost reads = { primitive_value_of };
 
     ghost shows = { primitive_value_data };
 
-    #[tactic(auto, using(crate::proofs::PartsReadBack::primitive_value_again, crate::proofs::WritingLemmas::text_written), unfolding(crate::specs::ShownParts::primitive_value_data))]
-    fn write(&self, out: &mut String) -> Result<(), AllocError> {
+    #[tactic(auto, using(crate::proofs::PartsReadBack::primitive_value_again, crate::proofs::SendingLemmas::text_sent), unfolding(crate::specs::ShownParts::primitive_value_data))]
+    fn send<S: Serializer>(&self, out: &mut S) -> Result<(), S::Error> {
         match self {
-            PrimitiveValue::Null => write_name(out, "Null"),
-            PrimitiveValue::Undefined => write_name(out, "Undefined"),
-            PrimitiveValue::Boolean(value) => write_variant(out, "Boolean", value),
-            PrimitiveValue::Number(text) => write_variant(out, "Number", text),
-            PrimitiveValue::String(text) => write_variant(out, "String", text),
+            PrimitiveValue::Null => out.str("Null"),
+            PrimitiveValue::Undefined => out.str("Undefined"),
+            PrimitiveValue::Boolean(value) => send_variant(out, "Boolean", value),
+            PrimitiveValue::Number(text) => send_variant(out, "Number", text),
+            PrimitiveValue::String(text) => send_variant(out, "String", text),
         }
     }
 }
@@ -32,18 +31,18 @@ impl Show for NonLocalBinding {
     ghost shows = { binding_data };
 
     #[tactic(auto, using(crate::proofs::PartsReadBack::binding_again), unfolding(crate::specs::ShownParts::binding_data))]
-    fn write(&self, out: &mut String) -> Result<(), AllocError> {
+    fn send<S: Serializer>(&self, out: &mut S) -> Result<(), S::Error> {
         match self {
             NonLocalBinding::Global { name } => NoFields
                 .tagged("Global")
                 .with("name", name)
-                .write(out),
+                .send(out),
             NonLocalBinding::Module { name, module } => {
                 NoFields
                     .tagged("Module")
                     .with("module", module)
                     .with("name", name)
-                    .write(out)
+                    .send(out)
             }
         }
     }
@@ -55,10 +54,10 @@ impl Show for JsxTag {
     ghost shows = { jsx_tag_data };
 
     #[tactic(auto, using(crate::proofs::PartsReadBack::jsx_tag_again), unfolding(crate::specs::ShownParts::jsx_tag_data))]
-    fn write(&self, out: &mut String) -> Result<(), AllocError> {
+    fn send<S: Serializer>(&self, out: &mut S) -> Result<(), S::Error> {
         match self {
-            JsxTag::Place(place) => write_variant(out, "Place", place),
-            JsxTag::Builtin(name) => write_variant(out, "Builtin", name),
+            JsxTag::Place(place) => send_variant(out, "Place", place),
+            JsxTag::Builtin(name) => send_variant(out, "Builtin", name),
         }
     }
 }
@@ -69,20 +68,20 @@ impl Show for JsxAttribute {
     ghost shows = { jsx_attribute_data };
 
     #[tactic(auto, using(crate::proofs::PartsReadBack::jsx_attribute_again), unfolding(crate::specs::ShownParts::jsx_attribute_data))]
-    fn write(&self, out: &mut String) -> Result<(), AllocError> {
+    fn send<S: Serializer>(&self, out: &mut S) -> Result<(), S::Error> {
         match self {
             JsxAttribute::Attribute { name, place } => {
                 NoFields
                     .tagged("Attribute")
                     .with("name", name)
                     .with("place", place)
-                    .write(out)
+                    .send(out)
             }
             JsxAttribute::SpreadAttribute { argument } => {
                 NoFields
                     .with("argument", argument)
                     .tagged("SpreadAttribute")
-                    .write(out)
+                    .send(out)
             }
         }
     }
@@ -94,7 +93,7 @@ impl Show for LoweredFunction {
     ghost shows = { lowered_function_data };
 
     #[tactic(auto, using(crate::proofs::PartsReadBack::lowered_function_again), unfolding(crate::specs::ShownParts::lowered_function_data))]
-    fn write(&self, out: &mut String) -> Result<(), AllocError> {
-        NoFields.with("func", &self.func.0).write(out)
+    fn send<S: Serializer>(&self, out: &mut S) -> Result<(), S::Error> {
+        NoFields.with("func", &self.func.0).send(out)
     }
 }

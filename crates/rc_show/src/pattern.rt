@@ -1,8 +1,6 @@
 //! The printing form of patterns, and of the parts that they share with literals.
 
 ghost use Rattle.std.specs.Prelude.{◌≡◌};
-ghost use Rattle.serde_json.specs.Data.{string};
-ghost use Rattle.serde_json.specs.Written.{compact_text};
 ghost use Rattle.rc_doc.specs.Patterns.{element_of, kind_of, lvalue_of, lvalue_pattern_of, object_property_of};
 ghost use Rattle.rc_doc.specs.Patterns.{pattern_element_of, pattern_of, property_key_of, property_literal_of};
 ghost use Rattle.rc_doc.specs.Patterns.{property_of};
@@ -11,28 +9,25 @@ ghost use Rattle.rc_show.specs.ShownParts.Patterns.{lvalue_pattern_data, object_
 ghost use Rattle.rc_show.specs.ShownParts.Patterns.{pattern_element_data, property_data, property_key_data};
 ghost use Rattle.rc_show.specs.ShownParts.Patterns.{property_literal_data};
 
-use crate::fields::{Fields, NoFields, Show, write_variant};
-use crate::text::{push, write_name};
+use crate::fields::{Fields, NoFields, Show, send_variant};
 use rc_hir::{
     ArrayElement, ArrayPatternElement, InstructionKind, LValue, LValuePattern, ObjectProperty,
     ObjectPropertyKey, ObjectPropertyOrSpread, Pattern, PropertyLiteral,
 };
-use std::alloc::AllocError;
+use serde::Serializer;
 
-/// The name of a way of writing, in quotes.
-#[tactic(auto, unfolding(serde_json::proofs::OnLiterals::serde_json_on_literals))]
-fn quoted_kind(kind: InstructionKind) -> &'static str
-    ensures { result.now ≡ compact_text (string (kind_name kind)) }
+fn kind_name(kind: InstructionKind) -> &'static str
+    ensures { result.now ≡ kind_name kind }
 {
     match kind {
-        InstructionKind::Const => "\"Const\"",
-        InstructionKind::Let => "\"Let\"",
-        InstructionKind::Reassign => "\"Reassign\"",
-        InstructionKind::Catch => "\"Catch\"",
-        InstructionKind::Function => "\"Function\"",
-        InstructionKind::HoistedConst => "\"HoistedConst\"",
-        InstructionKind::HoistedLet => "\"HoistedLet\"",
-        InstructionKind::HoistedFunction => "\"HoistedFunction\"",
+        InstructionKind::Const => "Const",
+        InstructionKind::Let => "Let",
+        InstructionKind::Reassign => "Reassign",
+        InstructionKind::Catch => "Catch",
+        InstructionKind::Function => "Function",
+        InstructionKind::HoistedConst => "HoistedConst",
+        InstructionKind::HoistedLet => "HoistedLet",
+        InstructionKind::HoistedFunction => "HoistedFunction",
     }
 }
 
@@ -41,9 +36,9 @@ impl Show for InstructionKind {
 
     ghost shows = { kind_data };
 
-    #[tactic(auto, using(crate::proofs::PartsReadBack::kind_again, crate::proofs::WritingLemmas::text_written))]
-    fn write(&self, out: &mut String) -> Result<(), AllocError> {
-        push(out, quoted_kind(*self))
+    #[tactic(auto, using(crate::proofs::PartsReadBack::kind_again, crate::proofs::SendingLemmas::text_sent))]
+    fn send<S: Serializer>(&self, out: &mut S) -> Result<(), S::Error> {
+        out.str(kind_name(*self))
     }
 }
 
@@ -53,11 +48,11 @@ impl Show for LValue {
     ghost shows = { lvalue_data };
 
     #[tactic(auto, using(crate::proofs::PartsReadBack::lvalue_again), unfolding(crate::specs::ShownParts::Patterns::lvalue_data))]
-    fn write(&self, out: &mut String) -> Result<(), AllocError> {
+    fn send<S: Serializer>(&self, out: &mut S) -> Result<(), S::Error> {
         NoFields
             .with("kind", &self.kind)
             .with("place", &self.place)
-            .write(out)
+            .send(out)
     }
 }
 
@@ -67,10 +62,10 @@ impl Show for PropertyLiteral {
     ghost shows = { property_literal_data };
 
     #[tactic(auto, using(crate::proofs::PartsReadBack::property_literal_again), unfolding(crate::specs::ShownParts::Patterns::property_literal_data))]
-    fn write(&self, out: &mut String) -> Result<(), AllocError> {
+    fn send<S: Serializer>(&self, out: &mut S) -> Result<(), S::Error> {
         match self {
-            PropertyLiteral::String(name) => write_variant(out, "String", name),
-            PropertyLiteral::Number(name) => write_variant(out, "Number", name),
+            PropertyLiteral::String(name) => send_variant(out, "String", name),
+            PropertyLiteral::Number(name) => send_variant(out, "Number", name),
         }
     }
 }
@@ -81,12 +76,12 @@ impl Show for ObjectPropertyKey {
     ghost shows = { property_key_data };
 
     #[tactic(auto, using(crate::proofs::PartsReadBack::property_key_again), unfolding(crate::specs::ShownParts::Patterns::property_key_data))]
-    fn write(&self, out: &mut String) -> Result<(), AllocError> {
+    fn send<S: Serializer>(&self, out: &mut S) -> Result<(), S::Error> {
         match self {
-            ObjectPropertyKey::Identifier(name) => write_variant(out, "Identifier", name),
-            ObjectPropertyKey::String(name) => write_variant(out, "String", name),
-            ObjectPropertyKey::Number(name) => write_variant(out, "Number", name),
-            ObjectPropertyKey::Computed(place) => write_variant(out, "Computed", place),
+            ObjectPropertyKey::Identifier(name) => send_variant(out, "Identifier", name),
+            ObjectPropertyKey::String(name) => send_variant(out, "String", name),
+            ObjectPropertyKey::Number(name) => send_variant(out, "Number", name),
+            ObjectPropertyKey::Computed(place) => send_variant(out, "Computed", place),
         }
     }
 }
@@ -97,11 +92,11 @@ impl Show for ObjectProperty {
     ghost shows = { object_property_data };
 
     #[tactic(auto, using(crate::proofs::PartsReadBack::object_property_again), unfolding(crate::specs::ShownParts::Patterns::object_property_data))]
-    fn write(&self, out: &mut String) -> Result<(), AllocError> {
+    fn send<S: Serializer>(&self, out: &mut S) -> Result<(), S::Error> {
         NoFields
             .with("key", &self.key)
             .with("place", &self.place)
-            .write(out)
+            .send(out)
     }
 }
 
@@ -111,10 +106,10 @@ impl Show for ObjectPropertyOrSpread {
     ghost shows = { property_data };
 
     #[tactic(auto, using(crate::proofs::PartsReadBack::property_again), unfolding(crate::specs::ShownParts::Patterns::property_data))]
-    fn write(&self, out: &mut String) -> Result<(), AllocError> {
+    fn send<S: Serializer>(&self, out: &mut S) -> Result<(), S::Error> {
         match self {
-            ObjectPropertyOrSpread::Property(property) => write_variant(out, "Property", property),
-            ObjectPropertyOrSpread::Spread(spread) => write_variant(out, "Spread", spread),
+            ObjectPropertyOrSpread::Property(property) => send_variant(out, "Property", property),
+            ObjectPropertyOrSpread::Spread(spread) => send_variant(out, "Spread", spread),
         }
     }
 }
@@ -124,12 +119,12 @@ impl Show for ArrayPatternElement {
 
     ghost shows = { pattern_element_data };
 
-    #[tactic(auto, using(crate::proofs::PartsReadBack::pattern_element_again, crate::proofs::WritingLemmas::text_written), unfolding(crate::specs::ShownParts::Patterns::pattern_element_data))]
-    fn write(&self, out: &mut String) -> Result<(), AllocError> {
+    #[tactic(auto, using(crate::proofs::PartsReadBack::pattern_element_again, crate::proofs::SendingLemmas::text_sent), unfolding(crate::specs::ShownParts::Patterns::pattern_element_data))]
+    fn send<S: Serializer>(&self, out: &mut S) -> Result<(), S::Error> {
         match self {
-            ArrayPatternElement::Place(place) => write_variant(out, "Place", place),
-            ArrayPatternElement::Spread(spread) => write_variant(out, "Spread", spread),
-            ArrayPatternElement::Hole => write_name(out, "Hole"),
+            ArrayPatternElement::Place(place) => send_variant(out, "Place", place),
+            ArrayPatternElement::Spread(spread) => send_variant(out, "Spread", spread),
+            ArrayPatternElement::Hole => out.str("Hole"),
         }
     }
 }
@@ -139,12 +134,12 @@ impl Show for ArrayElement {
 
     ghost shows = { element_data };
 
-    #[tactic(auto, using(crate::proofs::PartsReadBack::element_again, crate::proofs::WritingLemmas::text_written), unfolding(crate::specs::ShownParts::Patterns::element_data))]
-    fn write(&self, out: &mut String) -> Result<(), AllocError> {
+    #[tactic(auto, using(crate::proofs::PartsReadBack::element_again, crate::proofs::SendingLemmas::text_sent), unfolding(crate::specs::ShownParts::Patterns::element_data))]
+    fn send<S: Serializer>(&self, out: &mut S) -> Result<(), S::Error> {
         match self {
-            ArrayElement::Place(place) => write_variant(out, "Place", place),
-            ArrayElement::Spread(spread) => write_variant(out, "Spread", spread),
-            ArrayElement::Hole => write_name(out, "Hole"),
+            ArrayElement::Place(place) => send_variant(out, "Place", place),
+            ArrayElement::Spread(spread) => send_variant(out, "Spread", spread),
+            ArrayElement::Hole => out.str("Hole"),
         }
     }
 }
@@ -155,14 +150,14 @@ impl Show for Pattern {
     ghost shows = { pattern_data };
 
     #[tactic(auto, using(crate::proofs::PartsReadBack::pattern_again), unfolding(crate::specs::ShownParts::Patterns::pattern_data))]
-    fn write(&self, out: &mut String) -> Result<(), AllocError> {
+    fn send<S: Serializer>(&self, out: &mut S) -> Result<(), S::Error> {
         match self {
-            Pattern::Array { items } => NoFields.with("items", items).tagged("Array").write(out),
+            Pattern::Array { items } => NoFields.with("items", items).tagged("Array").send(out),
             Pattern::Object { properties } => {
                 NoFields
                     .tagged("Object")
                     .with("properties", properties)
-                    .write(out)
+                    .send(out)
             }
         }
     }
@@ -174,10 +169,10 @@ impl Show for LValuePattern {
     ghost shows = { lvalue_pattern_data };
 
     #[tactic(auto, using(crate::proofs::PartsReadBack::lvalue_pattern_again), unfolding(crate::specs::ShownParts::Patterns::lvalue_pattern_data))]
-    fn write(&self, out: &mut String) -> Result<(), AllocError> {
+    fn send<S: Serializer>(&self, out: &mut S) -> Result<(), S::Error> {
         NoFields
             .with("kind", &self.kind)
             .with("pattern", &self.pattern)
-            .write(out)
+            .send(out)
     }
 }

@@ -1,20 +1,20 @@
 //! The printing form of spans, of places in the shortest of their forms, and of the types that have one place.
 
-ghost use Rattle.std.specs.Prelude.{◌≡◌, ◌++◌, IfOk, OnOk, Some, codes, false, string_bytes, true};
-ghost use Rattle.serde_json.specs.Data.{string};
+ghost use Rattle.std.specs.Prelude.{◌≡◌, ◌++◌, IfOk, OnOk, Some, false, string_bytes};
 ghost use Rattle.serde_json.specs.View.{view};
-ghost use Rattle.serde_json.specs.Written.{compact_text, has_float, items_text};
+ghost use Rattle.serde_json.specs.Written.{compact_text, has_float};
 ghost use Rattle.rc_doc.specs.Places.{argument_of, place_of, span_of, spread_of};
 ghost use Rattle.rc_show.specs.Showing.{IsReadAgain};
 ghost use Rattle.rc_show.specs.ShownParts.Places.{argument_data, effect_name, is_short, long_form, place_data};
 ghost use Rattle.rc_show.specs.ShownParts.Places.{span_data, span_items, spread_data};
-ghost use Rattle.rc_show.specs.inside.Plain.{are_small, items_small};
+ghost use Rattle.rc_show.specs.inside.Sending.{Sends, SendsItems};
 
-use crate::fields::{Fields, NoFields, Show, write_variant};
-use crate::shown::to_json;
-use crate::text::{mark, push, write_flag, write_number};
+use crate::fields::{Fields, NoFields, Show, send_variant};
+use crate::shown::{to_json, to_text};
+use crate::text::write_number;
 use rc_hir::{Effect, Place, PlaceOrSpread, SpreadPattern};
 use rc_names::Span;
+use serde::Serializer;
 use serde_json::Value;
 use std::alloc::{AllocError, Global};
 
@@ -23,40 +23,27 @@ impl Show for Span {
 
     ghost shows = { span_data };
 
-    #[tactic(auto, using(crate::proofs::PlaceLemmas::span_written))]
-    fn write(&self, out: &mut String) -> Result<(), AllocError> {
-        write_ends(out, self)
+    #[tactic(auto, using(crate::proofs::ReadsBack::span_again))]
+    fn send<S: Serializer>(&self, out: &mut S) -> Result<(), S::Error> {
+        out.begin_seq(None)?;
+        self.start.send(out)?;
+        self.end.send(out)?;
+        out.end_seq()
     }
 }
 
-/// Writes the start and the end of a span as a list. Fails only when out of memory.
-#[tactic(auto, using(crate::proofs::ReadsBack::span_again, crate::proofs::PlaceLemmas::span_small))]
-fn write_ends(out: &mut String, span: &Span) -> Result<(), AllocError>
-    ensures text { OnOk result (string_bytes out.new ≡ string_bytes out.old ++ compact_text (span_data span.now)) }
-    ensures small { OnOk result (are_small (span_data span.now) ≡ true) }
-    ensures again { OnOk result (span_of (span_data span.now) ≡ Some span.now) }
-{
-    mark(out, '[')?;
-    write_number(out, span.start)?;
-    mark(out, ',')?;
-    write_number(out, span.end)?;
-    mark(out, ']')
-}
-
-/// An effect between commas.
-#[tactic(auto, unfolding(serde_json::proofs::OnLiterals::serde_json_on_literals))]
-fn quoted_effect(effect: Effect) -> &'static str
-    ensures { result.now ≡ codes "," ++ (compact_text (string (effect_name effect)) ++ codes ",") }
+fn effect_name(effect: Effect) -> &'static str
+    ensures { result.now ≡ effect_name effect }
 {
     match effect {
-        Effect::Unknown => ",\"Unknown\",",
-        Effect::Freeze => ",\"Freeze\",",
-        Effect::Read => ",\"Read\",",
-        Effect::Capture => ",\"Capture\",",
-        Effect::ConditionallyMutateIterator => ",\"ConditionallyMutateIterator\",",
-        Effect::ConditionallyMutate => ",\"ConditionallyMutate\",",
-        Effect::Mutate => ",\"Mutate\",",
-        Effect::Store => ",\"Store\",",
+        Effect::Unknown => "Unknown",
+        Effect::Freeze => "Freeze",
+        Effect::Read => "Read",
+        Effect::Capture => "Capture",
+        Effect::ConditionallyMutateIterator => "ConditionallyMutateIterator",
+        Effect::ConditionallyMutate => "ConditionallyMutate",
+        Effect::Mutate => "Mutate",
+        Effect::Store => "Store",
     }
 }
 
@@ -67,38 +54,28 @@ pub fn is_short(place: &Place) -> bool
     matches!(place.effect, Effect::Read) && !place.reactive && place.span.is_none()
 }
 
-/// Writes a place as a list of its number, its effect, whether it is reactive, and its span where that is known. Fails
-/// only when out of memory.
-#[inline(never)]
-#[tactic(auto, using(crate::proofs::PlaceLemmas::long_small))]
-fn write_long_form(out: &mut String, place: &Place) -> Result<(), AllocError>
-    ensures text { OnOk result
-        (string_bytes out.new ≡ string_bytes out.old ++ compact_text (long_form place.now)) }
-    ensures small { OnOk result (are_small (long_form place.now) ≡ true) }
-    ensures again { OnOk result (IsReadAgain span_of span_data place.now.span) }
-{
-    mark(out, '[')?;
-    write_number(out, place.identifier.0)?;
-    push(out, quoted_effect(place.effect))?;
-    write_flag(out, place.reactive)?;
-    write_end(out, &place.span)
-}
-
-/// Writes the span of a long form, and its end. Fails only when out of memory.
-fn write_end(out: &mut String, span: &Option<Span>) -> Result<(), AllocError>
-    ensures text { OnOk result
-        (string_bytes out.new ≡ string_bytes out.old ++ items_text true (span_items span.now)) }
-    ensures small { OnOk result (items_small (span_items span.now) ≡ true) }
+/// Sends the span as the last item, if there is one.
+fn send_span<S: Serializer>(out: &mut S, span: &Option<Span>) -> Result<(), S::Error>
+    ensures sends { OnOk result
+        (SendsItems (span_items span.now) (S.written out.old) (S.written out.new)) }
     ensures again { OnOk result (IsReadAgain span_of span_data span.now) }
 {
     match span {
-        None => mark(out, ']'),
-        Some(span) => {
-            mark(out, ',')?;
-            write_ends(out, span)?;
-            mark(out, ']')
-        }
+        Some(span) => span.send(out),
+        None => Ok(()),
     }
+}
+
+fn send_long_form<S: Serializer>(out: &mut S, place: &Place) -> Result<(), S::Error>
+    ensures sends { OnOk result (Sends (long_form place.now) (S.written out.old) (S.written out.new)) }
+    ensures again { OnOk result (IsReadAgain span_of span_data place.now.span) }
+{
+    out.begin_seq(None)?;
+    place.identifier.0.send(out)?;
+    out.str(effect_name(place.effect))?;
+    out.bool(place.reactive)?;
+    send_span(out, &place.span)?;
+    out.end_seq()
 }
 
 impl Show for Place {
@@ -106,13 +83,13 @@ impl Show for Place {
 
     ghost shows = { place_data };
 
-    #[tactic(auto, using(crate::proofs::ReadsBack::placing, crate::proofs::PlaceLemmas::place_written))]
-    fn write(&self, out: &mut String) -> Result<(), AllocError> {
+    #[tactic(auto, using(crate::proofs::ReadsBack::placing))]
+    fn send<S: Serializer>(&self, out: &mut S) -> Result<(), S::Error> {
         let identifier = self.identifier.0;
         if is_short(self) {
-            write_number(out, identifier)
+            identifier.send(out)
         } else {
-            write_long_form(out, self)
+            send_long_form(out, self)
         }
     }
 }
@@ -123,8 +100,8 @@ impl Show for SpreadPattern {
     ghost shows = { spread_data };
 
     #[tactic(auto, using(crate::proofs::PartsReadBack::spread_again), unfolding(crate::specs::ShownParts::Places::spread_data))]
-    fn write(&self, out: &mut String) -> Result<(), AllocError> {
-        NoFields.with("place", &self.place).write(out)
+    fn send<S: Serializer>(&self, out: &mut S) -> Result<(), S::Error> {
+        NoFields.with("place", &self.place).send(out)
     }
 }
 
@@ -134,20 +111,12 @@ impl Show for PlaceOrSpread {
     ghost shows = { argument_data };
 
     #[tactic(auto, using(crate::proofs::PartsReadBack::argument_again), unfolding(crate::specs::ShownParts::Places::argument_data))]
-    fn write(&self, out: &mut String) -> Result<(), AllocError> {
+    fn send<S: Serializer>(&self, out: &mut S) -> Result<(), S::Error> {
         match self {
-            PlaceOrSpread::Place(place) => write_variant(out, "Place", place),
-            PlaceOrSpread::Spread(spread) => write_variant(out, "Spread", spread),
+            PlaceOrSpread::Place(place) => send_variant(out, "Place", place),
+            PlaceOrSpread::Spread(spread) => send_variant(out, "Spread", spread),
         }
     }
-}
-
-/// Writes the compact text of a place in the shortest of its forms. Fails only when out of memory.
-#[tactic(auto, using(crate::proofs::WritingLemmas::text_of_written))]
-pub fn write_place(out: &mut String, place: &Place) -> Result<(), AllocError>
-    ensures { OnOk result (string_bytes out.new ≡ string_bytes out.old ++ compact_text (place_data place.now)) }
-{
-    place.write(out)
 }
 
 /// Returns the shortest form of a place, which reads as that place again. It has no float, so its text is its compact
@@ -159,4 +128,17 @@ pub fn place_json(alloc: Global, place: &Place) -> Result<Value, AllocError>
     ensures no_float { has_float (place_data place.now) ≡ false }
 {
     to_json(alloc, place)
+}
+
+/// Writes the compact text of a place in the shortest of its forms. Fails only when out of memory.
+#[tactic(auto, using(crate::proofs::PlainForms::plain_place, crate::proofs::ReadsBack::placing))]
+pub fn write_place(out: &mut String, place: &Place) -> Result<(), AllocError>
+    ensures { OnOk result (string_bytes out.new ≡ string_bytes out.old ++ compact_text (place_data place.now)) }
+{
+    if is_short(place) {
+        write_number(out, place.identifier.0)
+    } else {
+        let text = to_text(*out.allocator(), place)?;
+        out.push_str(text.as_str())
+    }
 }

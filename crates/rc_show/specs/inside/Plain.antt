@@ -1,5 +1,5 @@
 -- JSON values without floats and signs, with the keys of each object in byte order.
-use Rattle.std.specs.Prelude.{ℕ, ◌^◌, List, Bool, true, false, ◌&&◌, nat_lt}
+use Rattle.std.specs.Prelude.{ℕ, List, Bool, true, false, ◌&&◌}
 use Rattle.std.specs.Ordering.{is_gt, nat_cmp}
 use Rattle.std.specs.Cmp.Lexicographic.{slice_cmp}
 use Rattle.serde_json.specs.Data.{unsigned, negative, float, Data, null, boolean, number, string, array, object}
@@ -32,23 +32,3 @@ abbrev mutual
   fields_plain found no_members = true
   fields_plain found (member name d fields) =
       is_plain d && (comes_last name found && fields_plain (add name d found) fields)
-
-abbrev mutual
-  -- each number is one of a JSON value
-  pub are_small : Data → Bool
-  are_small null = true
-  are_small (boolean b) = true
-  are_small (number (unsigned n)) = nat_lt n (2 ^ 64)
-  are_small (number (negative z)) = false
-  are_small (number (float x)) = false
-  are_small (string text) = true
-  are_small (array items) = items_small items
-  are_small (object fields) = fields_small fields
-
-  pub items_small : Items → Bool
-  items_small no_items = true
-  items_small (item d items) = are_small d && items_small items
-
-  pub fields_small : Members → Bool
-  fields_small no_members = true
-  fields_small (member name d fields) = are_small d && fields_small fields

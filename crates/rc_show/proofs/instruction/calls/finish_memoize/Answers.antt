@@ -1,6 +1,6 @@
 use Rattle.rc_show.proofs.instruction.calls.finish_memoize.Goals as goal
 
-pub returns-clause-writes : goal.returns-clause-writes
-returns-clause-writes c =
+pub returns-clause-sends : goal.returns-clause-sends
+returns-clause-sends g c =
     rw (c.with_some.ensures, c.with-3.ensures, c.with-2.ensures, c.tagged.ensures, c.with.ensures)
-    at c.write.ensures.writes
+    at c.send.ensures.sends

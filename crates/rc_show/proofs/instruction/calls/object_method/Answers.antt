@@ -1,4 +1,4 @@
 use Rattle.rc_show.proofs.instruction.calls.object_method.Goals as goal
 
-pub returns-clause-writes : goal.returns-clause-writes
-returns-clause-writes c = rw (c.with_some.ensures, c.with.ensures, c.tagged.ensures) at c.write.ensures.writes
+pub returns-clause-sends : goal.returns-clause-sends
+returns-clause-sends g c = rw (c.with_some.ensures, c.with.ensures, c.tagged.ensures) at c.send.ensures.sends
