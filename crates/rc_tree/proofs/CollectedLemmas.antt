@@ -1,12 +1,13 @@
 -- The contents of each form of a tree: one equation a form, whatever the contributions are.
-use Rattle.std.proofs.Common.{◌≡◌, ◌∙◌, List, Bool, Option, None, Some, map, sym, ap}
+use Rattle.std.proofs.Common.{◌≡◌, ◌∙◌, List, [], ◌∷◌, Bool, Option, None, Some, map, refl, sym, ap}
 use Rattle.rc_hir.specs.Model.{InstructionValue, LogicalOperator, Place}
 use Rattle.rc_names.specs.Numbers.{BlockId, EvaluationOrder}
 use Rattle.rc_names.specs.declared.span.Span.{Span}
 use Rattle.rc_tree.specs.Collected.{Contributions, of_statement, of_terminal, collecting, collected}
 use Rattle.rc_tree.specs.Collected.{collected_statement, collected_terminal, collected_pruned_scope, collected_scope}
 use Rattle.rc_tree.specs.Collected.{collected_case, collected_cases, collected_if, collected_labeled, collected_list}
-use Rattle.rc_tree.specs.CollectedValues.{ValueContributions, of_value, of_row, collected_value, collected_row}
+use Rattle.rc_tree.specs.CollectedValues.{ValueContributions, OfValue, OfRow, of_value, of_row, collected_value}
+use Rattle.rc_tree.specs.CollectedValues.{collected_row}
 use Rattle.rc_tree.specs.Joining.{all_of}
 use Rattle.rc_tree.specs.Unrolled.{UnrolledStatement, UnrolledTerminal}
 use Rattle.rc_tree.specs.Model.{ReactiveTerminalTargetKind, PrunedReactiveScopeBlock, ReactiveScopeBlock, ReactiveBlock}
@@ -20,7 +21,7 @@ use Rattle.rc_tree.specs.declared.statement.ReactiveStatement.TheViews.{roll-Rea
 use Rattle.rc_tree.specs.declared.statement.ReactiveStatement.TheViews.{roll-ReactiveSwitchCase}
 use Rattle.rc_tree.specs.declared.terminal.ReactiveTerminal.TheVariants as tree
 use Rattle.rc_tree.specs.declared.value.ReactiveValue.{ReactiveValue, roll-ReactiveValue}
-use Rattle.rc_tree.specs.declared.value.ReactiveValue.TheFolds.{fold-roll-ReactiveValue, fold-roll-ReactiveInstruction}
+use Rattle.rc_tree.specs.declared.value.ReactiveValue.TheFolds.{para-roll-ReactiveValue, para-roll-ReactiveInstruction}
 use Rattle.rc_tree.specs.declared.value.ReactiveValue.TheFolds.{map-ReactiveValue}
 use Rattle.rc_tree.specs.declared.value.ReactiveValue.TheOpen as value
 use Rattle.rc_tree.specs.declared.value.ReactiveValue.TheOpen.{ReactiveValue-F}
@@ -30,21 +31,21 @@ use Rattle.rc_tree.proofs.TreeFoldLemmas.{over_labeled-parts, over_scope-parts, 
 
 module _ {A : Type 0} (adds : ValueContributions A) where
   abbrev pub parts_of_value : ReactiveValue-F ReactiveValue ReactiveInstruction
-      → ReactiveValue-F (EvaluationOrder → A) A
-  parts_of_value = map-ReactiveValue ReactiveValue ReactiveInstruction (EvaluationOrder → A) A (collected_value adds)
-      (collected_row adds)
+      → ReactiveValue-F (OfValue adds) (OfRow adds)
+  parts_of_value = map-ReactiveValue ReactiveValue ReactiveInstruction (OfValue adds) (OfRow adds)
+      (λ x. (x, collected_value adds x)) (λ x. (x, collected_row adds x))
 
   -- each form of value, unfolded
   pub opened_value : (y : ReactiveValue-F ReactiveValue ReactiveInstruction) (id : EvaluationOrder)
       → collected_value adds (roll-ReactiveValue y) id ≡ of_value adds (parts_of_value y) id
   unfolding collected_value collected_row
   opened_value y id =
-      ap (λ held. held id) (fold-roll-ReactiveValue (EvaluationOrder → A) A (of_value adds) (of_row adds) y)
+      ap (λ held. held id) (para-roll-ReactiveValue (EvaluationOrder → A) A (of_value adds) (of_row adds) y)
 
   pub collected-row : (x : ReactiveInstruction) → collected_row adds x
-      ≡ adds.joining.both (adds.target x.id x.lvalue) (collected_value adds x.value x.id)
+      ≡ adds.row x (adds.joining.both (adds.target x.id x.lvalue) (collected_value adds x.value x.id))
   unfolding collected_value collected_row
-  collected-row x = fold-roll-ReactiveInstruction (EvaluationOrder → A) A (of_value adds) (of_row adds)
+  collected-row x = para-roll-ReactiveInstruction (EvaluationOrder → A) A (of_value adds) (of_row adds)
       (record { id = x.id; lvalue = x.lvalue; value = x.value; span = x.span })
 
   -- the value of one instruction
@@ -68,12 +69,18 @@ module _ {A : Type 0} (adds : ValueContributions A) where
       ap (λ w. collected_value adds w id) (sym (reactive_values.rolls-ConditionalExpression x y z))
       ∙ opened_value (value.ConditionalExpression x y z) id
 
+  contents_of : (rows : List ReactiveInstruction)
+      → map (λ (row : OfRow adds). row.1) (map (λ x. (x, collected_row adds x)) rows) ≡ map (collected_row adds) rows
+  contents_of [] = refl
+  contents_of (row ∷ rows) = ap (λ all. collected_row adds row ∷ all) (contents_of rows)
+
   pub collected-Sequence : (rows : List ReactiveInstruction) (own : EvaluationOrder) (x : ReactiveValue)
       (id : EvaluationOrder) → collected_value adds (reactive_values.SequenceExpression rows own x) id
       ≡ adds.joining.both (all_of adds.joining (map (collected_row adds) rows)) (collected_value adds x own)
   collected-Sequence rows own x id =
       ap (λ y. collected_value adds y id) (sym (reactive_values.rolls-SequenceExpression rows own x))
       ∙ opened_value (value.SequenceExpression rows own x) id
+      ∙ ap (λ all. adds.joining.both (all_of adds.joining all) (collected_value adds x own)) (contents_of rows)
 
   pub collected-Optional : (x : ReactiveValue) (optional : Bool) (id : EvaluationOrder)
       → collected_value adds (reactive_values.OptionalExpression x optional) id ≡ collected_value adds x id

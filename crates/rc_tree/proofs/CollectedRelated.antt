@@ -4,32 +4,25 @@
 use Rattle.std.proofs.Common.{◌≡◌, List, [], ◌∷◌, Option, None, Some, map, sym, subst}
 use Rattle.rc_hir.specs.Model.{InstructionValue, Place}
 use Rattle.rc_names.specs.Numbers.{BlockId, EvaluationOrder, ScopeId}
-use Rattle.rc_tree.specs.Collected.{Contributions, of_statement, of_terminal, collected, collected_statement}
-use Rattle.rc_tree.specs.Collected.{collected_terminal, collected_pruned_scope, collected_scope, collected_case}
-use Rattle.rc_tree.specs.Collected.{collected_cases, collected_if, collected_labeled}
 use Rattle.rc_tree.specs.CollectedValues.{ValueContributions, of_value, collected_value, collected_row}
 use Rattle.rc_tree.specs.CollectedValues.{collected_value_if}
-use Rattle.rc_tree.specs.Joining.{Joining, all_of, if_there}
-use Rattle.rc_tree.specs.Unrolled.{UnrolledStatement, UnrolledTerminal}
-use Rattle.rc_tree.specs.Model.{PrunedReactiveScopeBlock, ReactiveScopeBlock, ReactiveLabel, ReactiveTerminalStatement}
+use Rattle.rc_tree.specs.Joining.{Joining, all_of}
+use Rattle.rc_tree.specs.Model.{ReactiveLabel}
 use Rattle.rc_tree.specs.Model.{ReactiveInstruction}
-use Rattle.rc_tree.specs.declared.statement.ReactiveBlock.{ReactiveBlock, roll-ReactiveBlock}
-use Rattle.rc_tree.specs.declared.statement.ReactiveStatement.{ReactiveStatement, roll-ReactiveStatement}
-use Rattle.rc_tree.specs.declared.statement.ReactiveStatement.TheFolds.{map-ReactiveStatement, map-ReactiveTerminal}
-use Rattle.rc_tree.specs.declared.statement.ReactiveStatement.TheFolds.{ind-ReactiveBlock}
-use Rattle.rc_tree.specs.declared.statement.ReactiveStatement.TheOpen as layer
-use Rattle.rc_tree.specs.declared.statement.ReactiveStatement.TheOpen.{ReactiveStatement-F, ReactiveTerminal-F}
-use Rattle.rc_tree.specs.declared.statement.ReactiveStatement.TheShapes.{former-ReactiveTerminal-If-2}
-use Rattle.rc_tree.specs.declared.terminal.ReactiveSwitchCase.{ReactiveSwitchCase, roll-ReactiveSwitchCase}
-use Rattle.rc_tree.specs.declared.terminal.ReactiveTerminal.{ReactiveTerminal, roll-ReactiveTerminal}
+use Rattle.rc_tree.specs.declared.statement.ReactiveBlock.{ReactiveBlock}
 use Rattle.rc_tree.specs.declared.value.ReactiveValue.{ReactiveValue, roll-ReactiveValue}
 use Rattle.rc_tree.specs.declared.value.ReactiveValue.TheFolds.{map-ReactiveValue, ind-ReactiveValue}
 use Rattle.rc_tree.specs.declared.value.ReactiveValue.TheOpen as value
 use Rattle.rc_tree.specs.declared.value.ReactiveValue.TheOpen.{ReactiveValue-F}
-use Rattle.rc_tree.proofs.CollectedLemmas.{opened_value, opened_statement, opened_terminal, parts_of_value}
-use Rattle.rc_tree.proofs.CollectedLemmas.{parts_of_statement, parts_of_terminal, collected-row}
-use Rattle.rc_tree.proofs.CollectedLemmas.{collected-block, collected-scope, collected-pruned_scope, collected-labeled}
-use Rattle.rc_tree.proofs.CollectedLemmas.{collected-case}
+use Rattle.rc_tree.proofs.CollectedLemmas.{opened_value, parts_of_value, collected-row, collected-block, collected-case}
+use Rattle.rc_tree.proofs.CollectedLemmas.{collected-Instruction, collected-Terminal, collected-Scope}
+use Rattle.rc_tree.proofs.CollectedLemmas.{collected-PrunedScope, collected-Switch}
+use Rattle.rc_tree.proofs.TerminalShapes.{Leaf, Break, Continue, Return, Throw, TwoBlocks, IfElse, Try, Held, Nothing}
+use Rattle.rc_tree.proofs.TerminalShapes.{HeldValue, HeldPlace, held, of_leaf, before, after, of_two, in_front, behind}
+use Rattle.rc_tree.proofs.TerminalShapes.{collected-leaf, collected-one, collected-two}
+use Rattle.rc_tree.proofs.TreeInduction.{TreeClaims, IsInductive, of_every_block}
+use Rattle.rc_tree.specs.Collected.{Contributions, collected, collected_statement, collected_terminal, collected_case}
+use Rattle.rc_tree.specs.Collected.{collected_cases, collected_list}
 
 -- no contents are related to no contents, and the contents of two parts to those of two others
 pub record Joined {A B : Type 0} (IsRelated : A → B → Type 0) (j : Joining A) (k : Joining B) : Type 0 where
@@ -42,6 +35,7 @@ pub record RelatedValues {A B : Type 0} (IsRelated : A → B → Type 0) (a : Va
   pub joined : Joined IsRelated a.joining b.joining
   pub instruction : (id : EvaluationOrder) (x : InstructionValue) → IsRelated (a.instruction id x) (b.instruction id x)
   pub target : (id : EvaluationOrder) (x : Option Place) → IsRelated (a.target id x) (b.target id x)
+  pub row : (x : ReactiveInstruction) (y : A) (z : B) → IsRelated y z → IsRelated (a.row x y) (b.row x z)
 
 -- the contributions of the parts of a tree are related
 pub record RelatedParts {A B : Type 0} (IsRelated : A → B → Type 0) (a : Contributions A)
@@ -62,14 +56,6 @@ module _ {A B : Type 0} (IsRelated : A → B → Type 0) where
   moved : {x x1 : A} {y y1 : B} → x ≡ x1 → y ≡ y1 → IsRelated x1 y1 → IsRelated x y
   moved {x} {x1} {y} {y1} e f related =
       subst (λ z. IsRelated z y) (sym e) (subst (λ z. IsRelated x1 z) (sym f) related)
-
-  -- the parts of a list, each with the claim about it
-  list_related : {X : Type 0} (j : Joining A) (k : Joining B) → Joined IsRelated j k → (left : X → A) (right : X → B)
-      → (xs : List ((x : X) × IsRelated (left x) (right x)))
-      → IsRelated (all_of j (map left (map (λ e. e.0) xs))) (all_of k (map right (map (λ e. e.0) xs)))
-  list_related j k joined left right [] = joined.nothing
-  list_related j k joined left right (x ∷ xs) = joined.both (left x.0) _ (right x.0) _ x.1
-      (list_related j k joined left right xs)
 
 module _ {A B : Type 0} (IsRelated : A → B → Type 0) (a : ValueContributions A) (b : ValueContributions B)
     (related : RelatedValues IsRelated a b) where
@@ -94,6 +80,12 @@ module _ {A B : Type 0} (IsRelated : A → B → Type 0) (a : ValueContributions
       (b.joining.both (collected_value b x.0 id) (collected_value b y.0 own))
   two_values x y id own = related.joined.both _ _ _ _ (x.1 id) (y.1 own)
 
+  rows_layer : (rows : List OfRow) → IsRelated
+      (all_of a.joining (map (λ (row : ReactiveInstruction × A). row.1) (map (λ x. (x, collected_row a x)) (map (λ e. e.0) rows))))
+      (all_of b.joining (map (λ (row : ReactiveInstruction × B). row.1) (map (λ x. (x, collected_row b x)) (map (λ e. e.0) rows))))
+  rows_layer [] = related.joined.nothing
+  rows_layer (x ∷ xs) = related.joined.both _ _ _ _ x.1 (rows_layer xs)
+
   value_layer : (y : ReactiveValue-F OfValue OfRow) (id : EvaluationOrder) → IsRelated
       (of_value a (parts_of_value a (bare_value y)) id) (of_value b (parts_of_value b (bare_value y)) id)
   value_layer (value.Instruction x) id = related.instruction id x
@@ -101,7 +93,7 @@ module _ {A B : Type 0} (IsRelated : A → B → Type 0) (a : ValueContributions
   value_layer (value.ConditionalExpression x y z) id =
       related.joined.both _ _ _ _ (x.1 id) (two_values y z id id)
   value_layer (value.SequenceExpression rows own x) id = related.joined.both _ _ _ _
-      (list_related IsRelated a.joining b.joining related.joined (collected_row a) (collected_row b) rows) (x.1 own)
+      (rows_layer rows) (x.1 own)
   value_layer (value.OptionalExpression x optional) id = x.1 id
 
   value_rolled : (y : ReactiveValue-F OfValue OfRow) → ValueRelated (roll-ReactiveValue (bare_value y))
@@ -110,7 +102,7 @@ module _ {A B : Type 0} (IsRelated : A → B → Type 0) (a : ValueContributions
 
   row_related : (x : ReactiveInstruction) → ValueRelated x.value → RowRelated x
   row_related x inner = moved IsRelated (collected-row a x) (collected-row b x)
-      (related.joined.both _ _ _ _ (related.target x.id x.lvalue) (inner x.id))
+      (related.row x _ _ (related.joined.both _ _ _ _ (related.target x.id x.lvalue) (inner x.id)))
 
   -- the contents of a value, and of a row, are related
   pub values_related : (x : ReactiveValue) → ValueRelated x
@@ -129,137 +121,72 @@ module _ {A B : Type 0} (IsRelated : A → B → Type 0) (a : ValueContributions
 
 module _ {A B : Type 0} (IsRelated : A → B → Type 0) (a : Contributions A) (b : Contributions B)
     (related : RelatedParts IsRelated a b) where
-  -- each part, with the claim about it
-  abbrev OfStatement : Type 0
-  OfStatement = (x : ReactiveStatement) × IsRelated (collected_statement a x) (collected_statement b x)
-
-  abbrev OfTerminal : Type 0
-  OfTerminal = (x : ReactiveTerminal) × IsRelated (collected_terminal a x) (collected_terminal b x)
-
-  abbrev OfPrunedScope : Type 0
-  OfPrunedScope =
-      (x : PrunedReactiveScopeBlock) × IsRelated (collected_pruned_scope a x) (collected_pruned_scope b x)
-
-  abbrev OfScope : Type 0
-  OfScope = (x : ReactiveScopeBlock) × IsRelated (collected_scope a x) (collected_scope b x)
-
-  abbrev OfBlock : Type 0
-  OfBlock = (x : ReactiveBlock) × IsRelated (collected a x) (collected b x)
-
-  abbrev CaseRelated : ReactiveSwitchCase → Type 0
-  CaseRelated x = (id : EvaluationOrder) → IsRelated (collected_case a x id) (collected_case b x id)
-
-  abbrev OfCase : Type 0
-  OfCase = (x : ReactiveSwitchCase) × CaseRelated x
-
-  abbrev OfLabeled : Type 0
-  OfLabeled = (x : ReactiveTerminalStatement) × IsRelated (collected_labeled a x) (collected_labeled b x)
-
-  abbrev bare_statement : ReactiveStatement-F OfStatement OfTerminal OfPrunedScope OfScope OfBlock OfCase OfLabeled
-      → UnrolledStatement
-  bare_statement = map-ReactiveStatement OfStatement OfTerminal OfPrunedScope OfScope OfBlock OfCase OfLabeled
-      ReactiveStatement ReactiveTerminal PrunedReactiveScopeBlock ReactiveScopeBlock ReactiveBlock ReactiveSwitchCase
-      ReactiveTerminalStatement
-      (λ e. e.0) (λ e. e.0) (λ e. e.0) (λ e. e.0) (λ e. e.0) (λ e. e.0) (λ e. e.0)
-
-  abbrev bare_terminal : ReactiveTerminal-F OfStatement OfTerminal OfPrunedScope OfScope OfBlock OfCase OfLabeled
-      → UnrolledTerminal
-  bare_terminal = map-ReactiveTerminal OfStatement OfTerminal OfPrunedScope OfScope OfBlock OfCase OfLabeled
-      ReactiveStatement ReactiveTerminal PrunedReactiveScopeBlock ReactiveScopeBlock ReactiveBlock ReactiveSwitchCase
-      ReactiveTerminalStatement
-      (λ e. e.0) (λ e. e.0) (λ e. e.0) (λ e. e.0) (λ e. e.0) (λ e. e.0) (λ e. e.0)
-
-  abbrev bare_if : Option OfBlock → Option ReactiveBlock
-  bare_if = former-ReactiveTerminal-If-2.map OfBlock ReactiveBlock (λ e. e.0)
-
   -- one part, and then another
   both : {x x1 : A} {y y1 : B} → IsRelated x y → IsRelated x1 y1
       → IsRelated (a.joining.both x x1) (b.joining.both y y1)
   both {x} {x1} {y} {y1} one other = related.joined.both x x1 y y1 one other
 
-  block_if : (x : Option OfBlock) → IsRelated
-      (if_there a.joining (former-ReactiveTerminal-If-2.map ReactiveBlock A (collected a) (bare_if x)))
-      (if_there b.joining (former-ReactiveTerminal-If-2.map ReactiveBlock B (collected b) (bare_if x)))
-  block_if None = related.joined.nothing
-  block_if (Some x) = x.1
+  -- what a terminal holds beside its blocks, and a terminal of each shape
+  held_related : (h : Held) → IsRelated (held a h) (held b h)
+  held_related Nothing = related.joined.nothing
+  held_related (HeldValue id x) = related.value id x
+  held_related (HeldPlace id x) = related.place id x
 
-  case_if : (x : Option OfBlock) → IsRelated (collected_if a (bare_if x)) (collected_if b (bare_if x))
-  case_if None = related.joined.nothing
-  case_if (Some x) = x.1
+  leaf_related : (shape : Leaf) → IsRelated (of_leaf a shape) (of_leaf b shape)
+  leaf_related (Break target kind id) = related.jump target
+  leaf_related (Continue target kind id) = related.jump target
+  leaf_related (Return value id) = related.returned id value
+  leaf_related (Throw value id) = related.place id (Some value)
 
-  cases_related : (xs : List OfCase) (id : EvaluationOrder)
-      → IsRelated (collected_cases a id (map (λ e. e.0) xs)) (collected_cases b id (map (λ e. e.0) xs))
-  cases_related [] id = related.joined.nothing
-  cases_related (x ∷ xs) id = both (x.1 id) (cases_related xs id)
+  before_related : (h : Option Held) (x : A) (y : B) → IsRelated x y → IsRelated (before a h x) (before b h y)
+  before_related None x y k = k
+  before_related (Some h) x y k = both k (held_related h)
 
-  statement_layer : (y : ReactiveStatement-F OfStatement OfTerminal OfPrunedScope OfScope OfBlock OfCase OfLabeled)
-      → IsRelated (of_statement a (parts_of_statement a (bare_statement y)))
-      (of_statement b (parts_of_statement b (bare_statement y)))
-  statement_layer (layer.Instruction x) = related.row x
-  statement_layer (layer.Terminal x) = x.1
-  statement_layer (layer.Scope x) = x.1
-  statement_layer (layer.PrunedScope x) = x.1
+  after_related : (hs : List Held) (x : A) (y : B) → IsRelated x y → IsRelated (after a hs x) (after b hs y)
+  after_related [] x y k = k
+  after_related (h ∷ hs) x y k = both (held_related h) (after_related hs x y k)
 
-  terminal_layer : (y : ReactiveTerminal-F OfStatement OfTerminal OfPrunedScope OfScope OfBlock OfCase OfLabeled)
-      → IsRelated (of_terminal a (parts_of_terminal a (bare_terminal y)))
-      (of_terminal b (parts_of_terminal b (bare_terminal y)))
-  terminal_layer (layer.Break target kind id) = related.jump target
-  terminal_layer (layer.Continue target kind id) = related.jump target
-  terminal_layer (layer.Return place id) = related.returned id place
-  terminal_layer (layer.Throw place id) = related.place id (Some place)
-  terminal_layer (layer.Switch test cases id) = both (related.place id (Some test)) (cases_related cases id)
-  terminal_layer (layer.DoWhile body test id) = both body.1 (related.value id (Some test))
-  terminal_layer (layer.While test body id) = both (related.value id (Some test)) body.1
-  terminal_layer (layer.For init test update body id) = both (related.value id (Some init))
-      (both (related.value id (Some test)) (both body.1 (related.value id update)))
-  terminal_layer (layer.ForOf init test body span id) =
-      both (related.value id (Some init)) (both (related.value id (Some test)) body.1)
-  terminal_layer (layer.ForIn init body span id) = both (related.value id (Some init)) body.1
-  terminal_layer (layer.If test consequent alternate id) =
-      both (related.place id (Some test)) (both consequent.1 (block_if alternate))
-  terminal_layer (layer.Label body id) = body.1
-  terminal_layer (layer.Try body binding handler id) = both body.1 (both (related.place id binding) handler.1)
+  two_related : (shape : TwoBlocks) (x x1 : A) (y y1 : B) → IsRelated x y → IsRelated x1 y1
+      → IsRelated (of_two a shape x x1) (of_two b shape y y1)
+  two_related (IfElse test id) x x1 y y1 k l = both (related.place id (Some test)) (both k l)
+  two_related (Try binding id) x x1 y y1 k l = both k (both (related.place id binding) l)
+
+  abbrev claims : TreeClaims
+  claims = record {
+    Block = λ x. IsRelated (collected a x) (collected b x);
+    Statements = λ xs. IsRelated (collected_list a xs) (collected_list b xs);
+    Statement = λ x. IsRelated (collected_statement a x) (collected_statement b x);
+    Terminal = λ x. IsRelated (collected_terminal a x) (collected_terminal b x);
+    Case = λ x. (id : EvaluationOrder) → IsRelated (collected_case a x id) (collected_case b x id);
+    Cases = λ xs. (id : EvaluationOrder) → IsRelated (collected_cases a id xs) (collected_cases b id xs);
+  }
+
+  inductive : IsInductive claims
+  inductive = record {
+    none = related.joined.nothing;
+    more = λ x xs k l. both k l;
+    block = λ xs k. moved IsRelated (collected-block a (record { statements = xs }))
+        (collected-block b (record { statements = xs })) k;
+    row = λ x. moved IsRelated (collected-Instruction a x) (collected-Instruction b x) (related.row x);
+    terminal = λ x k. moved IsRelated (collected-Terminal a x) (collected-Terminal b x) (both (related.label x.label) k);
+    scope = λ x k. moved IsRelated (collected-Scope a x) (collected-Scope b x) (related.scope x.scope _ _ k);
+    pruned_scope = λ x k. moved IsRelated (collected-PrunedScope a x) (collected-PrunedScope b x)
+        (related.pruned_scope x.scope _ _ k);
+    no_block = λ shape. moved IsRelated (collected-leaf a shape) (collected-leaf b shape) (leaf_related shape);
+    one_block = λ shape x k. moved IsRelated (collected-one a shape x) (collected-one b shape x)
+        (after_related (in_front shape) _ _ (before_related (behind shape) _ _ k));
+    two_blocks = λ shape x y k l. moved IsRelated (collected-two a shape x y) (collected-two b shape x y)
+        (two_related shape _ _ _ _ k l);
+    switch = λ test cases id k. moved IsRelated (collected-Switch a test cases id) (collected-Switch b test cases id)
+        (both (related.place id (Some test)) (k id));
+    empty_case = λ test id. moved IsRelated (collected-case a test None id) (collected-case b test None id)
+        (both (related.place id test) related.joined.nothing);
+    case = λ test x k id. moved IsRelated (collected-case a test (Some x) id) (collected-case b test (Some x) id)
+        (both (related.place id test) k);
+    no_cases = λ id. related.joined.nothing;
+    more_cases = λ x xs k l id. both (k id) (l id);
+  }
 
   -- the contents of the tree are related
   pub collected_related : (x : ReactiveBlock) → IsRelated (collected a x) (collected b x)
-  collected_related =
-      ind-ReactiveBlock
-      (λ x. IsRelated (collected_statement a x) (collected_statement b x))
-      (λ x. IsRelated (collected_terminal a x) (collected_terminal b x))
-      (λ x. IsRelated (collected_pruned_scope a x) (collected_pruned_scope b x))
-      (λ x. IsRelated (collected_scope a x) (collected_scope b x))
-      (λ x. IsRelated (collected a x) (collected b x)) CaseRelated
-      (λ x. IsRelated (collected_labeled a x) (collected_labeled b x))
-      (λ x y is. subst (λ z. IsRelated (collected_statement a (roll-ReactiveStatement z))
-      (collected_statement b (roll-ReactiveStatement z))) is
-      (moved IsRelated (opened_statement a (bare_statement y)) (opened_statement b (bare_statement y))
-      (statement_layer y)))
-      (λ x y is. subst (λ z. IsRelated (collected_terminal a (roll-ReactiveTerminal z))
-      (collected_terminal b (roll-ReactiveTerminal z))) is
-      (moved IsRelated (opened_terminal a (bare_terminal y)) (opened_terminal b (bare_terminal y))
-      (terminal_layer y)))
-      (λ x y is. subst (λ z. IsRelated
-      (collected_pruned_scope a (record { scope = z.scope; instructions = z.instructions }))
-      (collected_pruned_scope b (record { scope = z.scope; instructions = z.instructions }))) is
-      (moved IsRelated (collected-pruned_scope a (record { scope = y.scope; instructions = y.instructions.0 }))
-      (collected-pruned_scope b (record { scope = y.scope; instructions = y.instructions.0 }))
-      (related.pruned_scope y.scope _ _ y.instructions.1)))
-      (λ x y is. subst (λ z. IsRelated
-      (collected_scope a (record { scope = z.scope; instructions = z.instructions }))
-      (collected_scope b (record { scope = z.scope; instructions = z.instructions }))) is
-      (moved IsRelated (collected-scope a (record { scope = y.scope; instructions = y.instructions.0 }))
-      (collected-scope b (record { scope = y.scope; instructions = y.instructions.0 }))
-      (related.scope y.scope _ _ y.instructions.1)))
-      (λ x y is. subst (λ z. IsRelated (collected a (roll-ReactiveBlock z)) (collected b (roll-ReactiveBlock z))) is
-      (moved IsRelated (collected-block a (record { statements = map (λ e. e.0) y.statements }))
-      (collected-block b (record { statements = map (λ e. e.0) y.statements }))
-      (list_related IsRelated a.joining b.joining related.joined (collected_statement a) (collected_statement b)
-      y.statements)))
-      (λ x y is. subst (λ z. CaseRelated (roll-ReactiveSwitchCase z)) is (λ id.
-      moved IsRelated (collected-case a y.test (bare_if y.block) id) (collected-case b y.test (bare_if y.block) id)
-      (both (related.place id y.test) (case_if y.block))))
-      (λ x y is. subst (λ z. IsRelated (collected_labeled a (record { terminal = z.terminal; label = z.label }))
-      (collected_labeled b (record { terminal = z.terminal; label = z.label }))) is
-      (moved IsRelated (collected-labeled a (record { terminal = y.terminal.0; label = y.label }))
-      (collected-labeled b (record { terminal = y.terminal.0; label = y.label }))
-      (both (related.label y.label) y.terminal.1)))
+  collected_related = of_every_block claims inductive

@@ -46,7 +46,7 @@ module _ {S A : Type 0} (v : ReadSteps S) (IsFollowed : Walk S → A → Type 0)
     pub target : (x : ReactiveInstruction) (inside : Walk S) (held : A) → IsFollowed inside held
         → IsFollowed (next_to (v.visit_id x.id) (next_to (perhaps (v.visit_lvalue x.id) x.lvalue)
         (next_to (each (v.visit_lvalue x.id) (targets_of x.value)) inside)))
-        (adds.joining.both (adds.target x.id x.lvalue) held)
+        (adds.row x (adds.joining.both (adds.target x.id x.lvalue) held))
 
 module _ {S A : Type 0} (v : ReadSteps S) (IsFollowed : Walk S → A → Type 0) (functions : List HirFunction)
     (adds : ValueContributions A) (followed : FollowedValues v IsFollowed functions adds) where
@@ -79,7 +79,8 @@ module _ {S A : Type 0} (v : ReadSteps S) (IsFollowed : Walk S → A → Type 0)
 
   each_row : (rows : List OfRow) → IsFollowed (each (around_instruction v functions)
       (map (λ x. (x, inside_instruction v functions x)) (map (λ e. e.0) rows)))
-      (all_of adds.joining (map (collected_row adds) (map (λ e. e.0) rows)))
+      (all_of adds.joining (map (λ (row : ReactiveInstruction × A). row.1)
+      (map (λ x. (x, collected_row adds x)) (map (λ e. e.0) rows))))
   unfolding read_instruction
   each_row [] = followed.in_turn.none
   each_row (x ∷ xs) = next x.1 (each_row xs)

@@ -2,7 +2,7 @@
 use Rattle.std.proofs.Common.{List, Result, Ok, Err, refl, sym, ap, subst}
 use Rattle.rc_hir.specs.Model.{Fault, HirFunction}
 use Rattle.rc_tree.proofs.RefinesLemmas.{follows_body}
-use Rattle.rc_tree.specs.inside.Refines.{StepAgrees, Refines, RebuildsTo}
+use Rattle.rc_tree.specs.inside.Refines.{BlockAgrees, StepAgrees, Refines, RebuildsTo}
 use Rattle.rc_tree.specs.Step.{IsStep, bind}
 use Rattle.rc_tree.specs.Rebuilt.{Rules}
 use Rattle.rc_tree.specs.Rewrite.{rewrite_block}
@@ -26,6 +26,14 @@ module _ {T S R St : Type 0} (rules : Rules S) (steps : T → StatementSteps St)
     beside t r made (Ok rule) (Err given) h = absurd h
     beside t r made (Err fault) (Ok step) h = absurd h
 
+    block_beside : (t : T) (r : R) (rule : Result (S × List ReactiveStatement) Fault)
+        (step : Result (Unit {0} × (St × ReactiveBlock)) Fault) → BlockAgrees (at r) rule step
+        → BlockAgrees {W = T × St} (λ s. (t, at r s)) rule (bind step (λ q. Ok (tt, ((t, q.1.0), q.1.1))))
+    block_beside t r (Ok rule) (Ok step) h = (ap (λ w. (t, w)) h.0, h.1)
+    block_beside t r (Err fault) (Err given) h = h
+    block_beside t r (Ok rule) (Err given) h = absurd h
+    block_beside t r (Err fault) (Ok step) h = absurd h
+
     pub over_statements_follow : (t : T) → StatementsRefine rules (steps t) at inner
         → Refines rules (over_statements steps) (λ r s. (t, at r s)) inner
     over_statements_follow t follows = record {
@@ -38,7 +46,6 @@ module _ {T S R St : Type 0} (rules : Rules S) (steps : T → StatementSteps St)
       enter_pruned_scope = refl;
       leave_pruned_scope = refl;
       enter_block = refl;
-      leave_block = refl;
       enter_scope = λ r s x. ap (λ e. bind e (λ q. Ok (Inside, ((t, q.1), x)))) (follows.enter_scope r s x);
       leave_scope = refl;
       row = λ r s x. subst (λ e. StepAgrees {W = T × St} (λ s. (t, at r s)) reactive.Instruction e
@@ -51,14 +58,16 @@ module _ {T S R St : Type 0} (rules : Rules S) (steps : T → StatementSteps St)
       scope = λ r met s x. beside t r reactive.Scope (rules.scope met x s)
           ((steps t).transform_scope (at (inner r met) s) x)
           (follows.scope r met s x);
+      block = λ r s x. block_beside t r (rules.block x.statements s) ((steps t).leave_block (at r s) x)
+          (follows.block r s x);
     }
 
-    -- a call with the result of the walk leaves the block that the rules rebuild
+    -- a call with the result of the walk leaves the block that the rules rebuild, and the state that stands for theirs
     pub statements_rebuilt : EntersNoDeeper (over_statements steps) → (functions : T → List HirFunction) (t : T)
         → StatementsRefine rules (steps t) at inner
         → (r : R) (s : S) (x y : ReactiveBlock) (w : T × St) (result : Result (Unit {0}) Fault)
         → IsStep (rewrite_block (over_statements steps) functions (t, at r s) x) result (w, y)
-        → RebuildsTo rules x s y result
+        → RebuildsTo rules (λ s. (t, at r s)) x s y w result
     statements_rebuilt enters functions t follows r s x y w result h =
         follows_body rules (over_statements steps) functions (λ r s. (t, at r s)) inner
         (over_statements_follow t follows)

@@ -1,13 +1,34 @@
 -- The numbers of a tree are kept if they are kept part by part.
+use Rattle.std.proofs.Common.{◌≡◌, ◌∙◌, Ok, subst, sym}
+use Rattle.std.specs.Prelude.{IfOk}
 use Rattle.rc_names.specs.Numbers.{EvaluationOrder}
-use Rattle.rc_tree.specs.inside.RewriteKeeps.{Measure, Compositional}
-use Rattle.rc_tree.specs.TreeNames.{Names, names_of_parts, names_of_values}
-use Rattle.rc_tree.proofs.CollectedKeeps.{collected_laws, collected_measure, value_laws}
+use Rattle.rc_tree.proofs.Measures.{Measure, Compositional, block, one}
+use Rattle.rc_tree.specs.Model.{ReactiveBlock, ReactiveScopeBlock}
+use Rattle.rc_tree.specs.Pruned.{as_pruned}
+use Rattle.rc_tree.specs.Rebuilt.{Rules, rebuilt_block}
+use Rattle.rc_tree.specs.declared.statement.ReactiveStatement.TheVariants as reactive
+use Rattle.rc_tree.specs.TreeNames.{Names, names_in, names_of_parts}
+use Rattle.rc_tree.proofs.CollectedKeeps.{collected_laws, collected_measure, same_alone, same_block}
+use Rattle.rc_tree.proofs.CollectedLemmas.{collected-PrunedScope, collected-Scope}
 use Rattle.rc_tree.proofs.JoiningLemmas.{lists_monoid}
+use Rattle.rc_tree.proofs.RebuiltKeeps.{RulesKeep, rebuilt_keeps}
 
 -- the numbers of a part, as a measure that is determined by its parts
-abbrev pub names_measure : Measure (EvaluationOrder → Names) Names Names (EvaluationOrder → Names) Names
+abbrev pub names_measure : Measure Names (EvaluationOrder → Names) Names
 names_measure = collected_measure names_of_parts
 
 pub names_laws : Compositional names_measure
-names_laws = collected_laws names_of_parts lists_monoid (value_laws names_of_values)
+names_laws = collected_laws names_of_parts lists_monoid
+
+-- a pass whose rules keep the numbers of their parts keeps those of the tree
+pub names_kept : {S : Type 0} (rules : Rules S) → RulesKeep names_measure rules → (before after : ReactiveBlock)
+    (s t : S) → rebuilt_block rules before s ≡ Ok (t, after) → names_in after ≡ names_in before
+names_kept rules keep before after s t is =
+    same_block names_of_parts before after (subst (λ e. IfOk e (λ a. block names_measure a.1 ≡ block names_measure
+    before)) is (rebuilt_keeps names_measure names_laws rules keep before s))
+
+-- a scope block has the same numbers as a pruned one
+pub pruned_names : (x : ReactiveScopeBlock)
+    → one names_measure (reactive.PrunedScope (as_pruned x)) ≡ one names_measure (reactive.Scope x)
+pruned_names x = same_alone names_of_parts (reactive.Scope x) (reactive.PrunedScope (as_pruned x))
+    (collected-PrunedScope names_of_parts (as_pruned x) ∙ sym (collected-Scope names_of_parts x))

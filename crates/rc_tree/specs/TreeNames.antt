@@ -21,6 +21,7 @@ names_of_values = record {
   joining = lists;
   instruction = λ id x. value_names x;
   target = λ id x. names_if place_names x;
+  row = λ x inside. inside;
 }
 
 -- a block's own scope comes before the numbers inside; a label's and a jump's number indexes no table

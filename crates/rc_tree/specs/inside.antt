@@ -1,5 +1,4 @@
 -- What private functions, and lemmas, say of each other.
 pub mod RewriteInPlace
-pub mod RewriteKeeps
 pub mod Refines
 pub mod StatementsRefine

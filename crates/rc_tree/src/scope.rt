@@ -1,5 +1,8 @@
 //! The blocks of reactive scopes.
 
+ghost use Rattle.std.specs.Prelude.{◌≡◌};
+ghost use Rattle.rc_tree.specs.Pruned.{as_pruned, emptied_scope};
+
 use crate::statement::ReactiveBlock;
 use rc_names::ScopeId;
 
@@ -17,4 +20,19 @@ pub struct ReactiveScopeBlock {
 pub struct PrunedReactiveScopeBlock {
     pub scope: ScopeId,
     pub instructions: ReactiveBlock,
+}
+
+impl ReactiveScopeBlock {
+    /// A pruned block with the statements of this one, which are taken.
+    pub fn take_pruned(&mut self) -> PrunedReactiveScopeBlock
+        ensures pruned { result ≡ as_pruned self.old }
+        ensures left { self.new ≡ emptied_scope self.old }
+    {
+        PrunedReactiveScopeBlock {
+            scope: self.scope,
+            instructions: ReactiveBlock {
+                statements: self.instructions.statements.take(),
+            },
+        }
+    }
 }

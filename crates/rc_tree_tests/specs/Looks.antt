@@ -1,6 +1,6 @@
 -- An enter step that doesn't change its part, whatever it does with the world, doesn't make the part deeper.
 use Rattle.std.proofs.Common.{◌≡◌, ◌∙◌, ◌≤◌, ℕ, Ok, arith, subst, sym}
-use Rattle.rc_tree.specs.NoDeeper.{same_part}
+use Rattle.rc_tree.proofs.NoDeeper.{same_part}
 use Rattle.rc_tree.specs.Fuel.{Hook}
 use Rattle.rc_tree.specs.RewriteSteps.{NoDeeper}
 use Rattle.rc_tree.specs.Model.{Enter}

@@ -5,7 +5,7 @@
 
 ghost use Rattle.rc_tree.specs.Step.{IsStep};
 ghost use Rattle.rc_tree.specs.StatementSteps.{StatementSteps, over_statements};
-ghost use Rattle.rc_tree.specs.StatementsNoDeeper.{over_statements_no_deeper};
+ghost use Rattle.rc_tree.proofs.StatementsNoDeeper.{over_statements_no_deeper};
 
 use crate::transform::ReactiveFunctionTransform;
 use rc_hir::{Environment, Fault, Place};
@@ -42,6 +42,10 @@ pub trait StatementTransform {
         state: &mut Self::State,
     ) -> Result<Transformed<ReactiveStatement>, Fault>
         ensures { IsStep ((steps self.now).transform_scope state.old scope.old) result (state.new, scope.new) };
+
+    /// Called after the statements of a block, which have their replacements; may give the block others.
+    fn leave_block(&self, block: &mut ReactiveBlock, state: &mut Self::State) -> Result<(), Fault>
+        ensures { IsStep ((steps self.now).leave_block state.old block.old) result (state.new, block.new) };
 }
 
 /// A pass over statements as a transform: rows and values are skipped, and every other part is entered.
@@ -179,10 +183,10 @@ impl<'a, P: StatementTransform> ReactiveFunctionTransform for OverStatements<'a,
 
     fn leave_block(
         &mut self,
-        _block: &mut ReactiveBlock,
-        _state: &mut P::State,
+        block: &mut ReactiveBlock,
+        state: &mut P::State,
     ) -> Result<(), Fault> {
-        Ok(())
+        self.pass.leave_block(block, state)
     }
 
     fn transform_instruction(

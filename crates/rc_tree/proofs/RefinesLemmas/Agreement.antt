@@ -177,20 +177,13 @@ module _ {S R T St : Type 0} (world : R → S → T × St) where
   settled_agrees r (Failed fault) e k h = sym (ap (told r) h)
   settled_agrees r (Done d) e k h = ap (λ w. Ok (tt, (w, d.1.1))) h.2 ∙ sym (ap (told r) h.1)
 
-  pub settled_placed : (r : R) (run : Fueled (Transformed ReactiveStatement × ((T × St) × ReactiveStatement)))
-      (e : Result (S × List ReactiveStatement) Fault)
-      → HasFuel run → Places r run e → StepAgrees (world r) (λ y. y) e (as_step run)
-  unfolding Places HasFuel as_step
-  settled_placed r OutOfFuel e k h = absurd k
-  settled_placed r (Failed fault) e k h = subst (λ e. StepAgrees (world r) (λ y. y) e (Err fault)) (sym h) refl
-  settled_placed r (Done d) e k h = subst (λ e. StepAgrees (world r) (λ y. y) e (Ok d)) (sym h.1) (h.2, refl)
-
   pub gives_leaves : {X : Type 0} (r : R) (e : Result (S × X) Fault) (result : Result (Unit {0}) Fault) (w : T × St)
       (y : X)
       → IsStep (told r e) result (w, y)
-      → OnOk result ((s : S) × (e ≡ Ok (s, y))) × IfErr result (λ fault. (fault ≡ NoMemory) ⊎ (e ≡ Err fault))
+      → OnOk result ((s : S) × (e ≡ Ok (s, y)) × (w ≡ world r s)) × IfErr result (λ fault. (fault ≡ NoMemory) ⊎ (e ≡ Err fault))
   gives_leaves r (Ok a) (Ok u) w y h =
-      ((a.0, ap (λ d. Ok (a.0, d.1.1)) (Ok-injective (tt, (world r a.0, a.1)) (u, (w, y)) h)), tt)
+      let same = Ok-injective (tt, (world r a.0, a.1)) (u, (w, y)) h in
+      ((a.0, ap (λ d. Ok (a.0, d.1.1)) same, ap (λ d. d.1.0) (sym same)), tt)
   gives_leaves r (Ok a) (Err fault) w y (inl h) = (tt, inl h)
   gives_leaves r (Ok a) (Err fault) w y (inr h) = let bad : ⊥ = cc in absurd bad
   gives_leaves r (Err given) (Ok u) w y h = let bad : ⊥ = cc in absurd bad

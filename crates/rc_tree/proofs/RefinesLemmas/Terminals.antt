@@ -44,7 +44,7 @@ module _ {S R T St : Type 0} (rules : Rules S) (v : RewriteSteps (T × St)) (fun
     enter_pruned_scope = goes_inside;
     leave_pruned_scope = does_nothing;
     enter_block = goes_inside;
-    leave_block = does_nothing;
+    leave_block = v.leave_block;
     transform_instruction = v.transform_instruction;
     transform_terminal = v.transform_terminal;
     transform_scope = v.transform_scope;
@@ -67,7 +67,7 @@ module _ {S R T St : Type 0} (rules : Rules S) (v : RewriteSteps (T × St)) (fun
     enter_pruned_scope = follows.enter_pruned_scope i;
     leave_pruned_scope = follows.leave_pruned_scope i;
     enter_block = follows.enter_block i;
-    leave_block = follows.leave_block i;
+    leave_block = v.leave_block;
     transform_instruction = v.transform_instruction;
     transform_terminal = v.transform_terminal;
     transform_scope = v.transform_scope;

@@ -22,6 +22,14 @@ StepAgrees world made (Err fault) (Err given) = given ≡ fault
 StepAgrees world made (Ok rule) (Err given) = ⊥
 StepAgrees world made (Err fault) (Ok step) = ⊥
 
+-- a block's last step agrees with the rule for its statements
+abbrev pub BlockAgrees : {S W : Type 0} → (S → W) → Result (S × List ReactiveStatement) Fault
+    → Result (Unit {0} × (W × ReactiveBlock)) Fault → Type 0
+BlockAgrees world (Ok rule) (Ok step) = (step.1.0 ≡ world rule.0) × (step.1.1 ≡ record { statements = rule.1 })
+BlockAgrees world (Err fault) (Err given) = given ≡ fault
+BlockAgrees world (Ok rule) (Err given) = ⊥
+BlockAgrees world (Err fault) (Ok step) = ⊥
+
 -- `world r s` is the world that represents the state `s` below the stack `r`; `inner r s` is the stack inside a scope
 -- block that is entered there
 pub record Refines {S R T St : Type 0} (rules : Rules S) (v : RewriteSteps (T × St)) (world : R → S → T × St)
@@ -37,10 +45,9 @@ pub record Refines {S R T St : Type 0} (rules : Rules S) (v : RewriteSteps (T ×
   pub enter_pruned_scope : v.enter_pruned_scope ≡ goes_inside
   pub leave_pruned_scope : v.leave_pruned_scope ≡ does_nothing
   pub enter_block : v.enter_block ≡ goes_inside
-  pub leave_block : v.leave_block ≡ does_nothing
   -- a scope block is entered with the state at the start of its inside
   pub enter_scope : (r : R) (s : S) (x : ReactiveScopeBlock)
-      → v.enter_scope (world r s) x ≡ Ok (Inside, (world (inner r s) (rules.into_scope s), x))
+      → v.enter_scope (world r s) x ≡ Ok (Inside, (world (inner r s) (rules.into_scope x.scope s), x))
   pub leave_scope : v.leave_scope ≡ does_nothing
   -- the last step of each statement agrees with its rule
   pub row : (r : R) (s : S) (x : ReactiveInstruction)
@@ -52,9 +59,14 @@ pub record Refines {S R T St : Type 0} (rules : Rules S) (v : RewriteSteps (T ×
   -- a scope block that is entered in the state `met` and whose inside ends in the state `s`
   pub scope : (r : R) (met s : S) (x : ReactiveScopeBlock)
       → StepAgrees (world r) reactive.Scope (rules.scope met x s) (v.transform_scope (world (inner r met) s) x)
+  -- a block whose statements have their replacements
+  pub block : (r : R) (s : S) (x : ReactiveBlock)
+      → BlockAgrees (world r) (rules.block x.statements s) (v.leave_block (world r s) x)
 
--- a call rebuilds a block by the rules from the state `start`, or returns a rule's fault, or runs out of memory
-abbrev pub RebuildsTo : {S : Type 0} → Rules S → ReactiveBlock → S → ReactiveBlock → Result (Unit {0}) Fault → Type 0
-RebuildsTo {S = S} rules before start after result =
-    OnOk result ((s : S) × (rebuilt_block rules before start ≡ Ok (s, after)))
+-- a call rebuilds a block by the rules from the state `start`, and leaves the world that represents the last state; or it
+-- returns a rule's fault, or runs out of memory
+abbrev pub RebuildsTo : {S W : Type 0} → Rules S → (S → W) → ReactiveBlock → S → ReactiveBlock → W
+    → Result (Unit {0}) Fault → Type 0
+RebuildsTo {S = S} rules world before start after left result =
+    OnOk result ((s : S) × (rebuilt_block rules before start ≡ Ok (s, after)) × (left ≡ world s))
     × IfErr result (λ fault. (fault ≡ NoMemory) ⊎ (rebuilt_block rules before start ≡ Err fault))

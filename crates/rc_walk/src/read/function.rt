@@ -22,7 +22,7 @@ use crate::read::value::{visit_each_place, walk_instruction};
 use crate::visitor::ReactiveFunctionVisitor;
 use rc_hir::{
     BasicBlock, Fault, HirFunction, Instruction, ParamPattern, Place, TableName, Terminal,
-    each_terminal_operand,
+    borrowed_terminal_operands,
 };
 use rc_names::{BlockId, CloneIn, FunctionId, InstructionId, Keyed, List, Name};
 use rc_tree::{ReactiveFunction, ReactiveInstruction, ReactiveValue};
@@ -250,7 +250,7 @@ fn visit_terminal_operands<V: ReactiveFunctionVisitor>(
     ensures { IsStep (each ((V.steps visitor.now).visit_place (evaluation_order terminal.now)) (terminal_operands
         terminal.now) (V.view visitor.now state.old)) result (V.view visitor.now state.new) }
 {
-    let places = each_terminal_operand(alloc, terminal)?;
+    let places = borrowed_terminal_operands(alloc, terminal)?;
     visit_each_place(
         visitor,
         terminal.evaluation_order(),

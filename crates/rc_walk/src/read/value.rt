@@ -10,8 +10,7 @@ ghost use Rattle.rc_walk.specs.inside.HeldContext.{inside_held};
 use crate::read::held::function_held;
 use crate::visitor::ReactiveFunctionVisitor;
 use rc_hir::{
-    Fault, InstructionValue, Place, Places, TableName, each_instruction_value_lvalue,
-    each_instruction_value_operand,
+    Fault, InstructionValue, Place, Places, TableName, borrowed_lvalues, borrowed_operands,
 };
 use rc_names::{EvaluationOrder, FunctionId, List};
 use rc_tree::{Enter, ReactiveInstruction, ReactiveValue};
@@ -154,7 +153,7 @@ fn visit_operands<V: ReactiveFunctionVisitor>(
     match function_held(value) {
         Some(function) => visit_held(visitor, id, function, state),
         None => {
-            let places = each_instruction_value_operand(alloc, value, visitor.env())?;
+            let places = borrowed_operands(alloc, value, visitor.env())?;
             visit_each_place(visitor, id, places.as_slice(), state)
         }
     }
@@ -208,7 +207,7 @@ fn visit_value_targets<V: ReactiveFunctionVisitor>(
 {
     match value {
         ReactiveValue::Instruction(value) => {
-            let targets = each_instruction_value_lvalue(alloc, value)?;
+            let targets = borrowed_lvalues(alloc, value)?;
             visit_lvalues(visitor, id, &targets, state)
         }
         ReactiveValue::LogicalExpression { .. }

@@ -7,8 +7,7 @@ ghost use Rattle.rc_tree.specs.ReadSteps.{targets_of};
 
 use crate::transform::ReactiveFunctionTransform;
 use rc_hir::{
-    Fault, InstructionValue, Place, Places, each_instruction_value_lvalue,
-    each_instruction_value_operand,
+    Fault, InstructionValue, Place, Places, borrowed_lvalues, each_instruction_value_operand,
 };
 use rc_names::{EvaluationOrder, List};
 use rc_tree::ReactiveValue;
@@ -26,7 +25,7 @@ pub(crate) fn visit_operands<T: ReactiveFunctionTransform>(
     ensures { IsStep (inside_base T.steps T.functions id value.now (transform.old, state.old)) result
         (transform.new, state.new) }
 {
-    let places = each_instruction_value_operand(alloc, value, transform.env())?.into_list(alloc)?;
+    let places = each_instruction_value_operand(alloc, value, transform.env())?;
     visit_places(transform, id, &places, state)
 }
 
@@ -59,7 +58,7 @@ pub(crate) fn visit_value_targets<T: ReactiveFunctionTransform>(
 {
     match value {
         ReactiveValue::Instruction(value) => {
-            let targets = each_instruction_value_lvalue(alloc, value)?;
+            let targets = borrowed_lvalues(alloc, value)?;
             visit_lvalues(transform, id, &targets, state)
         }
         ReactiveValue::LogicalExpression { .. }

@@ -153,9 +153,9 @@ statement::walk_last_into-returns g t c =
     let y = c.walk_in_place.new.statement in
     let at : c.in-Some.last + 1 ≡ length c.args.left.now = omega (arith, c.in-Some.ensures, c.len.ensures) in
     record {
-      left = λ rest x e. (c.in_ok-put_last.ensures rest y (last_set c.args.left.now rest x y c.in-Some.last e at)).0;
+      left = λ rest x e. (c.in_ok-put_last.ensures.put rest y (last_set c.args.left.now rest x y c.in-Some.last e at)).0;
       done = λ n rest x e.
-          rw (c.in_ok-put_last.ensures rest y (last_set c.args.left.now rest x y c.in-Some.last e at)).1
+          rw (c.in_ok-put_last.ensures.put rest y (last_set c.args.left.now rest x y c.in-Some.last e at)).1
           (subst (λ z. IsFueled (into_at steps functions (block_to steps functions n)
           (c.args.transform.now, c.args.state.now) c.args.done.now z) (Ok tt) (
             (c.walk_in_place.new.transform, c.walk_in_place.new.state),

@@ -1,7 +1,7 @@
 -- The enter steps of a pass over statements don't make their parts deeper.
 use Rattle.std.proofs.Common.{◌≡◌, Result, Ok, Err, ◌≤◌}
 use Rattle.rc_hir.specs.Model.{Fault}
-use Rattle.rc_tree.specs.NoDeeper.{goes_inside_no_deeper, skips_no_deeper}
+use Rattle.rc_tree.proofs.NoDeeper.{goes_inside_no_deeper, skips_no_deeper}
 use Rattle.rc_tree.specs.Step.{bind}
 use Rattle.rc_tree.specs.RewriteSteps.{EntersNoDeeper, NoDeeper}
 use Rattle.rc_tree.specs.StatementSteps.{StatementSteps, enters_scope, over_statements}

@@ -18,14 +18,3 @@ goes_inside_no_deeper size w w1 x x1 answer e = same_size size x x1 (same_part _
 
 pub skips_no_deeper : {W X : Type 0} (size : X → ℕ) → NoDeeper size (skips {W = W} {X = X})
 skips_no_deeper size w w1 x x1 answer e = same_size size x x1 (same_part _ answer w w1 x x1 e)
-
--- the steps that change nothing
-pub idle_no_deeper : {W : Type 0} → EntersNoDeeper (idle {W = W})
-idle_no_deeper = record {
-  instruction = goes_inside_no_deeper _;
-  value = λ id. goes_inside_no_deeper _;
-  terminal = goes_inside_no_deeper _;
-  scope = goes_inside_no_deeper _;
-  pruned_scope = goes_inside_no_deeper _;
-  block = goes_inside_no_deeper _;
-}
