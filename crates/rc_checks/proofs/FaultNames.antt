@@ -10,7 +10,7 @@ use Rattle.rc_hir.specs.PartNames.{Name, parameter_names}
 use Rattle.rc_hir.specs.Model.{Environment, Fault}
 use Rattle.rc_tree.specs.TreeNames.{TreeInTables, TreeNamesOutside, names_in}
 use Rattle.rc_tree.specs.Model.{ReactiveFunction}
-use Rattle.rc_runs.proofs.AnyLemmas.{Any-cases, Any-left, Any-one, Any-right, none_of}
+use Rattle.rc_tree.proofs.AnyLemmas.{Any-cases, Any-left, Any-one, Any-right, none_of}
 
 module _ (env : Environment) (fault : Fault) where
   -- the fault names one of the numbers, or one of a function of the table or of the environment, which is outside its

@@ -4,4 +4,4 @@ mod BreakTargets
 mod LabelPruning
 pub mod MembershipCheck
 pub mod ScopeBlocks
-mod UnusedScopes
+pub mod UnusedScopes

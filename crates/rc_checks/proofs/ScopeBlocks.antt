@@ -1,5 +1,4 @@
 -- The scope blocks of a tree, and that a spelled tree has each scope once.
 pub mod ContentsLemmas
-pub mod DistinctLemmas
 mod TimesLemmas
 pub mod SpelledOnce

@@ -1,8 +1,6 @@
--- Why pruning unused scopes follows its rules, and that it keeps numbers and the tree without scopes.
+-- Why pruning unused scopes follows its rules, what it decides, and that it keeps numbers and the tree without scopes.
 pub mod StepsLemmas
-pub mod StayingParts
 pub mod UsedScopesStay
-pub mod NamesStay
-pub mod ScopesOnce
-pub mod KeepErase
+pub mod Decided
+pub mod Keep
 pub mod Faults

@@ -5,11 +5,11 @@
 -- and those inside it.
 pub mod Steps
 use Rattle.std.specs.Prelude.{◌≡◌, Bool, List, [], ◌∷◌, Option, None, Some, Ok, if◌then◌else◌}
-use Rattle.std.specs.List.{list_any}
-use Rattle.indexmap.specs.IndexSet.{insert_key}
-use Rattle.rc_names.specs.Numbers.{BlockId, same_id}
+use Rattle.std.specs.FinSet.{FinSet, contains, empty, insert}
+use Rattle.std.specs.Ordering.{nat_cmp}
+use Rattle.rc_names.specs.Numbers.{BlockId}
 use Rattle.rc_tree.specs.Unrolled.{UnrolledTerminal}
-use Rattle.rc_tree.specs.Rebuilt.{Rules, rebuilt_block}
+use Rattle.rc_tree.specs.Rebuilt.{Rules, keeps_statements, rebuilt_block}
 use Rattle.rc_tree.specs.Model.{ReactiveTerminalTargetKind, ReactiveBlock, ReactiveStatement, ReactiveLabel}
 use Rattle.rc_tree.specs.Model.{ReactiveTerminalStatement}
 use Rattle.rc_tree.specs.declared.kind.ReactiveTerminalTargetKind.TheVariants.{Labeled}
@@ -17,17 +17,17 @@ use Rattle.rc_tree.specs.declared.statement.ReactiveStatement.TheOpen as layer
 use Rattle.rc_tree.specs.declared.statement.ReactiveStatement.TheVariants as reactive
 use Rattle.rc_tree.specs.declared.terminal.ReactiveTerminal.{out-ReactiveTerminal}
 
--- the blocks that the labeled jumps met so far name, each once
+-- the numbers of the blocks that the labeled jumps met so far name
 abbrev pub Targets : Type 0
-Targets = List BlockId
+Targets = FinSet nat_cmp
 
 -- one of them is the block
 abbrev pub is_target : Targets → BlockId → Bool
-is_target targets block = list_any (same_id block) targets
+is_target targets block = contains targets block.0
 
 -- the targets behind a jump of that kind
 abbrev pub with_jump : ReactiveTerminalTargetKind → BlockId → Targets → Targets
-with_jump Labeled target targets = insert_key same_id targets target
+with_jump Labeled target targets = insert targets target.0
 with_jump _ target targets = targets
 
 -- the targets behind a terminal whose inside is behind us
@@ -71,11 +71,12 @@ label_rules = record {
     terminal_after (targets_behind (out-ReactiveTerminal x.terminal) targets) x,
   );
   pruned_scope = λ x targets. Ok (targets, reactive.PrunedScope x ∷ []);
-  into_scope = λ targets. targets;
+  into_scope = λ scope targets. targets;
   scope = λ met x targets. Ok (targets, reactive.Scope x ∷ []);
+  block = keeps_statements;
 }
 
 -- the second block is the first one without its unused labels
 pub record IsWithoutUnusedLabels (before after : ReactiveBlock) : Type 0 where
   pub targets : Targets
-  pub rebuilt : rebuilt_block label_rules before [] ≡ Ok (targets, after)
+  pub rebuilt : rebuilt_block label_rules before empty ≡ Ok (targets, after)

@@ -2,17 +2,15 @@
 --
 -- An operand is outside where its identifier has a scope, the operand is visited inside that scope's range, the scope
 -- has a scope block in the tree, and no block of it is around the operand.
-pub mod Visits
 use Rattle.std.specs.Prelude.{◌≡◌, Bool, ◌&&◌, not, List, ◌∷◌, ◌++◌, Option, None, Some, Result}
 use Rattle.std.specs.Prelude.{Ok, Err, All, slice_get, if◌then◌else◌}
-use Rattle.std.specs.List.{list_any}
 use Rattle.rc_hir.specs.Model.{Environment, Identifier, Fault, MutableRange, ReactiveScope}
 use Rattle.rc_hir.specs.declared.fault.Fault.TheVariants.{BadName}
 use Rattle.rc_hir.specs.declared.fault.TableName.TheVariants.{Identifiers, Scopes}
 use Rattle.rc_names.specs.Numbers.{EvaluationOrder, IdentifierId, ScopeId, is_among}
 use Rattle.rc_ranges.specs.Ranges.{is_in_range}
 use Rattle.rc_tree.specs.Step.{bind}
-use Rattle.rc_checks.specs.Membership.Visits.{PlacedOperand, Visit}
+use Rattle.rc_tree.specs.Visits.{PlacedOperand, Visit}
 
 -- the scope of an identifier that was looked up by its number; one outside its table is a bad name
 abbrev pub scope_found : IdentifierId → Option Identifier → Result (Option ScopeId) Fault

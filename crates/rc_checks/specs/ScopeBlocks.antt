@@ -1,10 +1,10 @@
--- The scope blocks of a tree, at every depth and in the order of the text, each with whether a `Return` stands in it.
+-- The scope blocks of a tree, at every depth and in the order in which they end, each with whether a `Return` stands in
+-- it.
 --
 -- A `Return` stands in the innermost scope block around it alone. A pruned block isn't a scope block, so that its
 -- `Return`s stand in the block around.
 use Rattle.std.specs.Prelude.{Bool, true, false, List, [], ◌∷◌, ◌++◌, map, ◌||◌}
-use Rattle.std.specs.List.{IsDistinct}
-use Rattle.rc_names.specs.Numbers.{ScopeId, same_id}
+use Rattle.rc_names.specs.Numbers.{ScopeId}
 use Rattle.rc_tree.specs.Collected.{Contributions, collected}
 use Rattle.rc_tree.specs.Joining.{Joining}
 use Rattle.rc_tree.specs.Model.{ReactiveBlock}
@@ -26,7 +26,7 @@ joining = record {
   both = λ a b. record { returns = a.returns || b.returns; blocks = a.blocks ++ b.blocks };
 }
 
--- a scope block comes before those in it, and a `Return` in it isn't outside
+-- a scope block ends after those in it, and a `Return` in it isn't outside
 abbrev pub contents_of_parts : Contributions Contents
 contents_of_parts = record {
   joining = joining;
@@ -38,7 +38,7 @@ contents_of_parts = record {
   label = λ label. joining.nothing;
   scope = λ scope inside. record {
     returns = false;
-    blocks = record { scope = scope; returns = inside.returns } ∷ inside.blocks;
+    blocks = inside.blocks ++ record { scope = scope; returns = inside.returns } ∷ [];
   };
   pruned_scope = λ scope inside. inside;
 }
@@ -58,11 +58,3 @@ scope_blocks block = (contents block).blocks
 -- the scopes of the scope blocks that a part has
 abbrev pub scopes_of : Contents → List ScopeId
 scopes_of part = map (λ (block : ScopeBlock). block.scope) part.blocks
-
--- the scope of each scope block of the tree
-abbrev pub scopes_in : ReactiveBlock → List ScopeId
-scopes_in x = scopes_of (contents x)
-
--- no scope number stands in two scope blocks of the tree
-abbrev pub HasScopesOnce : ReactiveBlock → Type 0
-HasScopesOnce body = IsDistinct same_id (scopes_in body)

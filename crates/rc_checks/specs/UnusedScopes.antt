@@ -3,8 +3,8 @@
 -- A scope gives something where it reassigns a name, declares one of its own, or a `Return` stands in its block outside
 -- nested scope blocks. Blocks are judged from the inside. A `Return` in a nested scope block doesn't count, also where
 -- that block becomes a pruned one; one in a block that was pruned before does.
-use Rattle.std.specs.Prelude.{◌≡◌, Bool, true, false, List, [], ◌∷◌, Option, None, Some, Result, Ok, Err, nat_eq}
-use Rattle.std.specs.Prelude.{length, slice_get, ◌≤◌, ◌||◌, if◌then◌else◌}
+use Rattle.std.specs.Prelude.{◌≡◌, Bool, true, false, List, [], ◌∷◌, Option, None, Some, Ok, Err, nat_eq}
+use Rattle.std.specs.Prelude.{◌++◌, length, map, not, slice_get, ◌≤◌, ◌||◌, if◌then◌else◌}
 use Rattle.std.specs.List.{Contains, filter, list_any}
 use Rattle.std.specs.Option.{option_map_or}
 use Rattle.rc_hir.specs.Model.{Environment, Fault, DeclarationEntry, ReactiveScope}
@@ -13,9 +13,12 @@ use Rattle.rc_hir.specs.declared.fault.TableName.TheVariants.{Scopes}
 use Rattle.rc_names.specs.Numbers.{ScopeId}
 use Rattle.rc_checks.specs.ScopeBlocks.{ScopeBlock, scope_blocks}
 use Rattle.rc_tree.specs.Unrolled.{UnrolledTerminal}
-use Rattle.rc_tree.specs.Step.{bind}
-use Rattle.rc_tree.specs.Rebuilt.{Rules, rebuilt_block}
-use Rattle.rc_tree.specs.Model.{PrunedReactiveScopeBlock, ReactiveScopeBlock, ReactiveBlock, ReactiveStatement}
+use Rattle.rc_tree.specs.Rebuilt.{Rebuilds, Rules, keeps_statements, rebuilt_block}
+use Rattle.rc_tree.specs.declared.fate.Fate.TheVariants.{Unused}
+use Rattle.rc_tree.specs.declared.fate.ScopeFate.{ScopeFate}
+use Rattle.rc_tree.specs.Model.{ReactiveScopeBlock, ReactiveBlock, ReactiveStatement}
+use Rattle.rc_tree.specs.Decided.{FateRule}
+use Rattle.rc_tree.specs.Pruned.{as_pruned}
 use Rattle.rc_tree.specs.declared.statement.ReactiveStatement.TheOpen as layer
 use Rattle.rc_tree.specs.declared.statement.ReactiveStatement.TheVariants as reactive
 use Rattle.rc_tree.specs.declared.terminal.ReactiveTerminal.{out-ReactiveTerminal}
@@ -37,45 +40,67 @@ has_own_output scope id = has_entry scope.reassignments || list_any (belongs_to 
 abbrev pub is_used : ReactiveScope → ScopeId → Bool → Bool
 is_used scope id returns = returns || has_own_output scope id
 
--- the same block as a pruned one
-abbrev pub as_pruned : ReactiveScopeBlock → PrunedReactiveScopeBlock
-as_pruned block = record { scope = block.scope; instructions = block.instructions }
+-- how far the pass has come: whether a `Return` was met since the innermost scope block began, and what was decided
+pub record Progress : Type 0 where
+  pub returns : Bool
+  pub log : List ScopeFate
 
--- the replacement of a scope block
-abbrev pub kept_if : Bool → ReactiveScopeBlock → ReactiveStatement
-kept_if used block = if used then reactive.Scope block else reactive.PrunedScope (as_pruned block)
+-- the state after a scope block and the block's replacement, from the state in front of it and the one at the end of its
+-- inside
+abbrev pub judged_by : Bool → Progress → ReactiveScopeBlock → Progress → Progress × List ReactiveStatement
+judged_by used around block met =
+    if used then (record { returns = around.returns; log = met.log }, reactive.Scope block ∷ [])
+    else (
+      record {
+        returns = around.returns;
+        log = met.log ++ record { scope = block.scope; fate = Unused } ∷ [];
+      },
+      reactive.PrunedScope (as_pruned block) ∷ [],
+    )
 
 -- the same by the scope of the block's number; there is none where the number is outside the table
-abbrev pub judged : Option ReactiveScope → Bool → ReactiveScopeBlock → Result ReactiveStatement Fault
-judged None returns block = Err (BadName Scopes block.scope.0)
-judged (Some scope) returns block = Ok (kept_if (is_used scope block.scope returns) block)
+abbrev pub judged : Option ReactiveScope → Progress → ReactiveScopeBlock → Rebuilds Progress (List ReactiveStatement)
+judged None around block met = Err (BadName Scopes block.scope.0)
+judged (Some scope) around block met = Ok (judged_by (is_used scope block.scope met.returns) around block met)
 
 -- the terminal is a `Return`
 abbrev pub is_return : UnrolledTerminal → Bool
 is_return (layer.Return value id) = true
 is_return _ = false
 
--- the rule for each statement; the state says whether a `Return` was met since the innermost scope block began
-abbrev pub unused_scope_rules : Environment → Rules Bool
+-- the rule for each statement
+abbrev pub unused_scope_rules : Environment → Rules Progress
 unused_scope_rules env = record {
-  row = λ row returns. Ok (returns, reactive.Instruction row ∷ []);
-  terminal = λ statement returns.
-      Ok (returns || is_return (out-ReactiveTerminal statement.terminal), reactive.Terminal statement ∷ []);
-  pruned_scope = λ block returns. Ok (returns, reactive.PrunedScope block ∷ []);
-  into_scope = λ returns. false;
-  scope = λ around block returns.
-      bind (judged (slice_get env.scopes block.scope.0) returns block) (λ statement. Ok (around, statement ∷ []));
+  row = λ row met. Ok (met, reactive.Instruction row ∷ []);
+  terminal = λ statement met. Ok (
+    record met { returns = met.returns || is_return (out-ReactiveTerminal statement.terminal) },
+    reactive.Terminal statement ∷ [],
+  );
+  pruned_scope = λ block met. Ok (met, reactive.PrunedScope block ∷ []);
+  into_scope = λ scope met. record met { returns = false };
+  scope = λ around block met. judged (slice_get env.scopes block.scope.0) around block met;
+  block = keeps_statements;
 }
+
+-- nothing is met yet
+abbrev pub nothing_met : Progress
+nothing_met = record { returns = false; log = [] }
+
+-- the second block is the first one without its unused scopes, and the log says which they are
+pub record LosesUnusedScopes (env : Environment) (before after : ReactiveBlock) (log : List ScopeFate) : Type 0 where
+  -- a `Return` is in it outside its scope blocks
+  pub returns : Bool
+  pub rebuilt : rebuilt_block (unused_scope_rules env) before nothing_met
+      ≡ Ok (record { returns = returns; log = log }, after)
 
 -- the second block is the first one without its unused scopes
 pub record IsWithoutUnusedScopes (env : Environment) (before after : ReactiveBlock) : Type 0 where
-  -- a `Return` stands in it outside its scope blocks
-  pub returns : Bool
-  pub rebuilt : rebuilt_block (unused_scope_rules env) before false ≡ Ok (returns, after)
+  pub log : List ScopeFate
+  pub loses : LosesUnusedScopes env before after log
 
 -- the fault of the rules: it names the scope of the first scope block, from the inside, that is outside the table
 abbrev pub IsFirstScopeOutside : Environment → ReactiveBlock → Fault → Type 0
-IsFirstScopeOutside env before fault = rebuilt_block (unused_scope_rules env) before false ≡ Err fault
+IsFirstScopeOutside env before fault = rebuilt_block (unused_scope_rules env) before nothing_met ≡ Err fault
 
 -- the scope of that block gives something
 abbrev pub stays : Environment → ScopeBlock → Bool
@@ -86,6 +111,12 @@ stays env block = option_map_or (λ scope. is_used scope block.scope block.retur
 abbrev pub staying_blocks : Environment → ReactiveBlock → List ScopeBlock
 staying_blocks env before = filter (stays env) (scope_blocks before)
 
+-- the decisions on the others, in the order in which they end
+abbrev pub decisions : Environment → List ScopeBlock → List ScopeFate
+decisions env blocks =
+    map (λ (block : ScopeBlock). record { scope = block.scope; fate = Unused }) (filter (λ block. not (stays env block))
+    blocks)
+
 -- the fault names the block's scope, which is outside the table
 abbrev pub IsBlockOutside : Environment → Fault → ScopeBlock → Type 0
 IsBlockOutside env fault block = (fault ≡ BadName Scopes block.scope.0) × (length env.scopes ≤ block.scope.0)
@@ -94,3 +125,12 @@ IsBlockOutside env fault block = (fault ≡ BadName Scopes block.scope.0) × (le
 abbrev pub IsScopeOutside : Environment → ReactiveBlock → Fault → Type 0
 IsScopeOutside env before fault =
     (block : ScopeBlock) × Contains (scope_blocks before) block × IsBlockOutside env fault block
+
+-- the scope is unused: a block of it gives nothing
+abbrev pub IsUnused : Environment → ReactiveBlock → ScopeId → Type 0
+IsUnused env body scope = (block : ScopeBlock) × Contains (scope_blocks body) block × (block.scope ≡ scope)
+    × (stays env block ≡ false)
+
+-- the rule of the pass: it gives unused scopes that fate, and no others
+abbrev pub unused_rule : Environment → ReactiveBlock → FateRule
+unused_rule env body scope fate = (fate ≡ Unused) × IsUnused env body scope

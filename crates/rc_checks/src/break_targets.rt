@@ -14,8 +14,9 @@ ghost use Rattle.rc_runs.specs.Spelled.{Spells};
 ghost use Rattle.rc_tree.specs.Step.{IsStep, each};
 ghost use Rattle.rc_tree.specs.declared.terminal.ReactiveTerminal.{out-ReactiveTerminal};
 
+use crate::block_set::BlockSet;
 use rc_hir::{Environment, Fault};
-use rc_names::{BlockId, KeySet};
+use rc_names::BlockId;
 use rc_tree::{
     ReactiveBlock, ReactiveFunction, ReactiveLabel, ReactiveStatement, ReactiveTerminal,
     ReactiveTerminalStatement,
@@ -39,13 +40,13 @@ pub fn assert_well_formed_break_targets(
     ensures spelled { (hir : Hir) → Spells hir env.now func.now →
         IfErr result (λ fault. fault ≡ Fault.NoMemory) }
 {
-    let mut labels = KeySet::new(alloc);
+    let mut labels = BlockSet::new(alloc);
     check_block(&func.body, &mut labels)
 }
 
 /// Checks the terminals of a list, and of the scopes in it.
 #[cycle(check_targets)]
-fn check_block(block: &ReactiveBlock, labels: &mut KeySet<BlockId>) -> Result<(), Fault>
+fn check_block(block: &ReactiveBlock, labels: &mut BlockSet) -> Result<(), Fault>
     ensures { IsStep (each terminal_step (met_in block.now) labels.old) result labels.new }
 {
     for statement in block.statements.as_slice() {
@@ -56,7 +57,7 @@ fn check_block(block: &ReactiveBlock, labels: &mut KeySet<BlockId>) -> Result<()
 
 /// Checks a terminal, or those of a scope.
 #[cycle(check_targets)]
-fn check_statement(statement: &ReactiveStatement, labels: &mut KeySet<BlockId>) -> Result<(), Fault>
+fn check_statement(statement: &ReactiveStatement, labels: &mut BlockSet) -> Result<(), Fault>
     ensures { IsStep (each terminal_step (met_at statement.now) labels.old) result labels.new }
 {
     match statement {
@@ -68,10 +69,7 @@ fn check_statement(statement: &ReactiveStatement, labels: &mut KeySet<BlockId>) 
 }
 
 /// Notes a terminal's label, and looks its target up among the labels, where it is a jump.
-fn check_terminal(
-    stmt: &ReactiveTerminalStatement,
-    labels: &mut KeySet<BlockId>,
-) -> Result<(), Fault>
+fn check_terminal(stmt: &ReactiveTerminalStatement, labels: &mut BlockSet) -> Result<(), Fault>
     ensures { IsStep (terminal_step (met_terminal stmt.now) labels.old) result labels.new }
 {
     add_label(stmt.label, labels)?;
@@ -79,7 +77,7 @@ fn check_terminal(
 }
 
 /// Looks a target up among the labels, where there is one.
-fn check_target(target: Option<BlockId>, labels: &KeySet<BlockId>) -> Result<(), Fault>
+fn check_target(target: Option<BlockId>, labels: &BlockSet) -> Result<(), Fault>
     ensures { IsStep (target_step target labels.now) result labels.now }
 {
     match target {
@@ -95,7 +93,7 @@ fn check_target(target: Option<BlockId>, labels: &KeySet<BlockId>) -> Result<(),
 }
 
 /// Notes a label, where there is one.
-fn add_label(label: Option<ReactiveLabel>, labels: &mut KeySet<BlockId>) -> Result<(), AllocError>
+fn add_label(label: Option<ReactiveLabel>, labels: &mut BlockSet) -> Result<(), AllocError>
     ensures { OnOk result (labels.new ≡ with_label label labels.old) }
 {
     if let Some(label) = label {

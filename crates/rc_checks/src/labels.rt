@@ -14,8 +14,9 @@ ghost use Rattle.rc_checks.specs.Labels.{IsWithoutUnusedLabels, flattened, label
 ghost use Rattle.rc_checks.specs.inside.LabelPruning.{IsFrontPruned, IsLastPut, done_before, label_in, opened, put_behind};
 ghost use Rattle.rc_checks.specs.inside.LabelPruning.{refilled};
 ghost use Rattle.rc_checks.specs.Labels.Steps.{IsAfterLabelWalk};
-ghost use Rattle.rc_checks.specs.ScopeBlocks.{scope_blocks, HasScopesOnce, scopes_in};
-ghost use Rattle.rc_checks.specs.Membership.Visits.{visits_of};
+ghost use Rattle.rc_checks.specs.ScopeBlocks.{scope_blocks};
+ghost use Rattle.rc_tree.specs.ScopesIn.{HasScopesOnce, scopes_in};
+ghost use Rattle.rc_tree.specs.Visits.{visits_of};
 ghost use Rattle.rc_hir.specs.declared.fault.Fault.TheVariants as faults;
 ghost use Rattle.rc_runs.specs.BodyRun.{IsBodyRun};
 ghost use Rattle.rc_runs.specs.EarlyReturns.{NoEarlyReturnSet};
@@ -30,9 +31,10 @@ ghost use Rattle.rc_walk.specs.Statements.{added_if};
 mod targets;
 mod transform;
 
+use crate::block_set::BlockSet;
 use crate::labels::targets::{mark, names_label, note_target};
 use rc_hir::{Environment, Fault};
-use rc_names::{BlockId, KeySet, List};
+use rc_names::List;
 use rc_tree::{
     ReactiveBlock, ReactiveFunction, ReactiveStatement, ReactiveSwitchCase, ReactiveTerminal,
     ReactiveTerminalStatement,
@@ -66,14 +68,14 @@ pub fn prune_unused_labels(
     ensures scopes_once { OnOk result (HasScopesOnce func.old.body → HasScopesOnce func.new.body) }
     ensures only { IfErr result (λ it. it ≡ faults.NoMemory) }
 {
-    let mut targets = KeySet::new(alloc);
+    let mut targets = BlockSet::new(alloc);
     prune_block(&mut func.body, &mut targets)?;
     Ok(())
 }
 
 /// Prunes a block in its place. The statements in front of the first one that gives way aren't moved.
 #[cycle(prune_labels)]
-fn prune_block(block: &mut ReactiveBlock, targets: &mut KeySet<BlockId>) -> Result<(), AllocError>
+fn prune_block(block: &mut ReactiveBlock, targets: &mut BlockSet) -> Result<(), AllocError>
     ensures { OnOk result (rebuilt_block label_rules block.old targets.old ≡ Ok (targets.new, block.new)) }
 {
     let mut statements = block.statements.take();
@@ -89,7 +91,7 @@ fn prune_block(block: &mut ReactiveBlock, targets: &mut KeySet<BlockId>) -> Resu
 fn prune_front(
     statements: &mut List<ReactiveStatement>,
     done: &mut List<ReactiveStatement>,
-    targets: &mut KeySet<BlockId>,
+    targets: &mut BlockSet,
 ) -> Result<usize, AllocError>
     requires { done.old ≡ [] }
     ensures { IfOk result (λ staying.
@@ -112,7 +114,7 @@ fn prune_front(
 fn prune_reversed(
     left: &mut List<ReactiveStatement>,
     done: &mut List<ReactiveStatement>,
-    targets: &mut KeySet<BlockId>,
+    targets: &mut BlockSet,
 ) -> Result<(), AllocError>
     ensures put { OnOk result
         (put_behind done.old (joined (map (rebuilt_statement label_rules) (reverse left.old)) targets.old)
@@ -131,7 +133,7 @@ fn prune_reversed(
 fn prune_last(
     left: &mut List<ReactiveStatement>,
     done: &mut List<ReactiveStatement>,
-    targets: &mut KeySet<BlockId>,
+    targets: &mut BlockSet,
 ) -> Result<(), AllocError>
     requires { 0 < length left.old }
     ensures { OnOk result (IsLastPut left.old targets.old done.old left.new targets.new done.new) }
@@ -150,7 +152,7 @@ fn prune_last(
 fn prune_statement(
     statement: &mut ReactiveStatement,
     done: &mut List<ReactiveStatement>,
-    targets: &mut KeySet<BlockId>,
+    targets: &mut BlockSet,
 ) -> Result<bool, AllocError>
     ensures put { IfOk result (λ stays. put_behind done.old (rebuilt_statement label_rules statement.old targets.old)
         ≡ Ok (targets.new, done.new ++ added_if stays statement.new)) }
@@ -175,7 +177,7 @@ fn prune_statement(
 fn prune_labeled(
     stmt: &mut ReactiveTerminalStatement,
     done: &mut List<ReactiveStatement>,
-    targets: &mut KeySet<BlockId>,
+    targets: &mut BlockSet,
 ) -> Result<bool, AllocError>
     ensures put { IfOk result (λ stays.
         put_behind done.old (rebuilt_statement label_rules (reactive.Terminal stmt.old) targets.old)
@@ -199,7 +201,7 @@ fn prune_labeled(
 fn prune_terminal(
     terminal: &mut ReactiveTerminal,
     done: &mut List<ReactiveStatement>,
-    targets: &mut KeySet<BlockId>,
+    targets: &mut BlockSet,
 ) -> Result<(), AllocError>
     ensures { OnOk result (opened done.old (rebuilt_terminal label_rules terminal.old targets.old)
         ≡ Ok (targets.new, (terminal.new, done.new))) }
@@ -238,7 +240,7 @@ fn prune_terminal(
 #[cycle(prune_labels)]
 fn prune_cases(
     cases: &mut List<ReactiveSwitchCase>,
-    targets: &mut KeySet<BlockId>,
+    targets: &mut BlockSet,
 ) -> Result<(), AllocError>
     ensures { OnOk result (in_order (map (rebuilt_case label_rules) cases.old) targets.old
         ≡ Ok (targets.new, cases.new)) }
@@ -256,7 +258,7 @@ fn prune_cases(
 #[cycle(prune_labels)]
 fn prune_block_if(
     block: &mut Option<ReactiveBlock>,
-    targets: &mut KeySet<BlockId>,
+    targets: &mut BlockSet,
 ) -> Result<(), AllocError>
     ensures { OnOk result (if_there (option_map (rebuilt_block label_rules) block.old) targets.old
         ≡ Ok (targets.new, block.new)) }
@@ -297,7 +299,7 @@ fn take_back(
 }
 
 /// Whether the terminal is a `Label` that nothing names.
-fn gives_way(stmt: &ReactiveTerminalStatement, targets: &KeySet<BlockId>) -> bool
+fn gives_way(stmt: &ReactiveTerminalStatement, targets: &BlockSet) -> bool
     ensures { result ≡ is_some (flattened targets.now stmt.now.label (out-ReactiveTerminal stmt.now.terminal)) }
 {
     if names_label(targets, &stmt.label) {

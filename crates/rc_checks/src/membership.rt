@@ -11,15 +11,15 @@ mod visitor;
 
 ghost use Rattle.std.specs.Prelude.{◌≡◌, ◌⊎◌, ℕ, All, IfErr, IfOk, OnOk};
 ghost use Rattle.rc_checks.specs.Membership.{IsInside, IsFirstUnknown, IsLastOutside};
-ghost use Rattle.rc_checks.specs.ScopeBlocks as spec;
-ghost use Rattle.rc_checks.specs.Membership.Visits.{visits_of};
+ghost use Rattle.rc_tree.specs.ScopesIn as spec;
+ghost use Rattle.rc_tree.specs.Visits.{visits_of};
 ghost use Rattle.rc_hir.specs.Model.{TableName as Table};
 ghost use Rattle.rc_names.specs.Numbers.{EvaluationOrder as Order, ScopeId as Scope, is_among};
 ghost use Rattle.rc_tree.specs.TreeNames.{TreeInTables, TreeNamesOutside};
 
 use crate::membership::contexts::contexts_to_visit;
 use crate::membership::open_scopes::OpenScopes;
-use crate::membership::visitor::{Membership, Seen};
+use crate::membership::visitor::{CheckInstructionsAgainstScopesVisitor, Seen};
 use crate::scope_blocks::scopes_in;
 use rc_hir::{Environment, Fault};
 use rc_names::{KeySet, ScopeId};
@@ -55,7 +55,7 @@ pub fn assert_scope_instructions_within_scopes(
 {
     let blocks = scope_blocks(alloc, &func.body)?;
     let contexts = contexts_to_visit(alloc, env, &blocks)?;
-    let check = Membership {
+    let check = CheckInstructionsAgainstScopesVisitor {
         alloc,
         env,
         blocks: &blocks,

@@ -1,17 +1,20 @@
 //! The block of a scope that gives nothing becomes a pruned one.
 //!
 //! A block is judged when its inside is done. A flag says whether a `Return` was met in it so far; the flags of the
-//! scope blocks around are set aside until then.
+//! scope blocks around are set aside until then. The scopes that give nothing are listed, in the order in which their
+//! blocks end.
 //!
 //! After oxc's prune_unused_scopes.
 
-ghost use Rattle.std.specs.Prelude.{◌≡◌, ◌⊎◌, map, IfErr, OnOk};
+ghost use Rattle.std.specs.Prelude.{◌≡◌, ◌⊎◌, [], map, IfErr, IfOk, OnOk};
 ghost use Rattle.std.specs.List.{list_any};
 ghost use Rattle.rc_hir.specs.declared.fault.Fault.TheVariants as faults;
 ghost use Rattle.rc_runs.specs.Erase.{erased};
+ghost use Rattle.rc_tree.specs.Decided.{IsDecidedBy};
 ghost use Rattle.rc_tree.specs.TreeNames.{TreeInTables, TreeNamesOutside, names_in};
 ghost use Rattle.rc_tree.specs.declared.terminal.ReactiveTerminal.{out-ReactiveTerminal};
-ghost use Rattle.rc_checks.specs.ScopeBlocks.{scope_blocks, HasScopesOnce, scopes_in};
+ghost use Rattle.rc_checks.specs.ScopeBlocks.{scope_blocks};
+ghost use Rattle.rc_tree.specs.ScopesIn.{HasScopesOnce, scopes_in};
 ghost use Rattle.rc_checks.specs.UnusedScopes.{IsScopeOutside, staying_blocks};
 ghost use Rattle.rc_checks.specs.UnusedScopes as spec;
 ghost use Rattle.rc_checks.specs.inside.UnusedScopesSteps as steps;
@@ -19,8 +22,8 @@ ghost use Rattle.rc_checks.specs.inside.UnusedScopesSteps as steps;
 use rc_hir::{Environment, Fault, ReactiveScope, TableName};
 use rc_names::{List, ScopeId};
 use rc_tree::{
-    PrunedReactiveScopeBlock, ReactiveBlock, ReactiveFunction, ReactiveScopeBlock,
-    ReactiveStatement, ReactiveTerminal, ReactiveTerminalStatement, Transformed,
+    Fate, ReactiveBlock, ReactiveFunction, ReactiveScopeBlock, ReactiveStatement, ReactiveTerminal,
+    ReactiveTerminalStatement, ScopeFate, Transformed,
 };
 use rc_walk::rewrite::transform_reactive_function;
 use rc_walk::{OverStatements, StatementTransform};
@@ -57,40 +60,93 @@ pub fn prune_unused_scopes(
         ⊎ TreeNamesOutside func.old env.now fault) }
     ensures sound { TreeInTables func.old env.now → IfErr result (λ fault. fault ≡ faults.NoMemory) }
 {
-    let mut transform = OverStatements {
-        env,
-        pass: UnusedScopes { env },
-    };
-    let mut flags = Returns {
-        met: false,
-        around: List::new(alloc),
-    };
-    transform_reactive_function(alloc, func, &mut transform, &mut flags)
+    decide_unused_scopes(alloc, func, env)?;
+    Ok(())
 }
 
-/// The pass over statements, with the tables that it looks into; its state is the flags.
+/// The same, and returns what was decided: each scope whose block became a pruned one, in the order in which the blocks
+/// end.
+pub fn decide_unused_scopes(
+    alloc: Global,
+    func: &mut ReactiveFunction,
+    env: &Environment,
+) -> Result<List<ScopeFate>, Fault>
+    ensures loses { IfOk result (spec.LosesUnusedScopes env.now func.old.body func.new.body) }
+    ensures told { IfOk result (λ log. log ≡ spec.decisions env.now (scope_blocks func.old.body)) }
+    ensures decided { IfOk result
+        (IsDecidedBy (spec.unused_rule env.now func.old.body) func.old.body func.new.body) }
+    ensures header { func.new ≡ record func.old { body = func.new.body } }
+    ensures stays { OnOk result (scope_blocks func.new.body ≡ staying_blocks env.now func.old.body) }
+    ensures left { OnOk result
+        (scopes_in func.new.body ≡ map (λ block. block.scope) (staying_blocks env.now func.old.body)) }
+    ensures kept_names { OnOk result (names_in func.new.body ≡ names_in func.old.body) }
+    ensures kept_erased { OnOk result (erased func.new ≡ erased func.old) }
+    ensures known { OnOk result (TreeInTables func.old env.now → TreeInTables func.new env.now) }
+    ensures scopes_once { OnOk result (HasScopesOnce func.old.body → HasScopesOnce func.new.body) }
+
+    ensures refused { IfErr result (λ fault. (fault ≡ faults.NoMemory)
+        ⊎ spec.IsFirstScopeOutside env.now func.old.body fault) }
+    ensures bad_name { IfErr result (λ fault. (fault ≡ faults.NoMemory)
+        ⊎ IsScopeOutside env.now func.old.body fault) }
+    ensures named { IfErr result (λ fault. (fault ≡ faults.NoMemory)
+        ⊎ TreeNamesOutside func.old env.now fault) }
+    ensures sound { TreeInTables func.old env.now → IfErr result (λ fault. fault ≡ faults.NoMemory) }
+{
+    let mut judging = Judging {
+        met: false,
+        around: List::new(alloc),
+        log: List::new(alloc),
+    };
+    match judge_blocks(alloc, func, env, &mut judging) {
+        Ok(()) => Ok(judging.into_log()),
+        Err(fault) => Err(fault),
+    }
+}
+
+/// Judges each scope block of the body.
+fn judge_blocks(
+    alloc: Global,
+    func: &mut ReactiveFunction,
+    env: &Environment,
+    judging: &mut Judging,
+) -> Result<(), Fault>
+    requires { judging.old ≡ steps.at [] spec.nothing_met }
+    ensures loses { OnOk result
+        (spec.LosesUnusedScopes env.now func.old.body func.new.body judging.new.log) }
+    ensures header { func.new ≡ record func.old { body = func.new.body } }
+    ensures refused { IfErr result (λ fault. (fault ≡ faults.NoMemory)
+        ⊎ spec.IsFirstScopeOutside env.now func.old.body fault) }
+{
+    let mut transform = OverStatements {
+        env,
+        pass: Transform { env },
+    };
+    transform_reactive_function(alloc, func, &mut transform, judging)
+}
+
+/// The pass over statements, with the tables that it looks into.
 #[derive(Clone, Copy)]
-pub(crate) struct UnusedScopes<'a> {
+pub(crate) struct Transform<'a> {
     env: &'a Environment,
 }
 
-impl<'a> StatementTransform for UnusedScopes<'a> {
-    type State = Returns;
+impl<'a> StatementTransform for Transform<'a> {
+    type State = Judging;
 
     ghost steps = { λ pass. steps.unused_scope_steps pass.env.now };
 
-    fn enter_scope(&self, _scope: &ReactiveScopeBlock, flags: &mut Returns) -> Result<(), Fault> {
-        flags.begin_scope()?;
+    fn enter_scope(&self, _scope: &ReactiveScopeBlock, judging: &mut Judging) -> Result<(), Fault> {
+        judging.begin_scope()?;
         Ok(())
     }
 
     fn transform_terminal(
         &self,
         stmt: &mut ReactiveTerminalStatement,
-        flags: &mut Returns,
+        judging: &mut Judging,
     ) -> Result<Transformed<ReactiveStatement>, Fault> {
         if is_return(&stmt.terminal) {
-            flags.met = true;
+            judging.met = true;
         }
         Ok(Transformed::Keep)
     }
@@ -98,9 +154,9 @@ impl<'a> StatementTransform for UnusedScopes<'a> {
     fn transform_scope(
         &self,
         scope: &mut ReactiveScopeBlock,
-        flags: &mut Returns,
+        judging: &mut Judging,
     ) -> Result<Transformed<ReactiveStatement>, Fault> {
-        let returns = flags.end_scope();
+        let returns = judging.end_scope();
         let id = scope.scope;
         let Some(known) = self.env.scopes.get(id) else {
             return Err(Fault::BadName {
@@ -111,20 +167,26 @@ impl<'a> StatementTransform for UnusedScopes<'a> {
         if returns || has_own_output(known, id) {
             return Ok(Transformed::Keep);
         }
-        let pruned = take_pruned(scope);
+        judging.decide(id)?;
+        let pruned = scope.take_pruned();
         Ok(Transformed::Replace(ReactiveStatement::PrunedScope(pruned)))
+    }
+
+    fn leave_block(&self, _block: &mut ReactiveBlock, _judging: &mut Judging) -> Result<(), Fault> {
+        Ok(())
     }
 }
 
-/// Whether a `Return` was met in the scope block at hand, and in each block around it from the outside in; the first is
-/// the body.
+/// Whether a `Return` was met in the scope block at hand, and in each block around it from the outside in, of which the
+/// first is the body; and what was decided so far.
 #[derive(Drop)]
-pub(crate) struct Returns {
+pub(crate) struct Judging {
     met: bool,
     around: List<bool>,
+    log: List<ScopeFate>,
 }
 
-impl Returns {
+impl Judging {
     /// A scope block begins: no `Return` was met in it.
     fn begin_scope(&mut self) -> Result<(), AllocError>
         ensures { OnOk result (self.new ≡ steps.inside_scope self.old) }
@@ -142,6 +204,24 @@ impl Returns {
         let met = self.met;
         self.met = pop_flag(&mut self.around);
         met
+    }
+
+    /// The scope is unused.
+    fn decide(&mut self, scope: ScopeId) -> Result<(), AllocError>
+        ensures { OnOk result (self.new ≡ steps.with_decided scope self.old) }
+    {
+        self.log.push(ScopeFate {
+            scope,
+            fate: Fate::Unused,
+        })
+    }
+
+    /// What was decided.
+    fn into_log(self) -> List<ScopeFate>
+        ensures { result ≡ self.log }
+    {
+        let Judging { log, .. } = self;
+        log
     }
 }
 
@@ -184,18 +264,5 @@ fn is_return(terminal: &ReactiveTerminal) -> bool
     match terminal {
         ReactiveTerminal::Return { .. } => true,
         _ => false,
-    }
-}
-
-/// A pruned block with the statements of the block, which are taken.
-fn take_pruned(block: &mut ReactiveScopeBlock) -> PrunedReactiveScopeBlock
-    ensures pruned { result ≡ spec.as_pruned block.old }
-    ensures left { block.new ≡ steps.emptied_scope block.old }
-{
-    PrunedReactiveScopeBlock {
-        scope: block.scope,
-        instructions: ReactiveBlock {
-            statements: block.instructions.statements.take(),
-        },
     }
 }

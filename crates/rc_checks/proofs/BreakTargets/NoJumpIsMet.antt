@@ -1,7 +1,7 @@
 -- The check of break targets meets no jump in a spelled tree: it enters scopes alone, a break out of a scope is no
 -- statement, and a continue has no loop among scopes.
 use Rattle.std.proofs.Common.{◌≡◌, ℕ, zero, suc, List, [], ◌∷◌, ◌++◌, flat_map, Bool, true, false}
-use Rattle.std.proofs.Common.{if◌then◌else◌, ◌||◌, ◌⊎◌, inl, inr, Option, None, Some, Result, Ok, Err, IfErr}
+use Rattle.std.proofs.Common.{if◌then◌else◌, ◌||◌, ◌&&◌, ◌⊎◌, inl, inr, Option, None, Some, Result, Ok, Err, IfErr}
 use Rattle.std.proofs.Common.{option_map, refl, sym, ap, ◌∙◌, subst}
 use Rattle.rc_names.specs.Numbers.{BlockId, EvaluationOrder, same_id}
 use Rattle.rc_names.specs.declared.span.Span.{Span}
@@ -59,33 +59,27 @@ abbrev IsNoBreak : BreakResult → Type 0
 IsNoBreak (Breaks kind) = ⊥
 IsNoBreak _ = Unit {0}
 
-scopes_way : (innermost in_loop : Bool) (frames : List Frame) (target : BlockId) → AreScopes frames
-    → IsNoBreak (resolve_from innermost in_loop frames target)
-scopes_way innermost in_loop [] target all = tt
-scopes_way innermost in_loop (frame_kinds.Scope of ∷ frames) target all =
-    split (same_id of target) innermost (scopes_way false (in_loop || false) frames target all)
+scopes_way : (innermost taken : Bool) (frames : List Frame) (target : BlockId) → AreScopes frames
+    → IsNoBreak (resolve_from innermost taken frames target)
+scopes_way innermost taken [] target all = tt
+scopes_way innermost taken (frame_kinds.Scope of ∷ frames) target all =
+    split (same_id of target) innermost (resolve_from (innermost && false) (taken || false) frames target)
+    (scopes_way (innermost && false) (taken || false) frames target all)
   where
-    split : (same innermost : Bool) → IsNoBreak (resolve_from false (in_loop || false) frames target)
-        → IsNoBreak (if same then resolve_at innermost in_loop (frame_kinds.Scope of)
-        else resolve_from false (in_loop || false) frames target)
-    split true true later = tt
-    split true false later = tt
-    split false innermost later = later
-scopes_way innermost in_loop (frame_kinds.Statement of ∷ frames) target all = absurd all
-scopes_way innermost in_loop (frame_kinds.Switch of ∷ frames) target all = absurd all
-scopes_way innermost in_loop (frame_kinds.Case of ∷ frames) target all = absurd all
-scopes_way innermost in_loop (frame_kinds.Loop of again ∷ frames) target all = absurd all
+    split : (same innermost : Bool) (further : BreakResult) → IsNoBreak further
+        → IsNoBreak (if same then resolve_at innermost taken (frame_kinds.Scope of) else further)
+    split true true further none = tt
+    split true false further none = tt
+    split false innermost further none = none
+scopes_way innermost taken (_ ∷ frames) target all = absurd all
 
 -- nor has a continue a loop
 scopes_continue : (innermost in_loop : Bool) (frames : List Frame) (target : BlockId) → AreScopes frames
     → continue_from innermost in_loop frames target ≡ NoLoop
 scopes_continue innermost in_loop [] target all = refl
 scopes_continue innermost in_loop (frame_kinds.Scope of ∷ frames) target all =
-    scopes_continue false (in_loop || false) frames target all
-scopes_continue innermost in_loop (frame_kinds.Statement of ∷ frames) target all = absurd all
-scopes_continue innermost in_loop (frame_kinds.Switch of ∷ frames) target all = absurd all
-scopes_continue innermost in_loop (frame_kinds.Case of ∷ frames) target all = absurd all
-scopes_continue innermost in_loop (frame_kinds.Loop of again ∷ frames) target all = absurd all
+    scopes_continue (innermost && false) (in_loop || false) frames target all
+scopes_continue innermost in_loop (_ ∷ frames) target all = absurd all
 
 -- no jump is met in a list of statements
 abbrev Quiet : Statements → Type 0

@@ -1,33 +1,34 @@
 -- Label pruning keeps each measure that counts no label and that a `Label` adds nothing to. So it keeps what is
 -- collected of a tree where labels add nothing: its numbers, its visits, its scope blocks and their scopes.
-use Rattle.std.proofs.Common.{◌≡◌, ◌∙◌, List, [], ◌∷◌, Bool, true, false, if◌then◌else◌, Option, None, Some}
-use Rattle.std.proofs.Common.{refl, sym, ap}
+use Rattle.std.proofs.Common.{◌≡◌, ◌∙◌, List, [], Bool, true, false, if◌then◌else◌, Option, None, Some}
+use Rattle.std.proofs.Common.{refl, sym, ap, subst}
+use Rattle.std.specs.FinSet.{empty}
+use Rattle.std.specs.Prelude.{IfOk}
 use Rattle.rc_hir.specs.Model.{HirFunction}
 use Rattle.rc_names.specs.Numbers.{EvaluationOrder}
 use Rattle.rc_tree.specs.Unrolled.{UnrolledTerminal}
-use Rattle.rc_tree.specs.inside.RewriteKeeps.{Measure, block, one, Compositional}
+use Rattle.rc_tree.proofs.Measures.{Measure, block, one, Compositional}
 use Rattle.rc_tree.specs.Collected.{Contributions, collected, collected_statement, collected_terminal}
 use Rattle.rc_tree.specs.Joining.{IsMonoid, lists}
-use Rattle.rc_tree.specs.TreeNames.{names_in, names_of_parts, names_of_values}
+use Rattle.rc_tree.specs.TreeNames.{names_in, names_of_parts}
 use Rattle.rc_tree.specs.Model.{ReactiveBlock, ReactiveLabel, ReactiveTerminalStatement}
 use Rattle.rc_tree.specs.declared.statement.ReactiveStatement.TheOpen as layer
 use Rattle.rc_tree.specs.declared.statement.ReactiveStatement.TheVariants as reactive
 use Rattle.rc_tree.specs.declared.terminal.ReactiveTerminal.{out-ReactiveTerminal}
 use Rattle.rc_tree.specs.declared.terminal.ReactiveTerminal.{roll-ReactiveTerminal, roll-out-ReactiveTerminal}
 use Rattle.rc_tree.specs.declared.terminal.ReactiveTerminal.TheVariants as tree
-use Rattle.rc_tree.proofs.CollectedKeeps.{CompositionalValues, added_by_value, collected_laws, collected_measure}
-use Rattle.rc_tree.proofs.CollectedKeeps.{nothing_laws, same_alone, same_block, value_laws}
+use Rattle.rc_tree.proofs.CollectedKeeps.{collected_laws, collected_measure, same_alone, same_block}
 use Rattle.rc_tree.proofs.CollectedLemmas.{collected-block, collected-Label, collected-Terminal}
 use Rattle.rc_tree.proofs.JoiningLemmas.{around_monoid, lists_monoid}
-use Rattle.rc_runs.proofs.RebuiltKeeps.{only_answer, rebuilt_keeps}
+use Rattle.rc_tree.proofs.RebuiltKeeps.{RulesKeep, rebuilt_keeps}
 use Rattle.rc_checks.specs.Labels.{IsWithoutUnusedLabels, Targets, flattened, in_place_of, is_named}
 use Rattle.rc_checks.specs.Labels.{label_after, label_rules, targets_behind}
-use Rattle.rc_checks.specs.ScopeBlocks.{Contents, contents, contents_of_parts, scope_blocks, scopes_in, scopes_of}
-use Rattle.rc_checks.specs.ScopeBlocks.{joining}
-use Rattle.rc_checks.specs.Membership.Visits.{visits_of, visits_of_parts, visits_of_values}
+use Rattle.rc_checks.specs.ScopeBlocks.{Contents, contents, contents_of_parts, scope_blocks}
+use Rattle.rc_tree.specs.ScopesIn.{scope_parts, scopes_in}
+use Rattle.rc_tree.specs.Visits.{visits_of, visits_of_parts}
 use Rattle.rc_checks.proofs.ScopeBlocks.ContentsLemmas.{contents_monoid}
 
-module _ {V I L C P : Type 0} (m : Measure V I L C P) (laws : Compositional m)
+module _ {L C P : Type 0} (m : Measure L C P) (laws : Compositional m)
     (blind : (x : ReactiveTerminalStatement) (label : Option ReactiveLabel)
     → one m (reactive.Terminal (record { terminal = x.terminal; label = label })) ≡ one m (reactive.Terminal x))
     (opens : (x : ReactiveTerminalStatement) (body : ReactiveBlock) (id : EvaluationOrder)
@@ -55,22 +56,22 @@ module _ {V I L C P : Type 0} (m : Measure V I L C P) (laws : Compositional m)
   placed_keeps targets x (layer.If test consequent alternate id) e = blind x (label_after targets x.label)
   placed_keeps targets x (layer.Try body binding handler id) e = blind x (label_after targets x.label)
 
+  rules_keep : RulesKeep m label_rules
+  rules_keep = record {
+    row = λ x s. refl;
+    terminal = λ x s. placed_keeps (targets_behind (out-ReactiveTerminal x.terminal) s) x
+        (out-ReactiveTerminal x.terminal) refl;
+    pruned_scope = λ x s. refl;
+    scope = λ met x s. refl;
+    block = λ xs s. refl;
+  }
+
   -- the block without its unused labels has the measure of the block
   pub labels_keep : (before after : ReactiveBlock) → IsWithoutUnusedLabels before after → block m after ≡ block m before
-  labels_keep before after is =
-      rebuilt_keeps m laws label_rules
-      (λ x s a e. only_answer m.statements s (reactive.Instruction x ∷ []) a e)
-      (λ x s a e.
-      let targets = targets_behind (out-ReactiveTerminal x.terminal) s in
-      only_answer m.statements targets (in_place_of targets x
-      (flattened targets x.label (out-ReactiveTerminal x.terminal))) a e
-      ∙ placed_keeps targets x (out-ReactiveTerminal x.terminal) refl)
-      (λ x s a e. only_answer m.statements s (reactive.PrunedScope x ∷ []) a e)
-      (λ met x s a e. only_answer m.statements s (reactive.Scope x ∷ []) a e)
-      before [] (is.targets, after) is.rebuilt
+  labels_keep before after is = subst (λ e. IfOk e (λ a. block m a.1 ≡ block m before)) is.rebuilt
+      (rebuilt_keeps m laws label_rules rules_keep before empty)
 
 module _ {A : Type 0} (adds : Contributions A) (monoid : IsMonoid adds.joining)
-    (values : CompositionalValues (added_by_value adds) adds.row)
     (unlabeled : (label : Option ReactiveLabel) → adds.label label ≡ adds.joining.nothing) where
   -- a terminal's contents are those without its label
   without_label : (x : ReactiveTerminalStatement)
@@ -83,7 +84,7 @@ module _ {A : Type 0} (adds : Contributions A) (monoid : IsMonoid adds.joining)
   pub labels_keep_collected : (before after : ReactiveBlock) → IsWithoutUnusedLabels before after
       → collected adds after ≡ collected adds before
   labels_keep_collected before after is = same_block adds before after
-      (labels_keep (collected_measure adds) (collected_laws adds monoid values) blind opens before after is)
+      (labels_keep (collected_measure adds) (collected_laws adds monoid) blind opens before after is)
     where
       blind : (x : ReactiveTerminalStatement) (label : Option ReactiveLabel)
           → one (collected_measure adds) (reactive.Terminal (record { terminal = x.terminal; label = label }))
@@ -102,21 +103,19 @@ module _ {A : Type 0} (adds : Contributions A) (monoid : IsMonoid adds.joining)
 -- the numbers of a tree stay
 pub labels_keep_names : (before after : ReactiveBlock) → IsWithoutUnusedLabels before after
     → names_in after ≡ names_in before
-labels_keep_names = labels_keep_collected names_of_parts lists_monoid (value_laws names_of_values) (λ label. refl)
+labels_keep_names = labels_keep_collected names_of_parts lists_monoid (λ label. refl)
 
 -- the visits of a tree stay
 pub labels_keep_visits : (functions : List HirFunction) (before after : ReactiveBlock)
     → IsWithoutUnusedLabels before after → visits_of functions after ≡ visits_of functions before
 labels_keep_visits functions before after is = ap (λ visits. visits [])
-    (labels_keep_collected (visits_of_parts functions) (around_monoid lists lists_monoid)
-    (value_laws (visits_of_values functions)) (λ label. refl) before after is)
+    (labels_keep_collected (visits_of_parts functions) (around_monoid lists lists_monoid) (λ label. refl) before after is)
 
--- the scope blocks of a tree stay, and so its scopes
+-- the scope blocks of a tree stay, and so do its scopes
 labels_keep_contents : (before after : ReactiveBlock) → IsWithoutUnusedLabels before after → contents after
     ≡ contents before
 labels_keep_contents =
-    labels_keep_collected contents_of_parts contents_monoid (nothing_laws (λ id. joining.nothing) joining.nothing)
-    (λ label. refl)
+    labels_keep_collected contents_of_parts contents_monoid (λ label. refl)
 
 pub labels_keep_scope_blocks : (before after : ReactiveBlock) → IsWithoutUnusedLabels before after
     → scope_blocks after ≡ scope_blocks before
@@ -124,4 +123,4 @@ labels_keep_scope_blocks before after is = ap (λ (it : Contents). it.blocks) (l
 
 pub labels_keep_scopes : (before after : ReactiveBlock) → IsWithoutUnusedLabels before after
     → scopes_in after ≡ scopes_in before
-labels_keep_scopes before after is = ap scopes_of (labels_keep_contents before after is)
+labels_keep_scopes = labels_keep_collected scope_parts lists_monoid (λ label. refl)

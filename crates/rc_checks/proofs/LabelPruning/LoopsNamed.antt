@@ -8,7 +8,7 @@ use Rattle.rc_runs.specs.Event.{Event}
 use Rattle.rc_runs.specs.LoopParts.{LoopParts}
 use Rattle.rc_runs.specs.PlainTree.{Value, Statements, TerminalStatement, Switch, DoWhile, While, For, ForOf, ForIn}
 use Rattle.rc_runs.specs.PlainTree.{Alternate, Cases, NoCases, Case}
-use Rattle.rc_runs.specs.Completion.{Completion, Normal, BreakTo, BreakLoop, ContinueTo, ContinueLoop, Ended, left_loop}
+use Rattle.rc_runs.specs.Completion.{Completion, Normal, BreakTo, BreakInnermost, ContinueTo, ContinueLoop, Ended, caught_unlabeled}
 use Rattle.rc_runs.specs.BodyRun.{RunsList, RunsStatement, RunsAlternate, RunsChosen, chosen_here, chosen_later}
 use Rattle.rc_runs.specs.BodyRun.{RunsCases, no_more_cases, falls_into, leaves_case, in_case, past_cases, Spot}
 use Rattle.rc_runs.specs.BodyRun.{RunsLoop, nothing_before, in_before, past_before, in_test, test_fails, test_holds}
@@ -17,10 +17,10 @@ use Rattle.rc_runs.specs.BodyRun.{in_for_in}
 use Rattle.rc_checks.specs.Labels.{Targets}
 use Rattle.rc_checks.proofs.LabelPruning.TargetsLemmas.{AllNamed, AllStay, inner_break}
 
--- a break that a loop doesn't catch is one of its body
+-- a break that a loop or a switch doesn't catch is one of its body or its cases
 left_break : (label : Option ReactiveLabel) (inner : Completion) (target : BlockId) →
-    left_loop label inner ≡ BreakTo target → inner ≡ BreakTo target
-left_break label BreakLoop target e = absurd (let bad : ⊥ = cc in bad)
+    caught_unlabeled label inner ≡ BreakTo target → inner ≡ BreakTo target
+left_break label BreakInnermost target e = absurd (let bad : ⊥ = cc in bad)
 left_break label Normal target e = inner_break label Normal target e
 left_break label (BreakTo other) target e = inner_break label (BreakTo other) target e
 left_break label (ContinueTo other) target e = inner_break label (ContinueTo other) target e
@@ -96,5 +96,5 @@ module _ (env : Environment) where
       {label : Option ReactiveLabel} → AllNamed (RunsSomeCases cases) targets
       → AllNamed (RunsStatement env (TerminalStatement (Switch test cases id) label)) targets
   switch_named targets inside events outcome (in_case {label = label} {chosen = chosen} {inner = inner} r q) block e =
-      inside _ inner (inl (chosen, r)) block (inner_break label inner block (sym q ∙ e))
+      inside _ inner (inl (chosen, r)) block (left_break label inner block (sym q ∙ e))
   switch_named targets inside events outcome (past_cases none) block e = absurd (let bad : ⊥ = cc in bad)

@@ -2,6 +2,7 @@
 use Rattle.std.proofs.Common.{◌≡◌, ◌∙◌, ◌≤◌, ◌<◌, ◌+◌, ◌-◌, ℕ, Bool, List, [], ◌∷◌, ◌++◌}
 use Rattle.std.proofs.Common.{Option, None, Some, Result, Ok, Err, OnOk, append_assoc, drop, length, map}
 use Rattle.std.proofs.Common.{option_map, reverse, slice_get, slice_set, take, refl, sym, ap, arith}
+use Rattle.std.specs.FinSet.{empty}
 use Rattle.std.proofs.lemmas.List.{drop_all, drop_more, reverse-append, take-append-drop}
 use Rattle.std.proofs.lemmas.Option.{get_or_from_slice_get, slice_get_within}
 use Rattle.std.proofs.lemmas.Result.{on_ok_weaker}
@@ -165,6 +166,6 @@ block_pruned x t t1 done1 h = rw (rebuilt-block label_rules x t) (by (all_of x.s
     by (Err fault) e = let bad : ⊥ = cc in absurd bad
 
 -- a block that is pruned from the empty set of targets
-pub without_labels : (before after : ReactiveBlock) (t t1 : Targets) → t ≡ []
+pub without_labels : (before after : ReactiveBlock) (t t1 : Targets) → t ≡ empty
     → rebuilt_block label_rules before t ≡ Ok (t1, after) → IsWithoutUnusedLabels before after
 without_labels before after t t1 none e = record { targets = t1; rebuilt = rw none at e }

@@ -1,8 +1,10 @@
 -- Label pruning changes no block that a label names, and the breaks out of each form name targets behind it.
-use Rattle.std.proofs.Common.{◌≡◌, List, [], ◌∷◌, ◌++◌, Bool, true, false, Option, Some, None, ◌||◌, if◌then◌else◌}
+use Rattle.std.proofs.Common.{◌≡◌, List, Bool, true, false, Option, Some, None, if◌then◌else◌}
 use Rattle.std.proofs.Common.{refl, sym, ap, ◌∙◌, subst}
-use Rattle.std.proofs.lemmas.List.Folds.{list_any-append}
-use Rattle.indexmap.specs.IndexSet.{insert_key}
+use Rattle.std.proofs.lemmas.Bool.{or_left, or_right}
+use Rattle.std.specs.Cmp.{nat_cmp_total, tied_itself}
+use Rattle.std.specs.FinSet.{contains-insert, insert}
+use Rattle.std.specs.Ordering.{eq_by_cmp, is_eq, nat_cmp}
 use Rattle.rc_names.specs.Numbers.{BlockId, EvaluationOrder, ScopeId, same_id}
 use Rattle.rc_names.specs.declared.span.Span.{Span}
 use Rattle.rc_hir.specs.Model.{Environment, Place}
@@ -13,13 +15,13 @@ use Rattle.rc_runs.specs.PlainTree.{Value, Statements, Nil, Cons, Statement, Row
 use Rattle.rc_runs.specs.PlainTree.{ScopeStatement, PrunedScopeStatement, Break, Continue, Return, Throw, If, Label}
 use Rattle.rc_runs.specs.PlainTree.{Try, Alternate, Absent, Present}
 use Rattle.rc_runs.specs.ValueRun.{Progress, Done, Short, Inside}
-use Rattle.rc_runs.specs.Completion.{Completion, Normal, BreakTo, BreakLoop, ContinueTo, ContinueLoop, Ended, caught}
+use Rattle.rc_runs.specs.Completion.{Completion, Normal, BreakTo, BreakInnermost, ContinueTo, ContinueLoop, Ended, caught}
 use Rattle.rc_runs.specs.Completion.{row_completion}
 use Rattle.rc_runs.specs.BodyRun.{RunsList, stopped, nothing, and_then, goes_on, leaves_list, RunsStatement, row}
 use Rattle.rc_runs.specs.BodyRun.{returned, thrown, break_implicit, break_labeled, break_unlabeled, continue_implicit}
 use Rattle.rc_runs.specs.BodyRun.{continue_labeled, continue_unlabeled, took_arm, took_other, in_label, in_try}
 use Rattle.rc_runs.specs.BodyRun.{in_handler, in_scope, in_pruned_scope, RunsAlternate, absent, present}
-use Rattle.rc_names.proofs.NumbersLemmas.{ids_equivalence, same_id-eq}
+use Rattle.rc_names.proofs.NumbersLemmas.{same_id-eq}
 use Rattle.rc_runs.proofs.LabelLemmas.{NameAlike}
 use Rattle.rc_checks.specs.Labels.{Targets, is_target, with_jump, is_named, label_after}
 
@@ -32,27 +34,15 @@ abbrev pub AllStay : Targets → Targets → Type 0
 AllStay targets targets' = (block : BlockId) → Stays block targets targets'
 
 -- where another block is put in
-is_target-insert : (targets : Targets) (target block : BlockId) →
-    Stays block targets (insert_key same_id targets target)
-is_target-insert targets target block e = go (is_target targets target)
-  where
-    go : (there : Bool) → is_target (if there then targets else targets ++ target ∷ []) block ≡ true
-    go true = e
-    go false = list_any-append (same_id block) targets (target ∷ []) ∙ ap (λ b. b || is_target (target ∷ []) block) e
+is_target-insert : (targets : Targets) (target block : BlockId) → Stays block targets (insert targets target.0)
+is_target-insert targets target block e =
+    contains-insert nat_cmp_total targets target.0 block.0 ∙ or_right (eq_by_cmp nat_cmp block.0 target.0) _ e
 
 -- a block that is put in is a target
-is_target-inserted : (targets : Targets) (target : BlockId) →
-    is_target (insert_key same_id targets target) target ≡ true
-is_target-inserted targets target = go (is_target targets target) refl
-  where
-    last : (b : Bool) → (b || is_target (target ∷ []) target) ≡ true
-    last true = refl
-    last false = ap (λ b. b || false) (ids_equivalence.refl target)
-
-    go : (there : Bool) → is_target targets target ≡ there →
-        is_target (if there then targets else targets ++ target ∷ []) target ≡ true
-    go true e = e
-    go false e = list_any-append (same_id target) targets (target ∷ []) ∙ last (is_target targets target)
+is_target-inserted : (targets : Targets) (target : BlockId) → is_target (insert targets target.0) target ≡ true
+is_target-inserted targets target =
+    contains-insert nat_cmp_total targets target.0 target.0
+    ∙ or_left (eq_by_cmp nat_cmp target.0 target.0) _ (ap is_eq (tied_itself nat_cmp_total target.0))
 
 pub is_target-with_jump : (kind : ReactiveTerminalTargetKind) (target : BlockId) (targets : Targets) →
     AllStay targets (with_jump kind target targets)
@@ -70,7 +60,7 @@ inner_break (Some label) (BreakTo other) target e = go (same_id label.id other) 
     go true e = absurd (let bad : ⊥ = cc in bad)
     go false e = e
 inner_break (Some label) Normal target e = e
-inner_break (Some label) BreakLoop target e = e
+inner_break (Some label) BreakInnermost target e = e
 inner_break (Some label) (ContinueTo other) target e = e
 inner_break (Some label) ContinueLoop target e = e
 inner_break (Some label) (Ended end) target e = e
@@ -118,7 +108,7 @@ module _ (env : Environment) where
   break_named targets events outcome break_implicit block e = absurd (let bad : ⊥ = cc in bad)
   break_named targets events outcome (break_labeled {target = target} {label = label} q) block e =
       let same = same_break target block (inner_break label (BreakTo target) block (sym q ∙ e)) in
-      subst (λ b. is_target (insert_key same_id targets target) b ≡ true) same (is_target-inserted targets target)
+      subst (λ b. is_target (insert targets target.0) b ≡ true) same (is_target-inserted targets target)
   break_named targets events outcome break_unlabeled block e = absurd (let bad : ⊥ = cc in bad)
 
   -- a continue leads to no break
@@ -189,7 +179,7 @@ caught-unnamed (Some label) (BreakTo target) targets unnamed names = go (same_id
         subst (λ b. is_target targets b ≡ true) (sym here) (names target refl) in
         absurd (let bad : ⊥ = cc in bad)
 caught-unnamed (Some label) Normal targets unnamed names = refl
-caught-unnamed (Some label) BreakLoop targets unnamed names = refl
+caught-unnamed (Some label) BreakInnermost targets unnamed names = refl
 caught-unnamed (Some label) (ContinueTo other) targets unnamed names = refl
 caught-unnamed (Some label) ContinueLoop targets unnamed names = refl
 caught-unnamed (Some label) (Ended end) targets unnamed names = refl

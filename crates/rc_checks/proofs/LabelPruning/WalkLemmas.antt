@@ -1,5 +1,6 @@
 -- The rewriting walk with the steps of label pruning gives the tree without its unused labels.
 use Rattle.std.proofs.Common.{◌≡◌, ◌∙◌, ◌↔◌, List, [], Option, None, Some, Result, Ok, Err, refl, sym, ap}
+use Rattle.std.specs.FinSet.{empty}
 use Rattle.rc_checks.specs.Labels.Steps.{IsAfterLabelWalk, terminal_answer, targets_after, label_steps, left_of}
 use Rattle.rc_checks.specs.Labels.Steps.{statements_taken}
 use Rattle.rc_checks.specs.Labels.{IsWithoutUnusedLabels, Targets, in_place_of, label_rules}
@@ -14,7 +15,7 @@ use Rattle.rc_tree.specs.Rewrite.{in_place, rewrite_block}
 use Rattle.rc_tree.specs.RewriteSteps.{RewriteSteps}
 use Rattle.rc_tree.specs.StatementSteps.{StatementSteps, over_statements}
 use Rattle.rc_tree.specs.inside.StatementsRefine.{StatementsRefine}
-use Rattle.rc_tree.specs.StatementsNoDeeper.{over_statements_no_deeper}
+use Rattle.rc_tree.proofs.StatementsNoDeeper.{over_statements_no_deeper}
 use Rattle.rc_tree.specs.Model.{ReactiveBlock, ReactiveStatement, ReactiveTerminalStatement}
 use Rattle.rc_tree.specs.declared.statement.ReactiveStatement.TheVariants as reactive
 
@@ -43,6 +44,7 @@ labels_follow = record {
     in_place-answer_for (targets_after x targets) x (statements_taken (targets_after x targets) x),
   );
   scope = λ around met targets block. (refl, refl);
+  block = λ around targets block. (refl, refl);
 }
 
 -- whatever the transform and its table of functions are
@@ -89,10 +91,10 @@ without_labels_is_walked before after = (
   λ is. record { targets = is.targets; walked = walk ∙ ap by_walk is.rebuilt },
   λ is. record {
     targets = is.targets;
-    rebuilt = rebuilt_by_walk (rebuilt_block label_rules before []) is.targets after (sym walk ∙ is.walked);
+    rebuilt = rebuilt_by_walk (rebuilt_block label_rules before empty) is.targets after (sym walk ∙ is.walked);
   },
 )
   where
-    walk : rewrite_block {T = Unit {0}} (over_statements (λ transform. label_steps)) (λ transform. []) (tt, []) before
-        ≡ by_walk (rebuilt_block label_rules before [])
-    walk = walked_is_rebuilt (λ transform. []) tt [] before
+    walk : rewrite_block {T = Unit {0}} (over_statements (λ transform. label_steps)) (λ transform. []) (tt, empty) before
+        ≡ by_walk (rebuilt_block label_rules before empty)
+    walk = walked_is_rebuilt (λ transform. []) tt empty before

@@ -20,8 +20,8 @@ use Rattle.rc_checks.specs.declared.membership.visitor.Seen.{Seen}
 use Rattle.rc_checks.specs.Membership.{scope_found, scope_of, range_found, range_of, if_outside}
 use Rattle.rc_checks.specs.Membership.{operand_outside, outside, IsKnown, IsInside, IsLastOutside, IsFirstUnknown}
 use Rattle.rc_checks.specs.inside.MembershipSteps.{latest_outside, visit_step, after_visits, membership_steps}
-use Rattle.rc_checks.specs.ScopeBlocks.{scopes_in}
-use Rattle.rc_checks.specs.Membership.Visits.{PlacedOperand, Visit, visits_of}
+use Rattle.rc_tree.specs.ScopesIn.{scopes_in}
+use Rattle.rc_tree.specs.Visits.{PlacedOperand, Visit, visits_of}
 
 -- two lists with the same scopes in them give the same
 

@@ -17,7 +17,7 @@ use Rattle.rc_tree.specs.Step.{Walk, bind, each}
 use Rattle.rc_checks.proofs.MembershipCheck.WalkLemmas.{seen, told}
 use Rattle.rc_checks.specs.declared.membership.visitor.Seen.{Seen}
 use Rattle.rc_checks.specs.Membership.{if_outside, is_outside, range_of, scope_of}
-use Rattle.rc_checks.specs.Membership.Visits.{PlacedOperand}
+use Rattle.rc_tree.specs.Visits.{PlacedOperand}
 use Rattle.rc_checks.specs.inside.ContextVisits.{by_range, if_known, is_unknown, known_places, unknown_or, visited_at}
 use Rattle.rc_checks.specs.inside.ContextVisits.{with_range, with_range_of}
 use Rattle.rc_checks.specs.inside.MembershipSteps.{latest_outside, membership_steps}

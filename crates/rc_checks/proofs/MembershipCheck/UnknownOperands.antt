@@ -26,9 +26,9 @@ use Rattle.rc_hir.specs.declared.place.PlaceOrSpread.TheVariants as arguments
 use Rattle.rc_names.specs.Numbers.{ScopeId}
 use Rattle.rc_tree.specs.Step.{bind}
 use Rattle.rc_tree.proofs.StepLemmas.{Err-injective, not_err}
-use Rattle.rc_runs.proofs.AnyLemmas.{Any-flat_map, Any-left, Any-right}
+use Rattle.rc_tree.proofs.AnyLemmas.{Any-flat_map, Any-left, Any-right}
 use Rattle.rc_checks.specs.Membership.{if_outside, is_outside, outside, range_found, scope_found}
-use Rattle.rc_checks.specs.Membership.Visits.{PlacedOperand}
+use Rattle.rc_tree.specs.Visits.{PlacedOperand}
 use Rattle.rc_checks.proofs.FaultNames.{Covers, IsNamed, alone, behind, both, by_form, each, none}
 
 module _ (env : Environment) (fault : Fault) where

@@ -14,10 +14,10 @@ use Rattle.rc_tree.specs.Model.{ReactiveFunction}
 use Rattle.rc_tree.proofs.CollectedRelated.{RelatedParts, RelatedValues, collected_related, rows_related}
 use Rattle.rc_tree.proofs.CollectedRelated.{values_related_if}
 use Rattle.rc_tree.proofs.StepLemmas.{Err-injective}
-use Rattle.rc_runs.proofs.AnyLemmas.{Any-made, Any-one, Any-right}
+use Rattle.rc_tree.proofs.AnyLemmas.{Any-made, Any-one, Any-right}
 use Rattle.rc_checks.specs.Membership.{IsFirstUnknown, outside}
-use Rattle.rc_checks.specs.Membership.Visits.{PlacedOperand, Visit, Visits, of_operands, operand_visit, visits_joining}
-use Rattle.rc_checks.specs.Membership.Visits.{visits_of, visits_of_parts, visits_of_values}
+use Rattle.rc_tree.specs.Visits.{PlacedOperand, Visit, Visits, of_operands, operand_visit, visits_joining}
+use Rattle.rc_tree.specs.Visits.{visits_of, visits_of_parts, visits_of_values}
 use Rattle.rc_checks.proofs.FaultNames as covering
 use Rattle.rc_checks.proofs.FaultNames.{alone, behind, both, none, of_body}
 use Rattle.rc_checks.proofs.MembershipCheck.UnknownOperands.{CoversRead, IsUnknownPlace, operand_unknown, operands_read}
@@ -85,6 +85,7 @@ module _ (env : Environment) (fault : Fault) (blocks : List ScopeId) where
     joined = record { nothing = λ around. none; both = λ x x1 y y1 h k around. both (h around) (k around) };
     instruction = λ id x around. operands_cover id x around;
     target = λ id x around. none;
+    row = λ x y z h. h;
   }
 
   parts_covered : RelatedParts Covered names_of_parts (visits_of_parts env.functions)

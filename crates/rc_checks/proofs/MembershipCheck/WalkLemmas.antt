@@ -21,8 +21,8 @@ use Rattle.rc_tree.specs.Model.{ReactiveBlock}
 use Rattle.rc_checks.specs.declared.membership.visitor.Outside.{Outside}
 use Rattle.rc_checks.specs.declared.membership.visitor.Seen.{Seen}
 use Rattle.rc_checks.specs.inside.MembershipSteps.{visit_step, after_visits, membership_steps}
-use Rattle.rc_checks.specs.Membership.Visits.{Visit, Visits, of_operands, operand_visit, visits_joining, visits_of}
-use Rattle.rc_checks.specs.Membership.Visits.{visits_of_parts, visits_of_values}
+use Rattle.rc_tree.specs.Visits.{Visit, Visits, of_operands, operand_visit, visits_joining, visits_of}
+use Rattle.rc_tree.specs.Visits.{visits_of_parts, visits_of_values}
 
 -- the faults of reading operands
 

@@ -9,8 +9,8 @@ use Rattle.rc_tree.specs.Model.{ReactiveFunction}
 use Rattle.rc_tree.specs.Step.{bind}
 use Rattle.rc_tree.specs.TreeNames.{TreeInTables}
 use Rattle.rc_checks.specs.Membership.{IsFirstUnknown, IsInside, if_outside, is_outside, outside, range_of, scope_of}
-use Rattle.rc_checks.specs.Membership.Visits.{PlacedOperand, Visit, visits_of}
-use Rattle.rc_checks.specs.ScopeBlocks.{scopes_in}
+use Rattle.rc_tree.specs.Visits.{PlacedOperand, Visit, visits_of}
+use Rattle.rc_tree.specs.ScopesIn.{scopes_in}
 use Rattle.rc_checks.proofs.FaultNames.{no_name_outside}
 use Rattle.rc_checks.proofs.MembershipCheck.CheckLemmas.{unknown_behind, unknown_here}
 use Rattle.rc_checks.proofs.MembershipCheck.UnknownVisits.{first_unknown_outside}

@@ -30,9 +30,9 @@ use Rattle.rc_runs.specs.PlainTree.{Label, Try, Absent, Present, Cases}
 use Rattle.rc_runs.specs.Spelled.{Spells, scope_at, scope_named}
 use Rattle.rc_runs.specs.TreeOf.{value_of, block_of, cases_of, statement_of}
 use Rattle.rc_runs.proofs.GraphLemmas.{usable_block-at}
-use Rattle.rc_checks.specs.ScopeBlocks.{contents_of_parts, HasScopesOnce, scopes_in, joining}
-use Rattle.rc_checks.proofs.ScopeBlocks.DistinctLemmas.{times-append, at_most_once, differ}
-use Rattle.rc_checks.proofs.ScopeBlocks.TimesLemmas.{contents_times, tree_times, contents_times-both, tree-Cons}
+use Rattle.rc_tree.specs.ScopesIn.{HasScopesOnce, scope_parts, scopes_in}
+use Rattle.rc_tree.proofs.DistinctLemmas.{times-append, at_most_once, differ}
+use Rattle.rc_checks.proofs.ScopeBlocks.TimesLemmas.{tree_times, tree-Cons}
 use Rattle.rc_checks.proofs.ScopeBlocks.TimesLemmas.{labeled_times, alone_times, row_times, tree-rows, jump_times}
 use Rattle.rc_checks.proofs.ScopeBlocks.TimesLemmas.{continue_times, part_times, two_times, branch_times}
 
@@ -75,12 +75,12 @@ module _ (hir : HirFunction) (env : Environment) (s : ScopeId) where
         → SpellsTerminal hir env terminal context statements used
         → tree_times s statements ≤ own_times (scope_named terminal) + used_times used
     terminal_times (returns {value = value} {id = id}) =
-        omega (arith, alone_times s (Return value id) (collected-Return contents_of_parts value id))
+        omega (arith, alone_times s (Return value id) (collected-Return scope_parts value id))
     terminal_times (unreachable {id = id} {span = span}) = omega arith
     terminal_times (breaks {target = target} {id = id} {context = around} {statements = statements} e) =
         omega (arith, jump_times s (resolve_break around.frames target) target id statements e)
     terminal_times (throws {value = value} {id = id} outside) =
-        omega (arith, alone_times s (Throw value id) (collected-Throw contents_of_parts value id))
+        omega (arith, alone_times s (Throw value id) (collected-Throw scope_parts value id))
     terminal_times (continues {target = target} {id = id} {context = around} {statements = statements} e) =
         omega (arith, continue_times s (resolve_continue around.frames target) id statements e)
     terminal_times (leaves_try falls) = omega arith
@@ -102,14 +102,14 @@ module _ (hir : HirFunction) (env : Environment) (s : ScopeId) where
 
     statement_times : {terminal : Terminal} {context : ListContext} {o : Bool} {f : BlockId} {statement : Statement}
         {used : List BlockId} → SpellsStatement hir env terminal context o f statement used
-        → contents_times s (collected_statement contents_of_parts (statement_of statement))
+        → times s (collected_statement scope_parts (statement_of statement))
         ≤ own_times (scope_named terminal) + used_times used
     statement_times (if_only {test = test} {id = id} {label = own} {part = part} i l same falls d) =
-        let x = collected contents_of_parts (block_of part) in
+        let x = collected scope_parts (block_of part) in
         omega (
           arith,
-          labeled_times s (If test part Absent id) own (collected-If contents_of_parts test (block_of part) None id),
-          contents_times-both s x joining.nothing,
+          labeled_times s (If test part Absent id) own (collected-If scope_parts test (block_of part) None id),
+          times-append s x [],
           part_times s part,
           list_times d,
         )
@@ -118,7 +118,7 @@ module _ (hir : HirFunction) (env : Environment) (s : ScopeId) where
         rw is (omega (
           arith,
           labeled_times s (If test part (Present other) id) own
-              (collected-If contents_of_parts test (block_of part) (Some (block_of other)) id),
+              (collected-If scope_parts test (block_of part) (Some (block_of other)) id),
           two_times s part other,
           list_times d,
           list_times e,
@@ -127,7 +127,7 @@ module _ (hir : HirFunction) (env : Environment) (s : ScopeId) where
     statement_times (label_statement {id = id} {label = own} {part = part} i l d) =
         omega (
           arith,
-          labeled_times s (Label part id) own (collected-Label contents_of_parts (block_of part) id),
+          labeled_times s (Label part id) own (collected-Label scope_parts (block_of part) id),
           part_times s part,
           list_times d,
         )
@@ -136,31 +136,31 @@ module _ (hir : HirFunction) (env : Environment) (s : ScopeId) where
         rw is (omega (
           arith,
           labeled_times s (Try part place other id) own
-              (collected-Try contents_of_parts (block_of part) place (block_of other) id),
+              (collected-Try scope_parts (block_of part) place (block_of other) id),
           two_times s part other,
           list_times d,
           list_times e,
           used-append a b,
         ))
     statement_times (scope_statement {scope = of} {part = part} i d) =
-        let e = ap (contents_times s) (collected-Scope contents_of_parts
+        let e = ap (times s) (collected-Scope scope_parts
         (record { scope = of; instructions = block_of part })) in
-        omega (arith, e, part_times s part, list_times d)
+        omega (arith, e, times-append s (scopes_in (block_of part)) (of ∷ []), part_times s part, list_times d)
     statement_times (pruned_scope_statement {scope = of} {part = part} i d) =
-        let e = ap (contents_times s) (collected-PrunedScope contents_of_parts
+        let e = ap (times s) (collected-PrunedScope scope_parts
         (record { scope = of; instructions = block_of part })) in
         omega (arith, e, part_times s part, list_times d)
     statement_times (switch_statement {test = test} {id = id} {label = own} {parts = parts} o l one past kept last d) =
         omega (
           arith,
-          labeled_times s (Switch test parts id) own (collected-Switch contents_of_parts test (cases_of parts) id),
+          labeled_times s (Switch test parts id) own (collected-Switch scope_parts test (cases_of parts) id),
           cases_times id d,
         )
     statement_times (while_loop {fallthrough = f} {id = id} {parts = parts} reachable d) =
         omega (
           arith,
           labeled_times s (While parts.test parts.body id) (label_of true f)
-              (collected-While contents_of_parts (value_of parts.test) (block_of parts.body) id),
+              (collected-While scope_parts (value_of parts.test) (block_of parts.body) id),
           part_times s parts.body,
           turns_times d,
         )
@@ -168,8 +168,8 @@ module _ (hir : HirFunction) (env : Environment) (s : ScopeId) where
         omega (
           arith,
           labeled_times s (DoWhile parts.body parts.test id) (label_of true f)
-              (collected-DoWhile contents_of_parts (block_of parts.body) (value_of parts.test) id),
-          contents_times-both s (collected contents_of_parts (block_of parts.body)) joining.nothing,
+              (collected-DoWhile scope_parts (block_of parts.body) (value_of parts.test) id),
+          times-append s (collected scope_parts (block_of parts.body)) [],
           part_times s parts.body,
           turns_times d,
         )
@@ -178,9 +178,9 @@ module _ (hir : HirFunction) (env : Environment) (s : ScopeId) where
         rw is (omega (
           arith,
           labeled_times s (For init parts.test parts.before parts.body id) (label_of true f)
-              (collected-For contents_of_parts (value_of init) (value_of parts.test)
+              (collected-For scope_parts (value_of init) (value_of parts.test)
               (option_map value_of parts.before) (block_of parts.body) id),
-          contents_times-both s (collected contents_of_parts (block_of parts.body)) joining.nothing,
+          times-append s (collected scope_parts (block_of parts.body)) [],
           part_times s parts.body,
           used-append a b,
           turns_times d,
@@ -189,7 +189,7 @@ module _ (hir : HirFunction) (env : Environment) (s : ScopeId) where
         omega (
           arith,
           labeled_times s (ForOf init parts.test parts.body span id) (label_of true f)
-              (collected-ForOf contents_of_parts (value_of init) (value_of parts.test) (block_of parts.body) span id),
+              (collected-ForOf scope_parts (value_of init) (value_of parts.test) (block_of parts.body) span id),
           part_times s parts.body,
           turns_times d,
         )
@@ -197,7 +197,7 @@ module _ (hir : HirFunction) (env : Environment) (s : ScopeId) where
         omega (
           arith,
           labeled_times s (ForIn parts.test parts.body span id) (label_of true f)
-              (collected-ForIn contents_of_parts (value_of parts.test) (block_of parts.body) span id),
+              (collected-ForIn scope_parts (value_of parts.test) (block_of parts.body) span id),
           part_times s parts.body,
           turns_times d,
         )
@@ -206,15 +206,15 @@ module _ (hir : HirFunction) (env : Environment) (s : ScopeId) where
 
     cases_times : {cases : List GraphCase} {context : ListContext} {parts : Cases} {used : List BlockId}
         (id : EvaluationOrder) → SpellsCases hir env cases context parts used
-        → contents_times s (collected_cases contents_of_parts id (cases_of parts)) ≤ used_times used
+        → times s (collected_cases scope_parts id (cases_of parts)) ≤ used_times used
     cases_times id no_cases = omega arith
     cases_times id (one_case {case = case} {part = part} {parts = rest} {later_used = a} {part_used = b} later d is) =
-        let first = collected_case contents_of_parts
+        let first = collected_case scope_parts
         (roll-ReactiveSwitchCase (record { test = case.test; block = Some (block_of part) })) id in
         rw is (omega (
           arith,
-          contents_times-both s first (collected_cases contents_of_parts id (cases_of rest)),
-          ap (contents_times s) (collected-case contents_of_parts case.test (Some (block_of part)) id),
+          times-append s first (collected_cases scope_parts id (cases_of rest)),
+          ap (times s) (collected-case scope_parts case.test (Some (block_of part)) id),
           part_times s part,
           used-append a b,
           list_times d,

@@ -15,51 +15,42 @@ use Rattle.rc_runs.specs.declared.frames.BreakResult.{BreakResult}
 use Rattle.rc_runs.specs.declared.frames.BreakResult.TheVariants.{NoFrame, LeavesScope, LeavesCase, FallsOff, Breaks}
 use Rattle.rc_runs.specs.declared.frames.ContinueResult.{ContinueResult}
 use Rattle.rc_runs.specs.declared.frames.ContinueResult.TheVariants.{NoLoop, Continues}
-use Rattle.rc_checks.specs.ScopeBlocks.{Contents, contents_of_parts, scopes_of, joining}
-use Rattle.rc_checks.proofs.ScopeBlocks.ContentsLemmas.{scopes_of-both}
-use Rattle.rc_checks.proofs.ScopeBlocks.DistinctLemmas.{times-append}
+use Rattle.rc_tree.specs.ScopesIn.{scope_parts}
+use Rattle.rc_tree.proofs.DistinctLemmas.{times-append}
 
 module _ (s : ScopeId) where
-  -- how often the scope is that of a scope block in the contents of a part
-  abbrev pub contents_times : Contents → ℕ
-  contents_times part = times s (scopes_of part)
-
-  -- in statements
+  -- how often the scope is that of a scope block in statements
   abbrev pub tree_times : Statements → ℕ
-  tree_times statements = contents_times (collected_list contents_of_parts (statements_of statements))
-
-  pub contents_times-both : (x y : Contents) → contents_times (contents_of_parts.joining.both x y)
-      ≡ contents_times x + contents_times y
-  contents_times-both x y = ap (times s) (scopes_of-both x y) ∙ times-append s (scopes_of x) (scopes_of y)
+  tree_times statements = times s (collected_list scope_parts (statements_of statements))
 
   pub tree-Cons : (statement : Statement) (rest : Statements)
       → tree_times (Cons statement rest)
-      ≡ contents_times (collected_statement contents_of_parts (statement_of statement)) + tree_times rest
+      ≡ times s (collected_statement scope_parts (statement_of statement)) + tree_times rest
   tree-Cons statement rest =
-      contents_times-both (collected_statement contents_of_parts (statement_of statement))
-      (collected_list contents_of_parts (statements_of rest))
+      times-append s (collected_statement scope_parts (statement_of statement))
+      (collected_list scope_parts (statements_of rest))
 
   -- a label holds nothing
-  pub labeled_times : (terminal : TreeTerminal) (own : Option ReactiveLabel) {part : Contents}
-      → collected_terminal contents_of_parts (terminal_of terminal) ≡ part
-      → contents_times (collected_statement contents_of_parts (statement_of (TerminalStatement terminal own)))
-      ≡ contents_times part
+  pub labeled_times : (terminal : TreeTerminal) (own : Option ReactiveLabel) {part : List ScopeId}
+      → collected_terminal scope_parts (terminal_of terminal) ≡ part
+      → times s (collected_statement scope_parts (statement_of (TerminalStatement terminal own)))
+      ≡ times s part
   labeled_times terminal own e =
-      ap contents_times (collected-Terminal contents_of_parts (record { terminal = terminal_of terminal; label = own })
-      ∙ ap (λ part. contents_of_parts.joining.both joining.nothing part) e)
+      ap (times s) (collected-Terminal scope_parts (record { terminal = terminal_of terminal; label = own })
+      ∙ ap (λ part. part) e)
 
   -- a terminal alone
-  pub alone_times : (terminal : TreeTerminal) {part : Contents}
-      → collected_terminal contents_of_parts (terminal_of terminal) ≡ part
-      → tree_times (unlabeled terminal) ≡ contents_times part
+  pub alone_times : (terminal : TreeTerminal) {part : List ScopeId}
+      → collected_terminal scope_parts (terminal_of terminal) ≡ part
+      → tree_times (unlabeled terminal) ≡ times s part
   alone_times terminal e =
       omega (arith, tree-Cons (TerminalStatement terminal None) Nil, labeled_times terminal None e)
 
   -- rows have no scope blocks
   pub row_times : (id : EvaluationOrder) (target : Option Place) (value : Value) (span : Option Span)
-      → contents_times (collected_statement contents_of_parts (statement_of (RowStatement id target value span))) ≡ 0
+      → times s (collected_statement scope_parts (statement_of (RowStatement id target value span))) ≡ 0
   row_times id target value span =
-      ap contents_times (collected-Instruction contents_of_parts
+      ap (times s) (collected-Instruction scope_parts
       (record { id = id; lvalue = target; value = value_of value; span = span }))
 
   pub tree-rows : (rows : List Instruction) (rest : Statements) → tree_times (rows_before rows rest) ≡ tree_times rest
@@ -82,27 +73,27 @@ module _ (s : ScopeId) where
       subst (λ x. tree_times x ≡ 0) (let same : Nil ≡ statements = cc in same) refl
   jump_times (Breaks kind) target id statements e =
       subst (λ x. tree_times x ≡ 0) (let same : unlabeled (Break target kind id) ≡ statements = cc in same)
-      (alone_times (Break target kind id) (collected-Break contents_of_parts target kind id))
+      (alone_times (Break target kind id) (collected-Break scope_parts target kind id))
 
   pub continue_times : (result : ContinueResult) (id : EvaluationOrder) (statements : Statements)
       → continue_statements result id ≡ Some statements → tree_times statements ≡ 0
   continue_times NoLoop id statements e = absurd (let no : ⊥ = cc in no)
   continue_times (Continues target kind) id statements e =
       subst (λ x. tree_times x ≡ 0) (let same : unlabeled (Continue target kind id) ≡ statements = cc in same)
-      (alone_times (Continue target kind id) (collected-Continue contents_of_parts target kind id))
+      (alone_times (Continue target kind id) (collected-Continue scope_parts target kind id))
 
-  pub part_times : (part : Statements) → contents_times (collected contents_of_parts (block_of part)) ≡ tree_times part
-  part_times part = ap contents_times (collected-block contents_of_parts (block_of part))
+  pub part_times : (part : Statements) → times s (collected scope_parts (block_of part)) ≡ tree_times part
+  part_times part = ap (times s) (collected-block scope_parts (block_of part))
 
   -- two lists of one statement
   pub two_times : (part other : Statements)
-      → contents_times (contents_of_parts.joining.both (collected contents_of_parts (block_of part))
-      (collected contents_of_parts (block_of other))) ≡ tree_times part + tree_times other
+      → times s (scope_parts.joining.both (collected scope_parts (block_of part))
+      (collected scope_parts (block_of other))) ≡ tree_times part + tree_times other
   two_times part other =
       omega (
         arith,
-        contents_times-both (collected contents_of_parts (block_of part))
-            (collected contents_of_parts (block_of other)),
+        times-append s (collected scope_parts (block_of part))
+            (collected scope_parts (block_of other)),
         part_times part,
         part_times other,
       )
@@ -114,6 +105,6 @@ module _ (s : ScopeId) where
       omega (
         arith,
         alone_times (If test part (Present other) id)
-            (collected-If contents_of_parts test (block_of part) (Some (block_of other)) id),
+            (collected-If scope_parts test (block_of part) (Some (block_of other)) id),
         two_times part other,
       )

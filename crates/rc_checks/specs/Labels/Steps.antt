@@ -1,5 +1,6 @@
 -- The steps of label pruning as a pass over statements: its answers, and the terminals that it leaves.
 use Rattle.std.specs.Prelude.{◌≡◌, Option, None, Some, List, [], Ok}
+use Rattle.std.specs.FinSet.{empty}
 use Rattle.rc_checks.specs.inside.LabelPruning.{emptied_label, label_in}
 use Rattle.rc_checks.specs.Labels.{Targets, flattened, label_after, targets_behind}
 use Rattle.rc_tree.specs.Rewrite.{rewrite_block}
@@ -40,6 +41,7 @@ label_steps = record {
     (targets_after x targets, left_of (targets_after x targets) (statements_taken (targets_after x targets) x) x),
   );
   transform_scope = λ targets x. Ok (Keep, (targets, x));
+  leave_block = λ targets x. Ok (tt, (targets, x));
 }
 
 -- the rewriting walk with these steps makes the second block of the first one, from no targets on; the walk
@@ -47,5 +49,5 @@ label_steps = record {
 pub record IsAfterLabelWalk (before after : ReactiveBlock) : Type 0 where
   pub targets : Targets
   pub walked :
-      rewrite_block {T = Unit {0}} (over_statements (λ transform. label_steps)) (λ transform. []) (tt, []) before
+      rewrite_block {T = Unit {0}} (over_statements (λ transform. label_steps)) (λ transform. []) (tt, empty) before
       ≡ Ok (tt, ((tt, targets), after))

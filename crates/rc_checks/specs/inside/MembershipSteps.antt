@@ -8,7 +8,7 @@ use Rattle.rc_tree.specs.declared.hooks.Enter.TheVariants.{Inside}
 use Rattle.rc_checks.specs.declared.membership.visitor.Outside.{Outside}
 use Rattle.rc_checks.specs.declared.membership.visitor.Seen.{Seen}
 use Rattle.rc_checks.specs.Membership.{operand_outside}
-use Rattle.rc_checks.specs.Membership.Visits.{Visit}
+use Rattle.rc_tree.specs.Visits.{Visit}
 
 -- the id and scope of an operand outside take the place of those before
 abbrev pub latest_outside : EvaluationOrder → Option ScopeId → Option Outside → Option Outside

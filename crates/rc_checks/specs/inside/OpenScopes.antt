@@ -1,21 +1,19 @@
--- How a scope is found among those that are open without a look through them. Places count from the outermost scope,
--- which is at 0.
-use Rattle.std.specs.Prelude.{◌≡◌, ℕ, Bool, List, [], ◌∷◌, Option, None, Some, length, if◌then◌else◌}
-use Rattle.std.specs.Map.{lookup}
-use Rattle.rc_names.specs.Numbers.{ScopeId, same_id}
+-- How a scope is found among those that are open without a look through them. Blocks stand with the innermost first.
+use Rattle.std.specs.Prelude.{◌≡◌, List, [], ◌∷◌, map, not}
+use Rattle.indexmap.specs.IndexSet.{insert_key}
+use Rattle.rc_names.specs.Numbers.{ScopeId, is_among, same_id}
+use Rattle.rc_checks.specs.declared.membership.open_scopes.OpenBlock.{OpenBlock}
 
--- a place further out, or this one where the scope stands here
-abbrev pub outer_or : Option ℕ → Bool → ℕ → Option ℕ
-outer_or (Some place) here own = Some place
-outer_or None here own = if here then Some own else None
+-- the scopes of blocks
+abbrev pub scopes_of : List OpenBlock → List ScopeId
+scopes_of blocks = map (λ (block : OpenBlock). block.scope) blocks
 
--- the outermost place of a scope among scopes that stand with the innermost first
-abbrev pub outermost_place : List ScopeId → ScopeId → Option ℕ
-outermost_place [] scope = None
-outermost_place (inner ∷ outer) scope = outer_or (outermost_place outer scope) (same_id scope inner) (length outer)
+-- the same, each once, in the order in which they were opened
+abbrev pub distinct_scopes : List OpenBlock → List ScopeId
+distinct_scopes [] = []
+distinct_scopes (block ∷ outer) = insert_key same_id (distinct_scopes outer) block.scope
 
--- the outermost place of each open scope is kept; the places of other scopes are free
-abbrev pub HasPlaces : List ScopeId → List (ScopeId × ℕ) → Type 0
-HasPlaces scopes places =
-    (scope : ScopeId) (place : ℕ) → outermost_place scopes scope ≡ Some place
-    → lookup (same_id scope) places ≡ Some place
+-- each block says whether no block of its scope is further out
+abbrev pub AreMarked : List OpenBlock → Type 0
+AreMarked [] = Unit {0}
+AreMarked (block ∷ outer) = (block.is_outermost ≡ not (is_among (distinct_scopes outer) block.scope)) × AreMarked outer

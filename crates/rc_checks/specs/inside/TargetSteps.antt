@@ -1,28 +1,28 @@
 -- The check of break targets, terminal by terminal, with the labels met so far.
-use Rattle.std.specs.Prelude.{List, Option, None, Some, Ok, Err, if◌then◌else◌}
-use Rattle.std.specs.List.{list_any}
-use Rattle.indexmap.specs.IndexSet.{insert_key}
+use Rattle.std.specs.Prelude.{Option, None, Some, Ok, Err, if◌then◌else◌}
+use Rattle.std.specs.FinSet.{FinSet, contains, insert}
+use Rattle.std.specs.Ordering.{nat_cmp}
 use Rattle.rc_hir.specs.declared.fault.Fault.TheVariants.{BadTarget}
-use Rattle.rc_names.specs.Numbers.{BlockId, same_id}
+use Rattle.rc_names.specs.Numbers.{BlockId}
 use Rattle.rc_tree.specs.Step.{Walk}
 use Rattle.rc_tree.specs.Model.{ReactiveLabel, ReactiveTerminalStatement}
 use Rattle.rc_tree.specs.declared.terminal.ReactiveTerminal.{out-ReactiveTerminal}
 use Rattle.rc_checks.specs.BreakTargets.{MetTerminal, target_of}
 
--- the labels met so far, each once
+-- the numbers of the labels met so far
 abbrev pub MetLabels : Type 0
-MetLabels = List BlockId
+MetLabels = FinSet nat_cmp
 
 -- the labels with that of a terminal
 abbrev pub with_label : Option ReactiveLabel → MetLabels → MetLabels
 with_label None labels = labels
-with_label (Some label) labels = insert_key same_id labels label.id
+with_label (Some label) labels = insert labels label.id.0
 
 -- a target that is none of the labels is a fault
 abbrev pub target_step : Option BlockId → Walk MetLabels
 target_step None labels = Ok (tt, labels)
 target_step (Some target) labels =
-    if list_any (same_id target) labels then Ok (tt, labels) else Err (BadTarget target)
+    if contains labels target.0 then Ok (tt, labels) else Err (BadTarget target)
 
 -- the check of one terminal: its own label comes before its target
 abbrev pub terminal_step : MetTerminal → Walk MetLabels

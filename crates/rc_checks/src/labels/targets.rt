@@ -4,7 +4,8 @@ ghost use Rattle.std.specs.Prelude.{◌≡◌, OnOk};
 ghost use Rattle.rc_checks.specs.Labels.{is_named, label_after, targets_behind, with_jump};
 ghost use Rattle.rc_tree.specs.declared.terminal.ReactiveTerminal.{out-ReactiveTerminal};
 
-use rc_names::{BlockId, KeySet};
+use crate::block_set::BlockSet;
+use rc_names::BlockId;
 use rc_tree::{
     ReactiveLabel, ReactiveTerminal, ReactiveTerminalStatement, ReactiveTerminalTargetKind,
 };
@@ -13,7 +14,7 @@ use std::alloc::AllocError;
 /// Notes the target of a labeled break or continue.
 pub(super) fn note_target(
     terminal: &ReactiveTerminal,
-    targets: &mut KeySet<BlockId>,
+    targets: &mut BlockSet,
 ) -> Result<(), AllocError>
     ensures { OnOk result (targets.new ≡ targets_behind (out-ReactiveTerminal terminal.now) targets.old) }
 {
@@ -36,7 +37,7 @@ pub(super) fn note_target(
 fn note_jump(
     kind: ReactiveTerminalTargetKind,
     target: BlockId,
-    targets: &mut KeySet<BlockId>,
+    targets: &mut BlockSet,
 ) -> Result<(), AllocError>
     ensures { OnOk result (targets.new ≡ with_jump kind target targets.old) }
 {
@@ -47,7 +48,7 @@ fn note_jump(
 }
 
 /// Whether a target is the label, where there is one.
-pub(super) fn names_label(targets: &KeySet<BlockId>, label: &Option<ReactiveLabel>) -> bool
+pub(super) fn names_label(targets: &BlockSet, label: &Option<ReactiveLabel>) -> bool
     ensures { result ≡ is_named targets.now label.now }
 {
     match label {
@@ -57,7 +58,7 @@ pub(super) fn names_label(targets: &KeySet<BlockId>, label: &Option<ReactiveLabe
 }
 
 /// Makes a label that nothing names implicit.
-pub(super) fn mark(stmt: &mut ReactiveTerminalStatement, targets: &KeySet<BlockId>)
+pub(super) fn mark(stmt: &mut ReactiveTerminalStatement, targets: &BlockSet)
     ensures { stmt.new ≡ record { terminal = stmt.old.terminal; label = label_after targets.now stmt.old.label } }
 {
     if let Some(label) = &mut stmt.label {

@@ -3,11 +3,13 @@
 ghost use Rattle.std.specs.Prelude.{◌≡◌};
 ghost use Rattle.rc_checks.specs.Labels.Steps.{label_steps, statements_taken, without};
 
+use crate::block_set::BlockSet;
 use crate::labels::targets::{mark, names_label, note_target};
 use rc_hir::Fault;
-use rc_names::{BlockId, KeySet, List};
+use rc_names::List;
 use rc_tree::{
-    ReactiveScopeBlock, ReactiveStatement, ReactiveTerminal, ReactiveTerminalStatement, Transformed,
+    ReactiveBlock, ReactiveScopeBlock, ReactiveStatement, ReactiveTerminal,
+    ReactiveTerminalStatement, Transformed,
 };
 use rc_walk::StatementTransform;
 
@@ -18,14 +20,14 @@ use rc_walk::StatementTransform;
 pub struct UnusedLabels;
 
 impl StatementTransform for UnusedLabels {
-    type State = KeySet<BlockId>;
+    type State = BlockSet;
 
     ghost steps = { λ pass. label_steps };
 
     fn enter_scope(
         &self,
         _scope: &ReactiveScopeBlock,
-        _targets: &mut KeySet<BlockId>,
+        _targets: &mut BlockSet,
     ) -> Result<(), Fault> {
         Ok(())
     }
@@ -33,7 +35,7 @@ impl StatementTransform for UnusedLabels {
     fn transform_terminal(
         &self,
         stmt: &mut ReactiveTerminalStatement,
-        targets: &mut KeySet<BlockId>,
+        targets: &mut BlockSet,
     ) -> Result<Transformed<ReactiveStatement>, Fault> {
         note_target(&stmt.terminal, targets)?;
         match take_statements(stmt, targets) {
@@ -48,16 +50,24 @@ impl StatementTransform for UnusedLabels {
     fn transform_scope(
         &self,
         _scope: &mut ReactiveScopeBlock,
-        _targets: &mut KeySet<BlockId>,
+        _targets: &mut BlockSet,
     ) -> Result<Transformed<ReactiveStatement>, Fault> {
         Ok(Transformed::Keep)
+    }
+
+    fn leave_block(
+        &self,
+        _block: &mut ReactiveBlock,
+        _targets: &mut BlockSet,
+    ) -> Result<(), Fault> {
+        Ok(())
     }
 }
 
 /// Takes the statements of a `Label` that nothing names.
 fn take_statements(
     stmt: &mut ReactiveTerminalStatement,
-    targets: &KeySet<BlockId>,
+    targets: &BlockSet,
 ) -> Option<List<ReactiveStatement>>
     ensures statements_taken { result ≡ statements_taken targets.now stmt.old }
     ensures left { stmt.new ≡ without result stmt.old }

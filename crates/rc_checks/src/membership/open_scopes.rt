@@ -3,30 +3,39 @@
 ghost use Rattle.std.specs.Prelude.{◌≡◌, [], ◌∷◌, drop, OnErr, OnOk};
 ghost use Rattle.rc_names.specs.Numbers.{is_among};
 
-use rc_names::{Keyed, List, ScopeId};
+use rc_names::{KeySet, List, ScopeId};
 use std::alloc::{AllocError, Global};
 use std::marker::Model;
 
+/// A scope block, and whether no block of its scope is further out.
+#[derive(Clone, Copy)]
+struct OpenBlock {
+    scope: ScopeId,
+    is_outermost: bool,
+}
+
 /// Scopes, one inside the other, which contracts see with the innermost first.
 ///
-/// Beside the scopes stands for each scope the place at which it was put in, where it wasn't open yet. A place is never
-/// taken back: it counts only while that scope stands there.
+/// A tree may open a scope inside itself, so the set has the scopes of the blocks each once, in the order of opening.
 #[derive(Drop)]
 pub struct OpenScopes {
-    scopes: List<ScopeId>,
-    places: Keyed<ScopeId, usize>,
+    scopes: KeySet<ScopeId>,
+    blocks: List<OpenBlock>,
 }
 
 impl Model for OpenScopes {
-    ghost use Rattle.std.specs.Prelude.{List as Entries, reverse};
-    ghost use Rattle.rc_checks.specs.inside.OpenScopes.{HasPlaces};
-    ghost use Rattle.rc_names.specs.Numbers.{ScopeId, is_among};
+    ghost use Rattle.std.specs.Prelude.{◌≡◌, List as Entries, reverse};
+    ghost use Rattle.rc_checks.specs.inside.OpenScopes.{AreMarked, distinct_scopes, scopes_of};
+    ghost use Rattle.rc_names.specs.Numbers.{ScopeId};
 
     ghost Value = { Entries ScopeId };
 
-    ghost view = { λ it. reverse it.scopes };
+    ghost view = { λ it. scopes_of (reverse it.blocks) };
 
-    ghost invariant = { λ it. HasPlaces (reverse it.scopes) it.places };
+    ghost invariant = { λ it. record {
+      scopes : it.scopes ≡ distinct_scopes (reverse it.blocks);
+      blocks : AreMarked (reverse it.blocks);
+    } };
 }
 
 impl OpenScopes {
@@ -35,8 +44,8 @@ impl OpenScopes {
         ensures { result ≡ [] }
     {
         OpenScopes {
-            scopes: List::new(alloc),
-            places: Keyed::new(alloc),
+            scopes: KeySet::new(alloc),
+            blocks: List::new(alloc),
         }
     }
 
@@ -44,13 +53,7 @@ impl OpenScopes {
     pub fn contains(&self, scope: ScopeId) -> bool
         ensures { result ≡ is_among self.now scope }
     {
-        match self.places.get(scope) {
-            Some(place) => match self.scopes.get(*place) {
-                Some(found) => *found == scope,
-                None => false,
-            },
-            None => false,
-        }
+        self.scopes.contains(scope)
     }
 
     /// Opens a scope inside the others. The only error is out of memory, after which nothing changed.
@@ -58,17 +61,25 @@ impl OpenScopes {
         ensures ok { OnOk result (self.new ≡ scope ∷ self.old) }
         ensures err { OnErr result (self.new ≡ self.old) }
     {
-        if !self.contains(scope) {
-            let place = self.scopes.len();
-            self.places.insert(scope, place)?;
+        let is_outermost = self.scopes.insert(scope)?;
+        let pushed = self.blocks.push(OpenBlock {
+            scope,
+            is_outermost,
+        });
+        if pushed.is_err() && is_outermost {
+            self.scopes.pop();
         }
-        self.scopes.push(scope)
+        pushed
     }
 
     /// Closes the innermost scope, where one is open.
     pub fn pop(&mut self)
         ensures { self.new ≡ drop 1 self.old }
     {
-        self.scopes.pop();
+        if let Some(block) = self.blocks.pop() {
+            if block.is_outermost {
+                self.scopes.pop();
+            }
+        }
     }
 }

@@ -36,7 +36,7 @@ pub struct Seen {
 
 /// The check's hooks, with the scopes that have a scope block, and what is visited of each function's context.
 #[derive(Drop)]
-pub struct Membership<'a> {
+pub struct CheckInstructionsAgainstScopesVisitor<'a> {
     pub alloc: Global,
     pub env: &'a Environment,
     pub blocks: &'a KeySet<ScopeId>,
@@ -44,7 +44,7 @@ pub struct Membership<'a> {
     ghost listed: { contexts ≡ contexts_to_visit env.now blocks.now },
 }
 
-impl<'a> Membership<'a> {
+impl<'a> CheckInstructionsAgainstScopesVisitor<'a> {
     /// The scope of the operand's identifier, where the operand is outside of it. `BadName` comes where the identifier
     /// or its scope is outside its table.
     fn outside(
@@ -119,7 +119,7 @@ impl<'a> Membership<'a> {
     }
 }
 
-impl<'a> ReactiveFunctionVisitor for Membership<'a> {
+impl<'a> ReactiveFunctionVisitor for CheckInstructionsAgainstScopesVisitor<'a> {
     ghost use Rattle.rc_checks.specs.declared.membership.visitor.Seen.{Seen};
 
     type State = Seen;

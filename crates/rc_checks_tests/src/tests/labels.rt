@@ -138,6 +138,35 @@ fn a_labeled_continue_names_its_loop(rt: HostRuntime) -> Result<(), Fail> {
     Ok(())
 }
 
+/// A switch in a loop in a switch in a loop: each switch has a labeled break to the loop around it.
+fn breaks_past_switches(alloc: Global) -> Result<List<ReactiveStatement>, AllocError> {
+    let case = only(alloc, break_to(alloc, 5, 10, Labeled)?)?;
+    let inner = only(alloc, switch_around(alloc, 4, 11, case)?)?;
+    let inner = while_around(alloc, 3, 10, inner)?;
+    let case = both(alloc, inner, break_to(alloc, 6, 8, Labeled)?)?;
+    let outer = only(alloc, switch_around(alloc, 2, 9, case)?)?;
+    only(alloc, while_around(alloc, 1, 8, outer)?)
+}
+
+#[test]
+fn breaks_past_switches_name_their_loops(rt: HostRuntime) -> Result<(), Fail> {
+    let alloc = rt.alloc();
+    let expected = [
+        Line::While(1, Some((8, false))),
+        Line::Switch(2, Some((9, true))),
+        Line::While(3, Some((10, false))),
+        Line::Switch(4, Some((11, true))),
+        Line::Break(10, Labeled),
+        Line::End,
+        Line::End,
+        Line::Break(8, Labeled),
+        Line::End,
+        Line::End,
+    ];
+    assert!(rt; is_pruned_to(alloc, breaks_past_switches(alloc)?, &expected)?);
+    Ok(())
+}
+
 /// A `Label` in a scope block, and one in a case beside a labeled break out of the switch.
 fn labels_inside(alloc: Global) -> Result<List<ReactiveStatement>, AllocError> {
     let first = only(

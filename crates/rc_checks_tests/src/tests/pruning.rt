@@ -3,9 +3,9 @@
 use crate::tests::labels::label_in_label;
 use crate::tests::outline::{Line, outline};
 use crate::tests::trees::{block, both, break_to, function, label_around, row};
-use rc_checks::UnusedLabels;
+use rc_checks::{BlockSet, UnusedLabels};
 use rc_hir::{Environment, Fault};
-use rc_names::{KeySet, List};
+use rc_names::List;
 use rc_tree::ReactiveTerminalTargetKind::{Implicit, Labeled};
 use rc_tree::{ReactiveFunction, ReactiveStatement, Transformed};
 use rc_walk::rewrite::transform_stmt;
@@ -21,7 +21,7 @@ fn an_unnamed_label_is_replaced_by_many(rt: HostRuntime) -> Result<(), Fail> {
         env: &env,
         pass: UnusedLabels,
     };
-    let mut targets = KeySet::new(alloc);
+    let mut targets = BlockSet::new(alloc);
     let inside = both(alloc, row(2), break_to(alloc, 3, 2, Implicit)?)?;
     let mut stmt = label_around(alloc, 1, Some(2), inside)?;
     let Transformed::ReplaceMany(statements) = transform_stmt(
@@ -51,7 +51,7 @@ fn prune_by_walk(
         env,
         pass: UnusedLabels,
     };
-    let mut targets = KeySet::new(alloc);
+    let mut targets = BlockSet::new(alloc);
     transform_reactive_function(alloc, func, &mut transform, &mut targets)
 }
 

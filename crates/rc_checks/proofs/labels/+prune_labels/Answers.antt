@@ -113,7 +113,7 @@ pub prune_last-returns : goal.prune_last-returns
 prune_last-returns t c = elim c.match-get_mut.branch [
   | prune_last-in-Some+in_ok-stays w ↦ puts_last c.put_last.result c.args.left.now c.match-get_mut.left
       c.put_last.new.left c.args.done.now c.match-get_mut.done c.put_last.new.done c.args.targets.now
-      c.match-get_mut.targets c.match-get_mut.stays c.put_last.ensures c.len-last.result
+      c.match-get_mut.targets c.match-get_mut.stays c.put_last.ensures.put c.len-last.result
       w.in-Some.statement.now w.prune_statement.new.statement c.len-last.ensures w.in-Some.ensures.value w.left-is
       (rw (w.done-is, w.targets-is, w.stays-is) w.in_ok-stays.ensures.put)
   | prune_last-in_default w ↦

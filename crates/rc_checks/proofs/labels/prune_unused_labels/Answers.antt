@@ -37,7 +37,7 @@ returns-clause-kept_scopes c =
 pub returns-clause-kept_runs : goal.returns-clause-kept_runs
 returns-clause-kept_runs c = λ none.
     labels_keep_runs c.args.func.now (record c.args.func.now { body = c.prune_block.new.block }) refl
-    (returns-clause-ok c) c.args.env.now
+    (returns-clause-ok c) c.args.env.now none
 
 pub returns-clause-known : goal.returns-clause-known
 returns-clause-known c =

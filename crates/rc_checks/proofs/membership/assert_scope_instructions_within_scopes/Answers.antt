@@ -2,7 +2,7 @@
 use Rattle.std.proofs.Common.{◌∙◌, ap, Err}
 use Rattle.std.proofs.lemmas.Result.{err_from_is_err_and}
 use Rattle.rc_hir.specs.declared.fault.Fault.TheVariants.{BadName}
-use Rattle.rc_checks.specs.ScopeBlocks.{scopes_in}
+use Rattle.rc_tree.specs.ScopesIn.{scopes_in}
 use Rattle.rc_checks.proofs.FaultNames.{no_name_outside}
 use Rattle.rc_checks.proofs.MembershipCheck.CheckLemmas.{failed_bad_name, failed_completed, failed_only}
 use Rattle.rc_checks.proofs.MembershipCheck.CheckLemmas.{found_completed, none_outside}

@@ -1,7 +1,7 @@
 use Rattle.std.proofs.Common.{◌≡◌, drop}
 use Rattle.rc_tree.specs.Step.{each}
 use Rattle.rc_checks.specs.inside.MembershipSteps.{membership_steps}
-use Rattle.rc_checks.proofs.membership.visitor.Membership.visit_operands.Given as goal
+use Rattle.rc_checks.proofs.membership.visitor.CheckInstructionsAgainstScopesVisitor.visit_operands.Given as goal
 
 abbrev pub invariant-loop-place : goal.invariant-loop-place
 invariant-loop-place l =
