@@ -9,8 +9,8 @@ use Rattle.rc_names.proofs.KeyedLemmas.{lookup-insert_other, lookup-insert_there
 use Rattle.rc_names.proofs.NumbersLemmas.{ids_equivalence, same_id-eq}
 use Rattle.rc_names.specs.Numbers.{DeclarationId, same_id}
 use Rattle.rc_names.specs.declared.numbers.Id.{Id}
-use Rattle.rc_memo.specs.inside.Gathering.{at_name}
-use Rattle.rc_memo.specs.inside.GatheringRows.{at_name_or}
+use Rattle.rc_memo.specs.inside.Nodes.{at_name}
+use Rattle.rc_memo.specs.inside.Nodes.{at_name_or}
 
 module _ {V : Type 0} (d : DeclarationId) where
   pub found_some : (es : List (DeclarationId × V)) (n : V) → Some n ≡ lookup (same_id d) es
@@ -71,34 +71,6 @@ insert_absent d v (e ∷ es) h = go (same_id d e.0) h (λ g. insert_absent d v e
       → cond b ((e.0, v) ∷ es) (e ∷ insert_entry same_id es d v) ≡ e ∷ (es ++ (d, v) ∷ [])
   go true g r = cc
   go false g r = ap (λ w. e ∷ w) (r g)
-
--- an entry that is there is put where it stands
-module _ {K V : Type 0} (same : K → K → Bool) (key : K) where
-  pub put_there_by : (value found : V) (es : List (K × V)) → lookup (same key) es ≡ Some found
-      → set_value (same key) es value ≡ insert_entry same es key value
-  put_there_by value found [] there = cc
-  put_there_by value found (e ∷ es) there = go (same key e.0) there (put_there_by value found es) where
-    go : (b : Bool) → cond b (Some e.1) (lookup (same key) es) ≡ Some found
-        → (lookup (same key) es ≡ Some found → set_value (same key) es value ≡ insert_entry same es key value)
-        → cond b ((e.0, value) ∷ es) (e ∷ set_value (same key) es value)
-        ≡ cond b ((e.0, value) ∷ es) (e ∷ insert_entry same es key value)
-    go true is later = refl
-    go false is later = ap (λ w. e ∷ w) (later is)
-
-  -- and nothing changes where it is put as it is
-  pub put_same_by : (value : V) (es : List (K × V)) → lookup (same key) es ≡ Some value
-      → insert_entry same es key value ≡ es
-  put_same_by value [] there = cc
-  put_same_by value (e ∷ es) there = go (same key e.0) there (put_same_by value es) where
-    go : (b : Bool) → cond b (Some e.1) (lookup (same key) es) ≡ Some value
-        → (lookup (same key) es ≡ Some value → insert_entry same es key value ≡ es)
-        → cond b ((e.0, value) ∷ es) (e ∷ insert_entry same es key value) ≡ e ∷ es
-    go true is later = let one : value ≡ e.1 = cc in ap (λ v. (e.0, v) ∷ es) one
-    go false is later = ap (λ w. e ∷ w) (later is)
-
-pub put_same : {M V : Type 0} (key : Id M) (value : V) (es : List (Id M × V)) → lookup (same_id key) es ≡ Some value
-    → insert_entry same_id es key value ≡ es
-put_same = put_same_by same_id
 
 -- the entry of a key that was put, and those of the others
 module _ {M V : Type 0} (key other : Id M) (value found : V) (old new : List (Id M × V))

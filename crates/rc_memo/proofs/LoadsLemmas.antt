@@ -8,13 +8,13 @@ use Rattle.indexmap.specs.IndexMap.{insert_entry}
 use Rattle.indexmap.specs.IndexSet.{insert_key}
 use Rattle.rc_names.proofs.NumbersLemmas.{same_id-eq}
 use Rattle.rc_names.specs.Numbers.{DeclarationId, same_id}
-use Rattle.rc_memo.proofs.HeldNodesLemmas.{keys_each}
+use Rattle.rc_memo.proofs.NodeFactsLemmas.{keys_each}
 use Rattle.rc_memo.proofs.DistinctLemmas.{any_distinct, distinct_is, distinct_push}
 use Rattle.rc_memo.proofs.EntryLemmas.{insert_absent}
 use Rattle.rc_memo.proofs.NodesLemmas.{itself, none_changed, one_changed}
 use Rattle.rc_memo.specs.Events.{last_load, resolved_after, definitions_told}
 use Rattle.rc_memo.specs.Facts.{at_each, distinct, or_else}
-use Rattle.rc_memo.specs.inside.Gathering.{at_name}
+use Rattle.rc_memo.specs.inside.Nodes.{at_name}
 
 last_push : (d : DeclarationId) (loads : List (DeclarationId × DeclarationId)) (t n : DeclarationId)
     → last_load d (loads ++ (t, n) ∷ []) ≡ cond (same_id d t) (Some n) (last_load d loads)

@@ -19,7 +19,7 @@ use Rattle.rc_memo.specs.Level.{stronger}
 use Rattle.rc_memo.specs.declared.level.MemoizationLevel.{MemoizationLevel}
 use Rattle.rc_memo.specs.declared.level.MemoizationLevel.TheVariants.{Never}
 use Rattle.rc_memo.specs.declared.record.MemoNode.{MemoNode}
-use Rattle.rc_memo.specs.inside.Gathering.{at_name, empty_node, HoldsNodes, with_dependency, with_level, with_scope}
+use Rattle.rc_memo.specs.inside.Nodes.{at_name, empty_node, HoldsNodes, with_dependency, with_level, with_scope}
 
 pub itself : {K : Type 0} (x : Id K) → same_id x x ≡ true
 itself x = ids_equivalence.refl x

@@ -1,32 +1,22 @@
 -- What each form of value brings, and the steps in which its parts are added.
-use Rattle.std.proofs.Common.{◌≡◌, ◌∙◌, Bool, true, false, List, [], ◌∷◌, ◌++◌, Option, None, Some, ap, append_assoc}
-use Rattle.std.proofs.Common.{map, refl, subst, sym, if◌then◌else◌}
-use Rattle.std.proofs.lemmas.List.{map-append}
+use Rattle.std.proofs.Common.{◌≡◌, ◌∙◌, Bool, List, [], ◌∷◌, ◌++◌, IfSome, None, Option, Some, ap, append_assoc, map, refl}
+use Rattle.std.proofs.Common.{subst, sym}
 use Rattle.std.specs.List.{flat_map}
-use Rattle.rc_hir.specs.Model.{Environment, InstructionValue, LogicalOperator, Place, PlaceOrSpread}
-use Rattle.rc_hir.specs.Operands.{argument_places}
-use Rattle.rc_hir.specs.declared.instruction.InstructionValue.TheVariants as kind
+use Rattle.rc_hir.specs.Model.{Environment, InstructionValue, LogicalOperator, Place}
 use Rattle.rc_names.specs.Numbers.{EvaluationOrder, FunctionId}
 use Rattle.rc_tree.specs.Model.{ReactiveInstruction}
 use Rattle.rc_tree.specs.declared.value.ReactiveValue.{ReactiveValue, map-ReactiveValue, roll-ReactiveValue}
 use Rattle.rc_tree.specs.declared.value.ReactiveValue.TheFolds.{para-roll-ReactiveInstruction, para-roll-ReactiveValue}
 use Rattle.rc_tree.specs.declared.value.ReactiveValue.TheOpen as value
 use Rattle.rc_tree.specs.declared.value.ReactiveValue.TheVariants as reactive_values
-use Rattle.rc_memo.specs.RowEvents.{ValueParts, both_parts, instruction_of, own_events, parts_of, recorded_operands}
-use Rattle.rc_memo.specs.RowEvents.{row_events, row_step, value_step}
+use Rattle.rc_memo.proofs.TellsLemmas.{tells_joined, tells_nothing, tells_same}
+use Rattle.rc_memo.specs.RowEvents.{ValueParts, both_parts, own_events, parts_of, recorded_operands}
+use Rattle.rc_tree.specs.CollectedValues.{instruction_of}
+use Rattle.rc_memo.specs.RowEvents.{row_event, row_events, row_step, value_step}
 use Rattle.rc_memo.specs.declared.event.MemoEvent.{MemoEvent}
-use Rattle.rc_memo.proofs.EventsLemmas.{loads_in-append}
-use Rattle.rc_memo.proofs.KnownRowsLemmas.{tells_joined, tells_nothing, tells_same}
-use Rattle.rc_memo.specs.declared.known_rows.Told.{Told}
-use Rattle.rc_memo.specs.Events.{loads_in}
-use Rattle.rc_memo.specs.Mentions.{declaration_of, mention_of, target_of}
-use Rattle.rc_memo.specs.RowEvents.{argument_events, escape_events, lets_escape, load_events, places_read, row_event}
-use Rattle.rc_memo.specs.Table.{if_mutable, levels_of, own, recorded_of}
-use Rattle.rc_memo.specs.declared.event.MemoEvent.TheVariants as events
-use Rattle.rc_memo.specs.declared.level.MemoizationLevel.TheVariants.{Memoized}
-use Rattle.rc_memo.specs.inside.FunctionRows.{NamesFunction, context_of, expression, function_row, method}
-use Rattle.rc_memo.specs.inside.KnownRows.{Tells}
-use Rattle.rc_memo.specs.inside.RowsAdded.{AddsOperands, AddsRows, AddsWalked}
+use Rattle.rc_memo.specs.declared.recording.Recording.{Recording}
+use Rattle.rc_memo.specs.declared.table.LevelGiven.{LevelGiven}
+use Rattle.rc_memo.specs.inside.Recording.{AddsPlaces, AddsRows, AddsWalked, Tells, context_of}
 
 module _ (env : Environment) where
   -- a value brings the step of its form
@@ -91,29 +81,29 @@ module _ (env : Environment) where
   joined old mid new a b whole first second is =
       second ∙ ap (λ w. w ++ b) first ∙ append_assoc old a b ∙ ap (λ w. old ++ w) (sym is)
 
-  pub as_inside : {x y : ReactiveValue} {old new : Told} → x ≡ y → AddsRows env x old new
+  pub as_inside : {x y : ReactiveValue} {old new : Recording} → x ≡ y → AddsRows env x old new
       → AddsRows env y old new
   as_inside {old = old} {new = new} is added = subst (λ w. AddsRows env w old new) is added
 
-  pub as_operands : {x y : ReactiveValue} {old new : List Place} → x ≡ y → AddsOperands env x old new
-      → AddsOperands env y old new
-  as_operands {old = old} {new = new} is added = subst (λ w. AddsOperands env w old new) is added
+  pub as_places : {x y : ReactiveValue} {old new : List Place} → x ≡ y → AddsPlaces env x old new
+      → AddsPlaces env y old new
+  as_places {old = old} {new = new} is added = subst (λ w. AddsPlaces env w old new) is added
 
-  pub as_walked : {x y : ReactiveValue} {old new : Told} → x ≡ y → AddsWalked env x old new
+  pub as_walked : {x y : ReactiveValue} {old new : Recording} → x ≡ y → AddsWalked env x old new
       → AddsWalked env y old new
   as_walked {old = old} {new = new} is added = subst (λ w. AddsWalked env w old new) is added
 
   -- the rows inside each form
 
-  pub inside-Instruction : (value' : ReactiveValue) (x : InstructionValue) (told : Told)
-      → value' ≡ reactive_values.Instruction x → AddsRows env value' told told
-  inside-Instruction value' x told is = record {
-    events = tells_same env [] _ told told (ap (λ w. w.rows) (ap (parts_of env) is ∙ parts-Instruction x))
-        (tells_nothing env told);
+  pub inside-Instruction : (value' : ReactiveValue) (x : InstructionValue) (recording : Recording)
+      → value' ≡ reactive_values.Instruction x → AddsRows env value' recording recording
+  inside-Instruction value' x recording is = record {
+    events = tells_same env [] _ recording recording (ap (λ w. w.rows) (ap (parts_of env) is ∙ parts-Instruction x))
+        (tells_nothing env recording);
   }
 
   pub inside-Logical : (value' : ReactiveValue) (operator : LogicalOperator) (x y : ReactiveValue)
-      (old mid new : Told) → value' ≡ reactive_values.LogicalExpression operator x y
+      (old mid new : Recording) → value' ≡ reactive_values.LogicalExpression operator x y
       → AddsRows env x old mid → AddsRows env y mid new → AddsRows env value' old new
   inside-Logical value' operator x y old mid new is first second = record {
     events = tells_joined env old mid new _ _ _
@@ -121,7 +111,7 @@ module _ (env : Environment) where
         first.events second.events;
   }
 
-  pub inside-Conditional : (value' test x y : ReactiveValue) (old mid new : Told)
+  pub inside-Conditional : (value' test x y : ReactiveValue) (old mid new : Recording)
       → value' ≡ reactive_values.ConditionalExpression test x y → AddsRows env x old mid → AddsRows env y mid new
       → AddsRows env value' old new
   inside-Conditional value' test x y old mid new is first second = record {
@@ -131,7 +121,7 @@ module _ (env : Environment) where
   }
 
   pub inside-Sequence : (value' : ReactiveValue) (rows : List ReactiveInstruction) (id : EvaluationOrder)
-      (x : ReactiveValue) (old mid new : Told)
+      (x : ReactiveValue) (old mid new : Recording)
       → value' ≡ reactive_values.SequenceExpression rows id x → Tells env (flat_map (row_events env) rows) old mid
       → AddsRows env x mid new → AddsRows env value' old new
   inside-Sequence value' rows id x old mid new is first second = record {
@@ -139,7 +129,7 @@ module _ (env : Environment) where
         (ap (λ w. w.rows) (ap (parts_of env) is ∙ parts-Sequence rows id x)) first second.events;
   }
 
-  pub inside-Optional : (value' x : ReactiveValue) (optional : Bool) (old new : Told)
+  pub inside-Optional : (value' x : ReactiveValue) (optional : Bool) (old new : Recording)
       → value' ≡ reactive_values.OptionalExpression x optional → AddsRows env x old new
       → AddsRows env value' old new
   inside-Optional value' x optional old new is added = record {
@@ -149,79 +139,74 @@ module _ (env : Environment) where
 
   -- the operands of each form
 
-  pub operands-Instruction : (value' : ReactiveValue) (x : InstructionValue) (old new : List Place)
+  pub places-Instruction : (value' : ReactiveValue) (x : InstructionValue) (old new : List Place)
       → value' ≡ reactive_values.Instruction x → new ≡ old ++ recorded_operands env x
-      → AddsOperands env value' old new
-  operands-Instruction value' x old new is added = record {
+      → AddsPlaces env value' old new
+  places-Instruction value' x old new is added = record {
     places = added ∙ ap (λ w. old ++ w.places) (sym (ap (parts_of env) is ∙ parts-Instruction x));
   }
 
-  pub operands-Logical : (value' : ReactiveValue) (operator : LogicalOperator) (x y : ReactiveValue)
+  pub places-Logical : (value' : ReactiveValue) (operator : LogicalOperator) (x y : ReactiveValue)
       (old mid new : List Place) → value' ≡ reactive_values.LogicalExpression operator x y
-      → AddsOperands env x old mid → AddsOperands env y mid new → AddsOperands env value' old new
-  operands-Logical value' operator x y old mid new is first second = record {
+      → AddsPlaces env x old mid → AddsPlaces env y mid new → AddsPlaces env value' old new
+  places-Logical value' operator x y old mid new is first second = record {
     places = joined old mid new _ _ _ first.places second.places
         (ap (λ w. w.places) (ap (parts_of env) is ∙ parts-Logical operator x y));
   }
 
-  pub operands-Conditional : (value' test x y : ReactiveValue) (old mid new : List Place)
-      → value' ≡ reactive_values.ConditionalExpression test x y → AddsOperands env x old mid
-      → AddsOperands env y mid new → AddsOperands env value' old new
-  operands-Conditional value' test x y old mid new is first second = record {
+  pub places-Conditional : (value' test x y : ReactiveValue) (old mid new : List Place)
+      → value' ≡ reactive_values.ConditionalExpression test x y → AddsPlaces env x old mid
+      → AddsPlaces env y mid new → AddsPlaces env value' old new
+  places-Conditional value' test x y old mid new is first second = record {
     places = joined old mid new _ _ _ first.places second.places
         (ap (λ w. w.places) (ap (parts_of env) is ∙ parts-Conditional test x y));
   }
 
-  pub operands-Sequence : (value' : ReactiveValue) (rows : List ReactiveInstruction) (order : EvaluationOrder)
+  pub places-Sequence : (value' : ReactiveValue) (rows : List ReactiveInstruction) (order : EvaluationOrder)
       (x : ReactiveValue) (old new : List Place) → value' ≡ reactive_values.SequenceExpression rows order x
-      → AddsOperands env x old new → AddsOperands env value' old new
-  operands-Sequence value' rows order x old new is added = record {
+      → AddsPlaces env x old new → AddsPlaces env value' old new
+  places-Sequence value' rows order x old new is added = record {
     places = added.places ∙ ap (λ w. old ++ w.places) (sym (ap (parts_of env) is ∙ parts-Sequence rows order x));
   }
 
-  pub operands-Optional : (value' x : ReactiveValue) (optional : Bool) (old new : List Place)
-      → value' ≡ reactive_values.OptionalExpression x optional → AddsOperands env x old new
-      → AddsOperands env value' old new
-  operands-Optional value' x optional old new is added = record {
+  pub places-Optional : (value' x : ReactiveValue) (optional : Bool) (old new : List Place)
+      → value' ≡ reactive_values.OptionalExpression x optional → AddsPlaces env x old new
+      → AddsPlaces env value' old new
+  places-Optional value' x optional old new is added = record {
     places = added.places ∙ ap (λ w. old ++ w.places) (sym (ap (parts_of env) is ∙ parts-Optional x optional));
   }
 
-  pub adds_row : (x : ReactiveInstruction) (old mid new : Told) → AddsRows env x.value old mid
+  pub adds_row : (x : ReactiveInstruction) (old mid new : Recording) → AddsRows env x.value old mid
       → Tells env (own_events env x.id x.lvalue (instruction_of x.value) (parts_of env x.value).places) mid new
       → Tells env (row_events env x) old new
   adds_row x old mid new first second = tells_joined env old mid new (parts_of env x.value).rows _ (row_events env x)
       (row_events-parts x) first.events second
 
-  function_told : (id : EvaluationOrder) (target : Option Place) {named function : FunctionId} → named ≡ function
-      → row_event env id (context_of env named) (flat_map if_mutable (context_of env named) ++ own target Memoized) ∷ []
-      ≡ function_row env id function (map (target_of env id) (own target Memoized)) ∷ []
-  function_told id target {named = named} is =
-      ap (λ w. events.Row (map (mention_of env id) (context_of env named)) w ∷ [])
-      (map-append (target_of env id) (flat_map if_mutable (context_of env named)) (own target Memoized))
-      ∙ ap (λ w. function_row env id w (map (target_of env id) (own target Memoized)) ∷ []) is
+  -- a row with other operands and levels that are the same
+  pub row_told : (id : EvaluationOrder) {operands places : List Place} {levels given : List LevelGiven}
+      (old new : Recording) → operands ≡ places → levels ≡ given
+      → Tells env (row_event env id operands levels ∷ []) old new → Tells env (row_event env id places given ∷ []) old new
+  row_told id {places = places} {levels = levels} old new are is told =
+      subst (λ w. Tells env (row_event env id places w ∷ []) old new) is
+      (subst (λ w. Tells env (row_event env id w levels ∷ []) old new) are told)
 
-  -- the row of an instruction that names a function
-  pub own_events-function : (id : EvaluationOrder) (target : Option Place) (value' : InstructionValue)
-      (function : FunctionId) → NamesFunction function value'
-      → own_events env id target (Some value') (recorded_operands env value')
-      ≡ function_row env id function (map (target_of env id) (own target Memoized)) ∷ []
-  unfolding own_events recorded_operands places_read levels_of recorded_of load_events escape_events
-  own_events-function id None _ function (expression is) = function_told id None is
-  own_events-function id (Some target) _ function (expression is) = function_told id (Some target) is
-  own_events-function id None _ function (method is) = function_told id None is
-  own_events-function id (Some target) _ function (method is) = function_told id (Some target) is
+  pub context_is : (function : Option FunctionId) (operands places : List Place) → places ≡ operands
+      → IfSome function (λ named. operands ≡ context_of env named)
+      → IfSome function (λ named. places ≡ context_of env named)
+  context_is None operands places are h = h
+  context_is (Some function) operands places are h = are ∙ h
 
   -- the same in a terminal
 
-  pub walks-Instruction : (value' : ReactiveValue) (x : InstructionValue) (told : Told)
-      → value' ≡ reactive_values.Instruction x → AddsWalked env value' told told
-  walks-Instruction value' x told is = record {
-    events = tells_same env [] _ told told (ap (λ w. w.walked) (ap (parts_of env) is ∙ parts-Instruction x))
-        (tells_nothing env told);
+  pub walks-Instruction : (value' : ReactiveValue) (x : InstructionValue) (recording : Recording)
+      → value' ≡ reactive_values.Instruction x → AddsWalked env value' recording recording
+  walks-Instruction value' x recording is = record {
+    events = tells_same env [] _ recording recording (ap (λ w. w.walked) (ap (parts_of env) is ∙ parts-Instruction x))
+        (tells_nothing env recording);
   }
 
   pub walks-Logical : (value' : ReactiveValue) (operator : LogicalOperator) (x y : ReactiveValue)
-      (old mid new : Told) → value' ≡ reactive_values.LogicalExpression operator x y
+      (old mid new : Recording) → value' ≡ reactive_values.LogicalExpression operator x y
       → AddsWalked env x old mid → AddsWalked env y mid new → AddsWalked env value' old new
   walks-Logical value' operator x y old mid new is first second = record {
     events = tells_joined env old mid new _ _ _
@@ -229,7 +214,7 @@ module _ (env : Environment) where
         first.events second.events;
   }
 
-  pub walks-Conditional : (value' test x y : ReactiveValue) (old one two new : Told)
+  pub walks-Conditional : (value' test x y : ReactiveValue) (old one two new : Recording)
       → value' ≡ reactive_values.ConditionalExpression test x y → AddsWalked env test old one
       → AddsWalked env x one two → AddsWalked env y two new → AddsWalked env value' old new
   walks-Conditional value' test x y old one two new is first second third = record {
@@ -239,7 +224,7 @@ module _ (env : Environment) where
   }
 
   pub walks-Sequence : (value' : ReactiveValue) (rows : List ReactiveInstruction) (id : EvaluationOrder)
-      (x : ReactiveValue) (old mid new : Told)
+      (x : ReactiveValue) (old mid new : Recording)
       → value' ≡ reactive_values.SequenceExpression rows id x → Tells env (flat_map (row_events env) rows) old mid
       → AddsWalked env x mid new → AddsWalked env value' old new
   walks-Sequence value' rows id x old mid new is first second = record {
@@ -247,7 +232,7 @@ module _ (env : Environment) where
         (ap (λ w. w.walked) (ap (parts_of env) is ∙ parts-Sequence rows id x)) first second.events;
   }
 
-  pub walks-Optional : (value' x : ReactiveValue) (optional : Bool) (old new : Told)
+  pub walks-Optional : (value' x : ReactiveValue) (optional : Bool) (old new : Recording)
       → value' ≡ reactive_values.OptionalExpression x optional → AddsWalked env x old new
       → AddsWalked env value' old new
   walks-Optional value' x optional old new is added = record {
@@ -256,30 +241,3 @@ module _ (env : Environment) where
   }
 
 pub ruleset quiet_values = walks-Instruction
-
-module _ (env : Environment) where
-  -- what escapes loads nothing
-  no_loads_given : (places : List Place)
-      → flat_map loads_in (map (λ (place : Place). events.Escape (declaration_of env place.identifier)) places) ≡ []
-  no_loads_given [] = refl
-  no_loads_given (place ∷ places) = no_loads_given places
-
-  no_loads_argued : (arguments : List PlaceOrSpread) → flat_map loads_in (flat_map (argument_events env) arguments) ≡ []
-  no_loads_argued [] = refl
-  no_loads_argued (argument ∷ arguments) =
-      loads_in-append (argument_events env argument) (flat_map (argument_events env) arguments)
-      ∙ ap (λ w. w ++ flat_map loads_in (flat_map (argument_events env) arguments))
-      (no_loads_given (argument_places argument)) ∙ no_loads_argued arguments
-
-  no_loads_if : (escapes : Bool) (arguments : List PlaceOrSpread)
-      → flat_map loads_in (if escapes then flat_map (argument_events env) arguments else []) ≡ []
-  no_loads_if true arguments = no_loads_argued arguments
-  no_loads_if false arguments = refl
-
-  pub no_loads_escape : (value : InstructionValue) → flat_map loads_in (escape_events env value) ≡ []
-  unfolding escape_events
-  no_loads_escape (kind.CallExpression callee arguments span) =
-      no_loads_if (lets_escape env callee.identifier) arguments
-  no_loads_escape (kind.MethodCall receiver property arguments span) =
-      no_loads_if (lets_escape env property.identifier) arguments
-  no_loads_escape _ = refl

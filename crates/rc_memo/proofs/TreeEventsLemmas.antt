@@ -4,7 +4,7 @@ use Rattle.std.proofs.Common.{length, refl, subst, suc, sym, zero}
 use Rattle.std.specs.List.{flat_map}
 use Rattle.std.proofs.lemmas.List.{drop_more}
 use Rattle.rc_hir.specs.Model.{Environment}
-use Rattle.rc_names.specs.Numbers.{DeclarationId, EvaluationOrder, IdentifierId, ScopeId}
+use Rattle.rc_names.specs.Numbers.{EvaluationOrder, ScopeId}
 use Rattle.rc_tree.proofs.CollectedLemmas.{collected-case, collected-Scope, collected_forms}
 use Rattle.rc_tree.specs.Collected.{collected, collected_case, collected_cases, collected_if, collected_list}
 use Rattle.rc_tree.specs.Collected.{collected_statement}
@@ -13,14 +13,13 @@ use Rattle.rc_tree.specs.Model.{ReactiveScopeBlock, ReactiveStatement, ReactiveS
 use Rattle.rc_tree.specs.declared.statement.ReactiveStatement.TheVariants as reactive
 use Rattle.rc_tree.specs.declared.statement.ReactiveStatement.TheViews.{out-ReactiveSwitchCase}
 use Rattle.rc_tree.specs.declared.statement.ReactiveStatement.TheViews.{roll-out-ReactiveSwitchCase}
-use Rattle.rc_memo.proofs.KnownRowsLemmas.{tells_joined, tells_nothing, tells_same}
-use Rattle.rc_memo.specs.Events.{loads_in}
-use Rattle.rc_memo.specs.Mentions.{declaration_of}
+use Rattle.rc_memo.proofs.TellsLemmas.{tells_joined, tells_nothing, tells_same}
+use Rattle.rc_hir.specs.Environment.{declaration_of}
 use Rattle.rc_memo.specs.TreeEvents.{Events, events_of_parts, reassigned_by, reassigned_events}
 use Rattle.rc_memo.specs.declared.event.MemoEvent.{MemoEvent}
 use Rattle.rc_memo.specs.declared.event.MemoEvent.TheVariants as kinds
-use Rattle.rc_memo.specs.declared.known_rows.Told.{Told}
-use Rattle.rc_memo.specs.inside.KnownRows.{Tells}
+use Rattle.rc_memo.specs.declared.recording.Recording.{Recording}
+use Rattle.rc_memo.specs.inside.Recording.{Tells}
 
 drop_all : {X : Type 0} (xs : List X) (i : ℕ) → length xs ≤ i → drop i xs ≡ []
 drop_all [] zero le = refl
@@ -33,19 +32,19 @@ pub ruleset parts = (collected_forms, append-nil, tells_nothing)
 
 module _ (env : Environment) where
   -- what is added in one, two, three and four steps
-  pub in_one : (old new : Told) (a whole : List MemoEvent) → whole ≡ a → Tells env a old new → Tells env whole old new
+  pub in_one : (old new : Recording) (a whole : List MemoEvent) → whole ≡ a → Tells env a old new → Tells env whole old new
   in_one old new a whole is first = tells_same env a whole old new is first
 
-  pub in_two : (old one new : Told) (a b whole : List MemoEvent) → whole ≡ a ++ b → Tells env a old one
+  pub in_two : (old one new : Recording) (a b whole : List MemoEvent) → whole ≡ a ++ b → Tells env a old one
       → Tells env b one new → Tells env whole old new
   in_two old one new a b whole is first second = tells_joined env old one new a b whole is first second
 
-  pub in_three : (old one two new : Told) (a b c whole : List MemoEvent) → whole ≡ a ++ (b ++ c)
+  pub in_three : (old one two new : Recording) (a b c whole : List MemoEvent) → whole ≡ a ++ (b ++ c)
       → Tells env a old one → Tells env b one two → Tells env c two new → Tells env whole old new
   in_three old one two new a b c whole is first second third =
       in_two old one new a (b ++ c) whole is first (in_two one two new b c (b ++ c) refl second third)
 
-  pub in_four : (old one two three new : Told) (a b c d whole : List MemoEvent) → whole ≡ a ++ (b ++ (c ++ d))
+  pub in_four : (old one two three new : Recording) (a b c d whole : List MemoEvent) → whole ≡ a ++ (b ++ (c ++ d))
       → Tells env a old one → Tells env b one two → Tells env c two three → Tells env d three new
       → Tells env whole old new
   in_four old one two three new a b c d whole is first second third fourth =
@@ -67,7 +66,7 @@ module _ (env : Environment) where
 
   -- a scope block adds what it reassigns, and then its inside
   pub adds_scope_block : (x : ReactiveStatement) (block : ReactiveScopeBlock) (around inside : List ScopeId)
-      (old one new : Told) → x ≡ reactive.Scope block → inside ≡ around ++ block.scope ∷ []
+      (old one new : Recording) → x ≡ reactive.Scope block → inside ≡ around ++ block.scope ∷ []
       → Tells env (flat_map (λ number. kinds.Within (declaration_of env number) inside ∷ [])
       (reassigned_by env block.scope)) old one
       → Tells env (collected (events_of_parts env) block.instructions inside) one new
@@ -81,10 +80,10 @@ module _ (env : Environment) where
       (subst (λ w. Tells env (collected (events_of_parts env) block.instructions w) one new) within second)
 
   -- the events of a part that are still to come, whatever is told behind them
-  pub next_told : (start old mid : Told) (first rest left whole : List MemoEvent) → left ≡ first ++ rest
+  pub next_told : (start old mid : Recording) (first rest left whole : List MemoEvent) → left ≡ first ++ rest
       → Tells env first old mid
-      → ((new : Told) → Tells env left old new → Tells env whole start new)
-      → (new : Told) → Tells env rest mid new → Tells env whole start new
+      → ((new : Recording) → Tells env left old new → Tells env whole start new)
+      → (new : Recording) → Tells env rest mid new → Tells env whole start new
   next_told start old mid first rest left whole is told so_far new later =
       so_far new (tells_joined env old mid new first rest left is told later)
 
@@ -118,28 +117,22 @@ module _ (env : Environment) where
       (drop_more all i statement below ∙ ap (λ y. y ∷ drop (i + 1) all) (sym at))
 
   -- nothing is still to come
-  all_told : (start mid : Told) (left whole : List MemoEvent) → left ≡ []
-      → ((new : Told) → Tells env left mid new → Tells env whole start new) → Tells env whole start mid
+  all_told : (start mid : Recording) (left whole : List MemoEvent) → left ≡ []
+      → ((new : Recording) → Tells env left mid new → Tells env whole start new) → Tells env whole start mid
   all_told start mid left whole is so_far = so_far mid (tells_same env [] left mid mid is (tells_nothing env mid))
 
   pub cases_told : (around : List ScopeId) (cases : List ReactiveSwitchCase) (i : ℕ) (id : EvaluationOrder)
-      (start mid : Told) → length cases ≤ i
-      → ((new : Told) → Tells env (collected_cases (events_of_parts env) id (drop i cases) around) mid new
+      (start mid : Recording) → length cases ≤ i
+      → ((new : Recording) → Tells env (collected_cases (events_of_parts env) id (drop i cases) around) mid new
       → Tells env (collected_cases (events_of_parts env) id cases around) start new)
       → Tells env (collected_cases (events_of_parts env) id cases around) start mid
   cases_told around cases i id start mid past so_far = all_told start mid _ _
       (ap (λ w. collected_cases (events_of_parts env) id w around) (drop_all cases i past)) so_far
 
-  pub statements_told : (around : List ScopeId) (all : List ReactiveStatement) (i : ℕ) (start mid : Told)
+  pub statements_told : (around : List ScopeId) (all : List ReactiveStatement) (i : ℕ) (start mid : Recording)
       → length all ≤ i
-      → ((new : Told) → Tells env (collected_list (events_of_parts env) (drop i all) around) mid new
+      → ((new : Recording) → Tells env (collected_list (events_of_parts env) (drop i all) around) mid new
       → Tells env (collected_list (events_of_parts env) all around) start new)
       → Tells env (collected_list (events_of_parts env) all around) start mid
   statements_told around all i start mid past so_far = all_told start mid _ _
       (ap (λ w. collected_list (events_of_parts env) w around) (drop_all all i past)) so_far
-
--- names that are within scopes load nothing
-pub no_loads_within : (name : IdentifierId → DeclarationId) (scopes : List ScopeId) (numbers : List IdentifierId)
-    → flat_map loads_in (flat_map (λ number. kinds.Within (name number) scopes ∷ []) numbers) ≡ []
-no_loads_within name scopes [] = refl
-no_loads_within name scopes (number ∷ numbers) = no_loads_within name scopes numbers

@@ -2,20 +2,15 @@
 --
 -- A number outside its table is in no scope, and stands for the declaration of its own number.
 use Rattle.std.specs.Prelude.{Option, None, Some, slice_get, option_and_then, if◌then◌else◌}
-use Rattle.std.specs.Option.{option_map_or}
+use Rattle.rc_hir.specs.Environment.{declaration_of}
 use Rattle.rc_hir.specs.Model.{Environment, Place}
-use Rattle.rc_names.specs.Numbers.{DeclarationId, EvaluationOrder, IdentifierId, ScopeId, to_id}
+use Rattle.rc_names.specs.Numbers.{EvaluationOrder, IdentifierId, ScopeId}
 use Rattle.rc_ranges.specs.Ranges.{is_in_range}
 use Rattle.rc_memo.specs.declared.event.Mention.{Mention}
 use Rattle.rc_memo.specs.declared.event.Target.{Target}
 use Rattle.rc_memo.specs.declared.table.LevelGiven.{LevelGiven}
 
 module _ (env : Environment) where
-  -- the declaration of an identifier
-  abbrev pub declaration_of : IdentifierId → DeclarationId
-  declaration_of number =
-      option_map_or (λ identifier. identifier.declaration_id) (slice_get env.identifiers number.0) (to_id number.0)
-
   -- a scope, where its range has the id
   abbrev pub if_active : EvaluationOrder → ScopeId → Option ScopeId
   if_active id scope = option_and_then (λ known. if is_in_range id known.range then Some scope else None)
@@ -29,7 +24,7 @@ module _ (env : Environment) where
   -- a place in a row of that id
   unfoldable pub mention_of : EvaluationOrder → Place → Mention
   mention_of id place = record {
-    name = declaration_of place.identifier;
+    name = declaration_of env place.identifier;
     scope = active_scope id place.identifier;
   }
 

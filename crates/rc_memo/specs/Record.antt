@@ -9,7 +9,7 @@ use Rattle.rc_names.specs.Numbers.{DeclarationId, ScopeId, same_id}
 use Rattle.rc_tree.specs.Model.{ReactiveFunction}
 use Rattle.rc_memo.specs.Events.{definitions_told, escaping_in, facts_told, loads_in, scopes_in}
 use Rattle.rc_memo.specs.Facts.{distinct, first_missing, nodes_told}
-use Rattle.rc_memo.specs.Mentions.{declaration_of}
+use Rattle.rc_hir.specs.Environment.{declaration_of}
 use Rattle.rc_memo.specs.TreeEvents.{events_in}
 use Rattle.rc_memo.specs.declared.event.MemoEvent.{MemoEvent}
 use Rattle.rc_memo.specs.declared.record.MemoRecord.{MemoRecord}

@@ -6,27 +6,22 @@
 use Rattle.std.specs.Prelude.{Bool, ◌&&◌, not, List, [], ◌∷◌, ◌++◌, Option, None, Some, map, if◌then◌else◌}
 use Rattle.std.specs.List.{flat_map}
 use Rattle.std.specs.Result.{result_unwrap_or}
-use Rattle.rc_hir.specs.Environment.{has_no_alias_signature, is_hook}
+use Rattle.rc_hir.specs.Environment.{declaration_of, has_no_alias_signature, is_hook}
 use Rattle.rc_hir.specs.Model.{Environment, InstructionValue, Place, PlaceOrSpread}
 use Rattle.rc_hir.specs.Operands.{argument_places, operands}
 use Rattle.rc_hir.specs.declared.instruction.InstructionValue.TheVariants as kind
 use Rattle.rc_names.specs.Numbers.{EvaluationOrder, IdentifierId}
+use Rattle.rc_tree.specs.CollectedValues.{instruction_of}
 use Rattle.rc_tree.specs.Model.{ReactiveInstruction, ReactiveValue}
 use Rattle.rc_tree.specs.declared.value.ReactiveValue.TheFolds.{para-ReactiveInstruction, para-ReactiveValue}
 use Rattle.rc_tree.specs.declared.value.ReactiveValue.TheOpen as value
 use Rattle.rc_tree.specs.declared.value.ReactiveValue.TheOpen.{ReactiveInstruction-F, ReactiveValue-F}
-use Rattle.rc_tree.specs.declared.value.ReactiveValue.TheVariants as reactive_values
 use Rattle.rc_memo.specs.Table.{levels_of, memo_rule, own, recorded_of, written_levels}
 use Rattle.rc_memo.specs.declared.event.MemoEvent.{MemoEvent}
 use Rattle.rc_memo.specs.declared.event.MemoEvent.TheVariants as events
 use Rattle.rc_memo.specs.declared.level.MemoizationLevel.TheVariants.{Conditional}
 use Rattle.rc_memo.specs.declared.table.LevelGiven.{LevelGiven}
-use Rattle.rc_memo.specs.Mentions.{declaration_of, mention_of, target_of}
-
--- the instruction of a value, where it is no expression over other values
-abbrev pub instruction_of : ReactiveValue → Option InstructionValue
-instruction_of (reactive_values.Instruction instruction) = Some instruction
-instruction_of _ = None
+use Rattle.rc_memo.specs.Mentions.{mention_of, target_of}
 
 -- what a value brings: to the row in which it stands, its operands and the events of the rows inside; and the events
 -- of the rows inside where the value stands in a terminal, in which the test of a condition counts too

@@ -7,7 +7,7 @@ use Rattle.rc_names.specs.Numbers.{IdentifierId, ScopeId}
 use Rattle.rc_tree.specs.Collected.{Contributions, collected}
 use Rattle.rc_tree.specs.Joining.{from_around, lists}
 use Rattle.rc_tree.specs.Model.{ReactiveBlock}
-use Rattle.rc_memo.specs.Mentions.{declaration_of}
+use Rattle.rc_hir.specs.Environment.{declaration_of}
 use Rattle.rc_memo.specs.RowEvents.{row_events, walked_events}
 use Rattle.rc_memo.specs.declared.event.MemoEvent.{MemoEvent}
 use Rattle.rc_memo.specs.declared.event.MemoEvent.TheVariants as events

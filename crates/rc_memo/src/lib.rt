@@ -2,31 +2,26 @@
 //! compute it.
 //!
 //! The rows of a tree are read by the memo table, which says of each kind of instruction what it asks of its places.
-//! What they tell is then put together, name by name.
+//! Each row is recorded as it is read: its operands once, and with each of its targets where they stand.
 //!
 //! After oxc's prune_non_escaping_scopes.
 #![tactic(auto)]
 
 mod collecting;
-mod context_part;
-mod context_rows;
 mod event;
-mod events;
-mod expression_rows;
-mod function_rows;
-mod known_rows;
+mod expanding;
 mod level;
 mod nodes;
 mod reader;
 mod record;
+mod recording;
 mod row_record;
 mod rows;
+mod scopes;
 mod table;
 mod tree;
-mod until_load;
-mod waiting;
 
-pub use collecting::{check_nodes, collect, collect_rows};
+pub use collecting::{collect, collect_rows};
 pub use level::{MemoizationLevel, join_aliases};
 pub use record::{DeclSet, MemoNode, MemoRecord};
 pub use row_record::{RowNode, RowRecord};

@@ -1,14 +1,15 @@
 //! Reading what the places of a row name: their declarations, and the scopes that are active for them.
 
-ghost use Rattle.std.specs.Prelude.{◌≡◌, ◌≤◌, ◌++◌, length, map, OnOk};
+ghost use Rattle.std.specs.Prelude.{◌≡◌};
+ghost use Rattle.rc_hir.specs.Environment as environment;
 ghost use Rattle.rc_memo.specs.Mentions as spec;
 
 use crate::event::{Mention, Target};
 use crate::table::LevelGiven;
 use rc_hir::{Environment, Place};
-use rc_names::{DeclarationId, EvaluationOrder, IdentifierId, List, ScopeId};
+use rc_names::{DeclarationId, EvaluationOrder, IdentifierId, ScopeId};
 use rc_ranges::is_in_range;
-use std::alloc::{AllocError, Global};
+use std::alloc::Global;
 
 /// Reads the rows of a tree. Its methods fail only when out of memory.
 #[derive(Clone, Copy)]
@@ -20,7 +21,7 @@ pub struct RowReader<'a> {
 impl<'a> RowReader<'a> {
     /// Returns the declaration of an identifier.
     pub fn declaration(&self, number: IdentifierId) -> DeclarationId
-        ensures { result ≡ spec.declaration_of self.now.env.now number }
+        ensures { result ≡ environment.declaration_of self.now.env.now number }
     {
         match self.env.identifiers.get(number) {
             Some(identifier) => identifier.declaration_id,
@@ -71,22 +72,5 @@ impl<'a> RowReader<'a> {
             mention: self.mention(id, given.place),
             level: given.level,
         }
-    }
-
-    /// Adds what these places in a row of that id name.
-    pub fn push_mentions(
-        &self,
-        mentions: &mut List<Mention>,
-        id: EvaluationOrder,
-        places: &[Place],
-    ) -> Result<(), AllocError>
-        ensures ok { OnOk result (mentions.new
-            ≡ mentions.old ++ map (spec.mention_of self.now.env.now id) places.now) }
-        ensures longer { length mentions.old ≤ length mentions.new }
-    {
-        for place in places {
-            mentions.push(self.mention(id, *place))?;
-        }
-        Ok(())
     }
 }

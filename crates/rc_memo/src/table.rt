@@ -2,20 +2,17 @@
 //!
 //! The kinds belong to twelve lines, and the rest is said of the lines.
 
-ghost use Rattle.std.specs.Prelude.{◌≡◌, ◌∷◌, [], OnOk, if◌then◌else◌};
+ghost use Rattle.std.specs.Prelude.{◌≡◌, ◌∷◌, ◌++◌, [], OnOk, if◌then◌else◌};
 ghost use Rattle.std.specs.List.{flat_map};
 ghost use Rattle.rc_memo.specs.Table as spec;
-ghost use Rattle.rc_memo.specs.inside.RowsAdded.{with_levels};
 ghost use Rattle.rc_memo.specs.declared.level.MemoizationLevel.TheVariants as levels;
 
 use crate::MemoizationLevel;
-use crate::events::Events;
-use crate::reader::RowReader;
 use rc_hir::{
     ArrayPatternElement, Environment, InstructionValue, InstructionValue as Kind,
     ObjectPropertyOrSpread, Pattern, Place, Places,
 };
-use rc_names::{EvaluationOrder, List};
+use rc_names::List;
 use std::alloc::AllocError;
 use std::slice;
 
@@ -125,247 +122,208 @@ pub struct LevelGiven {
     pub level: MemoizationLevel,
 }
 
-/// Gives places of a row their levels. Its methods add targets to the row that was added last, and fail only when out
-/// of memory.
-#[derive(Clone, Copy)]
-pub struct Levels<'a> {
-    pub reader: RowReader<'a>,
-    pub id: EvaluationOrder,
+/// Adds a place with its level.
+fn push_level(
+    levels: &mut List<LevelGiven>,
+    place: Place,
+    level: MemoizationLevel,
+) -> Result<(), AllocError>
+    ensures { OnOk result (levels.new ≡ levels.old ++ spec.gives place level ∷ []) }
+{
+    levels.push(LevelGiven { place, level })
 }
 
-impl<'a> Levels<'a> {
-    #[tactic(auto, using(crate::proofs::RowPartsLemmas::level_put))]
-    fn put(
-        &self,
-        events: &mut Events,
-        place: Place,
-        level: MemoizationLevel,
-    ) -> Result<(), AllocError>
-        ensures { OnOk result (events.new ≡ with_levels self.now.reader.env.now self.now.id
-            (spec.gives place level ∷ []) events.old) }
-    {
-        events.push_target(self.reader.target(self.id, LevelGiven { place, level }))
+/// Adds the level of the row's own target, where there is one. Fails only when out of memory.
+pub fn push_own(
+    levels: &mut List<LevelGiven>,
+    target: Option<Place>,
+    level: MemoizationLevel,
+) -> Result<(), AllocError>
+    ensures { OnOk result (levels.new ≡ levels.old ++ spec.own target level) }
+{
+    match target {
+        Some(place) => push_level(levels, place, level),
+        None => Ok(()),
     }
+}
 
-    /// Gives the row's own target its level, where there is one.
-    #[tactic(auto, using(crate::proofs::RowPartsLemmas::row_steps))]
-    pub fn put_own(
-        &self,
-        events: &mut Events,
-        target: Option<Place>,
-        level: MemoizationLevel,
-    ) -> Result<(), AllocError>
-        ensures { OnOk result (events.new ≡ with_levels self.now.reader.env.now self.now.id
-            (spec.own target level) events.old) }
-    {
-        match target {
-            Some(place) => self.put(events, place, level),
-            None => Ok(()),
-        }
-    }
+/// Adds the level of a place, and then that of the row's own target.
+fn push_both(
+    levels: &mut List<LevelGiven>,
+    place: Place,
+    level: MemoizationLevel,
+    target: Option<Place>,
+    own: MemoizationLevel,
+) -> Result<(), AllocError>
+    ensures { OnOk result (levels.new ≡ levels.old ++ spec.gives place level ∷ spec.own target own) }
+{
+    push_level(levels, place, level)?;
+    push_own(levels, target, own)
+}
 
-    /// Gives a place its level, and then the row's own target.
-    #[tactic(auto, using(crate::proofs::RowPartsLemmas::levels_next))]
-    fn put_both(
-        &self,
-        events: &mut Events,
-        place: Place,
-        level: MemoizationLevel,
-        target: Option<Place>,
-        own: MemoizationLevel,
-    ) -> Result<(), AllocError>
-        ensures { OnOk result (events.new ≡ with_levels self.now.reader.env.now self.now.id
-            (spec.gives place level ∷ spec.own target own) events.old) }
-    {
-        self.put(events, place, level)?;
-        self.put_own(events, target, own)
-    }
-
-    /// Gives an operand its level, if the row may change it.
-    #[tactic(auto, using(crate::proofs::RowPartsLemmas::row_steps))]
-    fn put_if_mutable(&self, events: &mut Events, operand: Place) -> Result<(), AllocError>
-        ensures { OnOk result (events.new ≡ with_levels self.now.reader.env.now self.now.id
-            (spec.if_mutable operand) events.old) }
-    {
-        if operand.effect.is_mutable() {
-            self.put(events, operand, MemoizationLevel::Memoized)
-        } else {
-            Ok(())
-        }
-    }
-
-    /// Gives each operand that the row may change its level.
-    #[tactic(auto, using(crate::proofs::RowPartsLemmas::row_steps))]
-    pub fn put_mutable(&self, events: &mut Events, operands: &[Place]) -> Result<(), AllocError>
-        ensures { OnOk result (events.new ≡ with_levels self.now.reader.env.now self.now.id
-            (flat_map spec.if_mutable operands.now) events.old) }
-    {
-        for operand in operands {
-            self.put_if_mutable(events, *operand)?;
-        }
+/// Adds the level of an operand, if the row may change it.
+fn push_if_mutable(levels: &mut List<LevelGiven>, operand: Place) -> Result<(), AllocError>
+    ensures { OnOk result (levels.new ≡ levels.old ++ spec.if_mutable operand) }
+{
+    if operand.effect.is_mutable() {
+        push_level(levels, operand, MemoizationLevel::Memoized)
+    } else {
         Ok(())
     }
+}
 
-    #[tactic(auto, using(crate::proofs::RowPartsLemmas::row_steps))]
-    fn put_item(&self, events: &mut Events, item: &ArrayPatternElement) -> Result<(), AllocError>
-        ensures { OnOk result (events.new ≡ with_levels self.now.reader.env.now self.now.id
-            (spec.item_levels item.now) events.old) }
-    {
-        match item {
-            ArrayPatternElement::Place(place) => self.put(
-                events,
-                *place,
-                MemoizationLevel::Conditional,
-            ),
-            ArrayPatternElement::Spread(spread) => self.put(
-                events,
-                spread.place,
-                MemoizationLevel::Memoized,
-            ),
-            ArrayPatternElement::Hole => Ok(()),
-        }
+/// Adds the level of each operand that the row may change.
+fn push_mutable(levels: &mut List<LevelGiven>, operands: &[Place]) -> Result<(), AllocError>
+    ensures { OnOk result (levels.new ≡ levels.old ++ flat_map spec.if_mutable operands.now) }
+{
+    for operand in operands {
+        push_if_mutable(levels, *operand)?;
     }
+    Ok(())
+}
 
-    #[tactic(auto, using(crate::proofs::RowPartsLemmas::row_steps))]
-    fn put_entry(
-        &self,
-        events: &mut Events,
-        entry: &ObjectPropertyOrSpread,
-    ) -> Result<(), AllocError>
-        ensures { OnOk result (events.new ≡ with_levels self.now.reader.env.now self.now.id
-            (spec.entry_levels entry.now) events.old) }
-    {
-        match entry {
-            ObjectPropertyOrSpread::Property(property) => {
-                self.put(events, property.place, MemoizationLevel::Conditional)
+fn push_item(levels: &mut List<LevelGiven>, item: &ArrayPatternElement) -> Result<(), AllocError>
+    ensures { OnOk result (levels.new ≡ levels.old ++ spec.item_levels item.now) }
+{
+    match item {
+        ArrayPatternElement::Place(place) => push_level(
+            levels,
+            *place,
+            MemoizationLevel::Conditional,
+        ),
+        ArrayPatternElement::Spread(spread) => push_level(
+            levels,
+            spread.place,
+            MemoizationLevel::Memoized,
+        ),
+        ArrayPatternElement::Hole => Ok(()),
+    }
+}
+
+fn push_entry(
+    levels: &mut List<LevelGiven>,
+    entry: &ObjectPropertyOrSpread,
+) -> Result<(), AllocError>
+    ensures { OnOk result (levels.new ≡ levels.old ++ spec.entry_levels entry.now) }
+{
+    match entry {
+        ObjectPropertyOrSpread::Property(property) => push_level(
+            levels,
+            property.place,
+            MemoizationLevel::Conditional,
+        ),
+        ObjectPropertyOrSpread::Spread(spread) => push_level(
+            levels,
+            spread.place,
+            MemoizationLevel::Memoized,
+        ),
+    }
+}
+
+fn push_items(
+    levels: &mut List<LevelGiven>,
+    items: &List<ArrayPatternElement>,
+) -> Result<(), AllocError>
+    ensures { OnOk result (levels.new ≡ levels.old ++ flat_map spec.item_levels items.now) }
+{
+    for item in items.as_slice() {
+        push_item(levels, item)?;
+    }
+    Ok(())
+}
+
+fn push_entries(
+    levels: &mut List<LevelGiven>,
+    entries: &List<ObjectPropertyOrSpread>,
+) -> Result<(), AllocError>
+    ensures { OnOk result (levels.new ≡ levels.old ++ flat_map spec.entry_levels entries.now) }
+{
+    for entry in entries.as_slice() {
+        push_entry(levels, entry)?;
+    }
+    Ok(())
+}
+
+fn push_pattern(levels: &mut List<LevelGiven>, pattern: &Pattern) -> Result<(), AllocError>
+    ensures { OnOk result (levels.new ≡ levels.old ++ spec.pattern_levels pattern.now) }
+{
+    match pattern {
+        Pattern::Array { items } => push_items(levels, items),
+        Pattern::Object { properties } => push_entries(levels, properties),
+    }
+}
+
+/// Adds the levels of the places of the instruction's pattern, if it has one.
+fn push_written(levels: &mut List<LevelGiven>, value: &InstructionValue) -> Result<(), AllocError>
+    ensures { OnOk result (levels.new ≡ levels.old ++ spec.written_levels value.now) }
+{
+    match value {
+        Kind::Destructure { lvalue, .. } => push_pattern(levels, &lvalue.pattern),
+        _ => Ok(()),
+    }
+}
+
+/// Adds the levels that a line gives. Fails only when out of memory.
+#[tactic(auto, unfolding(crate::specs::Table::levels_of))]
+pub fn push_levels(
+    levels: &mut List<LevelGiven>,
+    env: &Environment,
+    value: &InstructionValue,
+    line: MemoRule,
+    target: Option<Place>,
+    operands: &Places<'_>,
+) -> Result<(), AllocError>
+    ensures { OnOk result (levels.new ≡ levels.old
+        ++ spec.levels_of env.now line target operands.now (spec.written_levels value.now)) }
+{
+    match line {
+        MemoRule::Element => push_own(levels, target, element_level(env)),
+        MemoRule::Cheap => push_own(levels, target, cheap_level(env)),
+        MemoRule::Follows => push_own(levels, target, MemoizationLevel::Conditional),
+        MemoRule::DeclaresContext { lvalue } => push_both(
+            levels,
+            lvalue,
+            MemoizationLevel::Memoized,
+            target,
+            MemoizationLevel::Unmemoized,
+        ),
+        MemoRule::Declares { lvalue } => push_both(
+            levels,
+            lvalue,
+            MemoizationLevel::Unmemoized,
+            target,
+            MemoizationLevel::Unmemoized,
+        ),
+        MemoRule::Stores { lvalue, .. } => push_both(
+            levels,
+            lvalue,
+            MemoizationLevel::Conditional,
+            target,
+            MemoizationLevel::Conditional,
+        ),
+        MemoRule::StoresContext { lvalue, .. } => push_both(
+            levels,
+            lvalue,
+            MemoizationLevel::Memoized,
+            target,
+            MemoizationLevel::Conditional,
+        ),
+        MemoRule::StoresGlobal { .. } => push_own(levels, target, MemoizationLevel::Unmemoized),
+        MemoRule::Destructures { .. } => {
+            push_own(levels, target, MemoizationLevel::Conditional)?;
+            push_written(levels, value)
+        }
+        MemoRule::Reads { .. } => push_own(levels, target, MemoizationLevel::Conditional),
+        MemoRule::Calls { callee } => {
+            push_own(levels, target, MemoizationLevel::Memoized)?;
+            if env.has_no_alias_signature(callee.identifier) {
+                return Ok(());
             }
-            ObjectPropertyOrSpread::Spread(spread) => self.put(
-                events,
-                spread.place,
-                MemoizationLevel::Memoized,
-            ),
+            push_mutable(levels, operands.as_slice())
         }
-    }
-
-    #[tactic(auto, using(crate::proofs::RowPartsLemmas::row_steps))]
-    fn put_items(
-        &self,
-        events: &mut Events,
-        items: &List<ArrayPatternElement>,
-    ) -> Result<(), AllocError>
-        ensures { OnOk result (events.new ≡ with_levels self.now.reader.env.now self.now.id
-            (flat_map spec.item_levels items.now) events.old) }
-    {
-        for item in items.as_slice() {
-            self.put_item(events, item)?;
-        }
-        Ok(())
-    }
-
-    #[tactic(auto, using(crate::proofs::RowPartsLemmas::row_steps))]
-    fn put_entries(
-        &self,
-        events: &mut Events,
-        entries: &List<ObjectPropertyOrSpread>,
-    ) -> Result<(), AllocError>
-        ensures { OnOk result (events.new ≡ with_levels self.now.reader.env.now self.now.id
-            (flat_map spec.entry_levels entries.now) events.old) }
-    {
-        for entry in entries.as_slice() {
-            self.put_entry(events, entry)?;
-        }
-        Ok(())
-    }
-
-    fn put_pattern(&self, events: &mut Events, pattern: &Pattern) -> Result<(), AllocError>
-        ensures { OnOk result (events.new ≡ with_levels self.now.reader.env.now self.now.id
-            (spec.pattern_levels pattern.now) events.old) }
-    {
-        match pattern {
-            Pattern::Array { items } => self.put_items(events, items),
-            Pattern::Object { properties } => self.put_entries(events, properties),
-        }
-    }
-
-    /// Gives the places of the instruction's pattern their levels, if it has one.
-    #[tactic(auto, using(crate::proofs::RowPartsLemmas::row_steps))]
-    fn put_written(&self, events: &mut Events, value: &InstructionValue) -> Result<(), AllocError>
-        ensures { OnOk result (events.new ≡ with_levels self.now.reader.env.now self.now.id
-            (spec.written_levels value.now) events.old) }
-    {
-        match value {
-            Kind::Destructure { lvalue, .. } => self.put_pattern(events, &lvalue.pattern),
-            _ => Ok(()),
-        }
-    }
-
-    /// Gives the levels of a line.
-    #[tactic(auto, using(crate::proofs::RowPartsLemmas::levels_joined), unfolding(crate::specs::Table::levels_of))]
-    pub fn put_line(
-        &self,
-        events: &mut Events,
-        value: &InstructionValue,
-        line: MemoRule,
-        target: Option<Place>,
-        operands: &Places<'_>,
-    ) -> Result<(), AllocError>
-        ensures { OnOk result (events.new ≡ with_levels self.now.reader.env.now self.now.id
-            (spec.levels_of self.now.reader.env.now line target operands.now (spec.written_levels value.now))
-            events.old) }
-    {
-        match line {
-            MemoRule::Element => self.put_own(events, target, element_level(self.reader.env)),
-            MemoRule::Cheap => self.put_own(events, target, cheap_level(self.reader.env)),
-            MemoRule::Follows => self.put_own(events, target, MemoizationLevel::Conditional),
-            MemoRule::DeclaresContext { lvalue } => self.put_both(
-                events,
-                lvalue,
-                MemoizationLevel::Memoized,
-                target,
-                MemoizationLevel::Unmemoized,
-            ),
-            MemoRule::Declares { lvalue } => self.put_both(
-                events,
-                lvalue,
-                MemoizationLevel::Unmemoized,
-                target,
-                MemoizationLevel::Unmemoized,
-            ),
-            MemoRule::Stores { lvalue, .. } => self.put_both(
-                events,
-                lvalue,
-                MemoizationLevel::Conditional,
-                target,
-                MemoizationLevel::Conditional,
-            ),
-            MemoRule::StoresContext { lvalue, .. } => self.put_both(
-                events,
-                lvalue,
-                MemoizationLevel::Memoized,
-                target,
-                MemoizationLevel::Conditional,
-            ),
-            MemoRule::StoresGlobal { .. } => self.put_own(
-                events,
-                target,
-                MemoizationLevel::Unmemoized,
-            ),
-            MemoRule::Destructures { .. } => {
-                self.put_own(events, target, MemoizationLevel::Conditional)?;
-                self.put_written(events, value)
-            }
-            MemoRule::Reads { .. } => self.put_own(events, target, MemoizationLevel::Conditional),
-            MemoRule::Calls { callee } => {
-                self.put_own(events, target, MemoizationLevel::Memoized)?;
-                if self.reader.env.has_no_alias_signature(callee.identifier) {
-                    return Ok(());
-                }
-                self.put_mutable(events, operands.as_slice())
-            }
-            MemoRule::Creates => {
-                self.put_mutable(events, operands.as_slice())?;
-                self.put_own(events, target, MemoizationLevel::Memoized)
-            }
+        MemoRule::Creates => {
+            push_mutable(levels, operands.as_slice())?;
+            push_own(levels, target, MemoizationLevel::Memoized)
         }
     }
 }

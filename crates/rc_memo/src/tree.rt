@@ -5,19 +5,17 @@
 
 ghost use Rattle.std.specs.Prelude.{◌≡◌, [], ◌∷◌, ◌++◌, IfOk, OnOk};
 ghost use Rattle.std.specs.List.{flat_map};
-ghost use Rattle.rc_memo.specs.Mentions.{declaration_of};
+ghost use Rattle.rc_hir.specs.Environment.{declaration_of};
 ghost use Rattle.rc_memo.specs.RowEvents.{walked_events};
 ghost use Rattle.rc_memo.specs.TreeEvents.{events_in, events_of_parts, reassigned_by, reassigned_events};
 ghost use Rattle.rc_memo.specs.declared.event.MemoEvent.TheVariants as kinds;
-ghost use Rattle.rc_memo.specs.inside.Alike.{TellTheSame};
-ghost use Rattle.rc_memo.specs.inside.KnownRows.{Tells};
+ghost use Rattle.rc_memo.specs.inside.Recording.{Tells};
 ghost use Rattle.rc_names.specs.Numbers.{EvaluationOrder as Order};
 ghost use Rattle.rc_tree.specs.Collected.{collected, collected_cases, collected_if, collected_list};
 ghost use Rattle.rc_tree.specs.Collected.{collected_statement, collected_terminal};
 
-use crate::events::Events;
-use crate::known_rows::Told;
 use crate::reader::RowReader;
+use crate::recording::Recording;
 use rc_hir::Place;
 use rc_names::{Boxed, IdentifierId, List, ScopeId};
 use rc_tree::{
@@ -39,31 +37,19 @@ fn inside_of(
     Ok(inside)
 }
 
-/// Adds that a name has these scopes. Fails only when out of memory.
-fn add_within(
-    reader: &RowReader<'_>,
-    events: &mut Events,
-    number: IdentifierId,
-    scopes: &List<ScopeId>,
-) -> Result<(), AllocError>
-    ensures { OnOk result (events.new ≡ events.old
-        ++ kinds.Within (declaration_of reader.now.env.now number) scopes.now ∷ []) }
-{
-    events.push_within(reader.declaration(number), scopes.as_slice())
-}
-
 /// Adds that each of these names has these scopes. Fails only when out of memory.
 fn add_each_within(
     reader: &RowReader<'_>,
-    events: &mut Events,
+    recording: &mut Recording,
     numbers: &List<IdentifierId>,
     scopes: &List<ScopeId>,
 ) -> Result<(), AllocError>
-    ensures { OnOk result (events.new ≡ events.old
-        ++ flat_map (λ number. kinds.Within (declaration_of reader.now.env.now number) scopes.now ∷ []) numbers.now) }
+    ensures { OnOk result (Tells reader.now.env.now
+        (flat_map (λ number. kinds.Within (declaration_of reader.now.env.now number) scopes.now ∷ []) numbers.now)
+        recording.old recording.new) }
 {
     for number in numbers.as_slice() {
-        add_within(reader, events, *number, scopes)?;
+        reader.record_within(recording, *number, scopes)?;
     }
     Ok(())
 }
@@ -71,49 +57,49 @@ fn add_each_within(
 /// Adds that a returned name escapes, and that it has the scope blocks around. Fails only when out of memory.
 fn add_returned(
     reader: &RowReader<'_>,
-    told: &mut Told,
+    recording: &mut Recording,
     around: &List<ScopeId>,
     place: Place,
 ) -> Result<(), AllocError>
     ensures { OnOk result (Tells reader.now.env.now (kinds.Escape (declaration_of reader.now.env.now place.identifier)
-        ∷ kinds.Within (declaration_of reader.now.env.now place.identifier) around.now ∷ []) told.old told.new) }
+        ∷ kinds.Within (declaration_of reader.now.env.now place.identifier) around.now ∷ []) recording.old
+        recording.new) }
 {
-    told.events
-        .push_escape(reader.declaration(place.identifier))?;
-    add_within(reader, &mut told.events, place.identifier, around)?;
+    reader.record_escape(recording, place.identifier)?;
+    reader.record_within(recording, place.identifier, around)?;
     Ok(())
 }
 
 /// Adds what a scope reassigns. Fails only when out of memory.
-#[tactic(auto, using(crate::proofs::KnownRowsLemmas::tells_events, crate::proofs::KnownRowsLemmas::tells_nothing))]
+#[tactic(auto, using(crate::proofs::TellsLemmas::tells_nothing))]
 fn add_reassigned(
     reader: &RowReader<'_>,
-    told: &mut Told,
+    recording: &mut Recording,
     scope: ScopeId,
     inside: &List<ScopeId>,
 ) -> Result<(), AllocError>
     ensures { OnOk result (Tells reader.now.env.now
         (flat_map (λ number. kinds.Within (declaration_of reader.now.env.now number) inside.now ∷ [])
-        (reassigned_by reader.now.env.now scope)) told.old told.new) }
+        (reassigned_by reader.now.env.now scope)) recording.old recording.new) }
 {
     match reader.env.scopes.get(scope) {
-        Some(known) => add_each_within(reader, &mut told.events, &known.reassignments, inside)?,
+        Some(known) => add_each_within(reader, recording, &known.reassignments, inside)?,
         None => {}
     }
     Ok(())
 }
 
 /// Adds the events of the rows inside a value of a terminal, if there is one.
-#[tactic(auto, using(crate::proofs::KnownRowsLemmas::tells_nothing))]
+#[tactic(auto, using(crate::proofs::TellsLemmas::tells_nothing))]
 fn add_value_if(
     reader: &RowReader<'_>,
-    told: &mut Told,
+    recording: &mut Recording,
     value: &Option<Boxed<ReactiveValue>>,
 ) -> Result<(), AllocError>
-    ensures { OnOk result (Tells reader.now.env.now (walked_events reader.now.env.now value.now) told.old told.new) }
+    ensures { OnOk result (Tells reader.now.env.now (walked_events reader.now.env.now value.now) recording.old recording.new) }
 {
     match value {
-        Some(value) => add_value(reader, told, value),
+        Some(value) => add_value(reader, recording, value),
         None => Ok(()),
     }
 }
@@ -121,13 +107,13 @@ fn add_value_if(
 /// Adds the events of the rows inside a value of a terminal.
 fn add_value(
     reader: &RowReader<'_>,
-    told: &mut Told,
+    recording: &mut Recording,
     value: &Boxed<ReactiveValue>,
 ) -> Result<(), AllocError>
-    ensures { OnOk result (Tells reader.now.env.now (walked_events reader.now.env.now (Some value.now)) told.old
-        told.new) }
+    ensures { OnOk result (Tells reader.now.env.now (walked_events reader.now.env.now (Some value.now)) recording.old
+        recording.new) }
 {
-    reader.add_walked(told, value.get())?;
+    reader.add_walked(recording, value.get())?;
     Ok(())
 }
 
@@ -135,29 +121,29 @@ fn add_value(
 #[cycle(events)]
 fn add_block(
     reader: &RowReader<'_>,
-    told: &mut Told,
+    recording: &mut Recording,
     around: &List<ScopeId>,
     block: &ReactiveBlock,
 ) -> Result<(), AllocError>
     ensures { OnOk result (Tells reader.now.env.now
-        (collected (events_of_parts reader.now.env.now) block.now around.now) told.old told.new) }
+        (collected (events_of_parts reader.now.env.now) block.now around.now) recording.old recording.new) }
 {
-    add_statements(reader, told, around, block.statements.as_slice())
+    add_statements(reader, recording, around, block.statements.as_slice())
 }
 
 /// Adds the events of statements, one after the other.
 #[cycle(events)]
 fn add_statements(
     reader: &RowReader<'_>,
-    told: &mut Told,
+    recording: &mut Recording,
     around: &List<ScopeId>,
     all: &[ReactiveStatement],
 ) -> Result<(), AllocError>
     ensures { OnOk result (Tells reader.now.env.now
-        (collected_list (events_of_parts reader.now.env.now) all.now around.now) told.old told.new) }
+        (collected_list (events_of_parts reader.now.env.now) all.now around.now) recording.old recording.new) }
 {
     for statement in all {
-        add_statement(reader, told, around, statement)?;
+        add_statement(reader, recording, around, statement)?;
     }
     Ok(())
 }
@@ -166,26 +152,26 @@ fn add_statements(
 #[cycle(events)]
 fn add_statement(
     reader: &RowReader<'_>,
-    told: &mut Told,
+    recording: &mut Recording,
     around: &List<ScopeId>,
     statement: &ReactiveStatement,
 ) -> Result<(), AllocError>
     ensures { OnOk result (Tells reader.now.env.now
-        (collected_statement (events_of_parts reader.now.env.now) statement.now around.now) told.old told.new) }
+        (collected_statement (events_of_parts reader.now.env.now) statement.now around.now) recording.old recording.new) }
 {
     match statement {
-        ReactiveStatement::Instruction(row) => reader.add_row(told, row)?,
+        ReactiveStatement::Instruction(row) => reader.add_row(recording, row)?,
         ReactiveStatement::Terminal(statement) => {
-            add_terminal(reader, told, around, &statement.get().terminal)?;
+            add_terminal(reader, recording, around, &statement.get().terminal)?;
         }
         ReactiveStatement::Scope(block) => {
             let inside = inside_of(reader, around, block.scope)?;
-            add_reassigned(reader, told, block.scope, &inside)?;
-            add_block(reader, told, &inside, &block.instructions)?;
+            add_reassigned(reader, recording, block.scope, &inside)?;
+            add_block(reader, recording, &inside, &block.instructions)?;
         }
         ReactiveStatement::PrunedScope(block) => add_block(
             reader,
-            told,
+            recording,
             around,
             &block.instructions,
         )?,
@@ -197,21 +183,21 @@ fn add_statement(
 #[cycle(events)]
 fn add_terminal(
     reader: &RowReader<'_>,
-    told: &mut Told,
+    recording: &mut Recording,
     around: &List<ScopeId>,
     terminal: &ReactiveTerminal,
 ) -> Result<(), AllocError>
     ensures { OnOk result (Tells reader.now.env.now
-        (collected_terminal (events_of_parts reader.now.env.now) terminal.now around.now) told.old told.new) }
+        (collected_terminal (events_of_parts reader.now.env.now) terminal.now around.now) recording.old recording.new) }
 {
     match terminal {
         ReactiveTerminal::Break { .. }
         | ReactiveTerminal::Continue { .. }
         | ReactiveTerminal::Throw { .. } => {}
-        ReactiveTerminal::Return { value, .. } => add_returned(reader, told, around, *value)?,
+        ReactiveTerminal::Return { value, .. } => add_returned(reader, recording, around, *value)?,
         ReactiveTerminal::Switch { cases, .. } => add_cases(
             reader,
-            told,
+            recording,
             around,
             cases.as_slice(),
         )?,
@@ -220,16 +206,16 @@ fn add_terminal(
             test,
             ..
         } => {
-            add_block(reader, told, around, loop_block)?;
-            add_value(reader, told, test)?;
+            add_block(reader, recording, around, loop_block)?;
+            add_value(reader, recording, test)?;
         }
         ReactiveTerminal::While {
             test,
             loop_block,
             ..
         } => {
-            add_value(reader, told, test)?;
-            add_block(reader, told, around, loop_block)?;
+            add_value(reader, recording, test)?;
+            add_block(reader, recording, around, loop_block)?;
         }
         ReactiveTerminal::For {
             init,
@@ -238,10 +224,10 @@ fn add_terminal(
             loop_block,
             ..
         } => {
-            add_value(reader, told, init)?;
-            add_value(reader, told, test)?;
-            add_block(reader, told, around, loop_block)?;
-            add_value_if(reader, told, update)?;
+            add_value(reader, recording, init)?;
+            add_value(reader, recording, test)?;
+            add_block(reader, recording, around, loop_block)?;
+            add_value_if(reader, recording, update)?;
         }
         ReactiveTerminal::ForOf {
             init,
@@ -249,30 +235,30 @@ fn add_terminal(
             loop_block,
             ..
         } => {
-            add_value(reader, told, init)?;
-            add_value(reader, told, test)?;
-            add_block(reader, told, around, loop_block)?;
+            add_value(reader, recording, init)?;
+            add_value(reader, recording, test)?;
+            add_block(reader, recording, around, loop_block)?;
         }
         ReactiveTerminal::ForIn {
             init,
             loop_block,
             ..
         } => {
-            add_value(reader, told, init)?;
-            add_block(reader, told, around, loop_block)?;
+            add_value(reader, recording, init)?;
+            add_block(reader, recording, around, loop_block)?;
         }
         ReactiveTerminal::If {
             consequent,
             alternate,
             ..
         } => {
-            add_block(reader, told, around, consequent)?;
-            add_if_there(reader, told, around, alternate)?;
+            add_block(reader, recording, around, consequent)?;
+            add_if_there(reader, recording, around, alternate)?;
         }
-        ReactiveTerminal::Label { block, .. } => add_block(reader, told, around, block)?,
+        ReactiveTerminal::Label { block, .. } => add_block(reader, recording, around, block)?,
         ReactiveTerminal::Try { block, handler, .. } => {
-            add_block(reader, told, around, block)?;
-            add_block(reader, told, around, handler)?;
+            add_block(reader, recording, around, block)?;
+            add_block(reader, recording, around, handler)?;
         }
     }
     Ok(())
@@ -282,15 +268,15 @@ fn add_terminal(
 #[cycle(events)]
 fn add_cases(
     reader: &RowReader<'_>,
-    told: &mut Told,
+    recording: &mut Recording,
     around: &List<ScopeId>,
     cases: &[ReactiveSwitchCase],
 ) -> Result<(), AllocError>
     ensures { OnOk result ((id : Order) → Tells reader.now.env.now
-        (collected_cases (events_of_parts reader.now.env.now) id cases.now around.now) told.old told.new) }
+        (collected_cases (events_of_parts reader.now.env.now) id cases.now around.now) recording.old recording.new) }
 {
     for case in cases {
-        add_if_there(reader, told, around, &case.block)?;
+        add_if_there(reader, recording, around, &case.block)?;
     }
     Ok(())
 }
@@ -299,25 +285,28 @@ fn add_cases(
 #[cycle(events)]
 fn add_if_there(
     reader: &RowReader<'_>,
-    told: &mut Told,
+    recording: &mut Recording,
     around: &List<ScopeId>,
     block: &Option<ReactiveBlock>,
 ) -> Result<(), AllocError>
     ensures { OnOk result (Tells reader.now.env.now
-        (collected_if (events_of_parts reader.now.env.now) block.now around.now) told.old told.new) }
+        (collected_if (events_of_parts reader.now.env.now) block.now around.now) recording.old recording.new) }
 {
     match block {
-        Some(block) => add_block(reader, told, around, block),
+        Some(block) => add_block(reader, recording, around, block),
         None => Ok(()),
     }
 }
 
-/// Returns events that make the memo record of a whole body, in the order of the text. Fails only when out of memory.
-pub fn events_of(reader: &RowReader<'_>, body: &ReactiveBlock) -> Result<Events, AllocError>
-    ensures { IfOk result (λ events. TellTheSame events (events_in reader.now.env.now body.now)) }
+/// Adds the events of a whole body, in the order of the text. Fails only when out of memory.
+pub fn add_body(
+    reader: &RowReader<'_>,
+    recording: &mut Recording,
+    body: &ReactiveBlock,
+) -> Result<(), AllocError>
+    ensures { OnOk result (Tells reader.now.env.now (events_in reader.now.env.now body.now) recording.old
+        recording.new) }
 {
-    let mut told = Told::new(reader.alloc);
     let around = List::new(reader.alloc);
-    add_block(reader, &mut told, &around, body)?;
-    Ok(told.events)
+    add_block(reader, recording, &around, body)
 }

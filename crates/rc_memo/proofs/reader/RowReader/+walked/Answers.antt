@@ -5,8 +5,8 @@ pub returns-in_ok-add_walked-in-LogicalExpression-2 : goal.returns-in_ok-add_wal
 returns-in_ok-add_walked-in-LogicalExpression-2 t c =
     let env = c.args.self.now.env.now in
     let form = c.in-LogicalExpression in
-    walks-Logical env c.args.value.now form.operator form.left form.right c.args.told.now c.add_walked.new.told
-    c.add_walked-in-LogicalExpression.new.told form.is
+    walks-Logical env c.args.value.now form.operator form.left form.right c.args.recording.now c.add_walked.new.recording
+    c.add_walked-in-LogicalExpression.new.recording form.is
     (as_walked env c.get.ensures c.in_ok-add_walked-in-LogicalExpression.ensures)
     (as_walked env c.get-in-LogicalExpression.ensures c.in_ok-add_walked-in-LogicalExpression-2.ensures)
 
@@ -14,9 +14,9 @@ pub returns-in_ok-add_walked-in-ConditionalExpression-3 : goal.returns-in_ok-add
 returns-in_ok-add_walked-in-ConditionalExpression-3 t c =
     let env = c.args.self.now.env.now in
     let form = c.in-ConditionalExpression in
-    walks-Conditional env c.args.value.now form.test form.consequent form.alternate c.args.told.now
-    c.add_walked-in-ConditionalExpression.new.told c.add_walked-in-ConditionalExpression-2.new.told
-    c.add_walked-in-ConditionalExpression-3.new.told form.is
+    walks-Conditional env c.args.value.now form.test form.consequent form.alternate c.args.recording.now
+    c.add_walked-in-ConditionalExpression.new.recording c.add_walked-in-ConditionalExpression-2.new.recording
+    c.add_walked-in-ConditionalExpression-3.new.recording form.is
     (as_walked env c.get-in-ConditionalExpression.ensures c.in_ok-add_walked-in-ConditionalExpression.ensures)
     (as_walked env c.get-in-ConditionalExpression-2.ensures c.in_ok-add_walked-in-ConditionalExpression-2.ensures)
     (as_walked env c.get-in-ConditionalExpression-3.ensures c.in_ok-add_walked-in-ConditionalExpression-3.ensures)
@@ -25,14 +25,14 @@ pub returns-in_ok-add_walked-in-SequenceExpression : goal.returns-in_ok-add_walk
 returns-in_ok-add_walked-in-SequenceExpression t c =
     let env = c.args.self.now.env.now in
     let form = c.in-SequenceExpression in
-    walks-Sequence env c.args.value.now form.instructions form.id form.value c.args.told.now c.add_rows.new.told
-    c.add_walked-in-SequenceExpression.new.told form.is c.in_ok-add_rows-in-SequenceExpression.ensures
+    walks-Sequence env c.args.value.now form.instructions form.id form.value c.args.recording.now c.add_rows.new.recording
+    c.add_walked-in-SequenceExpression.new.recording form.is c.in_ok-add_rows-in-SequenceExpression.ensures
     (as_walked env c.get-in-SequenceExpression.ensures c.in_ok-add_walked-in-SequenceExpression.ensures)
 
 pub returns-in_ok-add_walked-in-OptionalExpression : goal.returns-in_ok-add_walked-in-OptionalExpression
 returns-in_ok-add_walked-in-OptionalExpression t c =
     let env = c.args.self.now.env.now in
     let form = c.in-OptionalExpression in
-    walks-Optional env c.args.value.now form.value form.optional c.args.told.now
-    c.add_walked-in-OptionalExpression.new.told form.is
+    walks-Optional env c.args.value.now form.value form.optional c.args.recording.now
+    c.add_walked-in-OptionalExpression.new.recording form.is
     (as_walked env c.get-in-OptionalExpression.ensures c.in_ok-add_walked-in-OptionalExpression.ensures)

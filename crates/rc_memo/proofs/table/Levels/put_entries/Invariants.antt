@@ -1,9 +1,0 @@
-use Rattle.std.proofs.Common.{◌≡◌, take}
-use Rattle.std.specs.List.{flat_map}
-use Rattle.rc_memo.specs.Table.{entry_levels}
-use Rattle.rc_memo.specs.inside.RowsAdded.{with_levels}
-use Rattle.rc_memo.proofs.table.Levels.put_entries.Given as goal
-
-abbrev pub invariant-loop-entry : goal.invariant-loop-entry
-invariant-loop-entry l = l.events
-    ≡ with_levels l.self.reader.env.now l.self.id (flat_map entry_levels (take l.entry-index l.entry-items)) l.fn.events

@@ -1,9 +1,0 @@
-use Rattle.std.proofs.Common.{◌≡◌, take}
-use Rattle.std.specs.List.{flat_map}
-use Rattle.rc_memo.specs.Table.{item_levels}
-use Rattle.rc_memo.specs.inside.RowsAdded.{with_levels}
-use Rattle.rc_memo.proofs.table.Levels.put_items.Given as goal
-
-abbrev pub invariant-loop-item : goal.invariant-loop-item
-invariant-loop-item l = l.events
-    ≡ with_levels l.self.reader.env.now l.self.id (flat_map item_levels (take l.item-index l.item-items)) l.fn.events
