@@ -17,15 +17,7 @@ pub mod MemoizedIsInGreatest
 pub mod LowestScopeLemmas
 pub mod MemoSetLemmas
 pub mod OneRowWalks
-pub mod WalkEnds
-pub mod BlockScopes
 pub mod OutputsLemmas
 pub mod StoresLemmas
 pub mod OneRecord
-pub mod EachLemmas
-pub mod ScopelessEvents
-pub mod ScopelessRecords
-pub mod RebuiltRelated
-pub mod ScopelessParts
-pub mod ScopelessRules
 pub mod NotEscaping

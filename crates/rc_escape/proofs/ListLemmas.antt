@@ -1,4 +1,4 @@
--- The rest of a list from a place on, a list that is pushed to, names of a list, and two lists that make none.
+-- The rest of a list from a place on, a list that is pushed to, and names of a list.
 use Rattle.std.proofs.Common.{◌≡◌, ◌⊎◌, ◌∙◌, ◌++◌, ◌+◌, inl, inr, ℕ, zero, suc, List, [], ◌∷◌, Option, Some, None}
 use Rattle.std.proofs.Common.{◌≤◌, Contains, add-one, ap, arith, drop, length, refl, reverse, subst, sym, take}
 use Rattle.std.specs.Prelude.{slice_get}
@@ -57,12 +57,3 @@ Contains-cases x y xs among = elim (Contains-append_cases (x ∷ []) xs y among)
   | inl one ↦ elim (Contains-push_cases [] x y one) [ inl none ↦ absurd (omega (arith, none.1)) | inr same ↦ inl same ]
   | inr later ↦ inr later
 ]
-
--- where two lists make none, each is empty
-pub empty_front : {X : Type 0} (xs ys : List X) → xs ++ ys ≡ [] → xs ≡ []
-empty_front [] ys e = refl
-empty_front (x ∷ xs) ys e = cc
-
-pub empty_back : {X : Type 0} (xs ys : List X) → xs ++ ys ≡ [] → ys ≡ []
-empty_back [] ys e = e
-empty_back (x ∷ xs) ys e = cc

@@ -11,8 +11,11 @@ use Rattle.rc_memo.specs.declared.record.MemoRecord.{MemoRecord}
 use Rattle.rc_escape.specs.MemoWalk.{node_of, Progress}
 use Rattle.rc_escape.specs.MemoWalk.{VisitsName, absent, again, first_time, VisitsNames, no_names, next_name}
 use Rattle.rc_escape.specs.inside.WalkFrames.{IsMet}
-use Rattle.rc_escape.proofs.EachLemmas.{each-weaker}
 use Rattle.rc_escape.proofs.MetGrows.{grows_name, met_behind, met_stays}
+
+each-weaker : {X : Type 0} (P Q : X → Type 0) → ((x : X) → P x → Q x) → (xs : List X) → Each P xs → Each Q xs
+each-weaker P Q f [] h = tt
+each-weaker P Q f (x ∷ xs) h = (f x h.0, each-weaker P Q f xs h.1)
 
 module _ (r : MemoRecord) where
   -- names are visited with any answer

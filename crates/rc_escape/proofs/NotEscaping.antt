@@ -2,6 +2,6 @@
 pub mod StepsLemmas
 pub mod KeptParts
 pub mod LeftScopes
-pub mod ScopelessBodies
 pub mod NeededOutputs
+pub mod Decided
 pub mod EscapeFaults

@@ -10,7 +10,7 @@ use Rattle.rc_hir.specs.declared.pattern.InstructionKind.TheVariants.{Reassign}
 use Rattle.rc_names.specs.Numbers.{IdentifierId, ScopeId, is_among}
 use Rattle.rc_tree.specs.Model.{ReactiveInstruction, ReactiveValue}
 use Rattle.rc_tree.specs.declared.value.ReactiveValue.TheVariants as reactive_values
-use Rattle.rc_memo.specs.Mentions.{declaration_of}
+use Rattle.rc_hir.specs.Environment.{declaration_of}
 use Rattle.rc_escape.specs.declared.not_escaping.met.Met.{Met}
 use Rattle.rc_escape.specs.declared.not_escaping.met.Store.{Store}
 use Rattle.rc_escape.specs.Met.{are_dissolved, stored_into}

@@ -1,17 +1,21 @@
 -- A tree in which each scope block that computes nothing memoized gave way to its statements.
 -- Blocks are judged from the inside.
-use Rattle.std.specs.Prelude.{◌≡◌, Bool, List, [], ◌∷◌, Ok, if◌then◌else◌, Contains}
+use Rattle.std.specs.Prelude.{◌≡◌, Bool, true, List, [], ◌∷◌, Ok, if◌then◌else◌, Contains}
 use Rattle.rc_hir.specs.Model.{Environment}
 use Rattle.rc_names.specs.Numbers.{DeclarationId, ScopeId}
-use Rattle.rc_tree.specs.Rebuilt.{Rules, rebuilt_block}
+use Rattle.rc_tree.specs.Decided.{FateRule}
+use Rattle.rc_tree.specs.Rebuilt.{Rules, keeps_statements, rebuilt_block}
+use Rattle.rc_tree.specs.ScopesIn.{scopes_in}
 use Rattle.rc_tree.specs.Model.{ReactiveBlock, ReactiveFunction, ReactiveScopeBlock, ReactiveStatement}
+use Rattle.rc_tree.specs.declared.fate.Fate.TheVariants.{NotEscaping}
+use Rattle.rc_tree.specs.declared.fate.ScopeFate.{ScopeFate}
 use Rattle.rc_tree.specs.declared.statement.ReactiveStatement.TheVariants as reactive
 use Rattle.rc_memo.specs.Record.{IsRecordOf}
 use Rattle.rc_memo.specs.declared.record.MemoRecord.{MemoRecord}
 use Rattle.rc_escape.specs.MemoBounds.{IsInLeastSet}
 use Rattle.rc_escape.specs.declared.not_escaping.met.Met.{Met}
 use Rattle.rc_escape.specs.Met.{nothing_met, with_store_if, with_dissolved_if}
-use Rattle.rc_escape.specs.Outputs.{block_scopes, outputs, is_dissolved, staying_scopes}
+use Rattle.rc_escape.specs.Outputs.{dissolved_fates, outputs, is_dissolved, staying_scopes}
 use Rattle.rc_escape.specs.Flags.{stored_by_value, flagged_row}
 use Rattle.rc_escape.specs.WholeRecord.{AreMemoized}
 
@@ -29,11 +33,12 @@ module _ (env : Environment) where
     );
     terminal = λ statement met. Ok (met, reactive.Terminal statement ∷ []);
     pruned_scope = λ block met. Ok (met, reactive.PrunedScope block ∷ []);
-    into_scope = λ met. met;
+    into_scope = λ scope met. met;
     scope = λ around block met. Ok (
       with_dissolved_if (is_dissolved env set block.scope) block.scope met,
       in_place_of (is_dissolved env set block.scope) block,
     );
+    block = keeps_statements;
   }
 
   -- the second block is the first one, where these names are memoized
@@ -46,7 +51,17 @@ module _ (env : Environment) where
     pub set : List DeclarationId
     pub memoized : AreMemoized env func set
     pub rebuilt : IsRebuiltFor set func.body after
-    pub left : block_scopes after ≡ staying_scopes env set (block_scopes func.body)
+    pub left : scopes_in after ≡ staying_scopes env set (scopes_in func.body)
+
+  -- the same with what the pass decided: the scopes of the blocks that gave way, in the order in which these ended
+  pub record HasDecidedNotEscaping (func : ReactiveFunction) (after : ReactiveBlock) (log : List ScopeFate) : Type 0
+    where
+      pub without : IsWithoutNotEscaping func after
+      pub told : log ≡ dissolved_fates env without.set (scopes_in func.body)
+
+  -- the rule of the pass, where these names are memoized: the scope's block gives way
+  abbrev pub not_escaping_rule : List DeclarationId → FateRule
+  not_escaping_rule set scope fate = (fate ≡ NotEscaping) × (is_dissolved env set scope ≡ true)
 
   -- the name is an output of the scope that must be memoized: its level asks that wherever the name is needed, and an
   -- escaping name reaches it through recorded dependencies

@@ -7,28 +7,13 @@ use Rattle.std.specs.List.{filter, list_any}
 use Rattle.std.specs.Option.{option_map_or}
 use Rattle.rc_hir.specs.Model.{Environment, ReactiveScope}
 use Rattle.rc_names.specs.Numbers.{DeclarationId, ScopeId, is_among}
-use Rattle.rc_tree.specs.Collected.{Contributions, collected}
-use Rattle.rc_tree.specs.Joining.{lists}
-use Rattle.rc_tree.specs.Model.{ReactiveBlock}
-use Rattle.rc_memo.specs.Mentions.{declaration_of}
+use Rattle.rc_tree.specs.declared.fate.Fate.TheVariants.{NotEscaping}
+use Rattle.rc_tree.specs.declared.fate.ScopeFate.{ScopeFate}
+use Rattle.rc_hir.specs.Environment.{declaration_of}
 
--- a scope block comes before those in it; a pruned one isn't a scope block
-abbrev pub block_parts : Contributions (List ScopeId)
-block_parts = record {
-  joining = lists;
-  row = λ x. [];
-  value = λ id x. [];
-  place = λ id x. [];
-  returned = λ id x. [];
-  jump = λ target. [];
-  label = λ label. [];
-  scope = λ scope inside. scope ∷ inside;
-  pruned_scope = λ scope inside. inside;
-}
-
--- the scopes of the scope blocks of a body, in the order of the text
-abbrev pub block_scopes : ReactiveBlock → List ScopeId
-block_scopes = collected block_parts
+-- a scope whose block gives way, with its fate
+abbrev pub not_escaping : ScopeId → ScopeFate
+not_escaping scope = record { scope = scope; fate = NotEscaping }
 
 -- there is an output
 abbrev pub has_output : List DeclarationId → Bool
@@ -54,6 +39,10 @@ module _ (env : Environment) where
   abbrev pub is_dissolved : List DeclarationId → ScopeId → Bool
   is_dissolved set number = option_map_or (gives_way set) (slice_get env.scopes number.0) false
 
-  -- the scopes whose blocks stay, in the order of the text
+  -- of these scopes, those whose blocks stay
   abbrev pub staying_scopes : List DeclarationId → List ScopeId → List ScopeId
   staying_scopes set scopes = filter (λ scope. not (is_dissolved set scope)) scopes
+
+  -- the others, with their fate
+  abbrev pub dissolved_fates : List DeclarationId → List ScopeId → List ScopeFate
+  dissolved_fates set scopes = map not_escaping (filter (is_dissolved set) scopes)

@@ -3,13 +3,12 @@
 //! After oxc's prune_non_escaping_scopes.
 
 ghost use Rattle.std.specs.Prelude.{◌≡◌, Contains, IfErr, IfOk, OnOk};
-ghost use Rattle.rc_escape.specs.Outputs.{block_scopes};
-ghost use Rattle.rc_escape.specs.WholeRecord.{IsEscapeFault};
-ghost use Rattle.rc_escape.specs.NotEscaping.{IsNeededOutput, IsWithoutNotEscaping};
-ghost use Rattle.rc_escape.specs.inside.NotEscapingSteps.{Decide};
+ghost use Rattle.rc_escape.specs.WholeRecord.{AreMemoized, IsEscapeFault};
+ghost use Rattle.rc_escape.specs.NotEscaping.{HasDecidedNotEscaping, IsNeededOutput, IsWithoutNotEscaping};
 ghost use Rattle.std.specs.List.{IsDistinct};
 ghost use Rattle.rc_names.specs.Numbers.{DeclarationId as Declaration, same_id, ScopeId as Scope};
 ghost use Rattle.rc_runs.specs.Erase.{erased};
+ghost use Rattle.rc_tree.specs.ScopesIn.{scopes_in};
 ghost use Rattle.rc_tree.specs.TreeNames.{TreeInTables};
 
 mod met;
@@ -20,17 +19,17 @@ mod transform;
 use crate::DeclSet;
 use crate::memoized_names::memoized_rows;
 use crate::not_escaping::met::Met;
-use crate::not_escaping::transform::NotEscaping;
-use rc_checks::scopes_in;
+use crate::not_escaping::transform::PruneScopesTransform;
 use rc_hir::{Environment, Fault};
-use rc_memo::{check_nodes, collect_rows};
-use rc_names::KeySet;
-use rc_tree::ReactiveFunction;
+use rc_memo::collect_rows;
+use rc_names::List;
+use rc_tree::{ReactiveFunction, ScopeFate};
 use rc_walk::rewrite::transform_reactive_function;
 use std::alloc::Global;
 
 /// Replaces each scope block by its statements whose scope has an output, none of them memoized, and no early return.
-/// Sets the flag of each `FinishMemoize` whose name is computed in no scope block that stays.
+/// Sets the flag of each `FinishMemoize` whose name has a scope that gave way before it, or whose name has no scope and
+/// no name was stored into its declaration so far whose scope hasn't given way.
 ///
 /// A scope block stays whose scope has an output that must be memoized, as long as an escaping name reaches that output
 /// through recorded dependencies. Numbers stay in their tables, and so does all that stands in the tree outside its
@@ -46,27 +45,51 @@ pub fn prune_non_escaping_scopes(
 ) -> Result<(), Fault>
     ensures ok { OnOk result (IsWithoutNotEscaping env.now func.old func.new.body) }
     ensures header { func.new ≡ record func.old { body = func.new.body } }
-    ensures needed { OnOk result ((scope : Scope) (name : Declaration) → Contains (block_scopes func.old.body) scope
-        → IsNeededOutput env.now func.old scope name → Contains (block_scopes func.new.body) scope) }
+    ensures needed { OnOk result ((scope : Scope) (name : Declaration) → Contains (scopes_in func.old.body) scope
+        → IsNeededOutput env.now func.old scope name → Contains (scopes_in func.new.body) scope) }
     ensures kept_erased { OnOk result (erased func.new ≡ erased func.old) }
     ensures known { OnOk result (TreeInTables func.old env.now → TreeInTables func.new env.now) }
-    ensures scopes_once { OnOk result (IsDistinct same_id (block_scopes func.old.body)
-        → IsDistinct same_id (block_scopes func.new.body)) }
+    ensures scopes_once { OnOk result (IsDistinct same_id (scopes_in func.old.body)
+        → IsDistinct same_id (scopes_in func.new.body)) }
+
+    ensures refused { IfErr result (IsEscapeFault env.now func.old) }
+{
+    decide_non_escaping_scopes(alloc, func, env)?;
+    Ok(())
+}
+
+/// Does what `prune_non_escaping_scopes` does, and returns what it decided: the scope of each block that gave way, with
+/// its fate, in the order in which the blocks ended.
+///
+/// Fails as `prune_non_escaping_scopes` does.
+pub fn decide_non_escaping_scopes(
+    alloc: Global,
+    func: &mut ReactiveFunction,
+    env: &Environment,
+) -> Result<List<ScopeFate>, Fault>
+    ensures ok { IfOk result (HasDecidedNotEscaping env.now func.old func.new.body) }
+    ensures header { func.new ≡ record func.old { body = func.new.body } }
+    ensures needed { OnOk result ((scope : Scope) (name : Declaration) → Contains (scopes_in func.old.body) scope
+        → IsNeededOutput env.now func.old scope name → Contains (scopes_in func.new.body) scope) }
+    ensures kept_erased { OnOk result (erased func.new ≡ erased func.old) }
+    ensures known { OnOk result (TreeInTables func.old env.now → TreeInTables func.new env.now) }
+    ensures scopes_once { OnOk result (IsDistinct same_id (scopes_in func.old.body)
+        → IsDistinct same_id (scopes_in func.new.body)) }
 
     ensures refused { IfErr result (IsEscapeFault env.now func.old) }
 {
     let set = deciding_names(alloc, func, env)?;
-    let mut transform = NotEscaping {
+    let mut transform = PruneScopesTransform {
         alloc,
         env,
         set: &set,
     };
     let mut met = Met::new(alloc);
-    transform_reactive_function(alloc, func, &mut transform, &mut met)
+    transform_reactive_function(alloc, func, &mut transform, &mut met)?;
+    Ok(met.log)
 }
 
-/// Returns the memoized names of a function. Where no scope has a block they make no difference: then no record is
-/// made, and none of them is returned.
+/// Returns the memoized names of a function.
 ///
 /// Fails as `prune_non_escaping_scopes` does.
 fn deciding_names(
@@ -74,13 +97,9 @@ fn deciding_names(
     func: &ReactiveFunction,
     env: &Environment,
 ) -> Result<DeclSet, Fault>
-    ensures ok { IfOk result (Decide env.now func.now) }
+    ensures ok { IfOk result (AreMemoized env.now func.now) }
     ensures refused { IfErr result (IsEscapeFault env.now func.now) }
 {
-    if scopes_in(alloc, &func.body)?.is_empty() {
-        check_nodes(alloc, func, env)?;
-        return Ok(KeySet::new(alloc));
-    }
     let rows = collect_rows(alloc, func, env)?;
     let set = memoized_rows(alloc, &rows)?;
     Ok(set)

@@ -1,4 +1,4 @@
--- What the memoized names fail with is a fault of the pass.
+-- Want of memory, and what the memoized names fail with, are faults of the pass.
 use Rattle.std.proofs.Common.{◌≡◌, ◌⊎◌, inl, inr, subst, sym}
 use Rattle.rc_hir.specs.Model.{Environment, Fault}
 use Rattle.rc_hir.specs.declared.fault.Fault.TheVariants as faults
@@ -8,8 +8,12 @@ use Rattle.rc_memo.specs.declared.record.MemoRecord.{MemoRecord}
 use Rattle.rc_escape.specs.MemoSet.{IsNoScopeNode}
 use Rattle.rc_escape.specs.WholeRecord.{IsEscapeFault}
 
-pub escape_fault : (env : Environment) (func : ReactiveFunction) (rec : MemoRecord) (fault : Fault)
-    → IsRecordOf func env rec → (fault ≡ faults.NoMemory) ⊎ IsNoScopeNode rec fault → IsEscapeFault env func fault
-escape_fault env func rec fault recorded (inl memory) = subst (IsEscapeFault env func) (sym memory) tt
-escape_fault env func rec fault recorded (inr is) =
-    subst (IsEscapeFault env func) (sym is.names_it) record { rec = rec; recorded = recorded; lowest = is.lowest }
+module _ (env : Environment) (func : ReactiveFunction) (fault : Fault) where
+  pub memory_fault : fault ≡ faults.NoMemory → IsEscapeFault env func fault
+  memory_fault memory = subst (IsEscapeFault env func) (sym memory) tt
+
+  pub escape_fault : (rec : MemoRecord) → IsRecordOf func env rec
+      → (fault ≡ faults.NoMemory) ⊎ IsNoScopeNode rec fault → IsEscapeFault env func fault
+  escape_fault rec recorded (inl memory) = memory_fault memory
+  escape_fault rec recorded (inr is) = subst (IsEscapeFault env func) (sym is.names_it)
+      record { rec = rec; recorded = recorded; lowest = is.lowest }

@@ -1,20 +1,21 @@
 -- A scope with an output that must be memoized keeps its block.
-use Rattle.std.proofs.Common.{◌≡◌, ◌∙◌, ◌⊎◌, inl, inr, Bool, true, false, List, [], ◌∷◌, Option, None, Some, Contains}
-use Rattle.std.proofs.Common.{arith, if◌then◌else◌, not, refl, slice_get, sym, ap, subst, true≢false}
+use Rattle.std.proofs.Common.{◌≡◌, ◌∙◌, Bool, true, false, List, [], Option, None, Some, Contains}
+use Rattle.std.proofs.Common.{not, refl, slice_get, sym, ap, subst}
 use Rattle.std.specs.Prelude.{◌&&◌}
-use Rattle.std.specs.List.{filter, list_any}
+use Rattle.std.specs.List.{list_any}
 use Rattle.std.specs.Option.{option_map_or}
 use Rattle.std.proofs.lemmas.List.Folds.{list_any_at}
 use Rattle.std.proofs.lemmas.Map.Views.{list_any-from_Contains}
 use Rattle.rc_hir.specs.Model.{Environment, ReactiveScope}
 use Rattle.rc_names.specs.Numbers.{DeclarationId, ScopeId, is_among}
 use Rattle.rc_names.proofs.NumbersLemmas.{ids_equivalence}
+use Rattle.rc_tree.proofs.ListedOnce.{into_filter}
 use Rattle.rc_tree.specs.Model.{ReactiveBlock, ReactiveFunction}
-use Rattle.rc_escape.proofs.ListLemmas.{Contains-cases, Contains-first, Contains-later}
+use Rattle.rc_tree.specs.ScopesIn.{scopes_in}
 use Rattle.rc_escape.proofs.MemoSetLemmas.{least_in}
 use Rattle.rc_escape.proofs.OneRecord.{one_record}
 use Rattle.rc_escape.specs.MemoBounds.{IsInLeastSet}
-use Rattle.rc_escape.specs.Outputs.{gives_way, is_dissolved, block_scopes, has_output, outputs_of}
+use Rattle.rc_escape.specs.Outputs.{gives_way, is_dissolved, has_output, outputs_of}
 use Rattle.rc_escape.specs.WholeRecord.{AreMemoized}
 use Rattle.rc_escape.specs.NotEscaping.{IsNeededOutput, IsWithoutNotEscaping}
 
@@ -48,23 +49,10 @@ module _ (env : Environment) (func : ReactiveFunction) (set : List DeclarationId
         by (Some known) there = both _ (has_output (outputs_of env known)) _
             (any_passes (is_among set) (outputs_of env known) name there (needed_memoized scope name needed))
 
--- an element that passes the test is in the filtered list
-into_filter : {X : Type 0} (p : X → Bool) (xs : List X) (x : X) → Contains xs x → p x ≡ true → Contains (filter p xs) x
-into_filter p [] x there passes = absurd (omega (arith, there.1))
-into_filter p (y ∷ xs) x there passes =
-    split (λ later. into_filter p xs x later passes) (p y) refl (Contains-cases y x xs there)
-  where
-    split : (Contains xs x → Contains (filter p xs) x) → (b : Bool) → p y ≡ b → (y ≡ x) ⊎ Contains xs x
-        → Contains (if b then y ∷ filter p xs else filter p xs) x
-    split in_rest true is (inl same) = subst (Contains (y ∷ filter p xs)) same (Contains-first y (filter p xs))
-    split in_rest true is (inr later) = Contains-later y x (filter p xs) (in_rest later)
-    split in_rest false is (inl same) = absurd (true≢false (sym passes ∙ sym (ap p same) ∙ is))
-    split in_rest false is (inr later) = in_rest later
-
 pub needed_left : (env : Environment) (func : ReactiveFunction) (after : ReactiveBlock)
     → IsWithoutNotEscaping env func after → (scope : ScopeId) (name : DeclarationId)
-    → Contains (block_scopes func.body) scope → IsNeededOutput env func scope name → Contains (block_scopes after) scope
+    → Contains (scopes_in func.body) scope → IsNeededOutput env func scope name → Contains (scopes_in after) scope
 needed_left env func after is scope name there needed =
     subst (λ scopes. Contains scopes scope) (sym is.left)
-    (into_filter (λ scope. not (is_dissolved env is.set scope)) (block_scopes func.body) scope there
+    (into_filter (λ scope. not (is_dissolved env is.set scope)) (scopes_in func.body) scope there
     (ap not (needed_stays env func is.set is.memoized scope name needed)))

@@ -1,23 +1,18 @@
 -- The steps of the pass follow its rules, which never refuse.
-use Rattle.std.proofs.Common.{◌≡◌, ◌⊎◌, Bool, true, false, List, Result, Ok, Err, IfErr, OnOk, inl, inr, refl, subst, sym}
-use Rattle.std.proofs.lemmas.Result.{IfErr-weaker}
+use Rattle.std.proofs.Common.{◌≡◌, ◌⊎◌, ◌∙◌, Bool, true, false, List, Result, Ok, Err, ap, inl, inr, refl, subst, sym}
 use Rattle.rc_hir.specs.Model.{Environment, Fault, HirFunction}
 use Rattle.rc_hir.specs.declared.fault.Fault.TheVariants.{NoMemory}
 use Rattle.rc_names.specs.Numbers.{DeclarationId}
 use Rattle.rc_tree.proofs.RebuiltFaultsLemmas.{leaves_faults}
 use Rattle.rc_tree.proofs.RefinesLemmas.{follows_body}
-use Rattle.rc_tree.specs.Rebuilt.{FaultsOnly, rebuilt_block}
+use Rattle.rc_tree.specs.Rebuilt.{FaultsOnly, Rules, rebuilt_block}
 use Rattle.rc_tree.specs.Rewrite.{in_place, rewrite_block}
 use Rattle.rc_tree.specs.Step.{IsStep}
 use Rattle.rc_tree.specs.inside.Refines.{RebuildsTo, Refines}
-use Rattle.rc_memo.specs.Record.{IsRecordOf}
-use Rattle.rc_memo.specs.declared.record.MemoRecord.{MemoRecord}
-use Rattle.rc_tree.specs.Model.{ReactiveBlock, ReactiveFunction, ReactiveScopeBlock}
+use Rattle.rc_tree.specs.Model.{ReactiveBlock, ReactiveScopeBlock}
 use Rattle.rc_tree.specs.declared.statement.ReactiveStatement.TheVariants as reactive
-use Rattle.rc_escape.specs.MemoSet.{IsNoScopeNode}
 use Rattle.rc_escape.specs.Outputs.{is_dissolved}
-use Rattle.rc_escape.specs.WholeRecord.{IsEscapeFault}
-use Rattle.rc_escape.specs.NotEscaping.{IsRebuiltFor, in_place_of, not_escaping_rules}
+use Rattle.rc_escape.specs.NotEscaping.{in_place_of, not_escaping_rules}
 use Rattle.rc_escape.specs.Met.{nothing_met}
 use Rattle.rc_escape.specs.inside.NotEscapingSteps.{answer_if, enters_no_deeper, not_escaping_steps}
 use Rattle.rc_escape.specs.declared.not_escaping.met.Met.{Met}
@@ -46,13 +41,13 @@ module _ {T : Type 0} (env_of : T → Environment) (set_of : T → List Declarat
     enter_pruned_scope = refl;
     leave_pruned_scope = refl;
     enter_block = refl;
-    leave_block = refl;
     enter_scope = λ none met block. refl;
     leave_scope = refl;
     row = λ none met row. (refl, refl);
     terminal = λ none met statement. (refl, refl);
     pruned_scope = λ none met block. (refl, refl);
     scope = λ none around met block. (refl, replaced (is_dissolved (env_of t) (set_of t) block.scope) block);
+    block = λ none met block. (refl, refl);
   }
 
   -- no rule refuses a statement
@@ -62,43 +57,35 @@ module _ {T : Type 0} (env_of : T → Environment) (set_of : T → List Declarat
     terminal = λ x s. tt;
     pruned_scope = λ x s. tt;
     scope = λ met x s. tt;
+    block = λ xs s. tt;
   }
 
-  -- a call that gives what the walk gives leaves the rebuilt body, or runs out of memory
-  module _ (functions : T → List HirFunction) (t : T) (w : T × Met) (start : Met)
-      (before after : ReactiveBlock) (result : Result (Unit {0}) Fault)
-      (gave : IsStep (rewrite_block (not_escaping_steps env_of set_of) functions (t, start) before) result
-      (w, after)) (empty : start ≡ nothing_met) where
-    gives : RebuildsTo (not_escaping_rules (env_of t) (set_of t)) before nothing_met after result
-    gives = subst (λ met. RebuildsTo (not_escaping_rules (env_of t) (set_of t)) before met after result) empty
-        (follows_body (not_escaping_rules (env_of t) (set_of t)) (not_escaping_steps env_of set_of) functions (at t)
-        (λ none met. tt) (follows t) (enters_no_deeper env_of set_of) tt start before after w result gave)
+  -- a call that gives what the walk gives leaves the rebuilt body and what was met, or runs out of memory
+  module _ (functions : T → List HirFunction) (t : T) (w : T × Met) (start : Met) (before after : ReactiveBlock)
+      (empty : start ≡ nothing_met) where
+    abbrev rules : Rules Met
+    rules = not_escaping_rules (env_of t) (set_of t)
 
-    pub left_rebuilt : OnOk result (IsRebuiltFor (env_of t) (set_of t) before after)
-    left_rebuilt = by result gives.0
+    abbrev Gives : Result (Unit {0}) Fault → Type 0
+    Gives result =
+        IsStep (rewrite_block (not_escaping_steps env_of set_of) functions (t, start) before) result (w, after)
+
+    gives : (result : Result (Unit {0}) Fault) → Gives result
+        → RebuildsTo rules (at t tt) before nothing_met after w result
+    gives result gave = subst (λ met. RebuildsTo rules (at t tt) before met after w result) empty
+        (follows_body rules (not_escaping_steps env_of set_of) functions (at t) (λ none met. tt) (follows t)
+        (enters_no_deeper env_of set_of) tt start before after w result gave)
+
+    pub rebuilt_here : (done : Unit {0}) → Gives (Ok done)
+        → rebuilt_block rules before nothing_met ≡ Ok (w.1, after)
+    rebuilt_here done gave =
+        let it = (gives (Ok done) gave).0 in
+        it.1 ∙ ap (λ world. Ok (world.1, after)) (sym it.2)
+
+    pub only_memory : (fault : Fault) → Gives (Err fault) → fault ≡ NoMemory
+    only_memory fault gave = by (leaves_faults (λ fault. ⊥) rules (never t) (at t tt) before after nothing_met w
+        (Err fault) (gives (Err fault) gave))
       where
-        by : (result : Result (Unit {0}) Fault) → OnOk result
-            ((s : Met) × (rebuilt_block (not_escaping_rules (env_of t) (set_of t)) before nothing_met ≡ Ok (s, after)))
-            → OnOk result (IsRebuiltFor (env_of t) (set_of t) before after)
-        by (Ok done) h = record { left = h.0; rebuilt = h.1 }
-        by (Err fault) h = tt
-
-    pub only_memory : IfErr result (λ fault. fault ≡ NoMemory)
-    only_memory = IfErr-weaker result _ _ (λ fault. memory fault)
-        (leaves_faults (λ fault. ⊥) (not_escaping_rules (env_of t) (set_of t)) (never t) before after nothing_met result
-        gives)
-      where
-        memory : (fault : Fault) → (fault ≡ NoMemory) ⊎ ⊥ → fault ≡ NoMemory
-        memory fault (inl e) = e
-        memory fault (inr bad) = absurd bad
-
--- the causes of the record's faults
-module _ (env : Environment) (func : ReactiveFunction) (fault : Fault) where
-  pub memory_fault : fault ≡ NoMemory → IsEscapeFault env func fault
-  memory_fault e = subst (IsEscapeFault env func) (sym e) tt
-
-  pub scope_fault : (rec : MemoRecord) → IsRecordOf func env rec → (fault ≡ NoMemory) ⊎ IsNoScopeNode rec fault
-      → IsEscapeFault env func fault
-  scope_fault rec recorded (inl e) = memory_fault e
-  scope_fault rec recorded (inr lacks) = subst (IsEscapeFault env func) (sym lacks.names_it)
-      (record { rec = rec; recorded = recorded; lowest = lacks.lowest })
+        by : (fault ≡ NoMemory) ⊎ ⊥ → fault ≡ NoMemory
+        by (inl memory) = memory
+        by (inr bad) = absurd bad

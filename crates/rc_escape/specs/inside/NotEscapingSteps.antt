@@ -1,15 +1,15 @@
 -- The steps of the pass on scope blocks that compute nothing memoized.
-use Rattle.std.specs.Prelude.{◌≡◌, Bool, true, false, List, [], None, Ok}
+use Rattle.std.specs.Prelude.{◌≡◌, Bool, true, false, List, None, Ok}
 use Rattle.std.specs.Map.{lookup}
 use Rattle.rc_hir.specs.Model.{Environment}
 use Rattle.rc_names.specs.Numbers.{DeclarationId, same_id}
-use Rattle.rc_tree.specs.Model.{ReactiveBlock, ReactiveFunction, ReactiveScopeBlock, ReactiveStatement, Transformed}
-use Rattle.rc_tree.specs.NoDeeper.{goes_inside_no_deeper, skips_no_deeper}
+use Rattle.rc_tree.specs.Model.{ReactiveScopeBlock, ReactiveStatement, Transformed}
+use Rattle.rc_tree.proofs.NoDeeper.{goes_inside_no_deeper, skips_no_deeper}
+use Rattle.rc_tree.specs.Pruned.{emptied_scope}
 use Rattle.rc_tree.specs.RewriteSteps.{EntersNoDeeper, RewriteSteps, idle, skips}
 use Rattle.rc_tree.specs.declared.hooks.Transformed.TheVariants.{Keep, ReplaceMany}
 use Rattle.rc_escape.specs.Outputs.{is_dissolved}
 use Rattle.rc_escape.specs.Flags.{flagged_row, stored_by_value}
-use Rattle.rc_escape.specs.NotEscaping.{IsRebuiltFor, IsWithoutNotEscaping}
 use Rattle.rc_escape.specs.Met.{Stores, with_dissolved_if, with_store, with_store_if}
 use Rattle.rc_escape.specs.declared.not_escaping.met.Met.{Met}
 use Rattle.rc_escape.specs.declared.not_escaping.met.Store.{Store}
@@ -19,19 +19,10 @@ abbrev pub PutsScope : Bool → Store → Stores → Stores → Type 0
 PutsScope true store old new = new ≡ with_store store old
 PutsScope false store old new = (new ≡ old) × (lookup (same_id store.declaration) old ≡ None)
 
--- a block whose statements were taken
-abbrev pub emptied_scope : ReactiveScopeBlock → ReactiveScopeBlock
-emptied_scope block = record { scope = block.scope; instructions = record { statements = [] } }
-
 -- the answer for a scope block, with the block that is left
 abbrev pub answer_if : Bool → ReactiveScopeBlock → Transformed ReactiveStatement × ReactiveScopeBlock
 answer_if false block = (Keep, block)
 answer_if true block = (ReplaceMany block.instructions.statements, emptied_scope block)
-
--- what the body becomes where these names are memoized is the function's body without what doesn't escape
-abbrev pub Decide : Environment → ReactiveFunction → List DeclarationId → Type 0
-Decide env func set =
-    (after : ReactiveBlock) → IsRebuiltFor env set func.body after → IsWithoutNotEscaping env func after
 
 module _ {T : Type 0} (env_of : T → Environment) (set_of : T → List DeclarationId) where
   -- rows and scope blocks are judged by the memoized names; rows and values are skipped, and other parts are entered

@@ -5,7 +5,8 @@ ghost use Rattle.rc_escape.specs.Met as spec;
 ghost use Rattle.rc_escape.specs.inside.NotEscapingSteps.{PutsScope};
 ghost use Rattle.rc_names.specs.Numbers.{ScopeId as Scope, is_among};
 
-use rc_names::{DeclarationId, KeySet, Keyed, ScopeId};
+use rc_names::{DeclarationId, KeySet, Keyed, List, ScopeId};
+use rc_tree::{Fate, ScopeFate};
 use std::alloc::{AllocError, Global};
 
 /// A name with a scope that is stored into a declaration.
@@ -19,6 +20,8 @@ pub struct Store {
 #[derive(Drop)]
 pub struct Met {
     pub dissolved: KeySet<ScopeId>,
+    /// The same scopes with their fate, one for each block, in the order in which the blocks ended.
+    pub log: List<ScopeFate>,
     /// Each declaration into which a name with a scope was stored, with the scopes of these names.
     pub stored: Keyed<DeclarationId, KeySet<ScopeId>>,
 }
@@ -30,8 +33,20 @@ impl Met {
     {
         Met {
             dissolved: KeySet::new(alloc),
+            log: List::new(alloc),
             stored: Keyed::new(alloc),
         }
+    }
+
+    /// The block of a scope gives way. Fails only when out of memory.
+    pub fn dissolve(&mut self, scope: ScopeId) -> Result<(), AllocError>
+        ensures { OnOk result (self.new ≡ spec.with_dissolved scope self.old) }
+    {
+        self.dissolved.insert(scope)?;
+        self.log.push(ScopeFate {
+            scope,
+            fate: Fate::NotEscaping,
+        })
     }
 
     /// Returns whether the block of a scope gave way.

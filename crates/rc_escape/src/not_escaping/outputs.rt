@@ -5,7 +5,7 @@ ghost use Rattle.std.specs.List.{list_any};
 ghost use Rattle.rc_escape.specs.Flags as flags;
 ghost use Rattle.rc_escape.specs.Outputs as spec;
 ghost use Rattle.rc_hir.specs.Model as model;
-ghost use Rattle.rc_memo.specs.Mentions.{declaration_of};
+ghost use Rattle.rc_hir.specs.Environment.{declaration_of};
 ghost use Rattle.rc_names.specs.Numbers.{is_among};
 
 use crate::DeclSet;

@@ -17,13 +17,13 @@ use std::alloc::Global;
 
 /// The pass, with the memoized names; its state is what it has met so far.
 #[derive(Clone, Copy)]
-pub struct NotEscaping<'a> {
+pub struct PruneScopesTransform<'a> {
     pub alloc: Global,
     pub env: &'a Environment,
     pub set: &'a DeclSet,
 }
 
-impl<'a> ReactiveFunctionTransform for NotEscaping<'a> {
+impl<'a> ReactiveFunctionTransform for PruneScopesTransform<'a> {
     type State = Met;
 
     ghost steps = { not_escaping_steps (λ it. it.env.now) (λ it. it.set.now) };
@@ -177,7 +177,7 @@ impl<'a> ReactiveFunctionTransform for NotEscaping<'a> {
         if !is_dissolved(self.env, self.set, scope.scope) {
             return Ok(Transformed::Keep);
         }
-        met.dissolved.insert(scope.scope)?;
+        met.dissolve(scope.scope)?;
         Ok(Transformed::ReplaceMany(scope.instructions.statements.take()))
     }
 

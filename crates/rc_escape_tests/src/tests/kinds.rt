@@ -2,7 +2,7 @@
 
 use rc_doc::{read_doc, read_instruction_value};
 use rc_escape::{MemoRecord, MemoizationLevel, collect};
-use rc_hir::{Effect, Environment, InstructionValue, Place};
+use rc_hir::{Config, Effect, Environment, InstructionValue, Place};
 use rc_names::{EvaluationOrder, IdentifierId, List};
 use rc_tree::{
     ReactiveBlock, ReactiveFunction, ReactiveInstruction, ReactiveStatement, ReactiveValue,
@@ -155,7 +155,25 @@ const KINDS: [(&str, &str); 42] = [
     ),
 ];
 
-/// Kinds whose nodes depend on the configuration, with both switches on.
+/// Kinds whose nodes depend on the configuration, with the forest enabled alone.
+const FOREST: [(&str, &str); 2] = [
+    (r#"{"k":"JsxFragment","children":[0,1]}"#, "9U01"),
+    (
+        r#"{"k":"BinaryExpression","operator":"+","left":0,"right":1}"#,
+        "9C01",
+    ),
+];
+
+/// The same, with the guarantees of existing memoization preserved alone.
+const PRESERVED: [(&str, &str); 2] = [
+    (r#"{"k":"JsxFragment","children":[0,1]}"#, "9M01"),
+    (
+        r#"{"k":"BinaryExpression","operator":"+","left":0,"right":1}"#,
+        "9C01",
+    ),
+];
+
+/// The same, with both switches on.
 const SWITCHED: [(&str, &str); 4] = [
     (r#"{"k":"JsxFragment","children":[0,1]}"#, "9U01"),
     (
@@ -269,14 +287,13 @@ fn gives(alloc: Global, env: &Environment, text: &str, nodes: &str) -> Result<bo
 /// The first text whose row doesn't give its nodes.
 fn first_other<'a>(
     alloc: Global,
-    switched: bool,
+    config: Config,
     kinds: &[(&'a str, &str)],
 ) -> Result<Option<&'a str>, AllocError> {
     let Some(mut env) = environment(alloc, DOCUMENT)? else {
         return Ok(Some("no document"));
     };
-    env.config.enable_forest = switched;
-    env.config.enable_preserve_existing_memoization_guarantees = switched;
+    env.config = config;
     for (text, nodes) in kinds {
         if !gives(alloc, &env, text, nodes)? {
             return Ok(Some(*text));
@@ -285,14 +302,32 @@ fn first_other<'a>(
     Ok(None)
 }
 
+/// The configuration with these switches.
+fn config(forest: bool, preserved: bool) -> Config {
+    Config {
+        enable_forest: forest,
+        enable_preserve_existing_memoization_guarantees: preserved,
+    }
+}
+
 #[test]
 fn each_kind_has_its_line_of_the_memo_table(rt: HostRuntime) -> Result<(), Fail> {
-    assert_eq!(rt; first_other(rt.alloc(), false, &KINDS)?, None);
+    let alloc = rt.alloc();
+    assert_eq!(rt; first_other(alloc, config(false, false), &KINDS)?, None);
     Ok(())
 }
 
 #[test]
-fn some_lines_depend_on_the_configuration(rt: HostRuntime) -> Result<(), Fail> {
-    assert_eq!(rt; first_other(rt.alloc(), true, &SWITCHED)?, None);
+fn each_switch_changes_its_lines_alone(rt: HostRuntime) -> Result<(), Fail> {
+    let alloc = rt.alloc();
+    assert_eq!(rt; first_other(alloc, config(true, false), &FOREST)?, None);
+    assert_eq!(rt; first_other(alloc, config(false, true), &PRESERVED)?, None);
+    Ok(())
+}
+
+#[test]
+fn both_switches_change_the_lines_of_each(rt: HostRuntime) -> Result<(), Fail> {
+    let alloc = rt.alloc();
+    assert_eq!(rt; first_other(alloc, config(true, true), &SWITCHED)?, None);
     Ok(())
 }

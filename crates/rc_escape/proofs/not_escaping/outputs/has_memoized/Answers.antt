@@ -1,5 +1,5 @@
 use Rattle.rc_escape.proofs.OutputsLemmas.{any_first, any_second}
-use Rattle.rc_memo.specs.Mentions.{declaration_of}
+use Rattle.rc_hir.specs.Environment.{declaration_of}
 use Rattle.rc_names.specs.Numbers.{is_among}
 use Rattle.rc_escape.proofs.not_escaping.outputs.has_memoized.Goals as goal
 

@@ -1,5 +1,5 @@
 use Rattle.rc_escape.proofs.OutputsLemmas.{output_first, output_second}
-use Rattle.rc_memo.specs.Mentions.{declaration_of}
+use Rattle.rc_hir.specs.Environment.{declaration_of}
 use Rattle.rc_escape.proofs.not_escaping.outputs.has_output.Goals as goal
 
 pub returns-then-not-is_empty : goal.returns-then-not-is_empty
