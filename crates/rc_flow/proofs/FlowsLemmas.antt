@@ -18,11 +18,11 @@ use Rattle.rc_tree.specs.declared.statement.ReactiveStatement.TheViews.{roll-out
 use Rattle.rc_tree.specs.declared.terminal.ReactiveTerminal.TheVariants as tree
 use Rattle.rc_tree.proofs.TreeFoldLemmas.{over_statement-roll, over_terminal-roll, over_case-roll, over_block-parts}
 use Rattle.rc_tree.proofs.TreeFoldLemmas.{over_labeled-parts, over_scope-parts, over_pruned_scope-parts}
-use Rattle.rc_flow.specs.Flows.{all_steps, flowing, flows_if, flows_in, flows_of_case, flows_of_statement}
-use Rattle.rc_flow.specs.Flows.{flows_of_terminal, of_statement, of_terminal}
+use Rattle.rc_flow.specs.Flows.{all_steps, flowing, flows_in, of_statement, of_terminal}
 use Rattle.rc_flow.specs.Flows.Values.{steps_of_row, steps_of_value, steps_of_value_if}
 use Rattle.rc_flow.specs.declared.step.Step.{Step}
 use Rattle.rc_flow.specs.declared.step.Step.TheVariants.{Ends}
+use Rattle.rc_flow.specs.inside.PartFlows.{flows_if, flows_of_case, flows_of_statement, flows_of_terminal}
 
 module _ (env : Environment) where
   -- each form of statement and of terminal, unfolded
@@ -97,33 +97,34 @@ module _ (env : Environment) where
       ∙ opened_terminal (layer.Switch test cases id)
 
   pub flows-DoWhile : (body : ReactiveBlock) (test : ReactiveValue) (id : EvaluationOrder)
-      → flows_of_terminal env (tree.DoWhile body test id) ≡ flows_in env body ++ steps_of_value env test
+      → flows_of_terminal env (tree.DoWhile body test id) ≡ flows_in env body ++ steps_of_value env id test
   unfolding flows_in
   flows-DoWhile body test id = ap (flows_of_terminal env) (sym (tree.rolls-DoWhile body test id))
       ∙ opened_terminal (layer.DoWhile body test id)
 
   pub flows-While : (test : ReactiveValue) (body : ReactiveBlock) (id : EvaluationOrder)
-      → flows_of_terminal env (tree.While test body id) ≡ steps_of_value env test ++ flows_in env body
+      → flows_of_terminal env (tree.While test body id) ≡ steps_of_value env id test ++ flows_in env body
   unfolding flows_in
   flows-While test body id = ap (flows_of_terminal env) (sym (tree.rolls-While test body id))
       ∙ opened_terminal (layer.While test body id)
 
   pub flows-For : (init test : ReactiveValue) (update : Option ReactiveValue) (body : ReactiveBlock)
       (id : EvaluationOrder) → flows_of_terminal env (tree.For init test update body id)
-      ≡ steps_of_value env init ++ (steps_of_value env test ++ (steps_of_value_if env update ++ flows_in env body))
+      ≡ steps_of_value env id init
+      ++ (steps_of_value env id test ++ (steps_of_value_if env id update ++ flows_in env body))
   unfolding flows_in
   flows-For init test update body id = ap (flows_of_terminal env) (sym (tree.rolls-For init test update body id))
       ∙ opened_terminal (layer.For init test update body id)
 
   pub flows-ForOf : (init test : ReactiveValue) (body : ReactiveBlock) (span : Option Span) (id : EvaluationOrder)
       → flows_of_terminal env (tree.ForOf init test body span id)
-      ≡ steps_of_value env init ++ (steps_of_value env test ++ flows_in env body)
+      ≡ steps_of_value env id init ++ (steps_of_value env id test ++ flows_in env body)
   unfolding flows_in
   flows-ForOf init test body span id = ap (flows_of_terminal env) (sym (tree.rolls-ForOf init test body span id))
       ∙ opened_terminal (layer.ForOf init test body span id)
 
   pub flows-ForIn : (init : ReactiveValue) (body : ReactiveBlock) (span : Option Span) (id : EvaluationOrder)
-      → flows_of_terminal env (tree.ForIn init body span id) ≡ steps_of_value env init ++ flows_in env body
+      → flows_of_terminal env (tree.ForIn init body span id) ≡ steps_of_value env id init ++ flows_in env body
   unfolding flows_in
   flows-ForIn init body span id = ap (flows_of_terminal env) (sym (tree.rolls-ForIn init body span id))
       ∙ opened_terminal (layer.ForIn init body span id)

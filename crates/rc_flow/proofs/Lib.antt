@@ -1,5 +1,4 @@
 mod ListLemmas
-pub mod EmptyLists
 mod SetLemmas
 mod SpreadSteps
 mod ReachedLemmas
@@ -9,15 +8,6 @@ mod TakenLemmas
 mod PositionLemmas
 mod FlowsLemmas
 mod ValuesLemmas
-mod ValueStepsLemmas
-mod GrowingSets
-pub mod InvalidatingLemmas
-mod StayingParts
-mod StayingBlocks
-pub mod LeftScopes
-mod DroppingLemmas
 mod RecordedFaults
-pub mod UnreadOperands
-mod ReactiveNamesLemmas
-mod KnownLemmas
-mod PrunedLemmas
+mod ReactiveDependencies
+pub mod AlwaysInvalidating

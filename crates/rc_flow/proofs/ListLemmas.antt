@@ -1,4 +1,4 @@
--- Lists that are put behind one another in turn, and what stands at their places.
+-- Lists that are put one after the other, and what is at their places.
 use Rattle.std.proofs.Common.{◌≡◌, ◌∙◌, ◌<◌, ◌+◌, ℕ, suc, List, ◌∷◌, ◌++◌, Some, slice_get, inl, inr, arith, add-zero}
 use Rattle.std.proofs.Common.{append_assoc, refl, sym, ap}
 use Rattle.std.proofs.lemmas.Bool.{cases_lt}

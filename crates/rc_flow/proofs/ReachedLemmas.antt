@@ -6,7 +6,8 @@ use Rattle.rc_flow.specs.declared.step.Step.{Step}
 use Rattle.rc_flow.specs.declared.step.Step.TheVariants.{Marks, Carries, Ends}
 use Rattle.rc_flow.specs.Reached.{IsReached, marked, carried, sources, targets}
 use Rattle.rc_flow.proofs.ListLemmas.{by_place, one_at}
-use Rattle.rc_flow.proofs.SetLemmas.{Names, In, carried_cases, insert_cases, insert_new}
+use Rattle.rc_flow.specs.inside.Spread.{Names}
+use Rattle.rc_flow.proofs.SetLemmas.{In, carried_cases, insert_cases, insert_new}
 use Rattle.rc_flow.proofs.SpreadSteps.{next_names, next_old, next_new}
 
 module _ (env : Environment) (steps : List Step) where

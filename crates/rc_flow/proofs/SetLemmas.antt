@@ -1,17 +1,16 @@
--- Sets of names as lists: what is in a set with more names, and that names are only put behind the others.
+-- Sets of names as lists: what is in a set with more names, and that names are only added at the end.
 use Rattle.std.proofs.Common.{◌≡◌, ◌∙◌, Bool, true, false, ◌||◌, List, [], ◌∷◌, ◌++◌, ◌⊎◌, inl, inr}
-use Rattle.std.proofs.Common.{append_assoc, append-nil, refl, sym, ap, subst, if◌then◌else◌, true≢false}
+use Rattle.std.proofs.Common.{append_assoc, append-nil, map, refl, sym, ap, subst, if◌then◌else◌, true≢false}
 use Rattle.std.specs.List.{list_any}
 use Rattle.std.proofs.lemmas.Bool.{or_cases, or_left, or_right}
 use Rattle.std.proofs.lemmas.List.Folds.{list_any-append}
 use Rattle.indexmap.specs.IndexSet.{insert_key}
+use Rattle.rc_hir.specs.Model.{ReactiveScope, ReactiveScopeDependency}
 use Rattle.rc_names.specs.declared.numbers.Id.{Id}
+use Rattle.rc_flow.specs.Reached.{dependency_names}
 use Rattle.rc_names.specs.Numbers.{IdentifierId, is_among, same_id}
 use Rattle.rc_names.proofs.NumbersLemmas.{ids_equivalence, same_id-eq}
-use Rattle.rc_flow.specs.inside.Spread.{with_all}
-
-abbrev pub Names : Type 0
-Names = List IdentifierId
+use Rattle.rc_flow.specs.inside.Spread.{Names, depends_on, with_all}
 
 abbrev pub In : IdentifierId → Names → Type 0
 In name names = is_among names name ≡ true
@@ -113,6 +112,16 @@ among_some set (x ∷ xs) a h k = elim (or_cases (same_id a x) (is_among xs a) h
   | inl e ↦ or_left (is_among set x) (list_any (is_among set) xs) (subst (λ y. In y set) (same_id-eq a x e) k)
   | inr m ↦ or_right (is_among set x) (list_any (is_among set) xs) (among_some set xs a m k)
 ]
+
+-- a dependency of a scope is in the set
+pub depends_any : (scope : ReactiveScope) (set : Names)
+    → depends_on scope set ≡ list_any (is_among set) (dependency_names scope)
+depends_any scope set = any_of scope.dependencies
+  where
+    any_of : (all : List ReactiveScopeDependency) → list_any (λ (d : ReactiveScopeDependency). is_among set d.identifier) all
+        ≡ list_any (is_among set) (map (λ (d : ReactiveScopeDependency). d.identifier) all)
+    any_of [] = refl
+    any_of (x ∷ xs) = ap (λ b. is_among set x.identifier || b) (any_of xs)
 
 -- where one of the first names is in the set, the others come in
 abbrev pub carried_set : Names → Names → Names → Names

@@ -15,10 +15,10 @@ use Rattle.rc_flow.specs.declared.spread.Spread.{Spread}
 use Rattle.rc_flow.specs.declared.step.Step.{Step}
 use Rattle.rc_flow.specs.declared.step.Step.TheVariants.{Marks, Carries, Ends}
 use Rattle.rc_flow.specs.Reached.{IsReached, marked, carried}
-use Rattle.rc_flow.specs.inside.Spread.{after_step, after_steps, is_early, noted, noted_if, nothing, with_all}
+use Rattle.rc_flow.specs.inside.Spread.{after_step, after_steps, is_early, Names, noted, noted_if, nothing, with_all}
 use Rattle.rc_flow.specs.inside.Spread.{with_names}
 use Rattle.rc_flow.proofs.ListLemmas.{StandsAt, first_at, one_at, rest_at, some_same, stands_whole}
-use Rattle.rc_flow.proofs.SetLemmas.{Names, In}
+use Rattle.rc_flow.proofs.SetLemmas.{In}
 use Rattle.rc_flow.proofs.SpreadSteps.{ended_ends, next_names, after_names, next_grows}
 use Rattle.rc_flow.proofs.ReachedLemmas.{Agrees, agrees_next}
 
@@ -248,7 +248,7 @@ module _ (env : Environment) where
         (good_steps (k + 1) xs (after_step env x s) (rest_at steps k x xs stands)
         (good_next k s x (first_at steps k x xs stands) good))
 
-    -- behind all the steps
+    -- after all the steps
     pub good_all : Good (length steps) (after_steps env steps nothing)
     good_all =
         let whole : 0 + length steps ≡ length steps = omega arith in

@@ -1,25 +1,20 @@
--- The names that are reactive behind one step.
-use Rattle.std.proofs.Common.{◌≡◌, ◌∙◌, ℕ, Bool, true, false, ◌||◌, List, [], ◌∷◌, ◌++◌, Option, None, Some, map}
+-- The names that are reactive after one step.
+use Rattle.std.proofs.Common.{◌≡◌, ◌∙◌, ℕ, Bool, true, false, List, [], ◌∷◌, ◌++◌, Option, None, Some, map}
 use Rattle.std.proofs.Common.{slice_get, refl, sym, ap, if◌then◌else◌, true≢false}
 use Rattle.std.specs.List.{list_any}
 use Rattle.std.specs.Map.{lookup}
-use Rattle.rc_hir.specs.Model.{DeclarationEntry, Environment, ReactiveScope, ReactiveScopeDependency}
+use Rattle.rc_hir.specs.Model.{DeclarationEntry, Environment, ReactiveScope}
 use Rattle.rc_names.specs.Numbers.{IdentifierId, ScopeId, is_among, same_id}
 use Rattle.rc_flow.specs.declared.spread.Spread.{Spread}
 use Rattle.rc_flow.specs.declared.step.Step.{Step}
 use Rattle.rc_flow.specs.declared.step.Step.TheVariants.{Marks, Carries, Ends}
 use Rattle.rc_flow.specs.Reached.{dependencies_if, outputs_if, sources, targets}
-use Rattle.rc_flow.specs.inside.Spread.{after_step, ended, is_of, noted, noted_if, with_all, with_declared, with_names}
+use Rattle.rc_flow.specs.inside.Spread.{after_step, depends_on, ended, Names, noted, noted_if, with_all, with_declared, with_names}
 use Rattle.rc_flow.specs.inside.Spread.{with_outputs}
-use Rattle.rc_flow.proofs.SetLemmas.{Names, In, carried_set, carried_grows, carried_new, carried_old, all-append}
-use Rattle.rc_flow.proofs.SetLemmas.{insert_grows, insert_old}
+use Rattle.rc_flow.proofs.SetLemmas.{In, carried_set, carried_grows, carried_new, carried_old, all-append}
+use Rattle.rc_flow.proofs.SetLemmas.{depends_any, insert_grows, insert_old}
 
 -- the ends of scope blocks as steps from names to names
-
-any_of : (set : Names) (all : List ReactiveScopeDependency)
-    → list_any (is_of set) all ≡ list_any (is_among set) (map (λ (d : ReactiveScopeDependency). d.identifier) all)
-any_of set [] = refl
-any_of set (x ∷ xs) = ap (λ b. is_among set x.identifier || b) (any_of set xs)
 
 declared_all : (all : List DeclarationEntry) (set : Names)
     → with_declared all set ≡ with_all (map (λ (e : DeclarationEntry). e.value.identifier) all) set
@@ -44,21 +39,21 @@ ended_names : (o : Option ReactiveScope) (s : Spread)
     → (ended o s).names ≡ carried_set (dependencies_if o) (outputs_if o) s.names
 ended_names None s = refl
 ended_names (Some scope) s =
-    names_of_if (list_any (is_of s.names) scope.dependencies) s (with_outputs scope s.names)
-    ∙ ap (λ b. if b then with_outputs scope s.names else s.names) (any_of s.names scope.dependencies)
+    names_of_if (depends_on scope s.names) s (with_outputs scope s.names)
+    ∙ ap (λ b. if b then with_outputs scope s.names else s.names) (depends_any scope s.names)
     ∙ ap (λ names. if list_any (is_among s.names) (dependencies_if (Some scope)) then names else s.names)
     (outputs_all scope s.names)
 
 pub ended_ends : (o : Option ReactiveScope) (s : Spread) → (ended o s).ends ≡ s.ends
 ended_ends None s = refl
-ended_ends (Some scope) s = ends_of_if (list_any (is_of s.names) scope.dependencies) s (with_outputs scope s.names)
+ended_ends (Some scope) s = ends_of_if (depends_on scope s.names) s (with_outputs scope s.names)
 
 noted_names : (o : Option ℕ) (scope : ScopeId) (s : Spread) → (noted_if o scope s).names ≡ s.names
 noted_names None scope s = refl
 noted_names (Some size) scope s = refl
 
 module _ (env : Environment) where
-  -- the set behind a step
+  -- the set after a step
   abbrev pub next_names : Step → Names → Names
   next_names (Marks name) set = with_all (name ∷ []) set
   next_names (Carries from to) set = carried_set from to set

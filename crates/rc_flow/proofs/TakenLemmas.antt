@@ -13,10 +13,10 @@ use Rattle.rc_flow.specs.declared.step.Step.{Step}
 use Rattle.rc_flow.specs.declared.step.Step.TheVariants.{Marks}
 use Rattle.rc_flow.specs.declared.told.Told.{Told}
 use Rattle.rc_flow.specs.declared.told.Told.TheVariants as told
-use Rattle.rc_flow.specs.inside.Spread.{after_step, after_steps, with_all, with_names}
+use Rattle.rc_flow.specs.inside.Spread.{after_step, after_steps, Names, with_all, with_names}
 use Rattle.rc_flow.specs.inside.Told.{AreTaken, context_of, marked_names, steps_told, steps_told_at}
 use Rattle.rc_flow.specs.inside.Told.{with_places}
-use Rattle.rc_flow.proofs.SetLemmas.{Names, In, all_new, all_old, in_itself, insert_cases}
+use Rattle.rc_flow.proofs.SetLemmas.{In, all_new, all_old, in_itself, insert_cases}
 use Rattle.rc_flow.proofs.SpreadLemmas.{steps-append}
 use Rattle.rc_flow.proofs.SpreadSteps.{after_names, next_old}
 

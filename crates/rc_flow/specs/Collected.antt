@@ -1,16 +1,17 @@
--- The steps by which names are collected as reactive, in the order of the read walk.
-use Rattle.std.specs.Prelude.{Bool, true, false, List, [], ◌∷◌, ◌++◌, Option, None, Some, Result, Ok}
-use Rattle.std.specs.Prelude.{slice_get, if◌then◌else◌}
+-- The steps by which names are collected as reactive, in the order of the read walk, and the names that they reach.
+use Rattle.std.specs.Prelude.{◌≡◌, ◌↔◌, Bool, true, false, List, [], ◌∷◌, ◌++◌, Option, None, Some, Result, Ok}
+use Rattle.std.specs.Prelude.{length, slice_get, if◌then◌else◌}
 use Rattle.std.specs.List.{flat_map}
 use Rattle.rc_hir.specs.Environment.{type_of}
 use Rattle.rc_hir.specs.Model.{DeclarationEntry, Environment, Fault, HirType, Place, ReactiveScope}
 use Rattle.rc_hir.specs.Types.{is_ref_type}
 use Rattle.rc_hir.specs.declared.types.HirType.TheVariants.{Primitive}
-use Rattle.rc_names.specs.Numbers.{ScopeId}
+use Rattle.rc_names.specs.Numbers.{IdentifierId, ScopeId, is_among}
 use Rattle.rc_tree.specs.Read.{read_block}
 use Rattle.rc_tree.specs.ReadSteps.{ReadSteps, idle}
 use Rattle.rc_tree.specs.Step.{bind}
 use Rattle.rc_tree.specs.Model.{ReactiveBlock}
+use Rattle.rc_flow.specs.Reached.{IsReached}
 use Rattle.rc_flow.specs.declared.step.Step.{Step}
 use Rattle.rc_flow.specs.declared.step.Step.TheVariants.{Marks, Carries}
 
@@ -59,3 +60,9 @@ recording env = record idle {
 -- the steps of a body, or the fault of an operand that can't be read
 abbrev pub recorded_steps : Environment → ReactiveBlock → Result (List Step) Fault
 recorded_steps env body = bind (read_block (recording env) env.functions body []) (λ walked. Ok walked.1)
+
+-- the names that the collecting steps of a body reach
+pub record AreCollected (env : Environment) (body : ReactiveBlock) (names : List IdentifierId) : Type 0 where
+  pub steps : List Step
+  pub recorded : recorded_steps env body ≡ Ok steps
+  pub reached : (name : IdentifierId) → (is_among names name ≡ true) ↔ IsReached env steps (length steps) name

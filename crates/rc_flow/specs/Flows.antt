@@ -1,14 +1,13 @@
 -- The steps by which a tree carries reactivity on, in the order of the rewriting walk.
 --
--- A row carries from what it reads to what it writes, once the rows inside it are done. A scope block ends behind its
+-- A row carries from what it reads to what it writes, once the rows inside it are done. A scope block ends after its
 -- inside. The update of a `For` comes before the loop block.
 pub mod Values
 use Rattle.std.specs.Prelude.{List, [], ◌∷◌, ◌++◌, Option, None, Some}
 use Rattle.std.specs.List.{flat_map}
 use Rattle.rc_hir.specs.Model.{Environment}
-use Rattle.rc_tree.specs.TreeFold.{TreeFold, over_block, over_case, over_labeled, over_pruned_scope, over_scope}
-use Rattle.rc_tree.specs.TreeFold.{over_statement, over_terminal}
-use Rattle.rc_tree.specs.Model.{ReactiveBlock, ReactiveStatement, ReactiveSwitchCase, ReactiveTerminal}
+use Rattle.rc_tree.specs.TreeFold.{TreeFold, over_block}
+use Rattle.rc_tree.specs.Model.{ReactiveBlock}
 use Rattle.rc_tree.specs.declared.statement.ReactiveStatement.TheOpen as layer
 use Rattle.rc_tree.specs.declared.statement.ReactiveStatement.TheOpen.{ReactiveStatement-F, ReactiveTerminal-F}
 use Rattle.rc_flow.specs.Flows.Values.{steps_of_row, steps_of_value, steps_of_value_if}
@@ -43,12 +42,12 @@ module _ (env : Environment) where
   of_terminal (layer.Return place id) = []
   of_terminal (layer.Throw place id) = []
   of_terminal (layer.Switch test cases id) = all_steps cases
-  of_terminal (layer.DoWhile body test id) = body ++ steps_of_value env test
-  of_terminal (layer.While test body id) = steps_of_value env test ++ body
+  of_terminal (layer.DoWhile body test id) = body ++ steps_of_value env id test
+  of_terminal (layer.While test body id) = steps_of_value env id test ++ body
   of_terminal (layer.For init test update body id) =
-      steps_of_value env init ++ (steps_of_value env test ++ (steps_of_value_if env update ++ body))
-  of_terminal (layer.ForOf init test body span id) = steps_of_value env init ++ (steps_of_value env test ++ body)
-  of_terminal (layer.ForIn init body span id) = steps_of_value env init ++ body
+      steps_of_value env id init ++ (steps_of_value env id test ++ (steps_of_value_if env id update ++ body))
+  of_terminal (layer.ForOf init test body span id) = steps_of_value env id init ++ (steps_of_value env id test ++ body)
+  of_terminal (layer.ForIn init body span id) = steps_of_value env id init ++ body
   of_terminal (layer.If test consequent alternate id) = consequent ++ steps_if alternate
   of_terminal (layer.Label body id) = body
   of_terminal (layer.Try body binding handler id) = body ++ handler
@@ -65,20 +64,6 @@ module _ (env : Environment) where
     labeled = λ x. x.terminal;
   }
 
-  -- the steps of a tree, and of each other part of it
+  -- the steps of a tree
   unfoldable pub flows_in : ReactiveBlock → Steps
   flows_in = over_block flowing
-
-  unfoldable pub flows_of_statement : ReactiveStatement → Steps
-  flows_of_statement = over_statement flowing
-
-  unfoldable pub flows_of_terminal : ReactiveTerminal → Steps
-  flows_of_terminal = over_terminal flowing
-
-  unfoldable pub flows_of_case : ReactiveSwitchCase → Steps
-  flows_of_case = over_case flowing
-
-  -- the steps of an optional block
-  abbrev pub flows_if : Option ReactiveBlock → Steps
-  flows_if None = []
-  flows_if (Some block) = flows_in block

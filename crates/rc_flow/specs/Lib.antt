@@ -1,7 +1,7 @@
+pub mod Reached
 pub mod Collected
 pub mod Flows
-pub mod Reached
-pub mod ReactiveNames
+pub mod ReactiveDependencies
 pub mod ValueSteps
 pub mod Unmemoized
 pub mod AlwaysInvalidating

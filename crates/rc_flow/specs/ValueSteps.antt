@@ -55,7 +55,7 @@ steps_of_row row in_scope = listed (step_of in_scope row.lvalue row.value)
 abbrev pub steps_joining : Joining Steps
 steps_joining = from_around lists
 
--- a scope block is around its inside, and ends behind it; a pruned one isn't a scope block
+-- a scope block is around its inside, and ends after it; a pruned one isn't a scope block
 abbrev pub value_step_parts : Contributions Steps
 value_step_parts = record {
   joining = steps_joining;

@@ -1,7 +1,7 @@
 -- What private functions say of each other.
 pub mod Spread
-pub mod Gathered
 pub mod Told
+pub mod PartFlows
 pub mod Pruned
-pub mod Invalidating
+pub mod Marks
 pub mod DroppingSteps

@@ -4,14 +4,13 @@
 
 ghost use Rattle.std.specs.Prelude.{◌≡◌, ◌⊎◌, IfErr, IfOk};
 ghost use Rattle.rc_hir.specs.Fault.{IsExpected};
-ghost use Rattle.rc_flow.specs.Collected.{recorded_steps};
-ghost use Rattle.rc_flow.specs.ReactiveNames.{AreCollected};
-ghost use Rattle.rc_flow.specs.inside.Gathered.{spread_over};
+ghost use Rattle.rc_flow.specs.Collected.{AreCollected, recorded_steps};
+ghost use Rattle.rc_flow.specs.inside.Spread.{spread_over};
 ghost use Rattle.rc_flow.specs.inside.Told.{IsTold};
 ghost use Rattle.rc_hir.specs.declared.fault.Fault.TheVariants as faults;
 ghost use Rattle.rc_tree.specs.TreeNames.{TreeInTables, TreeNamesOutside};
 
-use crate::recorder::Recorder;
+use crate::collect_visitor::CollectVisitor;
 use crate::spread::Spread;
 use crate::taking::take_told;
 use crate::told::Told;
@@ -42,7 +41,7 @@ pub fn collect_reactive_identifiers(
     Ok(names)
 }
 
-/// The set of the collected names, behind the whole read walk.
+/// The set of the collected names, after the whole read walk.
 pub(crate) fn collected(
     alloc: Global,
     func: &ReactiveFunction,
@@ -61,6 +60,6 @@ fn recorded(alloc: Global, func: &ReactiveFunction, env: &Environment) -> Result
     ensures { IsTold env.now.functions (recorded_steps env.now func.now.body) result }
 {
     let mut told = List::new(alloc);
-    visit_reactive_function(alloc, func, &Recorder { alloc, env }, &mut told)?;
+    visit_reactive_function(alloc, func, &CollectVisitor { alloc, env }, &mut told)?;
     Ok(told)
 }

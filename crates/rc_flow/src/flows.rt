@@ -6,15 +6,21 @@
 mod values;
 
 ghost use Rattle.std.specs.Prelude.{◌≡◌, ◌++◌, map, IfOk, OnOk};
-ghost use Rattle.rc_flow.specs.Flows.{all_steps, flows_if, flows_in, flows_of_case, flows_of_statement};
-ghost use Rattle.rc_flow.specs.Flows.{flows_of_terminal};
+ghost use Rattle.rc_flow.specs.Flows.{all_steps, flows_in};
+ghost use Rattle.rc_flow.specs.inside.PartFlows.{flows_if, flows_of_case, flows_of_statement, flows_of_terminal};
 
-use crate::flows::values::{add_loop_value, add_row, add_value_if};
 use crate::step::Step;
 use rc_hir::Environment;
 use rc_names::List;
 use rc_tree::{ReactiveBlock, ReactiveStatement, ReactiveSwitchCase, ReactiveTerminal};
 use std::alloc::{AllocError, Global};
+
+/// The walk that lists the steps. Each of its methods adds those of a part.
+#[derive(Clone, Copy)]
+pub struct PruneVisitor<'a> {
+    pub alloc: Global,
+    pub env: &'a Environment,
+}
 
 /// The steps of a tree. The only error is out of memory.
 pub fn flows_in(
@@ -25,168 +31,160 @@ pub fn flows_in(
     ensures { IfOk result (λ steps. steps ≡ flows_in env.now block.now) }
 {
     let mut steps = List::new(alloc);
-    add_block(alloc, env, &mut steps, block)?;
+    PruneVisitor { alloc, env }.add_block(&mut steps, block)?;
     Ok(steps)
 }
 
-/// Adds the steps of a block.
-#[cycle(flows)]
-fn add_block(
-    alloc: Global,
-    env: &Environment,
-    steps: &mut List<Step>,
-    block: &ReactiveBlock,
-) -> Result<(), AllocError>
-    ensures { OnOk result (steps.new ≡ steps.old ++ flows_in env.now block.now) }
-{
-    add_statements(alloc, env, steps, block.statements.as_slice())
-}
-
-/// Adds the steps of statements, one after the other.
-#[cycle(flows)]
-fn add_statements(
-    alloc: Global,
-    env: &Environment,
-    steps: &mut List<Step>,
-    all: &[ReactiveStatement],
-) -> Result<(), AllocError>
-    ensures { OnOk result (steps.new ≡ steps.old ++ all_steps (map (flows_of_statement env.now) all.now)) }
-{
-    for statement in all {
-        add_statement(alloc, env, steps, statement)?;
+impl<'a> PruneVisitor<'a> {
+    /// Adds the steps of a block.
+    #[cycle(flows)]
+    fn add_block(&self, steps: &mut List<Step>, block: &ReactiveBlock) -> Result<(), AllocError>
+        ensures { OnOk result (steps.new ≡ steps.old ++ flows_in self.now.env.now block.now) }
+    {
+        self.add_statements(steps, block.statements.as_slice())
     }
-    Ok(())
-}
 
-/// Adds the steps of a statement; a scope block ends behind its inside.
-#[cycle(flows)]
-fn add_statement(
-    alloc: Global,
-    env: &Environment,
-    steps: &mut List<Step>,
-    statement: &ReactiveStatement,
-) -> Result<(), AllocError>
-    ensures { OnOk result (steps.new ≡ steps.old ++ flows_of_statement env.now statement.now) }
-{
-    match statement {
-        ReactiveStatement::Instruction(row) => add_row(alloc, env, steps, row),
-        ReactiveStatement::Terminal(statement) => {
-            add_terminal(alloc, env, steps, &statement.get().terminal)
+    /// Adds the steps of statements, one after the other.
+    #[cycle(flows)]
+    fn add_statements(
+        &self,
+        steps: &mut List<Step>,
+        all: &[ReactiveStatement],
+    ) -> Result<(), AllocError>
+        ensures { OnOk result (steps.new ≡ steps.old ++ all_steps (map (flows_of_statement self.now.env.now) all.now)) }
+    {
+        for statement in all {
+            self.add_statement(steps, statement)?;
         }
-        ReactiveStatement::Scope(block) => {
-            add_block(alloc, env, steps, &block.instructions)?;
-            steps.push(Step::Ends(block.scope))
-        }
-        ReactiveStatement::PrunedScope(block) => add_block(alloc, env, steps, &block.instructions),
+        Ok(())
     }
-}
 
-/// Adds the steps of the parts of a terminal.
-#[cycle(flows)]
-fn add_terminal(
-    alloc: Global,
-    env: &Environment,
-    steps: &mut List<Step>,
-    terminal: &ReactiveTerminal,
-) -> Result<(), AllocError>
-    ensures { OnOk result (steps.new ≡ steps.old ++ flows_of_terminal env.now terminal.now) }
-{
-    match terminal {
-        ReactiveTerminal::Break { .. }
-        | ReactiveTerminal::Continue { .. }
-        | ReactiveTerminal::Return { .. }
-        | ReactiveTerminal::Throw { .. } => Ok(()),
-        ReactiveTerminal::Switch { cases, .. } => add_cases(alloc, env, steps, cases.as_slice()),
-        ReactiveTerminal::DoWhile {
-            loop_block,
-            test,
-            ..
-        } => {
-            add_block(alloc, env, steps, loop_block)?;
-            add_loop_value(alloc, env, steps, test)
-        }
-        ReactiveTerminal::While {
-            test,
-            loop_block,
-            ..
-        } => {
-            add_loop_value(alloc, env, steps, test)?;
-            add_block(alloc, env, steps, loop_block)
-        }
-        ReactiveTerminal::For {
-            init,
-            test,
-            update,
-            loop_block,
-            ..
-        } => {
-            add_loop_value(alloc, env, steps, init)?;
-            add_loop_value(alloc, env, steps, test)?;
-            add_value_if(alloc, env, steps, update)?;
-            add_block(alloc, env, steps, loop_block)
-        }
-        ReactiveTerminal::ForOf {
-            init,
-            test,
-            loop_block,
-            ..
-        } => {
-            add_loop_value(alloc, env, steps, init)?;
-            add_loop_value(alloc, env, steps, test)?;
-            add_block(alloc, env, steps, loop_block)
-        }
-        ReactiveTerminal::ForIn {
-            init,
-            loop_block,
-            ..
-        } => {
-            add_loop_value(alloc, env, steps, init)?;
-            add_block(alloc, env, steps, loop_block)
-        }
-        ReactiveTerminal::If {
-            consequent,
-            alternate,
-            ..
-        } => {
-            add_block(alloc, env, steps, consequent)?;
-            add_block_if(alloc, env, steps, alternate)
-        }
-        ReactiveTerminal::Label { block, .. } => add_block(alloc, env, steps, block),
-        ReactiveTerminal::Try { block, handler, .. } => {
-            add_block(alloc, env, steps, block)?;
-            add_block(alloc, env, steps, handler)
+    /// Adds the steps of a statement; a scope block ends after its inside.
+    #[cycle(flows)]
+    fn add_statement(
+        &self,
+        steps: &mut List<Step>,
+        statement: &ReactiveStatement,
+    ) -> Result<(), AllocError>
+        ensures { OnOk result (steps.new ≡ steps.old ++ flows_of_statement self.now.env.now statement.now) }
+    {
+        match statement {
+            ReactiveStatement::Instruction(row) => self.add_row(steps, row),
+            ReactiveStatement::Terminal(statement) => {
+                self.add_terminal(steps, &statement.get().terminal)
+            }
+            ReactiveStatement::Scope(block) => {
+                self.add_block(steps, &block.instructions)?;
+                steps.push(Step::Ends(block.scope))
+            }
+            ReactiveStatement::PrunedScope(block) => self.add_block(steps, &block.instructions),
         }
     }
-}
 
-/// Adds the steps of the cases of a switch.
-#[cycle(flows)]
-fn add_cases(
-    alloc: Global,
-    env: &Environment,
-    steps: &mut List<Step>,
-    cases: &[ReactiveSwitchCase],
-) -> Result<(), AllocError>
-    ensures { OnOk result (steps.new ≡ steps.old ++ all_steps (map (flows_of_case env.now) cases.now)) }
-{
-    for case in cases {
-        add_block_if(alloc, env, steps, &case.block)?;
+    /// Adds the steps of the parts of a terminal.
+    #[cycle(flows)]
+    fn add_terminal(
+        &self,
+        steps: &mut List<Step>,
+        terminal: &ReactiveTerminal,
+    ) -> Result<(), AllocError>
+        ensures { OnOk result (steps.new ≡ steps.old ++ flows_of_terminal self.now.env.now terminal.now) }
+    {
+        match terminal {
+            ReactiveTerminal::Break { .. }
+            | ReactiveTerminal::Continue { .. }
+            | ReactiveTerminal::Return { .. }
+            | ReactiveTerminal::Throw { .. } => Ok(()),
+            ReactiveTerminal::Switch { cases, .. } => self.add_cases(steps, cases.as_slice()),
+            ReactiveTerminal::DoWhile {
+                loop_block,
+                test,
+                ..
+            } => {
+                self.add_block(steps, loop_block)?;
+                self.add_loop_value(steps, test)
+            }
+            ReactiveTerminal::While {
+                test,
+                loop_block,
+                ..
+            } => {
+                self.add_loop_value(steps, test)?;
+                self.add_block(steps, loop_block)
+            }
+            ReactiveTerminal::For {
+                init,
+                test,
+                update,
+                loop_block,
+                ..
+            } => {
+                self.add_loop_value(steps, init)?;
+                self.add_loop_value(steps, test)?;
+                self.add_value_if(steps, update)?;
+                self.add_block(steps, loop_block)
+            }
+            ReactiveTerminal::ForOf {
+                init,
+                test,
+                loop_block,
+                ..
+            } => {
+                self.add_loop_value(steps, init)?;
+                self.add_loop_value(steps, test)?;
+                self.add_block(steps, loop_block)
+            }
+            ReactiveTerminal::ForIn {
+                init,
+                loop_block,
+                ..
+            } => {
+                self.add_loop_value(steps, init)?;
+                self.add_block(steps, loop_block)
+            }
+            ReactiveTerminal::If {
+                consequent,
+                alternate,
+                ..
+            } => {
+                self.add_block(steps, consequent)?;
+                self.add_block_if(steps, alternate)
+            }
+            ReactiveTerminal::Label { block, .. } => self.add_block(steps, block),
+            ReactiveTerminal::Try { block, handler, .. } => {
+                self.add_block(steps, block)?;
+                self.add_block(steps, handler)
+            }
+        }
     }
-    Ok(())
-}
 
-/// Adds the steps of a block that may be left out.
-#[cycle(flows)]
-fn add_block_if(
-    alloc: Global,
-    env: &Environment,
-    steps: &mut List<Step>,
-    block: &Option<ReactiveBlock>,
-) -> Result<(), AllocError>
-    ensures { OnOk result (steps.new ≡ steps.old ++ flows_if env.now block.now) }
-{
-    match block {
-        Some(block) => add_block(alloc, env, steps, block),
-        None => Ok(()),
+    /// Adds the steps of the cases of a switch.
+    #[cycle(flows)]
+    fn add_cases(
+        &self,
+        steps: &mut List<Step>,
+        cases: &[ReactiveSwitchCase],
+    ) -> Result<(), AllocError>
+        ensures { OnOk result (steps.new ≡ steps.old ++ all_steps (map (flows_of_case self.now.env.now) cases.now)) }
+    {
+        for case in cases {
+            self.add_block_if(steps, &case.block)?;
+        }
+        Ok(())
+    }
+
+    /// Adds the steps of a block that may be left out.
+    #[cycle(flows)]
+    fn add_block_if(
+        &self,
+        steps: &mut List<Step>,
+        block: &Option<ReactiveBlock>,
+    ) -> Result<(), AllocError>
+        ensures { OnOk result (steps.new ≡ steps.old ++ flows_if self.now.env.now block.now) }
+    {
+        match block {
+            Some(block) => self.add_block(steps, block),
+            None => Ok(()),
+        }
     }
 }

@@ -3,12 +3,11 @@
 //! A walk over the tree lists what makes names reactive or carries that on. One set of names then grows over the list.
 #![tactic(auto)]
 
+mod always_invalidating;
+mod collect_visitor;
 mod collected;
-mod dependencies;
 mod flows;
-mod invalidating;
-mod pass;
-mod recorder;
+mod reactive_dependencies;
 mod spread;
 mod step;
 mod taking;
@@ -16,6 +15,8 @@ mod told;
 mod types;
 mod value_step;
 
+pub use always_invalidating::{
+    decide_always_invalidating_scopes, prune_always_invalidating_scopes,
+};
 pub use collected::collect_reactive_identifiers;
-pub use dependencies::prune_non_reactive_dependencies;
-pub use pass::prune_always_invalidating_scopes;
+pub use reactive_dependencies::prune_non_reactive_dependencies;

@@ -73,7 +73,7 @@ impl Spread {
         let Some(known) = env.scopes.get(scope) else {
             return Ok(());
         };
-        if has_dependency(&self.names, known.dependencies.as_slice()) {
+        if depends_on(known, &self.names) {
             add_outputs(&mut self.names, known)?;
         }
         Ok(())
@@ -114,13 +114,12 @@ fn has_any(set: &KeySet<IdentifierId>, names: &[IdentifierId]) -> bool
     names.iter().any(|name| set.contains(*name))
 }
 
-/// Whether one of the dependencies is in the set.
-fn has_dependency(set: &KeySet<IdentifierId>, dependencies: &[ReactiveScopeDependency]) -> bool
-    ensures { result ≡ list_any (spec.is_of set.now) dependencies.now }
+/// Whether a dependency of the scope is in the set.
+pub fn depends_on(scope: &ReactiveScope, set: &KeySet<IdentifierId>) -> bool
+    ensures { result ≡ spec.depends_on scope.now set.now }
 {
-    dependencies
-        .iter()
-        .any(|dependency| set.contains(dependency.identifier))
+    let mut dependencies = scope.dependencies.as_slice().iter();
+    dependencies.any(|dependency| set.contains(dependency.identifier))
 }
 
 /// Puts all the names into the set.

@@ -1,17 +1,16 @@
 -- The steps by which rows carry reactivity on, and those of the rows in a value.
 use Rattle.std.specs.Prelude.{Bool, false, not, List, [], ◌∷◌, ◌++◌, Option, None, Some, map}
-use Rattle.std.specs.List.{filter, flat_map}
+use Rattle.std.specs.List.{filter}
 use Rattle.std.specs.Option.{option_map_or}
 use Rattle.rc_hir.specs.Environment.{type_of}
 use Rattle.rc_hir.specs.Model.{Environment, InstructionValue, Place}
 use Rattle.rc_hir.specs.Operands.{pattern_places}
 use Rattle.rc_hir.specs.Types.{is_stable_type}
 use Rattle.rc_hir.specs.declared.instruction.InstructionValue.TheVariants as kinds
-use Rattle.rc_names.specs.Numbers.{IdentifierId}
+use Rattle.rc_names.specs.Numbers.{EvaluationOrder, IdentifierId}
+use Rattle.rc_tree.specs.CollectedValues.{ValueContributions, collected_row, collected_value, collected_value_if}
+use Rattle.rc_tree.specs.Joining.{lists}
 use Rattle.rc_tree.specs.Model.{ReactiveInstruction, ReactiveValue}
-use Rattle.rc_tree.specs.declared.value.ReactiveValue.TheFolds.{para-ReactiveValue, para-ReactiveInstruction}
-use Rattle.rc_tree.specs.declared.value.ReactiveValue.TheOpen as value
-use Rattle.rc_tree.specs.declared.value.ReactiveValue.TheOpen.{ReactiveValue-F, ReactiveInstruction-F}
 use Rattle.rc_tree.specs.declared.value.ReactiveValue.TheVariants as reactive_values
 use Rattle.rc_flow.specs.declared.step.Step.{Step}
 use Rattle.rc_flow.specs.declared.step.Step.TheVariants.{Carries}
@@ -52,27 +51,21 @@ abbrev pub row_steps : Environment → Option Place → ReactiveValue → List S
 row_steps env target (reactive_values.Instruction x) = own_steps env target x
 row_steps env target _ = []
 
-module _ (env : Environment) where
-  -- the steps of a value: those of the rows in it
-  abbrev pub of_value : ReactiveValue-F (ReactiveValue × List Step) (ReactiveInstruction × List Step) → List Step
-  of_value (value.Instruction x) = []
-  of_value (value.LogicalExpression operator left right) = left.1 ++ right.1
-  of_value (value.ConditionalExpression test consequent alternate) = test.1 ++ (consequent.1 ++ alternate.1)
-  of_value (value.SequenceExpression rows own x) =
-      flat_map (λ (row : ReactiveInstruction × List Step). row.1) rows ++ x.1
-  of_value (value.OptionalExpression x optional) = x.1
+-- a row has the steps of the rows in its value, and then its own
+abbrev pub row_flows : Environment → ValueContributions (List Step)
+row_flows env = record {
+  joining = lists;
+  instruction = λ id x. [];
+  target = λ id x. [];
+  row = λ x inside. inside ++ row_steps env x.lvalue x.value;
+}
 
-  -- the steps of a row: those of its value, and then its own
-  abbrev pub of_row : ReactiveInstruction-F (ReactiveValue × List Step) (ReactiveInstruction × List Step) → List Step
-  of_row x = x.value.1 ++ row_steps env x.lvalue x.value.0
+-- the steps of a row, and those of a value and of an optional one, whatever the id
+abbrev pub steps_of_row : Environment → ReactiveInstruction → List Step
+steps_of_row env = collected_row (row_flows env)
 
-  unfoldable pub steps_of_value : ReactiveValue → List Step
-  steps_of_value = para-ReactiveValue (List Step) (List Step) of_value of_row
+abbrev pub steps_of_value : Environment → EvaluationOrder → ReactiveValue → List Step
+steps_of_value env id x = collected_value (row_flows env) x id
 
-  unfoldable pub steps_of_row : ReactiveInstruction → List Step
-  steps_of_row = para-ReactiveInstruction (List Step) (List Step) of_value of_row
-
-  -- the steps of an optional value
-  abbrev pub steps_of_value_if : Option ReactiveValue → List Step
-  steps_of_value_if None = []
-  steps_of_value_if (Some x) = steps_of_value x
+abbrev pub steps_of_value_if : Environment → EvaluationOrder → Option ReactiveValue → List Step
+steps_of_value_if env = collected_value_if (row_flows env)

@@ -1,8 +1,8 @@
 -- The steps of the pass that drops scope blocks, as a pass over statements.
-use Rattle.std.specs.Prelude.{Bool, true, false, List, [], ◌-◌, None, Ok, length, take, unwrap_or}
+use Rattle.std.specs.Prelude.{Bool, true, false, List, ◌-◌, None, Ok, length, take, unwrap_or}
 use Rattle.std.specs.List.{last_or}
-use Rattle.rc_flow.specs.AlwaysInvalidating.{as_pruned}
 use Rattle.rc_tree.specs.Model.{ReactiveScopeBlock, ReactiveStatement, Transformed}
+use Rattle.rc_tree.specs.Pruned.{as_pruned, emptied_scope}
 use Rattle.rc_tree.specs.StatementSteps.{StatementSteps}
 use Rattle.rc_tree.specs.declared.statement.ReactiveStatement.TheVariants as reactive
 use Rattle.rc_tree.specs.declared.hooks.Transformed.TheVariants.{Keep, Replace}
@@ -15,16 +15,12 @@ last_answer answers = unwrap_or (last_or None answers) false
 abbrev pub without_last : List Bool → List Bool
 without_last answers = take (length answers - 1) answers
 
--- a block whose statements were taken
-abbrev pub emptied_scope : ReactiveScopeBlock → ReactiveScopeBlock
-emptied_scope block = record { scope = block.scope; instructions = record { statements = [] } }
-
 -- the answer for a scope block, with the block that is left
 abbrev pub answer_if : Bool → ReactiveScopeBlock → Transformed ReactiveStatement × ReactiveScopeBlock
 answer_if false block = (Keep, block)
 answer_if true block = (Replace (reactive.PrunedScope (as_pruned block)), emptied_scope block)
 
--- a scope block takes the next answer, and terminals are kept
+-- a scope block takes the next answer, and all else is kept
 abbrev pub dropping_steps : StatementSteps (List Bool)
 dropping_steps = record {
   enter_scope = λ block answers. Ok (tt, answers);
@@ -34,4 +30,5 @@ dropping_steps = record {
         (answer_if (last_answer answers) block).0,
         (without_last answers, (answer_if (last_answer answers) block).1),
       );
+  leave_block = λ answers block. Ok (tt, (answers, block));
 }

@@ -1,18 +1,24 @@
 -- The set of reactive names as it grows over the steps, and its sizes where scope blocks end.
-use Rattle.std.specs.Prelude.{ℕ, Bool, true, List, [], ◌∷◌, Option, None, Some, length, take, slice_get, if◌then◌else◌}
+use Rattle.std.specs.Prelude.{ℕ, Bool, true, List, [], ◌∷◌, Option, None, Some, Result, Ok, length, take, slice_get}
+use Rattle.std.specs.Prelude.{if◌then◌else◌}
 use Rattle.std.specs.List.{list_any}
 use Rattle.std.specs.Map.{lookup}
 use Rattle.indexmap.specs.IndexMap.{insert_entry}
 use Rattle.indexmap.specs.IndexSet.{insert_key}
-use Rattle.rc_hir.specs.Model.{DeclarationEntry, Environment, ReactiveScope, ReactiveScopeDependency}
+use Rattle.rc_hir.specs.Model.{DeclarationEntry, Environment, Fault, ReactiveScope, ReactiveScopeDependency}
 use Rattle.rc_names.specs.Numbers.{IdentifierId, ScopeId, is_among, same_id}
+use Rattle.rc_tree.specs.Model.{ReactiveBlock}
+use Rattle.rc_tree.specs.Step.{bind}
+use Rattle.rc_flow.specs.Collected.{recorded_steps}
 use Rattle.rc_flow.specs.declared.spread.Spread.{Spread}
 use Rattle.rc_flow.specs.declared.step.Step.{Step}
 use Rattle.rc_flow.specs.declared.step.Step.TheVariants.{Marks, Carries, Ends}
 
+-- a set of names
 abbrev pub Names : Type 0
 Names = List IdentifierId
 
+-- no names yet, and no ends
 abbrev pub nothing : Spread
 nothing = record { names = []; ends = [] }
 
@@ -30,15 +36,16 @@ with_declared (entry ∷ entries) set = with_declared entries (insert_key same_i
 abbrev pub with_outputs : ReactiveScope → Names → Names
 with_outputs scope set = with_all scope.reassignments (with_declared scope.declarations set)
 
--- the dependency's name is in the set
-abbrev pub is_of : Names → ReactiveScopeDependency → Bool
-is_of set dependency = is_among set dependency.identifier
+-- a dependency of the scope is in the set
+abbrev pub depends_on : ReactiveScope → Names → Bool
+depends_on scope set =
+    list_any (λ (dependency : ReactiveScopeDependency). is_among set dependency.identifier) scope.dependencies
 
 -- the state with another set
 abbrev pub with_names : Spread → Names → Spread
 with_names s names = record { names = names; ends = s.ends }
 
--- behind a row
+-- after a row
 abbrev pub carried : Names → Names → Spread → Spread
 carried from to s = if list_any (is_among s.names) from then with_names s (with_all to s.names) else s
 
@@ -50,16 +57,15 @@ noted_if None scope s = record { names = s.names; ends = insert_entry same_id s.
 abbrev pub noted : ScopeId → Spread → Spread
 noted scope s = noted_if (lookup (same_id scope) s.ends) scope s
 
--- behind the end of a block of a scope that was looked up
+-- after the end of a block of a scope that was looked up
 abbrev pub ended : Option ReactiveScope → Spread → Spread
 ended None s = s
-ended (Some scope) s =
-    if list_any (is_of s.names) scope.dependencies then with_names s (with_outputs scope s.names) else s
+ended (Some scope) s = if depends_on scope s.names then with_names s (with_outputs scope s.names) else s
 
 abbrev pub after_end : Environment → ScopeId → Spread → Spread
 after_end env scope s = ended (slice_get env.scopes scope.0) (noted scope s)
 
--- behind one step, and behind all
+-- after one step, and after all
 abbrev pub after_step : Environment → Step → Spread → Spread
 after_step env (Marks name) s = with_names s (insert_key same_id s.names name)
 after_step env (Carries from to) s = carried from to s
@@ -68,6 +74,10 @@ after_step env (Ends scope) s = after_end env scope s
 abbrev pub after_steps : Environment → List Step → Spread → Spread
 after_steps env [] s = s
 after_steps env (step ∷ steps) s = after_steps env steps (after_step env step s)
+
+-- the state after the collecting steps of a body
+abbrev pub spread_over : ReactiveBlock → Environment → Result Spread Fault
+spread_over body env = bind (recorded_steps env body) (λ steps. Ok (after_steps env steps nothing))
 
 -- the name is among the first of the set, as many as that; without a number, it is so of itself
 abbrev pub is_early : Names → IdentifierId → Option ℕ → Bool

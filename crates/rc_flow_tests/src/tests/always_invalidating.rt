@@ -3,10 +3,10 @@
 use super::rows::{Row, statements};
 use super::tables::{Known, ZERO_AGAIN, environment};
 use super::trees::{function, pruned_around, scope_around};
-use rc_flow::prune_always_invalidating_scopes;
+use rc_flow::{decide_always_invalidating_scopes, prune_always_invalidating_scopes};
 use rc_hir::Fault;
-use rc_names::List;
-use rc_tree::{ReactiveBlock, ReactiveStatement};
+use rc_names::{List, ScopeId};
+use rc_tree::{Fate, ReactiveBlock, ReactiveStatement, ScopeFate};
 use std::alloc::{AllocError, Global};
 use std::test::Fail;
 
@@ -163,8 +163,26 @@ fn is_pruned_from_inside(alloc: Global) -> Result<bool, Fault> {
     Ok(pruned.as_slice() == [true].as_slice())
 }
 
+/// Whether the pass returns both scopes, the inner one first.
+fn is_decided_from_inside(alloc: Global) -> Result<bool, Fault> {
+    let env = environment(alloc, SCOPES.as_slice())?;
+    let mut func = function(alloc, one_in_the_other(alloc)?);
+    let decided = decide_always_invalidating_scopes(alloc, &mut func, &env)?;
+    let fate = Fate::AlwaysInvalidating;
+    let [inner, outer] = [ScopeId::new(0), ScopeId::new(1)];
+    Ok(
+        decided.as_slice()
+            == [
+                ScopeFate { scope: inner, fate },
+                ScopeFate { scope: outer, fate },
+            ]
+            .as_slice(),
+    )
+}
+
 #[test]
 fn an_inner_scope_is_judged_before_the_outer_one(rt: HostRuntime) -> Result<(), Fail> {
     assert!(rt; is_pruned_from_inside(rt.alloc())?);
+    assert!(rt; is_decided_from_inside(rt.alloc())?);
     Ok(())
 }

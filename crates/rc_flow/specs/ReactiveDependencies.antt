@@ -1,0 +1,42 @@
+-- The dependencies that stay: those whose names are reactive wherever a block of their scope ends.
+use Rattle.std.specs.Prelude.{◌≡◌, ◌+◌, ◌↔◌, ℕ, Bool, true, List, [], ◌∷◌, ◌++◌, Some, Result, Ok, slice_get}
+use Rattle.std.specs.List.{filter}
+use Rattle.rc_hir.specs.Model.{Environment, Fault, ReactiveScope, ReactiveScopeDependency}
+use Rattle.rc_names.specs.Numbers.{ScopeId, to_id}
+use Rattle.rc_tree.specs.Model.{ReactiveBlock}
+use Rattle.rc_tree.specs.Step.{bind}
+use Rattle.rc_flow.specs.Collected.{recorded_steps}
+use Rattle.rc_flow.specs.Flows.{flows_in}
+use Rattle.rc_flow.specs.Reached.{IsReached}
+use Rattle.rc_flow.specs.declared.step.Step.{Step}
+use Rattle.rc_flow.specs.declared.step.Step.TheVariants.{Ends}
+
+-- the collecting steps of a body, and then its flows
+abbrev pub all_steps_of : Environment → ReactiveBlock → Result (List Step) Fault
+all_steps_of env body = bind (recorded_steps env body) (λ steps. Ok (steps ++ flows_in env body))
+
+module _ (env : Environment) (steps : List Step) where
+  -- the dependency's name is reactive wherever a block of its scope ends
+  abbrev pub Stays : ScopeId → ReactiveScopeDependency → Type 0
+  Stays scope dependency = (place : ℕ) → slice_get steps place ≡ Some (Ends scope)
+      → IsReached env steps place dependency.identifier
+
+  -- the scope keeps exactly the dependencies that stay, in their order
+  pub record KeepsReactive (number : ScopeId) (old new : ReactiveScope) : Type 0 where
+    pub stays : ReactiveScopeDependency → Bool
+    pub tells : (dependency : ReactiveScopeDependency) → (stays dependency ≡ true) ↔ Stays number dependency
+    pub kept : new ≡ record old { dependencies = filter stays old.dependencies }
+
+  -- so does each scope of a list, whose numbers go on from that one
+  abbrev pub KeepReactive : ℕ → List ReactiveScope → List ReactiveScope → Type 0
+  KeepReactive number [] [] = Unit {0}
+  KeepReactive number (old ∷ olds) (new ∷ news) =
+      KeepsReactive (to_id number) old new × KeepReactive (number + 1) olds news
+  KeepReactive number _ _ = ⊥
+
+-- the second environment is the first one, where each scope keeps exactly the dependencies that stay
+pub record HasReactiveDependencies (body : ReactiveBlock) (old new : Environment) : Type 0 where
+  pub steps : List Step
+  pub listed : all_steps_of old body ≡ Ok steps
+  pub others : new ≡ record old { scopes = new.scopes }
+  pub scopes : KeepReactive old steps 0 old.scopes new.scopes
