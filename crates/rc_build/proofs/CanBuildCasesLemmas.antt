@@ -53,6 +53,28 @@ case_can {hir} {marks} {handler} {frames} {waiting} front case e can = record {
   owned = can.owned;
 }
 
+-- cases can be built inside the mark of their switch
+pub cases_marked : {hir : HirFunction} {marks : Marks} {handler : Option BlockId} {frames : List Frame}
+    {cases : List Case} → CanBuildCases hir marks handler frames cases
+    → CanBuildCases hir marks handler (frame_kinds.Mark ∷ frames) cases
+cases_marked can = record {
+  marked = can.marked;
+  handled = can.handled;
+  referenced = can.referenced;
+  used_before = can.used_before;
+  owned = (
+    record {
+      owner = can.owner;
+      chosen = can.used;
+      owns = record { block = can.here.block; found = can.here.found; holds = tt };
+    },
+    can.owned,
+  );
+  owner = can.owner;
+  used = can.used;
+  here = can.here;
+}
+
 -- once it is built and its frame is entered, the cases in front of it can be built
 pub cases_can : {hir : HirFunction} {old new : Marks} {handler : Option BlockId} {frames : List Frame}
     {waiting front : List Case} (case : Case)

@@ -1,7 +1,8 @@
 -- The frames around a list: their blocks are pending or used, and other blocks opened them.
-use Rattle.std.proofs.Common.{◌≡◌, Bool, true, false, List, [], ◌∷◌, ◌++◌, Some, ◌||◌, refl, sym, ap, ◌∙◌, subst, inl}
-use Rattle.std.proofs.Common.{inr}
+use Rattle.std.proofs.Common.{◌≡◌, Bool, true, false, List, [], ◌∷◌, ◌++◌, Some, ◌||◌, ◌&&◌, refl, sym, ap, ◌∙◌, subst}
+use Rattle.std.proofs.Common.{inl, inr}
 use Rattle.std.specs.Prelude.{if◌then◌else◌, ◌⊎◌}
+use Rattle.std.proofs.Math.Bool.{or-false}
 use Rattle.std.proofs.lemmas.Bool.{or_cases}
 use Rattle.rc_names.specs.Numbers.{BlockId, same_id, is_among}
 use Rattle.rc_hir.specs.Model.{Terminal, HirFunction}
@@ -10,7 +11,8 @@ use Rattle.rc_runs.specs.declared.frames.Frame.{Frame}
 use Rattle.rc_runs.specs.declared.frames.Frame.TheVariants as frame_kinds
 use Rattle.rc_runs.specs.declared.frames.BreakResult.{BreakResult}
 use Rattle.rc_runs.specs.declared.frames.BreakResult.TheVariants.{NoFrame, LeavesScope, LeavesCase}
-use Rattle.rc_runs.specs.Frames.{break_block, is_jump_target, is_jump_target_at, is_loop, resolve_at, resolve_from}
+use Rattle.rc_runs.specs.Frames.{break_block, is_block, is_jump_target, is_jump_target_at, is_mark, takes_unlabeled}
+use Rattle.rc_runs.specs.Frames.{resolve_at, resolve_from}
 use Rattle.std.specs.Option.{option_to_list}
 use Rattle.rc_hir.specs.Successors.{case_blocks}
 use Rattle.rc_build.specs.References.{framed_blocks, tested_blocks, fallthrough_of, scope_fallthrough, cases_of}
@@ -20,13 +22,18 @@ use Rattle.rc_build.specs.inside.CanBuild.{AreOwned}
 use Rattle.rc_names.proofs.NumbersLemmas.{same_id-eq}
 use Rattle.rc_build.proofs.MarksLemmas.{among_front, among_back, among_alone, among_same}
 
+-- the block is the only one of its frame
+sole : (block key : BlockId) → (same_id block key || false) ≡ true → same_id block key ≡ true
+sole block key e = sym (or-false (same_id block key)) ∙ e
+
 -- a block that is a jump target at a frame is used before or after the parts inside it
 pending_or_used_there : (frame : Frame) (key : BlockId) → is_jump_target_at frame key ≡ true
     → (is_among (pending_at frame) key ≡ true) ⊎ (is_among (used_at frame) key ≡ true)
-pending_or_used_there (frame_kinds.Statement block) key e = inl (among_alone block key e)
-pending_or_used_there (frame_kinds.Switch block) key e = inl (among_alone block key e)
-pending_or_used_there (frame_kinds.Case block) key e = inr (among_alone block key e)
-pending_or_used_there (frame_kinds.Scope block) key e = inl (among_alone block key e)
+pending_or_used_there (frame_kinds.Statement block) key e = inl (among_alone block key (sole block key e))
+pending_or_used_there (frame_kinds.Switch block) key e = inl (among_alone block key (sole block key e))
+pending_or_used_there (frame_kinds.Case block) key e = inr (among_alone block key (sole block key e))
+pending_or_used_there (frame_kinds.Scope block) key e = inl (among_alone block key (sole block key e))
+pending_or_used_there frame_kinds.Mark key e = let bad : ⊥ = cc in absurd bad
 pending_or_used_there (frame_kinds.Loop block again) key e = go (or_cases (same_id block key) (same_id again key) e)
   where
     go : (same_id block key ≡ true) ⊎ (same_id again key ≡ true)
@@ -100,11 +107,14 @@ scope_falls _ block e = let bad : ⊥ = cc in absurd bad
 -- a block that is a jump target at a frame is framed by the frame's terminal
 framed_there : (terminal : Terminal) (frame : Frame) (key : BlockId) → IsFrameOf terminal frame
     → is_jump_target_at frame key ≡ true → is_among (framed_blocks terminal) key ≡ true
-framed_there terminal (frame_kinds.Statement block) key f e = framed_fallthrough terminal block key f e
-framed_there terminal (frame_kinds.Switch block) key f e = framed_fallthrough terminal block key f e
-framed_there terminal (frame_kinds.Case block) key f e = framed_case terminal block key f e
+framed_there terminal (frame_kinds.Statement block) key f e =
+    framed_fallthrough terminal block key f (sole block key e)
+framed_there terminal (frame_kinds.Switch block) key f e =
+    framed_fallthrough terminal block key f (sole block key e)
+framed_there terminal (frame_kinds.Case block) key f e = framed_case terminal block key f (sole block key e)
 framed_there terminal (frame_kinds.Scope block) key f e =
-    framed_fallthrough terminal block key (scope_falls terminal block f) e
+    framed_fallthrough terminal block key (scope_falls terminal block f) (sole block key e)
+framed_there terminal frame_kinds.Mark key f e = let bad : ⊥ = cc in absurd bad
 framed_there terminal (frame_kinds.Loop block again) key f e =
     go (or_cases (same_id block key) (same_id again key) e)
   where
@@ -140,30 +150,31 @@ target_framed hir P (frame ∷ frames) key o e = go (is_jump_target_at frame key
 -- what follows of how a break to a block resolves, where it follows at the frame with that break block
 at_owner : (hir : HirFunction) (P : BlockId → Type 0) (way : BreakResult) (key : BlockId) {Q : Type 0}
     → (NoFrame ≡ way → ⊥)
-    → ((innermost in_loop : Bool) (frame : Frame) → HasOwner hir P frame → same_id (break_block frame) key ≡ true
-    → resolve_at innermost in_loop frame ≡ way → Q)
-    → (innermost in_loop : Bool) (frames : List Frame) → AreOwned hir P frames
-    → resolve_from innermost in_loop frames key ≡ way → Q
-at_owner hir P way key none at innermost in_loop [] o e = absurd (none e)
-at_owner hir P way key {Q} none at innermost in_loop (frame ∷ frames) o e =
-    go (same_id (break_block frame) key) refl e
-    (at_owner hir P way key none at false (in_loop || is_loop frame) frames o.1)
+    → ((innermost taken : Bool) (frame : Frame) → HasOwner hir P frame → is_block (break_block frame) key ≡ true
+    → resolve_at innermost taken frame ≡ way → Q)
+    → (innermost taken : Bool) (frames : List Frame) → AreOwned hir P frames
+    → resolve_from innermost taken frames key ≡ way → Q
+at_owner hir P way key none at innermost taken [] o e = absurd (none e)
+at_owner hir P way key {Q} none at innermost taken (frame ∷ frames) o e =
+    go (is_block (break_block frame) key) refl e
+    (at_owner hir P way key none at (innermost && is_mark frame) (taken || takes_unlabeled frame) frames o.1)
   where
-    go : (b : Bool) → same_id (break_block frame) key ≡ b
-        → (if b then resolve_at innermost in_loop frame else resolve_from false (in_loop || is_loop frame) frames key) ≡ way
-        → (resolve_from false (in_loop || is_loop frame) frames key ≡ way → Q) → Q
-    go true s h f = at innermost in_loop frame o.0 s h
+    go : (b : Bool) → is_block (break_block frame) key ≡ b
+        → (if b then resolve_at innermost taken frame
+        else resolve_from (innermost && is_mark frame) (taken || takes_unlabeled frame) frames key) ≡ way
+        → (resolve_from (innermost && is_mark frame) (taken || takes_unlabeled frame) frames key ≡ way → Q) → Q
+    go true s h f = at innermost taken frame o.0 s h
     go false s h f = f h
 
 -- a break that leaves a scope names a scope's fallthrough
-leaves_scope_at : (hir : HirFunction) (P : BlockId → Type 0) (innermost in_loop : Bool) (frame : Frame) (key : BlockId)
-    → HasOwner hir P frame → same_id (break_block frame) key ≡ true →
-    resolve_at innermost in_loop frame ≡ LeavesScope → IsScopeFallthrough hir key
-leaves_scope_at hir P innermost in_loop (frame_kinds.Statement block) key o s e = let bad : ⊥ = cc in absurd bad
-leaves_scope_at hir P innermost in_loop (frame_kinds.Switch block) key o s e = let bad : ⊥ = cc in absurd bad
-leaves_scope_at hir P true in_loop (frame_kinds.Case block) key o s e = let bad : ⊥ = cc in absurd bad
-leaves_scope_at hir P false in_loop (frame_kinds.Case block) key o s e = let bad : ⊥ = cc in absurd bad
-leaves_scope_at hir P innermost in_loop (frame_kinds.Scope block) key o s e = (
+leaves_scope_at : (hir : HirFunction) (P : BlockId → Type 0) (innermost taken : Bool) (frame : Frame) (key : BlockId)
+    → HasOwner hir P frame → is_block (break_block frame) key ≡ true →
+    resolve_at innermost taken frame ≡ LeavesScope → IsScopeFallthrough hir key
+leaves_scope_at hir P innermost taken (frame_kinds.Statement block) key o s e = let bad : ⊥ = cc in absurd bad
+leaves_scope_at hir P innermost taken (frame_kinds.Switch block) key o s e = let bad : ⊥ = cc in absurd bad
+leaves_scope_at hir P true taken (frame_kinds.Case block) key o s e = let bad : ⊥ = cc in absurd bad
+leaves_scope_at hir P false taken (frame_kinds.Case block) key o s e = let bad : ⊥ = cc in absurd bad
+leaves_scope_at hir P innermost taken (frame_kinds.Scope block) key o s e = (
   o.owner,
   record {
     block = o.owns.block;
@@ -171,22 +182,23 @@ leaves_scope_at hir P innermost in_loop (frame_kinds.Scope block) key o s e = (
     holds = o.owns.holds ∙ ap Some (same_id-eq block key s);
   },
 )
-leaves_scope_at hir P innermost in_loop (frame_kinds.Loop block continue_block) key o s e = let bad : ⊥ = cc in absurd bad
+leaves_scope_at hir P innermost taken (frame_kinds.Loop block continue_block) key o s e = let bad : ⊥ = cc in absurd bad
+leaves_scope_at hir P innermost taken frame_kinds.Mark key o s e = let bad : ⊥ = cc in absurd bad
 
-pub leaves_scope : (hir : HirFunction) (P : BlockId → Type 0) (innermost in_loop : Bool) (frames : List Frame)
+pub leaves_scope : (hir : HirFunction) (P : BlockId → Type 0) (innermost taken : Bool) (frames : List Frame)
     (key : BlockId) → AreOwned hir P frames →
-    resolve_from innermost in_loop frames key ≡ LeavesScope → IsScopeFallthrough hir key
-leaves_scope hir P innermost in_loop frames key =
+    resolve_from innermost taken frames key ≡ LeavesScope → IsScopeFallthrough hir key
+leaves_scope hir P innermost taken frames key =
     at_owner hir P LeavesScope key (λ bad. let no : ⊥ = cc in no)
-    (λ i l frame. leaves_scope_at hir P i l frame key) innermost in_loop frames
+    (λ i l frame. leaves_scope_at hir P i l frame key) innermost taken frames
 
 -- a break that leaves a case names a case's block
-leaves_case_at : (hir : HirFunction) (P : BlockId → Type 0) (innermost in_loop : Bool) (frame : Frame) (key : BlockId)
-    → HasOwner hir P frame → same_id (break_block frame) key ≡ true →
-    resolve_at innermost in_loop frame ≡ LeavesCase → IsCaseBlock hir key
-leaves_case_at hir P innermost in_loop (frame_kinds.Statement block) key o s e = let bad : ⊥ = cc in absurd bad
-leaves_case_at hir P innermost in_loop (frame_kinds.Switch block) key o s e = let bad : ⊥ = cc in absurd bad
-leaves_case_at hir P innermost in_loop (frame_kinds.Case block) key o s e = (
+leaves_case_at : (hir : HirFunction) (P : BlockId → Type 0) (innermost taken : Bool) (frame : Frame) (key : BlockId)
+    → HasOwner hir P frame → is_block (break_block frame) key ≡ true →
+    resolve_at innermost taken frame ≡ LeavesCase → IsCaseBlock hir key
+leaves_case_at hir P innermost taken (frame_kinds.Statement block) key o s e = let bad : ⊥ = cc in absurd bad
+leaves_case_at hir P innermost taken (frame_kinds.Switch block) key o s e = let bad : ⊥ = cc in absurd bad
+leaves_case_at hir P innermost taken (frame_kinds.Case block) key o s e = (
   o.owner,
   record {
     block = o.owns.block;
@@ -194,13 +206,14 @@ leaves_case_at hir P innermost in_loop (frame_kinds.Case block) key o s e = (
     holds = among_same (case_blocks (cases_of o.owns.block.terminal)) block key o.owns.holds s;
   },
 )
-leaves_case_at hir P true in_loop (frame_kinds.Scope block) key o s e = let bad : ⊥ = cc in absurd bad
-leaves_case_at hir P false in_loop (frame_kinds.Scope block) key o s e = let bad : ⊥ = cc in absurd bad
-leaves_case_at hir P innermost in_loop (frame_kinds.Loop block continue_block) key o s e = let bad : ⊥ = cc in absurd bad
+leaves_case_at hir P true taken (frame_kinds.Scope block) key o s e = let bad : ⊥ = cc in absurd bad
+leaves_case_at hir P false taken (frame_kinds.Scope block) key o s e = let bad : ⊥ = cc in absurd bad
+leaves_case_at hir P innermost taken (frame_kinds.Loop block continue_block) key o s e = let bad : ⊥ = cc in absurd bad
+leaves_case_at hir P innermost taken frame_kinds.Mark key o s e = let bad : ⊥ = cc in absurd bad
 
-pub leaves_case : (hir : HirFunction) (P : BlockId → Type 0) (innermost in_loop : Bool) (frames : List Frame)
+pub leaves_case : (hir : HirFunction) (P : BlockId → Type 0) (innermost taken : Bool) (frames : List Frame)
     (key : BlockId) → AreOwned hir P frames →
-    resolve_from innermost in_loop frames key ≡ LeavesCase → IsCaseBlock hir key
-leaves_case hir P innermost in_loop frames key =
+    resolve_from innermost taken frames key ≡ LeavesCase → IsCaseBlock hir key
+leaves_case hir P innermost taken frames key =
     at_owner hir P LeavesCase key (λ bad. let no : ⊥ = cc in no)
-    (λ i l frame. leaves_case_at hir P i l frame key) innermost in_loop frames
+    (λ i l frame. leaves_case_at hir P i l frame key) innermost taken frames

@@ -1,11 +1,12 @@
 -- The parts of statements: the setting of a part, and why a fallthrough that isn't opened is a fault.
-use Rattle.std.proofs.Common.{◌≡◌, Bool, true, false, List, Option, Some, None, refl, sym, ap, ◌∙◌, subst, inl, inr}
+use Rattle.std.proofs.Common.{◌≡◌, Bool, true, false, List, ◌∷◌, Option, Some, None, refl, sym, ap, ◌∙◌, subst, inl, inr}
 use Rattle.std.specs.Prelude.{if◌then◌else◌, is_some, ◌⊎◌, not}
 use Rattle.std.proofs.lemmas.Bool.{not-false}
 use Rattle.rc_names.specs.Numbers.{BlockId}
 use Rattle.rc_hir.specs.declared.fault.Rule.TheVariants.{FallsElsewhere}
 use Rattle.rc_hir.specs.Model.{Terminal, HirFunction}
 use Rattle.rc_runs.specs.declared.frames.Frame.{Frame}
+use Rattle.rc_runs.specs.declared.frames.Frame.TheVariants.{Mark}
 use Rattle.rc_build.specs.declared.builder.Builder.{Builder}
 use Rattle.rc_build.specs.declared.builder.Marks.{Marks}
 use Rattle.rc_build.specs.declared.builder.Site.{Site}
@@ -17,7 +18,8 @@ use Rattle.rc_build.specs.BlockFacts.{IsFramedApart}
 use Rattle.rc_build.specs.RuleFacts.{RuleFact}
 use Rattle.rc_build.specs.inside.CanBuild.{CanBuildTerminal, IsUsedApart}
 use Rattle.rc_build.specs.inside.Depths.{frames_inside}
-use Rattle.rc_build.specs.inside.Setting.{Setting, label_at, open_block, part_setting, setting_of, site_inside}
+use Rattle.rc_build.specs.inside.Setting.{Setting, label_at, marked_setting, open_block, part_setting, setting_of}
+use Rattle.rc_build.specs.inside.Setting.{site_inside}
 use Rattle.rc_build.proofs.BuildsLemmas.{same_graph}
 use Rattle.rc_build.proofs.OwnersLemmas.{target_framed}
 use Rattle.rc_build.proofs.BuiltLemmas.{is_some-opened}
@@ -36,6 +38,15 @@ at_part_site P started frames at frame part site inner is entered holds =
         → P (part_setting at frame (setting_of (record started { frames = frames }) site)) part
     go None p = p
     go (Some fallthrough) p = p
+
+-- the same of the setting of the cases of a switch, once the mark is put
+pub at_cases_site : (P : Setting → Type 0) (old : Builder) {entered frames : List Frame} (at : Option BlockId)
+    (frame : Frame) (site inner : Site) → inner ≡ site_inside at frame site.block site
+    → entered ≡ frames_inside at frame old.frames → frames ≡ Mark ∷ entered
+    → P (setting_of (record old { frames = frames }) inner) → P (marked_setting (part_setting at frame (setting_of old site)))
+at_cases_site P old {entered} at frame site inner is e put holds =
+    at_part_site (λ z k. P (marked_setting z)) (record old { frames = entered }) old.frames at frame site.block site inner is
+    e (subst (λ z. P (setting_of (record old { frames = z }) inner)) put holds)
 
 -- the setting of the statement, once the frame of its part is left
 pub setting_left : (old started later : Builder) (site inner : Site) (frames : List Frame)

@@ -15,7 +15,7 @@ use Rattle.rc_tree.specs.declared.terminal.ReactiveTerminal.TheVariants as tree
 use Rattle.rc_runs.specs.declared.frames.Frame.{Frame}
 use Rattle.rc_runs.specs.declared.frames.Frame.TheVariants as frame_kinds
 use Rattle.rc_runs.specs.Frames.{is_jump_target}
-use Rattle.rc_runs.specs.ListContext.{inside}
+use Rattle.rc_runs.specs.ListContext.{inside, marked}
 use Rattle.rc_runs.specs.TreeOf.{cases_of}
 use Rattle.rc_runs.specs.SwitchCases.{has_one_default, tests_past, kept_cases, is_kept}
 use Rattle.rc_runs.specs.Fallthrough.{falls_to, label_of, opens_reachable}
@@ -25,12 +25,13 @@ use Rattle.rc_build.specs.References as references
 use Rattle.rc_build.specs.RuleFacts.{HasOddCases, RuleFact}
 use Rattle.rc_build.specs.inside.CanBuild.{CanBuildTerminal, IsUsed, IsUsedApart, pending_blocks}
 use Rattle.rc_build.specs.inside.Depths.{frames_inside}
-use Rattle.rc_build.specs.inside.Setting.{Setting, label_at, open_block, part_setting, terminal_statement}
+use Rattle.rc_build.specs.inside.Setting.{Setting, label_at, marked_setting, open_block, part_setting, terminal_statement}
 use Rattle.rc_build.specs.inside.Switches.{BuiltCases, CanBuildCases, SpellsKept}
 use Rattle.rc_build.specs.inside.Task.{FromTerminal, Progress, Spells, left}
 use Rattle.rc_build.specs.inside.Built.{BuiltPrefix, Refused}
 use Rattle.rc_build.proofs.BuiltLemmas.{is_some-opened, marking_beside, marking_more, refused_front, statement_prefix}
 use Rattle.rc_build.proofs.MarksLemmas.{referenced_fewer, times_append}
+use Rattle.rc_build.proofs.CanBuildCasesLemmas.{cases_marked}
 use Rattle.rc_build.proofs.OwnersLemmas.{owned_weaker}
 use Rattle.rc_build.proofs.StatementLemmas.{label_at-opened}
 
@@ -102,11 +103,12 @@ module _ {hir : HirFunction} {marks : Marks} {handler : Option BlockId} {frames 
     {test : Place} {cases : List Case}
     {fallthrough : BlockId} {id : EvaluationOrder} {span : Option Span}
     (can : CanBuildTerminal hir marks handler frames key (terminals.Switch test cases fallthrough id span)) where
-  -- the cases that are kept can be built inside the frame of the switch
+  -- the cases that are kept can be built inside the frame of the switch, with its mark
   pub switch_can : (at : Option BlockId) (is_target : Bool)
-      → CanBuildCases hir marks handler (frames_inside at (frame_kinds.Switch fallthrough) frames)
+      → CanBuildCases hir marks handler
+      (frame_kinds.Mark ∷ frames_inside at (frame_kinds.Switch fallthrough) frames)
       (kept_cases is_target fallthrough cases)
-  switch_can at is_target = go at
+  switch_can at is_target = cases_marked (go at)
     where
       kept : List Case
       kept = kept_cases is_target fallthrough cases
@@ -190,16 +192,16 @@ module _ {s : Setting} {test : Place} {cases : List Case} {fallthrough : BlockId
       (chosen : kept ≡ kept_cases (is_some at || is_jump_target s.context.frames fallthrough) fallthrough cases) where
     -- a switch whose cases are refused is refused
     pub switch_refused : (used : List BlockId)
-        → Refused s.hir (SpellsKept (part_setting at (frame_kinds.Switch fallthrough) s) kept) used
+        → Refused s.hir (SpellsKept (marked_setting (part_setting at (frame_kinds.Switch fallthrough) s)) kept) used
         → Refused s.hir (Spells s (FromTerminal (terminals.Switch test cases fallthrough id span))) used
     switch_refused used none all blocks (and_rest (value_statement i j n a u) r w) sound = elim n [ ]
     switch_refused used none all blocks
         (and_rest {part_used = front} {rest_used = back} (switch_statement {opened = p} {parts = parts} i l one past k z d)
         r w) sound =
         none parts front
-        (subst (λ b. SpellsCases s.hir s.env kept (inside b (frame_kinds.Switch fallthrough) s.context) parts front)
+        (subst (λ b. SpellsCases s.hir s.env kept (marked (inside b (frame_kinds.Switch fallthrough) s.context)) parts front)
         (i ∙ sym (is_some-opened _ fallthrough opened))
-        (subst (λ y. SpellsCases s.hir s.env y (inside p (frame_kinds.Switch fallthrough) s.context) parts front)
+        (subst (λ y. SpellsCases s.hir s.env y (marked (inside p (frame_kinds.Switch fallthrough) s.context)) parts front)
         (kept_same cases fallthrough (is_jump_target s.context.frames fallthrough) (is_some at) p
         (i ∙ sym (is_some-opened _ fallthrough opened)) chosen k) d)) (refused_front s.hir used front back sound w)
 
@@ -220,7 +222,7 @@ module _ {s : Setting} {test : Place} {cases : List Case} {fallthrough : BlockId
     pub switch_built : {list : List ReactiveSwitchCase} {statement : ReactiveStatement} {old last : Progress}
         {whole : List ReactiveStatement} → has_one_default cases ≡ true → tests_past fallthrough cases ≡ false
         → (list_any is_default kept || falls_to (is_some at) fallthrough s.context.next) ≡ true
-        → BuiltCases (part_setting at (frame_kinds.Switch fallthrough) s) kept list old last
+        → BuiltCases (marked_setting (part_setting at (frame_kinds.Switch fallthrough) s)) kept list old last
         → statement ≡ terminal_statement (tree.Switch test list id) (label_at at)
         → whole ≡ last.out ++ statement ∷ []
         → BuiltPrefix s (FromTerminal (terminals.Switch test cases fallthrough id span)) (left at) old

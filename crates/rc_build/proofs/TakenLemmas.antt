@@ -1,6 +1,6 @@
 -- One more used block: the marks stay sound, or no tree may use it.
 use Rattle.std.proofs.Common.{◌≡◌, Bool, true, false, List, [], ◌∷◌, ◌++◌, Option, Some, None, ◌||◌, refl, sym, ap}
-use Rattle.std.proofs.Common.{◌∙◌, subst, inl, inr}
+use Rattle.std.proofs.Common.{◌∙◌, subst, inl, inr, true≢false}
 use Rattle.std.specs.Cmp.{IsEquivalence}
 use Rattle.std.specs.Prelude.{IsSome, is_some, if◌then◌else◌, option_and_then, option_map, ◌⊎◌}
 use Rattle.std.specs.List.{IsDistinct, list_any, filter_map, cons_option, AllByRecursion}
@@ -122,9 +122,7 @@ pub unusable_unreachable : (hir : HirFunction) (frames : List Frame) (key : Bloc
 unusable_unreachable hir frames key marks block rows e f d whole u l s =
     let alive = s.alive key (Contains-from_any same_id-eq key (marks.used ++ key ∷ []) (among_push marks.used key))
     (filled block rows) (found_block hir key block rows e f) in
-    let no = alive d.events d.target d.edge in
-    let yes = d.ends in
-    let bad : ⊥ = cc in bad
+    true≢false (sym d ∙ alive)
 
 -- no tree may open a scope twice
 pub unusable_scope : (hir : HirFunction) (frames : List Frame) (key : BlockId) (marks : Marks) (block : BasicBlock)

@@ -1,7 +1,8 @@
 -- What holds of the block that a fault names, one equation a rule.
-use Rattle.std.specs.Prelude.{◌≡◌, ◌≤◌, ◌⊎◌, ℕ, true, false, List, [], Some, None, nat_eq, slice_get}
+use Rattle.std.specs.Prelude.{◌≡◌, ◌≤◌, ◌⊎◌, ℕ, true, false, [], Some, None, nat_eq, slice_get}
 use Rattle.std.specs.List.{list_any}
 use Rattle.rc_names.specs.Numbers.{BlockId, InstructionId, ScopeId, same_id}
+use Rattle.rc_hir.specs.Successors.{successors}
 use Rattle.rc_hir.specs.Terminal.{evaluation_order}
 use Rattle.rc_hir.specs.Model.{Fault, Rule, Terminal, Instruction, BasicBlock, HirFunction}
 use Rattle.rc_hir.specs.declared.fault.Fault.TheVariants as faults
@@ -9,11 +10,9 @@ use Rattle.rc_hir.specs.declared.fault.Rule.TheVariants as rules
 use Rattle.rc_hir.specs.declared.fault.TableName.TheVariants as table_names
 use Rattle.rc_hir.specs.declared.terminal.GotoVariant.TheVariants as variants
 use Rattle.rc_hir.specs.declared.terminal.Terminal.TheVariants as terminals
-use Rattle.rc_runs.specs.Event.{Event}
 use Rattle.rc_runs.specs.Silent.{is_unset}
 use Rattle.rc_runs.specs.LastRow.{ends_value}
 use Rattle.rc_runs.specs.Graph.{basic_block, ends_unreachable}
-use Rattle.rc_runs.specs.GraphRun.{Edge}
 use Rattle.rc_build.specs.References.{fallthrough_of, turn_block, is_while}
 use Rattle.rc_runs.specs.Spelled.{scope_named}
 use Rattle.rc_runs.specs.SwitchCases.{has_one_default, tests_past}
@@ -39,11 +38,8 @@ IsLostJump hir b (terminals.Branch test consequent alternate id span) =
 IsLostJump hir b _ = ⊥
 
 -- a successor of the terminal ends in `Unreachable`
-pub record HasUnreachableSuccessor (hir : HirFunction) (terminal : Terminal) : Type 0 where
-  pub events : List Event
-  pub target : BlockId
-  pub edge : Edge terminal events target
-  pub ends : ends_unreachable hir target ≡ true
+abbrev pub HasUnreachableSuccessor : HirFunction → Terminal → Type 0
+HasUnreachableSuccessor hir terminal = list_any (ends_unreachable hir) (successors terminal) ≡ true
 
 -- another block opens the same scope
 pub record SharesScope (hir : HirFunction) (b : BlockId) (terminal : Terminal) : Type 0 where

@@ -50,7 +50,7 @@ impl Site {
         ensures { result ≡ settings.site_inside opened frame part self }
     {
         let next = match opened {
-            Some(_) => Some(frame.fall_block()),
+            Some(_) => frame.fall_block(),
             None => self.next,
         };
         Site {

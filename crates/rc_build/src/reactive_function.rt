@@ -25,7 +25,8 @@ use std::alloc::Global;
 /// A graph is refused, in this order,
 ///
 /// - with a number outside its table: `BadName`;
-/// - if it spells no function: `Malformed`, with a rule whose fact holds of the named block.
+/// - if it spells no function: `Malformed`, with a rule whose fact holds of the named block, or `Todo`, where the named
+///   block stands for a value and ends in a `Label`.
 ///
 /// `NoMemory` may come at any time.
 pub fn build_reactive_function(
@@ -86,6 +87,7 @@ pub fn build_known_function(
 /// The function that a graph spells; nothing is asked of the graph.
 ///
 /// - `Malformed`: the graph spells none, and the rule's fact holds of the named block.
+/// - `Todo`: the graph spells none, and the named block stands for a value and ends in a `Label`.
 /// - `BadName`: a block names a row that isn't there.
 /// - `NoMemory`: out of memory.
 fn build(alloc: Global, hir: &HirFunction, env: &Environment) -> Result<ReactiveFunction, Fault>

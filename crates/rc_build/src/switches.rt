@@ -10,10 +10,11 @@ ghost use Rattle.rc_hir.specs.declared.terminal.Terminal.TheVariants as terminal
 ghost use Rattle.rc_tree.specs.declared.terminal.ReactiveTerminal.TheVariants as tree;
 ghost use Rattle.rc_runs.specs.SwitchCases as spec;
 ghost use Rattle.rc_runs.specs.Frames.{is_jump_target};
+ghost use Rattle.rc_runs.specs.declared.frames.Frame.TheVariants.{Mark};
 ghost use Rattle.rc_runs.specs.Fallthrough as fallthroughs;
 ghost use Rattle.rc_build.specs.inside.CanBuild.{CanBuildTerminal};
 ghost use Rattle.rc_build.specs.inside.Depths.{frames_inside};
-ghost use Rattle.rc_build.specs.inside.Setting.{part_setting, setting_of};
+ghost use Rattle.rc_build.specs.inside.Setting.{marked_setting, part_setting, setting_of};
 ghost use Rattle.rc_build.specs.inside.Setting as settings;
 ghost use Rattle.rc_build.specs.inside.Switches.{BuildsCases, CanBuildCases};
 ghost use Rattle.rc_build.specs.inside.Switches as switches;
@@ -93,12 +94,14 @@ impl<'g> Builder<'g> {
         parts: &mut List<ReactiveSwitchCase>,
     ) -> Result<(), Fault>
         requires { CanBuildCases self.old.hir.now self.old.marks site.handler
-            (frames_inside opened frame self.old.frames) kept.old × (parts.old ≡ []) }
-        ensures { let inside = part_setting opened frame (setting_of self.old site) in
+            (Mark ∷ frames_inside opened frame self.old.frames) kept.old × (parts.old ≡ []) }
+        ensures { let inside = marked_setting (part_setting opened frame (setting_of self.old site)) in
             BuildsCases self.old self.new site inside kept.old parts.new result }
     {
         self.frames.enter(frame, opened)?;
+        self.frames.push(Frame::Mark)?;
         self.build_cases(site.inside(site.block, frame, opened), kept, parts)?;
+        self.frames.pop();
         self.frames.leave(opened);
         Ok(())
     }

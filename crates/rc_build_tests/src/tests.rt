@@ -1,8 +1,9 @@
-//! A graph, the tree that it spells, and trees that differ from that in one place.
+//! Graphs, the trees that they spell, and trees that differ from these in one place.
 
 mod equality;
 mod graph;
 mod implicit_label;
+mod jumps;
 mod refusals;
 mod spelled;
 mod tree;

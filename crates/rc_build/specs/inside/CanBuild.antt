@@ -36,6 +36,7 @@ pending_at (frame_kinds.Switch block) = block ∷ []
 pending_at (frame_kinds.Case block) = []
 pending_at (frame_kinds.Scope block) = block ∷ []
 pending_at (frame_kinds.Loop block again) = block ∷ []
+pending_at frame_kinds.Mark = []
 
 -- the blocks of a frame that are used before the parts inside it: that of a later case, and a continue block
 abbrev pub used_at : Frame → List BlockId
@@ -59,6 +60,7 @@ IsFrameOf terminal (frame_kinds.Case block) = is_among (case_blocks (cases_of te
 IsFrameOf terminal (frame_kinds.Scope block) = scope_fallthrough terminal ≡ Some block
 IsFrameOf terminal (frame_kinds.Loop block again) =
     (fallthrough_of terminal ≡ Some block) × (is_among (tested_blocks terminal) again ≡ true)
+IsFrameOf terminal frame_kinds.Mark = Unit {0}
 
 -- the frame is that of a block of which P holds
 pub record HasOwner (hir : HirFunction) (P : BlockId → Type 0) (frame : Frame) : Type 0 where

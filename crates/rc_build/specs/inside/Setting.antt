@@ -8,7 +8,7 @@ use Rattle.rc_runs.specs.declared.frames.Frame.{Frame}
 use Rattle.rc_build.specs.declared.builder.Builder.{Builder}
 use Rattle.rc_build.specs.declared.builder.Site.{Site}
 use Rattle.rc_runs.specs.Frames.{fall_block}
-use Rattle.rc_runs.specs.ListContext.{ListContext, inside}
+use Rattle.rc_runs.specs.ListContext.{ListContext, inside, marked}
 
 -- what a list is built from and stands in: the graph with its environment, and the context of the list
 pub record Setting : Type 0 where
@@ -29,11 +29,15 @@ abbrev pub part_setting : Option BlockId → Frame → Setting → Setting
 part_setting opened frame setting =
     record { hir = setting.hir; env = setting.env; context = inside (is_some opened) frame setting.context }
 
+-- the setting of the cases of a switch: a mark is around them
+abbrev pub marked_setting : Setting → Setting
+marked_setting setting = record { hir = setting.hir; env = setting.env; context = marked setting.context }
+
 -- the site of the part
 abbrev pub site_inside : Option BlockId → Frame → BlockId → Site → Site
 site_inside opened frame part site = record {
   block = part;
-  next = if is_some opened then Some (fall_block frame) else site.next;
+  next = if is_some opened then fall_block frame else site.next;
   handler = site.handler;
 }
 

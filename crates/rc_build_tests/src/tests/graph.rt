@@ -57,7 +57,7 @@ pub fn next_value() -> InstructionValue {
 }
 
 /// A row without a span.
-fn row(id: u32, target: u32, value: InstructionValue) -> Instruction {
+pub fn row(id: u32, target: u32, value: InstructionValue) -> Instruction {
     Instruction {
         id: EvaluationOrder::new(id),
         lvalue: place(target),
@@ -94,7 +94,7 @@ fn rows_of(number: u32) -> Option<u32> {
 }
 
 /// A jump.
-fn jump(variant: GotoVariant, block: u32, id: u32) -> Terminal {
+pub fn jump(variant: GotoVariant, block: u32, id: u32) -> Terminal {
     Terminal::Goto {
         block: BlockId::new(block),
         variant,

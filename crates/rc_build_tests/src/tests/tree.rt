@@ -95,7 +95,7 @@ impl Change {
 }
 
 /// A row.
-fn row(
+pub fn row(
     id: EvaluationOrder,
     lvalue: Option<Place>,
     value: InstructionValue,
@@ -110,7 +110,7 @@ fn row(
 }
 
 /// The statement of a terminal.
-fn statement(
+pub fn statement(
     alloc: Global,
     terminal: ReactiveTerminal,
     label: Option<ReactiveLabel>,
@@ -133,7 +133,7 @@ fn first_row(alloc: Global, change: Change) -> Result<ReactiveStatement, AllocEr
 }
 
 /// A break.
-fn break_to(
+pub fn break_to(
     alloc: Global,
     target: u32,
     target_kind: Kind,
@@ -338,24 +338,32 @@ fn statements(alloc: Global, change: Change) -> Result<List<ReactiveStatement>, 
     Ok(statements)
 }
 
-/// The tree that the graph spells, but for that change.
-pub fn tree(alloc: Global, change: Change) -> Result<ReactiveFunction, AllocError> {
-    let statements = statements(alloc, change)?;
-    let params = if change == Change::Parameters {
-        List::new(alloc)
-    } else {
-        params(alloc)?
-    };
+/// A function of these statements, with the two parameters.
+pub fn function_of(
+    alloc: Global,
+    statements: List<ReactiveStatement>,
+) -> Result<ReactiveFunction, AllocError> {
+    let params = params(alloc)?;
     Ok(ReactiveFunction {
         span: None,
         id: None,
         name_hint: None,
         params,
-        generator: change == Change::Header,
+        generator: false,
         is_async: false,
         body: ReactiveBlock { statements },
         directives: List::new(alloc),
     })
+}
+
+/// The tree that the graph spells, but for that change.
+pub fn tree(alloc: Global, change: Change) -> Result<ReactiveFunction, AllocError> {
+    let mut func = function_of(alloc, statements(alloc, change)?)?;
+    if change == Change::Parameters {
+        func.params = List::new(alloc);
+    }
+    func.generator = change == Change::Header;
+    Ok(func)
 }
 
 /// A tree for each place in which it may differ.

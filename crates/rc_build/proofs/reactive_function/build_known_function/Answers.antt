@@ -20,11 +20,11 @@ returns-clause-known c =
     spelled_in_tables c.args.hir.now c.args.env.now c.in_ok-built.built c.requires.known c.in_ok-built.ensures.ok
 
 pub returns-clause-graph_to_body : goal.returns-clause-graph_to_body
-returns-clause-graph_to_body c = λ none events end run. graph_to_function c.in_ok-built.ensures.ok events end run
+returns-clause-graph_to_body c = λ none events end run. graph_to_function c.in_ok-built.ensures.ok none events end run
 
 pub returns-clause-body_to_graph : goal.returns-clause-body_to_graph
 returns-clause-body_to_graph c = λ none events end quiet run.
-    function_to_graph c.args.hir.now c.args.env.now c.in_ok-built.built c.in_ok-built.ensures.ok events end quiet run
+    function_to_graph c.args.hir.now c.args.env.now c.in_ok-built.built c.in_ok-built.ensures.ok none events end quiet run
 
 -- what the walk refuses has a cause, and `Malformed` leaves no function
 pub returns-in_err-built-clause-refused : goal.returns-in_err-built-clause-refused

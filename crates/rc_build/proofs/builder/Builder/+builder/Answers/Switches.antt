@@ -1,4 +1,4 @@
-use Rattle.std.proofs.Common.{refl, sym, ap, ◌∙◌, subst, arith, List, drop}
+use Rattle.std.proofs.Common.{refl, sym, ap, ◌∙◌, subst, arith, List, ◌∷◌, drop}
 use Rattle.std.proofs.lemmas.Bool.{not-false, not-true}
 use Rattle.rc_hir.specs.Model.{Case}
 use Rattle.rc_hir.specs.declared.fault.Rule.TheVariants.{FallsElsewhere, SwitchCase}
@@ -14,7 +14,7 @@ use Rattle.rc_build.specs.inside.Switches.{BuiltCases, CanBuildCases, SpellsKept
 use Rattle.rc_build.specs.inside.Task.{progress_of}
 use Rattle.rc_build.proofs.BuildsLemmas.{breaks_rule, is_built, passes_on, same_graph}
 use Rattle.rc_build.proofs.ListLemmas.{used_longer}
-use Rattle.rc_build.proofs.StatementLemmas.{at_part_site, falls_badly, setting_left}
+use Rattle.rc_build.proofs.StatementLemmas.{at_cases_site, falls_badly, setting_left}
 use Rattle.rc_build.proofs.CanBuildCasesLemmas.{case_can}
 use Rattle.rc_build.proofs.SwitchLemmas.{cases_done, cases_further, cases_left, cases_refused, cases_setting}
 use Rattle.rc_build.proofs.SwitchLemmas.{cases_start, ends_at, ends_nowhere, fewer_cases}
@@ -48,7 +48,8 @@ build_switch-build_cases_inside-requires t c =
       omega arith,
       (
         subst (λ (z : List Case). CanBuildCases old.hir.now old.marks c.args.site.handler
-            (frames_inside c.open_reachable-opened.result (frame_kinds.Switch c.args.fallthrough) old.frames) z)
+            (frame_kinds.Mark ∷ frames_inside c.open_reachable-opened.result (frame_kinds.Switch c.args.fallthrough)
+            old.frames) z)
             (sym c.in_ok-kept.ensures)
             (switch_can c.requires.1 c.open_reachable-opened.result c.is_target_inside-is_target.result),
         c.new-parts.ensures,
@@ -83,10 +84,10 @@ build_cases_inside-build_cases-requires t c =
     let builder = c.args.self.now in (
       omega arith,
       (
-        subst (λ (z : Site). CanBuildCases builder.hir.now builder.marks z.handler c.enter.new.self c.args.kept.now)
+        subst (λ (z : Site). CanBuildCases builder.hir.now builder.marks z.handler c.push.new.self c.args.kept.now)
             (sym c.inside.ensures)
             (subst (λ z. CanBuildCases builder.hir.now builder.marks c.args.site.handler z c.args.kept.now)
-            (sym c.in_ok-enter.ensures.ok) c.requires.0),
+            (sym (c.in_ok-push.ensures.ok ∙ ap (λ z. frame_kinds.Mark ∷ z) c.in_ok-enter.ensures.ok)) c.requires.0),
         c.requires.1,
       ),
     )
@@ -95,23 +96,23 @@ pub build_cases_inside-returns-in_err-build_cases : goal.build_cases_inside-retu
 build_cases_inside-returns-in_err-build_cases t c =
     let old = c.args.self.now in
     passes_on c.from_residual-in_err-build_cases.ensures.1 refl c.in_err-build_cases.ensures
-    (at_part_site (λ z k. Refused z.hir (SpellsKept z c.args.kept.now) old.marks.used)
-    (record old { frames = c.enter.new.self })
-    old.frames c.args.opened c.args.frame c.args.site.block c.args.site c.inside.result c.inside.ensures
-    c.in_ok-enter.ensures.ok)
+    (at_cases_site (λ z. Refused z.hir (SpellsKept z c.args.kept.now) old.marks.used) old c.args.opened c.args.frame
+    c.args.site c.inside.result c.inside.ensures c.in_ok-enter.ensures.ok c.in_ok-push.ensures.ok)
 
 pub build_cases_inside-returns : goal.build_cases_inside-returns
 build_cases_inside-returns t c =
     let old = c.args.self.now in
-    let started = record old { frames = c.enter.new.self } in
+    let started = record old { frames = c.push.new.self } in
+    let marked = c.in_ok-push.ensures.ok ∙ ap (λ z. frame_kinds.Mark ∷ z) c.in_ok-enter.ensures.ok in
     let parts = c.in_ok-build_cases.ensures in
     is_built _
-    (at_part_site (λ z k. BuiltCases z c.args.kept.now c.build_cases.new.parts (progress_of started)
-    (progress_of c.build_cases.new.self)) started old.frames c.args.opened c.args.frame c.args.site.block c.args.site
-    c.inside.result c.inside.ensures c.in_ok-enter.ensures.ok parts.ok)
+    (at_cases_site (λ z. BuiltCases z c.args.kept.now c.build_cases.new.parts (progress_of started)
+    (progress_of c.build_cases.new.self)) old c.args.opened c.args.frame c.args.site c.inside.result c.inside.ensures
+    c.in_ok-enter.ensures.ok c.in_ok-push.ensures.ok parts.ok)
     (setting_left old started c.build_cases.new.self c.args.site c.inside.result c.leave.new.self parts.frames refl refl
-    (c.leave.ensures c.args.frame old.frames (ap (λ (z : Setting). z.context.frames) parts.frames
-    ∙ c.in_ok-enter.ensures.ok)))
+    (c.leave.ensures c.args.frame old.frames (c.pop.ensures.frames frame_kinds.Mark
+    (frames_inside c.args.opened c.args.frame old.frames)
+    (ap (λ (z : Setting). z.context.frames) parts.frames ∙ marked))))
 
 -- the loop over them
 
