@@ -1,11 +1,12 @@
 -- Label pruning keeps what the parts of a tree tell, and so the memo record.
 use Rattle.std.proofs.Common.{◌≡◌, ◌∙◌, Bool, true, false, [], ◌∷◌, None, Some, if◌then◌else◌, map, refl, sym, ap}
+use Rattle.std.specs.FinSet.{empty}
 use Rattle.std.specs.List.{flat_map}
 use Rattle.rc_hir.specs.Model.{Environment}
 use Rattle.rc_names.specs.Numbers.{DeclarationId, ScopeId, same_id}
 use Rattle.rc_checks.specs.Labels.{IsWithoutUnusedLabels, Targets, flattened, in_place_of, is_named, label_rules}
 use Rattle.rc_checks.specs.Labels.{targets_behind}
-use Rattle.rc_escape.proofs.RebuiltRelated.{RelatesRules, rebuilt_related, stands}
+use Rattle.rc_tree.proofs.RebuiltRelated.{RelatesRules, rebuilt_related, stands}
 use Rattle.rc_escape.specs.WholeRecord.{LacksNode, LacksScope}
 use Rattle.rc_escape.specs.NotEscaping.{IsNeededOutput}
 use Rattle.rc_memo.specs.Events.{definitions_told, escaping_in, facts_told, loads_in, scopes_in}
@@ -92,14 +93,14 @@ module _ (env : Environment) where
         stands (λ xs. x ≡ collected_list parts xs) _ _ r e
         (f ∙ sym (alone (reactive.PrunedScope (record { scope = of; instructions = inside })) (collected parts inside)
         (collected-PrunedScope parts (record { scope = of; instructions = inside }))));
+    block = λ x xs s r e f. stands (λ ys. x ≡ collected_list parts ys) s xs r e f;
   }
 
   pub events_stay : (before after : ReactiveBlock) → IsWithoutUnusedLabels before after
       → events_in env before ≡ events_in env after
   events_stay before after is = ap (λ all. all [])
-      (rebuilt_related label_rules (λ before after. before ≡ after) parts parts monoid related before after []
-      is.targets
-      is.rebuilt)
+      (rebuilt_related label_rules (λ before after. before ≡ after) parts parts monoid related before empty
+      is.targets after is.rebuilt)
 
   -- functions with the same parameters and events have the same record
   module _ (one other : ReactiveFunction) (params : one.params ≡ other.params)

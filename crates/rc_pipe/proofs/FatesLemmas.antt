@@ -1,28 +1,27 @@
--- Fates that are listed from an ordered set of scopes.
-use Rattle.std.proofs.Common.{◌≡◌, ◌∙◌, ◌↔◌, ℕ, zero, suc, List, [], ◌∷◌, ◌++◌, append_assoc, map, get_or, ap, subst}
-use Rattle.std.proofs.Common.{refl, sym, arith, true, false, IsTrue, IfOk, Result, Ok, Err, All, Contains}
-use Rattle.std.proofs.lemmas.List.{map-append}
-use Rattle.std.proofs.lemmas.List.Elements.{All-append}
-use Rattle.std.specs.declared.alloc.AllocError.{AllocError}
+-- Fates that are listed from an ordered set of scopes, by what was decided.
+use Rattle.std.proofs.Common.{◌≡◌, ◌∙◌, ◌↔◌, ◌<◌, ◌+◌, ℕ, Bool, true, false, List, [], ◌∷◌, ◌++◌, append_assoc, map, get_or}
+use Rattle.std.proofs.Common.{Option, None, Some, ap, subst, refl, sym, drop, length, All, Contains, if◌then◌else◌}
+use Rattle.std.proofs.lemmas.List.{map-append, drop_more}
+use Rattle.std.proofs.lemmas.List.Elements.{All-push}
 use Rattle.std.specs.Ordering.{nat_cmp}
 use Rattle.std.specs.List.Sorted.{IsStrictlyIncreasing}
-use Rattle.std.specs.BTreeSet.{BTreeSet, IsFromIterResult, contains}
+use Rattle.std.specs.BTreeSet.{BTreeSet, IsFromIterResult}
+use Rattle.std.specs.Map.{lookup}
 use Rattle.std.proofs.lemmas.Cmp.{nat_cmp_total}
 use Rattle.std.proofs.lemmas.Map.Keys.{IsStrictlyIncreasing-from_sorted}
 use Rattle.std.proofs.lemmas.Map.Lookups.{exact_unsigned}
 use Rattle.std.proofs.lemmas.Map.Views.{btree_set_contains_from_list, btree_set_contains_iff}
-use Rattle.rc_names.specs.Numbers.{ScopeId, to_id}
-use Rattle.rc_tree.specs.Model.{ReactiveBlock}
-use Rattle.rc_pipe.specs.declared.fates.Fate.{Fate}
-use Rattle.rc_pipe.specs.declared.fates.Fate.TheVariants.{Kept, NotEscaping, Unused, MergedInto, DissolvedInto}
-use Rattle.rc_pipe.specs.declared.fates.Fate.TheVariants.{AlwaysInvalidating}
-use Rattle.rc_pipe.specs.declared.fates.ScopeFate.{ScopeFate}
-use Rattle.rc_checks.specs.ScopeBlocks.{scopes_in}
+use Rattle.indexmap.specs.IndexMap.{insert_entry}
+use Rattle.rc_names.proofs.KeyedLemmas.{lookup-insert_there, lookup-insert_other}
+use Rattle.rc_names.proofs.NumbersLemmas.{ids_equivalence, same_id-eq}
+use Rattle.rc_names.specs.Numbers.{ScopeId, same_id, to_id}
+use Rattle.rc_tree.specs.Decided.{fate_by}
+use Rattle.rc_tree.specs.declared.fate.Fate.{Fate}
+use Rattle.rc_tree.specs.declared.fate.Fate.TheVariants.{Kept}
+use Rattle.rc_tree.specs.declared.fate.ScopeFate.{ScopeFate}
+use Rattle.rc_tree.proofs.ListedOnce.{from_map, into_map}
 use Rattle.rc_pipe.specs.Fates.{listed_scopes}
-use Rattle.rc_pipe.proofs.ListedOnce.{from_map, into_map}
-use Rattle.rc_pipe.specs.declared.passes.LeftScopes.{LeftScopes}
-use Rattle.rc_pipe.specs.inside.ListedFates.{AreListedFates, HasListedFate, IsListedFate, ScopeLists, left_scopes}
-use Rattle.rc_pipe.specs.inside.ListedFates.{scopes_of}
+use Rattle.rc_pipe.specs.inside.ListedFates.{decided_or, noted, noted_if, scopes_of}
 
 -- the numbers of the scopes of numbers are these numbers
 numbers_again : (numbers : List ℕ) → map (λ (scope : ScopeId). scope.0) (scopes_of numbers) ≡ numbers
@@ -62,93 +61,80 @@ set_has scopes set made scope =
     let own = among_numbers scopes scope in
     (λ h. own.0 (there.0 (here.1 (kept.0 h))), λ h. kept.1 (here.0 (there.1 (own.1 h))))
 
--- both lists have the same scopes
-abbrev SameScopes : List ScopeId → List ScopeId → Type 0
-SameScopes one other = (scope : ScopeId) → Contains one scope ↔ Contains other scope
+-- one more scope, with its fate by what was decided
+abbrev pub HasFate : List (ScopeId × Fate) → ScopeFate → Type 0
+HasFate decided entry = entry.fate ≡ decided_or (lookup (same_id entry.scope) decided) Kept
 
--- the same of the lists by which fates are judged
-pub record SameLists (one other : ScopeLists) : Type 0 where
-  pub escaping : SameScopes one.escaping other.escaping
-  pub used : SameScopes one.used other.used
-  pub kept : SameScopes one.kept other.kept
-
--- the fate of a scope doesn't depend on the order of the scopes by which it is judged
-fate_by_same : (one other : ScopeLists) → SameLists one other → (scope : ScopeId) (fate : Fate)
-    → IsListedFate one scope fate → IsListedFate other scope fate
-fate_by_same one other same scope Kept is = (same.kept scope).0 is
-fate_by_same one other same scope AlwaysInvalidating is =
-    ((same.used scope).0 is.0, λ there. is.1 ((same.kept scope).1 there))
-fate_by_same one other same scope Unused is = (
-  (same.escaping scope).0 is.0,
-  λ there. is.1 ((same.used scope).1 there),
-  λ there. is.2 ((same.kept scope).1 there),
+pub fates_more : (decided : List (ScopeId × Fate)) (fates : List ScopeFate) (entry : ScopeFate) (scope : ScopeId)
+    (rest keys : List ScopeId) → entry.scope ≡ scope → HasFate decided entry
+    → (listed_scopes fates ++ scope ∷ rest ≡ keys) × All (HasFate decided) fates
+    → (listed_scopes (fates ++ entry ∷ []) ++ rest ≡ keys) × All (HasFate decided) (fates ++ entry ∷ [])
+fates_more decided fates entry scope rest keys same has given = (
+  ap (λ l. l ++ rest) (map-append (λ e. e.scope) fates (entry ∷ []))
+      ∙ append_assoc (listed_scopes fates) (entry.scope ∷ []) rest ∙ ap (λ s. listed_scopes fates ++ s ∷ rest) same
+      ∙ given.0,
+  All-push (HasFate decided) fates entry given.1 has,
 )
-fate_by_same one other same scope NotEscaping is = (
-  λ there. is.0 ((same.escaping scope).1 there),
-  λ there. is.1 ((same.used scope).1 there),
-  λ there. is.2 ((same.kept scope).1 there),
-)
-fate_by_same one other same scope (MergedInto into) is = is
-fate_by_same one other same scope (DissolvedInto into) is = is
 
--- the fates of sorted scopes, each by the scopes that are known, are the listed fates
-pub fates_told : (left : LeftScopes) (body : ReactiveBlock) (ordered : List ScopeId) (known : ScopeLists)
-    → IsStrictlyIncreasing (map (λ scope. scope.0) ordered) → SameScopes ordered left.spelled
-    → SameLists known (left_scopes left body)
-    → (fates : List ScopeFate) → listed_scopes fates ≡ ordered → All (HasListedFate known) fates
-    → AreListedFates left body fates
-fates_told left body ordered known rising same lists fates listed told = record {
-  rising = rw listed rising;
-  listed = λ scope. rw listed (same scope);
-  told = λ place other below.
-      let entry = get_or fates place other in
-      fate_by_same known (left_scopes left body) lists entry.scope entry.fate (told place other below);
-}
+-- what is decided so far counts, and after that the rest of the log
+abbrev pub Follows : List (ScopeId × Fate) → List ScopeFate → List ScopeFate → Type 0
+Follows decided rest log =
+    (scope : ScopeId) → decided_or (lookup (same_id scope) decided) (fate_by rest scope) ≡ fate_by log scope
 
--- `contains` is true of a set exactly if the set has the scope's number
-pub set_contains : (set : BTreeSet ℕ) (scope : ScopeId)
-    → IsTrue (contains nat_cmp set scope.0) ↔ Contains (scopes_of set.keys) scope
-set_contains set scope =
-    let here = btree_set_contains_iff nat_cmp_total exact_unsigned set scope.0 in
-    let kept = among_scopes set.keys scope in
-    (λ h. kept.1 (here.0 h), λ h. here.1 (kept.0 h))
-
--- and the set lacks the scope where it is false
-pub set_lacks : (set : BTreeSet ℕ) (scope : ScopeId) → contains nat_cmp set scope.0 ≡ false
-    → Contains (scopes_of set.keys) scope → ⊥
-set_lacks set scope lacks there =
-    let has : contains nat_cmp set scope.0 ≡ true = (set_contains set scope).1 there in
-    let bad : ⊥ = cc in bad
-
--- a further entry lists its scope, with its fate
-pub fates_more : (known : ScopeLists) (fates : List ScopeFate) (entry : ScopeFate) (scope : ScopeId)
-    (rest keys : List ScopeId) → entry.scope ≡ scope → HasListedFate known entry
-    → (listed_scopes fates ++ scope ∷ rest ≡ keys) × All (HasListedFate known) fates
-    → (listed_scopes (fates ++ entry ∷ []) ++ rest ≡ keys) × All (HasListedFate known) (fates ++ entry ∷ [])
-fates_more known fates entry scope rest keys same has given =
-    let list = ap (λ l. l ++ rest) (map-append (λ e. e.scope) fates (entry ∷ []))
-    ∙ append_assoc (listed_scopes fates) (entry.scope ∷ []) rest in (
-      list ∙ ap (λ s. listed_scopes fates ++ s ∷ rest) same
-          ∙ given.0,
-      All-append (HasListedFate known) fates (entry ∷ []) given.1 alone,
-    )
+-- the next entry tells nothing of a scope of which something is decided
+pub passed_entry : (decided : List (ScopeId × Fate)) (entry : ScopeFate) (rest log : List ScopeFate) (fate : Fate)
+    → lookup (same_id entry.scope) decided ≡ Some fate → Follows decided (entry ∷ rest) log → Follows decided rest log
+passed_entry decided entry rest log fate there follows scope = by (same_id scope entry.scope) refl ∙ follows scope
   where
-    alone : All (HasListedFate known) (entry ∷ [])
-    alone zero other below = has
-    alone (suc place) other below = absurd (let no : ⊥ = omega (arith, below) in no)
+    by : (same : Bool) → same_id scope entry.scope ≡ same
+        → decided_or (lookup (same_id scope) decided) (fate_by rest scope)
+        ≡ decided_or (lookup (same_id scope) decided) (if same then entry.fate else fate_by rest scope)
+    by false is = refl
+    by true is =
+        let found : lookup (same_id scope) decided ≡ Some fate =
+        subst (λ id. lookup (same_id id) decided ≡ Some fate) (sym (same_id-eq scope entry.scope is)) there
+        in
+        ap (λ it. decided_or it (fate_by rest scope)) found ∙ sym (ap (λ it. decided_or it entry.fate) found)
 
--- the same for the result of a call, whatever the order in which the body's scopes were found
-pub fates_answered : (left : LeftScopes) (body : ReactiveBlock) (found ordered : List ScopeId) (known : ScopeLists)
-    → found ≡ scopes_in body → IsStrictlyIncreasing (map (λ scope. scope.0) ordered)
-    → SameScopes ordered left.spelled → SameScopes known.escaping left.escaping → SameScopes known.used left.used
-    → SameScopes known.kept found
-    → (result : Result (List ScopeFate) AllocError) → IfOk result (λ fates. listed_scopes fates ≡ ordered)
-    → IfOk result (All (HasListedFate known)) → IfOk result (AreListedFates left body)
-fates_answered left body found ordered known all rising same escaping used kept (Ok fates) listed told =
-    fates_told left body ordered known rising same
-    (record {
-      escaping = escaping;
-      used = used;
-      kept = subst (λ list. SameScopes known.kept list) all kept;
-    }) fates listed told
-fates_answered left body found ordered known all rising same escaping used kept (Err error) listed told = tt
+-- the next entry is noted where nothing is decided of its scope
+new_entry : (decided : List (ScopeId × Fate)) (entry : ScopeFate) (rest log : List ScopeFate)
+    → lookup (same_id entry.scope) decided ≡ None → Follows decided (entry ∷ rest) log
+    → Follows (insert_entry same_id decided entry.scope entry.fate) rest log
+new_entry decided entry rest log absent follows scope = by (same_id scope entry.scope) refl ∙ follows scope
+  where
+    by : (same : Bool) → same_id scope entry.scope ≡ same
+        → decided_or (lookup (same_id scope) (insert_entry same_id decided entry.scope entry.fate)) (fate_by rest scope)
+        ≡ decided_or (lookup (same_id scope) decided) (if same then entry.fate else fate_by rest scope)
+    by true is =
+        let e = same_id-eq scope entry.scope is in
+        let here : lookup (same_id scope) (insert_entry same_id decided entry.scope entry.fate) ≡ Some entry.fate =
+        subst (λ id. lookup (same_id id) (insert_entry same_id decided entry.scope entry.fate) ≡ Some entry.fate) (sym e)
+        (lookup-insert_there ids_equivalence entry.scope entry.fate decided)
+        in
+        let none : lookup (same_id scope) decided ≡ None =
+        subst (λ id. lookup (same_id id) decided ≡ None) (sym e) absent
+        in
+        ap (λ it. decided_or it (fate_by rest scope)) here ∙ sym (ap (λ it. decided_or it entry.fate) none)
+    by false is = ap (λ it. decided_or it (fate_by rest scope))
+        (lookup-insert_other ids_equivalence entry.scope entry.fate decided scope
+        (ids_equivalence.symm entry.scope scope ∙ is))
+
+next_entry : (decided : List (ScopeId × Fate)) (entry : ScopeFate) (rest log : List ScopeFate)
+    → Follows decided (entry ∷ rest) log → Follows (noted decided entry) rest log
+next_entry decided entry rest log follows = by (lookup (same_id entry.scope) decided) refl
+  where
+    by : (found : Option Fate) → lookup (same_id entry.scope) decided ≡ found
+        → Follows (noted_if found decided entry) rest log
+    by None absent = new_entry decided entry rest log absent follows
+    by (Some fate) there = passed_entry decided entry rest log fate there follows
+
+-- the same at an index of the log
+pub entry_noted : (decided new : List (ScopeId × Fate)) (log : List ScopeFate) (place : ℕ) (entry : ScopeFate)
+    → place < length log → entry ≡ get_or log place entry → new ≡ noted decided entry
+    → Follows decided (drop place log) log → Follows new (drop (place + 1) log) log
+entry_noted decided new log place entry below at is follows =
+    let next : drop place log ≡ entry ∷ drop (place + 1) log =
+    drop_more log place entry below ∙ ap (λ x. x ∷ drop (place + 1) log) (sym at)
+    in
+    subst (λ pairs. Follows pairs (drop (place + 1) log) log) (sym is)
+    (next_entry decided entry (drop (place + 1) log) log (subst (λ rest. Follows decided rest log) next follows))

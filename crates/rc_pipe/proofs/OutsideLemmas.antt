@@ -5,7 +5,7 @@ use Rattle.rc_names.specs.Numbers.{EvaluationOrder, ScopeId}
 use Rattle.rc_tree.specs.Model.{ReactiveBlock}
 use Rattle.rc_runs.proofs.AllLemmas.{All-right}
 use Rattle.rc_checks.specs.Membership.{IsInside, outside}
-use Rattle.rc_checks.specs.ScopeBlocks.{scopes_in}
+use Rattle.rc_tree.specs.ScopesIn.{scopes_in}
 use Rattle.rc_pipe.specs.Passes.{AreInside, EndsOutside}
 
 pub last_outside : (env : Environment) (body : ReactiveBlock) (id : EvaluationOrder) (scope : ScopeId)

@@ -1,40 +1,60 @@
 -- The clauses of the checks and passes, put together into those of the whole sequence.
-use Rattle.std.proofs.Common.{◌≡◌, ◌∙◌, ◌⊎◌, inl, inr, List, ◌↔◌, All, refl, sym, ap, subst}
+use Rattle.std.proofs.Common.{◌≡◌, ◌∙◌, ◌⊎◌, inl, inr, ◌≤◌, true, List, [], ◌++◌, ◌↔◌, All, map, arith, append-nil}
+use Rattle.std.proofs.Common.{refl, sym, ap, subst}
 use Rattle.rc_hir.specs.Model.{Environment, Fault, HirFunction}
 use Rattle.rc_hir.specs.declared.fault.Fault.TheVariants as faults
-use Rattle.rc_names.specs.Numbers.{EvaluationOrder, ScopeId}
-use Rattle.rc_tree.specs.Model.{ReactiveFunction}
+use Rattle.rc_names.specs.Numbers.{EvaluationOrder, ScopeId, times}
+use Rattle.rc_tree.proofs.DistinctLemmas.{at_most_once, times-append}
+use Rattle.rc_tree.specs.Decided.{AreDecidedBy, FateRule, IsDecidedBy, IsFateBy, decided as decided_scopes}
+use Rattle.rc_tree.specs.Model.{ReactiveBlock, ReactiveFunction}
 use Rattle.rc_runs.specs.BodyRun.{IsBodyRun}
+use Rattle.rc_runs.specs.EarlyReturns.{NoEarlyReturnSet}
 use Rattle.rc_runs.specs.Erase.{erased}
 use Rattle.rc_runs.specs.Event.{Event, End}
-use Rattle.rc_runs.specs.Spelled.{Spells}
+use Rattle.rc_runs.specs.Spelled.{Spells, with_header}
 use Rattle.rc_runs.proofs.ErasedRuns.{same_erased_same_runs}
+use Rattle.rc_checks.proofs.UnusedScopes.Decided.{unused_decided}
 use Rattle.rc_checks.specs.Labels.{IsWithoutUnusedLabels}
+use Rattle.rc_checks.specs.UnusedScopes.{unused_rule}
 use Rattle.rc_checks.specs.Membership.{IsInside, IsLastOutside}
-use Rattle.rc_checks.specs.ScopeBlocks.{scope_blocks, scopes_in}
-use Rattle.rc_checks.specs.Membership.Visits.{visits_of}
+use Rattle.rc_checks.proofs.ScopeBlocks.ContentsLemmas.{same_scopes}
+use Rattle.rc_checks.specs.ScopeBlocks.{ScopeBlock, scope_blocks}
+use Rattle.rc_tree.specs.ScopesIn.{HasScopesOnce, scopes_in}
+use Rattle.rc_tree.specs.Visits.{visits_of}
+use Rattle.rc_tree.specs.declared.fate.Fate.TheVariants.{NotEscaping}
+use Rattle.rc_tree.specs.declared.fate.ScopeFate.{ScopeFate}
 use Rattle.rc_pipe.specs.Headline.{IsAccepted, IsCause}
-use Rattle.rc_pipe.specs.Passes.{AreInside, EndsOutside, IsPassFault, PassState, state}
-use Rattle.rc_pipe.specs.inside.PrunedParts.{HasScopesPruned, IsChecked}
+use Rattle.rc_pipe.specs.Passes.{AfterLabels, AreInside, EndsOutside, IsPassFault, IsPruned, PassState, state}
+use Rattle.rc_pipe.specs.Fates.{fate_rules}
+use Rattle.rc_pipe.specs.declared.passes.Decisions.{Decisions}
+use Rattle.rc_pipe.specs.inside.PrunedParts.{HasOthersPruned, IsChecked, IsPrunedWith}
+use Rattle.rc_escape.proofs.NotEscaping.Decided.{not_escaping_decided}
+use Rattle.rc_escape.specs.NotEscaping.{not_escaping_rule}
+use Rattle.rc_escape.specs.Outputs.{is_dissolved}
 use Rattle.rc_escape.specs.WholeRecord.{IsEscapeFault}
+use Rattle.rc_flow.proofs.AlwaysInvalidating.DecidedScopes.{invalidating_decided}
 use Rattle.rc_memo.specs.TreeEvents.{events_in}
 use Rattle.rc_pipe.proofs.EventsStay.{events_stay, same_node, same_scope}
+use Rattle.rc_pipe.proofs.EnvironmentStays.{still_none}
 use Rattle.rc_pipe.proofs.RunsElsewhere.{runs_with_scopes}
 
--- runs that are kept up to a function are kept where its scopes are pruned, with the environment that this leaves
-pub runs_through : (old new : Environment) (first labeled escaping last : ReactiveFunction) (used : List ScopeId)
+-- runs that are kept up to a function are kept where its scopes are pruned, with the environment that this leaves, where
+-- no scope has an early return
+pub runs_through : (old new : Environment) (first labeled escaping last : ReactiveFunction) (log : List ScopeFate)
     → ((events : List Event) (end : End) → IsBodyRun first old events end ↔ IsBodyRun labeled old events end)
     → erased escaping ≡ erased labeled → erased last ≡ erased escaping
-    → HasScopesPruned (state escaping old) (state last new) used
+    → HasOthersPruned (state escaping old) (state last new) log → NoEarlyReturnSet old
     → (events : List Event) (end : End) → IsBodyRun first old events end ↔ IsBodyRun last new events end
-runs_through old new first labeled escaping last used same one other parts events end =
+runs_through old new first labeled escaping last log same one other parts none events end =
     let here = same events end in
-    let there = same_erased_same_runs old events end last labeled (other ∙ one) in
+    let there = same_erased_same_runs old none events end last labeled (other ∙ one) in
     let scopes = parts.reactive.env.scopes in
     let left : new ≡ record old { scopes = scopes } =
     parts.invalidating.kept_environment ∙ parts.scopes.kept_environment ∙ parts.dependencies.scopes.others
     in
-    let elsewhere = runs_with_scopes old scopes last events end in (
+    let still : NoEarlyReturnSet (record old { scopes = scopes }) =
+    still_none old parts.reactive.env parts.dependencies.scopes none in
+    let elsewhere = runs_with_scopes old scopes none still last events end in (
       λ run. subst (λ env. IsBodyRun last env events end) (sym left) (elsewhere.0 (there.1 (here.0 run))),
       λ run. here.1 (there.0 (elsewhere.1 (subst (λ env. IsBodyRun last env events end) left run))),
     )
@@ -130,3 +150,113 @@ pass_cause hir env accepted func spelled (faults.BadName table index) fault = ab
 pass_cause hir env accepted func spelled faults.NoIds fault = absurd fault
 pass_cause hir env accepted func spelled (faults.BadTarget target) fault = absurd fault
 pass_cause hir env accepted func spelled (faults.FunctionCycle function) fault = absurd fault
+
+-- the scope blocks of a function without its unused labels are those of the spelled one
+pub labels_keep_scopes : {spelled labeled : PassState} → AfterLabels spelled labeled
+    → scopes_in labeled.func.body ≡ scopes_in spelled.func.body
+labels_keep_scopes {spelled} {labeled} labels = same_scopes labeled.func.body
+    ∙ ap (map (λ (block : ScopeBlock). block.scope)) labels.kept_scope_blocks ∙ sym (same_scopes spelled.func.body)
+
+-- a pass that received the same scope blocks decided the same of them
+received : (rule : FateRule) (before other after : ReactiveBlock) (log : List ScopeFate)
+    → scopes_in before ≡ scopes_in other → IsDecidedBy rule before after log → IsDecidedBy rule other after log
+received rule before other after log same is = record {
+  right = is.right;
+  never_kept = is.never_kept;
+  all = λ scope some. is.all scope (subst (λ scopes. 1 ≤ times scope scopes) (sym same) some);
+  lost = λ scope. ap (times scope) (sym same) ∙ is.lost scope;
+}
+
+-- a pass makes no scope block
+no_more : (rule : FateRule) (before after : ReactiveBlock) (log : List ScopeFate) → IsDecidedBy rule before after log
+    → ((scope : ScopeId) → times scope (scopes_in before) ≤ 1) → (scope : ScopeId) → times scope (scopes_in after) ≤ 1
+no_more rule before after log is once scope =
+    let lost = is.lost scope in
+    let parts = times-append scope (scopes_in after) (decided_scopes log) in
+    let most = once scope in
+    omega (arith, lost, parts, most)
+
+module _ {spelled pruned : PassState} (passes : IsPruned spelled pruned) where
+  -- what each pass decided, by its rule
+  by_escape : IsDecidedBy (not_escaping_rule passes.labeled.env passes.escapes.scopes.without.set) spelled.func.body
+      passes.escaping.func.body passes.not_escaping
+  by_escape = received _ passes.labeled.func.body spelled.func.body passes.escaping.func.body passes.not_escaping
+      (labels_keep_scopes passes.labels)
+      (not_escaping_decided passes.labeled.env passes.labeled.func passes.escaping.func.body passes.not_escaping
+      passes.escapes.scopes)
+
+  by_use : IsDecidedBy (unused_rule passes.reactive.env passes.reactive.func.body) passes.escaping.func.body
+      passes.used.func.body passes.unused
+  by_use = received _ passes.reactive.func.body passes.escaping.func.body passes.used.func.body passes.unused
+      (ap (λ f. scopes_in f.body) passes.dependencies.kept_function)
+      (unused_decided passes.reactive.env passes.reactive.func.body passes.used.func.body passes.unused
+      passes.scopes.scopes)
+
+  -- the fate of the escape pass comes by its rule alone
+  pub not_escaping_first : (scope : ScopeId) → IsFateBy (fate_rules passes) scope NotEscaping
+      → is_dissolved passes.labeled.env passes.escapes.scopes.without.set scope ≡ true
+  not_escaping_first scope (inl rule) = rule.1
+  not_escaping_first scope (inr (none, inl rule)) = absurd (let no : ⊥ = cc in no)
+  not_escaping_first scope (inr (none, inr (used, inl rule))) = absurd (let no : ⊥ = cc in no)
+  not_escaping_first scope (inr (none, inr (used, inr (stays, kept)))) = absurd (let no : ⊥ = cc in no)
+
+  module _ (once : HasScopesOnce spelled.func.body) where
+    used_once : (scope : ScopeId) → times scope (scopes_in passes.used.func.body) ≤ 1
+    used_once = no_more _ passes.escaping.func.body passes.used.func.body passes.unused by_use
+        (no_more _ spelled.func.body passes.escaping.func.body passes.not_escaping by_escape
+        (at_most_once (scopes_in spelled.func.body) once))
+
+    decided_by_all : AreDecidedBy (fate_rules passes) spelled.func.body pruned.func.body
+        (passes.not_escaping ++ (passes.unused ++ passes.always_invalidating))
+    decided_by_all = (
+      passes.escaping.func.body,
+      passes.not_escaping,
+      passes.unused ++ passes.always_invalidating,
+      refl,
+      by_escape,
+      (
+        passes.used.func.body,
+        passes.unused,
+        passes.always_invalidating,
+        refl,
+        by_use,
+        (
+          pruned.func.body,
+          passes.always_invalidating,
+          [],
+          sym (append-nil passes.always_invalidating),
+          invalidating_decided passes.used.env passes.used.func.body pruned.func.body passes.always_invalidating
+              passes.invalidating.scopes used_once,
+          (refl, refl),
+        ),
+      ),
+    )
+
+-- the passes decided by their rules, one after the other
+pub decided : {spelled pruned : PassState} {decisions : Decisions} (parts : IsPrunedWith spelled pruned decisions)
+    → HasScopesOnce spelled.func.body
+    → AreDecidedBy (fate_rules parts.passes) spelled.func.body pruned.func.body decisions.log
+decided {spelled} {pruned} parts once = subst (AreDecidedBy (fate_rules parts.passes) spelled.func.body pruned.func.body)
+    (sym parts.told) (decided_by_all parts.passes once)
+
+-- a function has the header of a graph
+abbrev IsHeaded : HirFunction → ReactiveFunction → Type 0
+IsHeaded hir func = func ≡ with_header hir func.body
+
+still_headed : (hir : HirFunction) (old new : ReactiveFunction) → new ≡ record old { body = new.body }
+    → IsHeaded hir old → IsHeaded hir new
+still_headed hir old new header is =
+    let with_body : ReactiveFunction → ReactiveFunction = λ f. record f { body = new.body } in
+    header ∙ ap with_body is
+
+-- the passes keep the header that the spelled function has from its graph
+pub graph_header : {hir : HirFunction} {env : Environment} {func : ReactiveFunction} {pruned : PassState}
+    → Spells hir env func → IsPruned (state func env) pruned → IsHeaded hir pruned.func
+graph_header {hir} {env} {func} {pruned} spelled passes =
+    let headed : ReactiveFunction → ReactiveFunction = λ f. with_header hir f.body in
+    still_headed hir passes.used.func pruned.func passes.invalidating.header
+    (still_headed hir passes.reactive.func passes.used.func passes.scopes.header
+    (subst (IsHeaded hir) (sym passes.dependencies.kept_function)
+    (still_headed hir passes.labeled.func passes.escaping.func passes.escapes.header
+    (still_headed hir func passes.labeled.func passes.labels.header
+    (spelled.whole ∙ ap headed (sym spelled.whole))))))

@@ -1,4 +1,4 @@
--- A body has the same runs whatever the scopes of its environment are.
+-- A body has the same runs whatever the scopes of its environment are, where none of them has an early return.
 use Rattle.std.proofs.Common.{◌≡◌, ◌∙◌, ◌↔◌, Bool, true, false, List, Option, Some, None, refl, sym, ap}
 use Rattle.rc_hir.specs.Model.{Environment, InstructionValue, Place, ReactiveScope}
 use Rattle.rc_hir.specs.declared.instruction.InstructionValue.TheVariants as kinds
@@ -16,6 +16,8 @@ use Rattle.rc_runs.specs.BodyRun.{test_fails, test_holds, thrown, took_arm, took
 use Rattle.rc_runs.specs.Event.{Event, End}
 use Rattle.rc_runs.specs.LoopParts.{LoopParts}
 use Rattle.rc_runs.specs.AnsweredTest.{answers_test}
+use Rattle.rc_runs.specs.EarlyReturns.{NoEarlyReturnSet}
+use Rattle.rc_runs.proofs.ReturningLemmas.{statements_run, body_run}
 use Rattle.rc_runs.specs.PlainTree.{Alternate, Base, Cases, NoRows, Optional, Row, Rows, Statement, Statements, Value}
 use Rattle.rc_runs.specs.Silent.{is_silent_value}
 use Rattle.rc_runs.specs.ValueRun.{Progress, RunsRow, RunsRows, RunsValue, did_and_stopped, did_value, goes_past_row}
@@ -149,10 +151,10 @@ module _ (old new : Environment) (same : RunsAlike old new) where
     alternate_elsewhere absent = absent
     alternate_elsewhere (present run) = present (list_elsewhere run)
 
-  run_elsewhere : (func : ReactiveFunction) (events : List Event) (end : End) → IsBodyRun func old events end
-      → IsBodyRun func new events end
-  run_elsewhere func events end run =
-      record { statements = run.statements; body = run.body; run = list_elsewhere run.run }
+  run_elsewhere : NoEarlyReturnSet old → NoEarlyReturnSet new → (func : ReactiveFunction) (events : List Event)
+      (end : End) → IsBodyRun func old events end → IsBodyRun func new events end
+  run_elsewhere before after func events end run =
+      body_run new after run.body (list_elsewhere (statements_run old before run))
 
 module _ (env : Environment) (scopes : List ReactiveScope) where
   -- neither depends on scopes
@@ -167,15 +169,16 @@ module _ (env : Environment) (scopes : List ReactiveScope) where
   same_answers place (Base (kinds.LoadLocal loaded span)) = refl
   same_answers place value = refl
 
-  pub runs_with_scopes : (func : ReactiveFunction) (events : List Event) (end : End)
+  pub runs_with_scopes : NoEarlyReturnSet env → NoEarlyReturnSet (record env { scopes = scopes })
+      → (func : ReactiveFunction) (events : List Event) (end : End)
       → IsBodyRun func env events end ↔ IsBodyRun func (record env { scopes = scopes }) events end
-  runs_with_scopes func events end = (
-    run_elsewhere env (record env { scopes = scopes }) (record { silence = same_silence; answers = same_answers }) func
-        events end,
+  runs_with_scopes before after func events end = (
+    run_elsewhere env (record env { scopes = scopes }) (record { silence = same_silence; answers = same_answers }) before
+        after func events end,
     run_elsewhere (record env { scopes = scopes }) env
         (record {
           silence = λ value. sym (same_silence value);
           answers = λ place value. sym (same_answers place value);
         })
-        func events end,
+        after before func events end,
   )

@@ -12,7 +12,7 @@ use Rattle.rc_runs.specs.Graph.{Block, basic_block, block_at, rows_of, with_rows
 use Rattle.rc_runs.specs.Spelled.{Spells, scope_at, scope_named}
 use Rattle.rc_runs.specs.TreeOf.{block_of}
 use Rattle.rc_checks.proofs.ScopeBlocks.SpelledOnce.{body_times}
-use Rattle.rc_checks.specs.ScopeBlocks.{scopes_in}
+use Rattle.rc_tree.specs.ScopesIn.{scopes_in}
 use Rattle.rc_pipe.specs.inside.OpenedScopes.{OpensNoScope}
 
 -- scopes among which no scope stands are none

@@ -1,28 +1,25 @@
 -- The headline: the relation of an answered function to its graph, and the causes of refusals.
-use Rattle.std.specs.Prelude.{◌≡◌, false, All, List, Some, ⊤, map}
+use Rattle.std.specs.Prelude.{◌≡◌, false, All, List, Some, ⊤}
 use Rattle.rc_hir.specs.Model.{Fault, HirFunction, Environment}
 use Rattle.rc_hir.specs.declared.fault.Fault.TheVariants as faults
 use Rattle.rc_hir.specs.Names.{NamesInTables, NamesOutside}
 use Rattle.rc_tree.specs.TreeNames.{TreeInTables}
 use Rattle.rc_tree.specs.Model.{ReactiveFunction}
 use Rattle.rc_names.specs.Numbers.{DeclarationId}
-use Rattle.rc_pipe.specs.declared.fates.Fate.TheVariants.{NotEscaping}
+use Rattle.rc_tree.specs.declared.fate.Fate.TheVariants.{NotEscaping}
 use Rattle.rc_pipe.specs.declared.pipeline.Pruned.{Pruned}
 use Rattle.rc_runs.specs.Event.{Event, End, has_throw}
 use Rattle.rc_runs.specs.GraphRun.{IsGraphRun}
-use Rattle.rc_runs.specs.Spelled.{Spells}
+use Rattle.rc_runs.specs.Spelled.{Spells, with_header}
 use Rattle.rc_runs.specs.BodyRun.{IsBodyRun}
 use Rattle.rc_runs.specs.EarlyReturns.{first_early_return, NoEarlyReturnSet}
 use Rattle.rc_build.specs.BuildCauses.{SpellsNone}
 use Rattle.rc_build.specs.RuleFacts.{IsLabeledValue, RuleFact}
-use Rattle.rc_escape.specs.Outputs.{staying_scopes}
 use Rattle.rc_escape.specs.WholeRecord.{HasWholeRecord, LacksNode, LacksScope}
 use Rattle.rc_escape.specs.NotEscaping.{IsNeededOutput}
 use Rattle.rc_pipe.specs.Causes.{HasRoom}
 use Rattle.rc_pipe.specs.Fates.{AreFates, AreKeptExactly}
 use Rattle.rc_pipe.specs.Passes.{AreInside, EndsOutside, IsPruned, state}
-use Rattle.rc_checks.specs.ScopeBlocks.{scopes_in}
-use Rattle.rc_checks.specs.UnusedScopes.{staying_blocks}
 
 -- the conditions on a graph before it is built
 pub record IsAccepted (hir : HirFunction) (env : Environment) : Type 0 where
@@ -39,10 +36,12 @@ pub record HasAnswer (hir : HirFunction) (env : Environment) (func : ReactiveFun
 -- the answer for a graph and its environment: a pruned function, its fates, and the environment after the passes
 pub record IsAnswer (hir : HirFunction) (env answered : Environment) (pruned : Pruned) : Type 0 where
   pub accepted : IsAccepted hir env
-  -- the graph spells exactly one function, and the passes lead from it to the answered one, with the same header
+  -- the graph spells exactly one function, and the passes lead from it to the answered one
   pub spelled : ReactiveFunction
   pub spells : Spells hir env spelled
   pub one_tree : (func : ReactiveFunction) → Spells hir env func → func ≡ spelled
+  -- the answered function is the graph's header with the answered body
+  pub header : pruned.func ≡ with_header hir pruned.func.body
   pub passes : IsPruned (state spelled env) (state pruned.func answered)
   -- every run of the graph is a run of the answered body, and the converse for runs without a throw
   pub graph_to_body : (events : List Event) (end : End) → IsGraphRun hir env events end →
@@ -58,13 +57,6 @@ pub record IsAnswer (hir : HirFunction) (env answered : Environment) (pruned : P
   -- no scope that doesn't escape has an output that must be memoized
   pub needed : All (λ entry. entry.fate ≡ NotEscaping → (name : DeclarationId)
       → ¬ IsNeededOutput env spelled entry.scope name) pruned.fates
-  -- the scope blocks behind the escape pass are those of the spelled tree that escape, in the same order
-  pub escaping : scopes_in passes.escaping.func.body
-      ≡ staying_scopes env passes.escapes.scopes.set (scopes_in spelled.body)
-  -- the scope blocks of the answered body, and those that always invalidate, are those of that tree that give
-  -- something, in the same order
-  pub used : scopes_in passes.used.func.body
-      ≡ map (λ block. block.scope) (staying_blocks passes.reactive.env passes.escaping.func.body)
   -- every number of the answered function and of the answered environment is in its table
   pub known : TreeInTables pruned.func answered
 

@@ -1,18 +1,20 @@
 -- The sequence of passes over a spelled function and its environment, and the faults with which they refuse one.
-use Rattle.std.specs.Prelude.{◌≡◌, All, ⊤}
+use Rattle.std.specs.Prelude.{◌≡◌, All, List, ⊤}
 use Rattle.rc_hir.specs.Model.{Environment, Fault}
 use Rattle.rc_hir.specs.declared.fault.Fault.TheVariants as faults
 use Rattle.rc_names.specs.Numbers.{EvaluationOrder, ScopeId}
 use Rattle.rc_tree.specs.Model.{ReactiveFunction, ReactiveBlock}
+use Rattle.rc_tree.specs.ScopesIn.{scopes_in}
+use Rattle.rc_tree.specs.Visits.{visits_of}
+use Rattle.rc_tree.specs.declared.fate.ScopeFate.{ScopeFate}
 use Rattle.rc_checks.specs.Labels.{IsWithoutUnusedLabels}
 use Rattle.rc_checks.specs.Membership.{IsInside, IsLastOutside}
-use Rattle.rc_checks.specs.ScopeBlocks.{scope_blocks, scopes_in}
-use Rattle.rc_checks.specs.UnusedScopes.{IsWithoutUnusedScopes}
-use Rattle.rc_checks.specs.Membership.Visits.{visits_of}
+use Rattle.rc_checks.specs.ScopeBlocks.{scope_blocks}
+use Rattle.rc_checks.specs.UnusedScopes.{LosesUnusedScopes}
 use Rattle.rc_escape.specs.WholeRecord.{LacksNode, LacksScope}
-use Rattle.rc_escape.specs.NotEscaping.{IsWithoutNotEscaping}
-use Rattle.rc_flow.specs.AlwaysInvalidating.{IsWithoutInvalidating}
-use Rattle.rc_flow.specs.ReactiveNames.{HasReactiveDependencies}
+use Rattle.rc_escape.specs.NotEscaping.{HasDecidedNotEscaping}
+use Rattle.rc_flow.specs.AlwaysInvalidating.{PrunesInvalidating}
+use Rattle.rc_flow.specs.ReactiveDependencies.{HasReactiveDependencies}
 
 -- a function with its environment, between two passes
 pub record PassState : Type 0 where
@@ -29,15 +31,10 @@ pub record AfterLabels (before after : PassState) : Type 0 where
   pub kept_scope_blocks : scope_blocks after.func.body ≡ scope_blocks before.func.body
   pub kept_environment : after.env ≡ before.env
 
--- escape pruning: the function lost the scope blocks that compute nothing memoized, and the environment stays
-pub record AfterEscape (before after : PassState) : Type 0 where
-  pub scopes : IsWithoutNotEscaping before.env before.func after.func.body
-  pub header : after.func ≡ record before.func { body = after.func.body }
-  pub kept_environment : after.env ≡ before.env
-
--- scope pruning: the function lost its unused scopes, and the environment stays
-pub record AfterUnusedScopes (before after : PassState) : Type 0 where
-  pub scopes : IsWithoutUnusedScopes before.env before.func.body after.func.body
+-- escape pruning: the function lost the scope blocks that compute nothing memoized, which the pass decided, and the
+-- environment stays
+pub record AfterEscape (before after : PassState) (decided : List ScopeFate) : Type 0 where
+  pub scopes : HasDecidedNotEscaping before.env before.func after.func.body decided
   pub header : after.func ≡ record before.func { body = after.func.body }
   pub kept_environment : after.env ≡ before.env
 
@@ -46,10 +43,16 @@ pub record AfterDependencies (before after : PassState) : Type 0 where
   pub scopes : HasReactiveDependencies before.func.body before.env after.env
   pub kept_function : after.func ≡ before.func
 
--- pruning of what always invalidates: the function lost the blocks that depend on an unmemoized value, and the
--- environment stays
-pub record AfterInvalidating (before after : PassState) : Type 0 where
-  pub scopes : IsWithoutInvalidating before.env before.func.body after.func.body
+-- scope pruning: the function lost its unused scopes, which the pass decided, and the environment stays
+pub record AfterUnusedScopes (before after : PassState) (decided : List ScopeFate) : Type 0 where
+  pub scopes : LosesUnusedScopes before.env before.func.body after.func.body decided
+  pub header : after.func ≡ record before.func { body = after.func.body }
+  pub kept_environment : after.env ≡ before.env
+
+-- pruning of what always invalidates: the function lost the blocks that depend on an unmemoized value, which the pass
+-- decided, and the environment stays
+pub record AfterInvalidating (before after : PassState) (decided : List ScopeFate) : Type 0 where
+  pub scopes : PrunesInvalidating before.env before.func.body after.func.body decided
   pub header : after.func ≡ record before.func { body = after.func.body }
   pub kept_environment : after.env ≡ before.env
 
@@ -61,18 +64,22 @@ AreInside env body = All (IsInside env (scopes_in body)) (visits_of env.function
 abbrev pub EndsOutside : Environment → ReactiveBlock → EvaluationOrder → ScopeId → Type 0
 EndsOutside env body id scope = IsLastOutside env (scopes_in body) (visits_of env.functions body) id scope
 
--- the passes lead from the spelled function and its environment to the pruned ones, by the states in between
+-- the passes lead from the spelled function and its environment to the pruned ones, by the states in between and by what
+-- each pass decided
 pub record IsPruned (spelled pruned : PassState) : Type 0 where
   pub labeled : PassState
   pub labels : AfterLabels spelled labeled
   pub inside : AreInside spelled.env spelled.func.body
   pub escaping : PassState
-  pub escapes : AfterEscape labeled escaping
+  pub not_escaping : List ScopeFate
+  pub escapes : AfterEscape labeled escaping not_escaping
   pub reactive : PassState
   pub dependencies : AfterDependencies escaping reactive
   pub used : PassState
-  pub scopes : AfterUnusedScopes reactive used
-  pub invalidating : AfterInvalidating used pruned
+  pub unused : List ScopeFate
+  pub scopes : AfterUnusedScopes reactive used unused
+  pub always_invalidating : List ScopeFate
+  pub invalidating : AfterInvalidating used pruned always_invalidating
 
 -- The passes may refuse, with this fault, a function that the graph spells and whose numbers are in their tables.
 abbrev pub IsPassFault : PassState → Fault → Type 0

@@ -7,5 +7,5 @@ mod passes;
 mod pipeline;
 mod spelled_scopes;
 
-pub use fates::{Fate, ScopeFate};
 pub use pipeline::{Pruned, build_and_prune};
+pub use rc_tree::{Fate, ScopeFate};

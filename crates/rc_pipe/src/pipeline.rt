@@ -4,17 +4,18 @@
 //! is this project's.
 
 ghost use Rattle.std.specs.Prelude.{◌≡◌, ◌≢◌, ◌⊎◌, IfOk, IfErr, OnOk, IsOk, Err};
+ghost use Rattle.rc_hir.specs.KeptNumbers.{KeepsNumbers};
 ghost use Rattle.rc_hir.specs.Names.{NamesInTables};
 ghost use Rattle.rc_tree.specs.Model.{ReactiveFunction};
 ghost use Rattle.rc_pipe.specs.Headline.{HasAnswer, IsAccepted, IsAnswer, IsCause};
 
 use crate::causes::{first_early_return, has_room};
-use crate::fates::{ScopeFate, fates_of};
+use crate::fates::fates_of;
 use crate::passes::prune;
 use rc_build::build_known_function;
 use rc_hir::{Environment, Fault, HirFunction, check_names};
 use rc_names::List;
-use rc_tree::ReactiveFunction;
+use rc_tree::{ReactiveFunction, ScopeFate};
 use std::alloc::Global;
 
 /// A pruned function, with the fate of each scope block of the tree that its graph spells.
@@ -39,8 +40,8 @@ pub struct Pruned {
 /// - `Uninitialised`: the memo record needs a node of a name that has none yet; the fault names the first such name;
 /// - `NoScopeNode`: a scope of a node of the memo record has no record; the fault names the lowest such scope.
 ///
-/// Returns `NoMemory` whenever it runs out of memory. After any other fault the environment is as before, and after
-/// `NoMemory` every number that was in its table still is.
+/// Returns `NoMemory` whenever it runs out of memory. After any other fault the environment is as before. Whatever it
+/// returns, no table of the environment is shorter than before, so every number that was in its table still is.
 pub fn build_and_prune(
     alloc: Global,
     hir: &HirFunction,
@@ -49,6 +50,7 @@ pub fn build_and_prune(
     ensures ok { IfOk result (IsAnswer hir.now env.old env.new) }
     ensures refused { IfErr result (IsCause hir.now env.old) }
     ensures kept_environment { IfErr result (λ fault. (fault ≡ Fault.NoMemory) ⊎ (env.new ≡ env.old)) }
+    ensures kept_numbers { KeepsNumbers env.old env.new }
     ensures known_names { NamesInTables hir.now env.old → NamesInTables hir.now env.new }
 
     // A graph that is accepted and has an answer gets it, unless memory runs out.
@@ -57,8 +59,8 @@ pub fn build_and_prune(
 {
     accept(hir, env)?;
     let mut func = build_known_function(alloc, hir, env)?;
-    let left = prune(alloc, hir, &mut func, env)?;
-    let fates = fates_of(alloc, &left, &func.body)?;
+    let decided = prune(alloc, hir, &mut func, env)?;
+    let fates = fates_of(alloc, decided.spelled.as_slice(), decided.log.as_slice())?;
     Ok(Pruned { func, fates })
 }
 

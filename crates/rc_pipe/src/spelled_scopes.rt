@@ -3,14 +3,13 @@
 //! Where no block of the graph opens a scope, the tree has no scope block, and it isn't walked.
 
 ghost use Rattle.std.specs.Prelude.{◌≡◌, ◌↔◌, [], true, All, IfOk, IsTrue, is_none};
-ghost use Rattle.rc_checks.specs.ScopeBlocks.{scopes_in};
 ghost use Rattle.rc_pipe.specs.inside.OpenedScopes.{OpensNoScope};
 ghost use Rattle.rc_runs.specs.Spelled.{scope_named};
+ghost use Rattle.rc_tree.specs.ScopesIn.{scopes_in};
 
-use rc_checks::scopes_in;
 use rc_hir::{BasicBlock, HirFunction, Terminal};
 use rc_names::{List, ScopeId};
-use rc_tree::ReactiveBlock;
+use rc_tree::{ReactiveBlock, scopes_in};
 use std::alloc::{AllocError, Global};
 
 /// The scopes that have a block in the body of the tree that the graph spells. The only error is out of memory.

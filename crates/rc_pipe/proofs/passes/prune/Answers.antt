@@ -1,31 +1,48 @@
 -- The clauses of the parts of the passes, put together.
-use Rattle.std.proofs.Common.{◌∙◌, ap, inl, map}
+use Rattle.std.proofs.Common.{◌≡◌, ◌∙◌, ◌++◌, List, ap, inl, map, refl}
 use Rattle.std.proofs.lemmas.Result.{err_from_is_err_and}
-use Rattle.rc_checks.specs.ScopeBlocks.{ScopeBlock}
+use Rattle.rc_tree.specs.declared.fate.ScopeFate.{ScopeFate}
 use Rattle.rc_pipe.specs.Passes.{state}
-use Rattle.rc_pipe.proofs.PassesLemmas.{escape_fault, memory_fault, runs_through}
+use Rattle.rc_pipe.proofs.EnvironmentStays.{keeps_own}
+use Rattle.rc_pipe.proofs.PassesLemmas.{escape_fault, labels_keep_scopes, memory_fault, runs_through}
 use Rattle.rc_pipe.proofs.passes.prune.Goals as goal
 
 pub returns-clause-ok : goal.returns-clause-ok
-returns-clause-ok c = record {
-  labeled = state c.check.new.func c.args.env.now;
-  checked = c.in_ok-spelled.ensures.ok;
-  listed = c.in_ok-spelled.ensures.listed
-      ∙ ap (map (λ (block : ScopeBlock). block.scope)) c.in_ok-spelled.ensures.ok.labels.kept_scope_blocks;
-  escaping = state c.prune_escaping.new.func c.args.env.now;
-  escape = c.in_ok-escaping.ensures.ok;
-  scopes = c.in_ok-used.ensures.ok;
-}
+returns-clause-ok c =
+    let checked = c.in_ok-spelled.ensures.ok in
+    let escape = c.in_ok-log.ensures in
+    let others = c.in_ok-others.ensures.ok in
+    record {
+      passes = record {
+        labeled = state c.check.new.func c.args.env.now;
+        labels = checked.labels;
+        inside = checked.inside;
+        escaping = state c.decide_non_escaping_scopes.new.func c.args.env.now;
+        not_escaping = c.in_ok-log.log;
+        escapes = record { scopes = escape.ok; header = escape.header; kept_environment = refl };
+        reactive = others.reactive;
+        dependencies = others.dependencies;
+        used = others.used;
+        unused = others.unused;
+        scopes = others.scopes;
+        always_invalidating = others.always_invalidating;
+        invalidating = others.invalidating;
+      };
+      listed = c.in_ok-spelled.ensures.listed ∙ labels_keep_scopes checked.labels;
+      told = c.in_ok-append.ensures.ok ∙ ap (λ (log : List ScopeFate). c.in_ok-log.log ++ log) others.told;
+      needed = escape.needed;
+    }
 
 pub returns-clause-still_known : goal.returns-clause-still_known
 returns-clause-still_known c =
-    c.in_ok-used.ensures.known (c.in_ok-escaping.ensures.known c.in_ok-spelled.ensures.still_known)
+    c.in_ok-others.ensures.known (c.in_ok-log.ensures.known c.in_ok-spelled.ensures.still_known)
 
 pub returns-clause-kept_runs : goal.returns-clause-kept_runs
 returns-clause-kept_runs c = λ none.
-    runs_through c.args.env.now c.prune_left.new.env c.args.func.now c.check.new.func c.prune_escaping.new.func
-    c.prune_left.new.func c.in_ok-used.used (c.in_ok-spelled.ensures.kept_runs none)
-    c.in_ok-escaping.ensures.kept_erased c.in_ok-used.ensures.kept_erased c.in_ok-used.ensures.ok
+    runs_through c.args.env.now c.decide_others.new.env c.args.func.now c.check.new.func
+    c.decide_non_escaping_scopes.new.func c.decide_others.new.func c.in_ok-others.others
+    (c.in_ok-spelled.ensures.kept_runs none) c.in_ok-log.ensures.kept_erased c.in_ok-others.ensures.kept_erased
+    c.in_ok-others.ensures.ok none
 
 -- a refusal of the checks is one of the passes
 pub returns-in_err-spelled-clause-refused : goal.returns-in_err-spelled-clause-refused
@@ -34,31 +51,40 @@ returns-in_err-spelled-clause-refused c =
     rw (p.1, p.2) (c.in_err-spelled.ensures.refused)
 
 -- and so is one of the escape pass
-pub returns-in_err-escaping-clause-refused : goal.returns-in_err-escaping-clause-refused
-returns-in_err-escaping-clause-refused c =
-    let exit = c.from_residual-in_err-escaping in
+pub returns-in_err-log-clause-refused : goal.returns-in_err-log-clause-refused
+returns-in_err-log-clause-refused c =
+    let exit = c.from_residual-in_err-log in
     let p = err_from_is_err_and exit.result exit.ensures.1 in
     rw (p.1, p.2) (escape_fault c.args.env.now c.args.func.now c.check.new.func c.in_ok-spelled.ensures.ok
-    c.in_err-escaping.field-0.0 c.in_err-escaping.ensures.refused)
+    c.in_err-log.field-0.0 c.in_err-log.ensures.refused)
 
 -- pruning of other scopes refuses nothing that a graph spells, unless memory runs out
-pub returns-in_err-used-clause-refused : goal.returns-in_err-used-clause-refused
-returns-in_err-used-clause-refused c =
-    let exit = c.from_residual-in_err-used in
+pub returns-in_err-others-clause-refused : goal.returns-in_err-others-clause-refused
+returns-in_err-others-clause-refused c =
+    let exit = c.from_residual-in_err-others in
     let p = err_from_is_err_and exit.result exit.ensures.1 in
-    rw (p.1, p.2) (memory_fault (state c.args.func.now c.args.env.now) c.in_err-used.field-0.0
-    (c.in_err-used.ensures.refused (c.in_ok-escaping.ensures.known c.in_ok-spelled.ensures.still_known)))
+    rw (p.1, p.2) (memory_fault (state c.args.func.now c.args.env.now) c.in_err-others.field-0.0
+    (c.in_err-others.ensures.refused (c.in_ok-log.ensures.known c.in_ok-spelled.ensures.still_known)))
 
-pub returns-in_err-used-clause-kept_environment : goal.returns-in_err-used-clause-kept_environment
-returns-in_err-used-clause-kept_environment c =
-    let exit = c.from_residual-in_err-used in
+pub returns-in_err-others-clause-kept_environment : goal.returns-in_err-others-clause-kept_environment
+returns-in_err-others-clause-kept_environment c =
+    let exit = c.from_residual-in_err-others in
     let p = err_from_is_err_and exit.result exit.ensures.1 in
-    rw (p.1, p.2) (inl (c.in_err-used.ensures.refused
-    (c.in_ok-escaping.ensures.known c.in_ok-spelled.ensures.still_known)))
+    rw (p.1, p.2) (inl (c.in_err-others.ensures.refused
+    (c.in_ok-log.ensures.known c.in_ok-spelled.ensures.still_known)))
 
--- whatever the pruning of other scopes gives, it keeps numbers in their tables
+-- whatever the passes give, numbers stay in their tables
 pub returns-clause-known_names : goal.returns-clause-known_names
-returns-clause-known_names c = c.prune_left.ensures.known_names c.args.hir.now
+returns-clause-known_names c = c.decide_others.ensures.known_names c.args.hir.now
 
-pub returns-in_err-used-clause-known_names : goal.returns-in_err-used-clause-known_names
-returns-in_err-used-clause-known_names c = c.prune_left.ensures.known_names c.args.hir.now
+pub returns-in_err-append-clause-known_names : goal.returns-in_err-append-clause-known_names
+returns-in_err-append-clause-known_names c = c.decide_others.ensures.known_names c.args.hir.now
+
+pub returns-in_err-others-clause-known_names : goal.returns-in_err-others-clause-known_names
+returns-in_err-others-clause-known_names c = c.decide_others.ensures.known_names c.args.hir.now
+
+pub returns-in_err-spelled-clause-kept_numbers : goal.returns-in_err-spelled-clause-kept_numbers
+returns-in_err-spelled-clause-kept_numbers c = keeps_own c.args.env.now
+
+pub returns-in_err-log-clause-kept_numbers : goal.returns-in_err-log-clause-kept_numbers
+returns-in_err-log-clause-kept_numbers c = keeps_own c.args.env.now
