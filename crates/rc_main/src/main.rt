@@ -17,7 +17,7 @@ fn main(rt: HostRuntime) -> ExitCode {
             let mut sink = StdSink::new(io::writer(&rt));
             program(rt.alloc(), &words, &mut source, &mut sink, &mut note)
         }
-        Err(stop) => Status::from(Err(stop)),
+        Err(status) => status,
     };
     // If standard error fails too, the status still tells the result.
     let _ = say(&rt, status, &note);
@@ -26,21 +26,18 @@ fn main(rt: HostRuntime) -> ExitCode {
 
 /// Says on standard error what was wrong, and where or why, if memory was left to note it.
 fn say(rt: &HostRuntime, status: Status, note: &Note) -> io::Result<()> {
+    let Some(sentence) = status.sentence() else {
+        return Ok(());
+    };
     let note = match note {
         Some(note) => note.as_str(),
         None => "no memory to say where",
     };
-    let Some(stop) = status.reason() else {
-        return match status {
-            Status::Refused => eprintln!(rt; "rc: the document's graph is refused: {note}"),
-            _ => Ok(()),
-        };
-    };
     match status {
-        Status::NotJson | Status::NotDoc => {
-            eprint!(rt; "rc: {stop}: ")?;
+        Status::NotJson | Status::NotDoc | Status::Refused => {
+            eprint!(rt; "rc: {sentence}: ")?;
             eprintln!(rt; "{note}")
         }
-        _ => eprintln!(rt; "rc: {stop}"),
+        _ => eprintln!(rt; "rc: {sentence}"),
     }
 }

@@ -7,13 +7,10 @@ use Rattle.rc_tree.specs.Model.{ReactiveFunction}
 use Rattle.rc_pipe.specs.Headline.{HasAnswer, IsAccepted}
 use Rattle.rc_doc.specs.declared.document.Doc.{Doc}
 use Rattle.rc_doc.specs.Document.{doc_of}
-use Rattle.rc_program.specs.declared.stop.Stop.{Stop}
-use Rattle.rc_program.specs.declared.stop.Stop.TheVariants as stops
 use Rattle.rc_program.specs.declared.status.Status.{Status}
 use Rattle.rc_program.specs.declared.status.Status.TheVariants.{Done, NotJson, NotDoc, Refused, ReadFault, WriteFault}
 use Rattle.rc_program.specs.declared.status.Status.TheVariants.{TooLarge, NoMemory}
 use Rattle.rc_program.specs.Device.{most_bytes}
-use Rattle.rc_program.specs.Stop.{status_of}
 
 -- the bytes are JSON of this value
 pub record IsJson (bytes : List ℕ) (value : Data) : Type 0 where
@@ -59,8 +56,3 @@ CanReplace source_rose sink_rose due ReadFault = source_rose
 CanReplace source_rose sink_rose Done WriteFault = sink_rose
 CanReplace source_rose sink_rose Refused WriteFault = sink_rose
 CanReplace source_rose sink_rose due _ = ⊥
-
--- a step over these bytes stopped with the status that is due for them, or ran out of memory
-abbrev pub IsStopFor : List ℕ → Stop → Type 0
-IsStopFor bytes stops.NoMemory = ⊤
-IsStopFor bytes stop = IsDue bytes (status_of stop)

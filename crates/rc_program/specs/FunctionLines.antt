@@ -3,10 +3,10 @@ use Rattle.std.specs.Prelude.{ℕ, List, codes, decimal, flat_map}
 use Rattle.rc_hir.specs.Model.{ParamPattern}
 use Rattle.rc_hir.specs.declared.place.ParamPattern.TheVariants.{Place, Spread}
 use Rattle.rc_tree.specs.Model.{ReactiveFunction}
-use Rattle.rc_pipe.specs.declared.fates.Fate.{Fate}
-use Rattle.rc_pipe.specs.declared.fates.Fate.TheVariants.{Kept, NotEscaping, Unused, MergedInto, DissolvedInto}
-use Rattle.rc_pipe.specs.declared.fates.Fate.TheVariants.{AlwaysInvalidating}
-use Rattle.rc_pipe.specs.declared.fates.ScopeFate.{ScopeFate}
+use Rattle.rc_tree.specs.declared.fate.Fate.{Fate}
+use Rattle.rc_tree.specs.declared.fate.Fate.TheVariants.{Kept, NotEscaping, Unused, MergedInto, DissolvedInto}
+use Rattle.rc_tree.specs.declared.fate.Fate.TheVariants.{AlwaysInvalidating}
+use Rattle.rc_tree.specs.declared.fate.ScopeFate.{ScopeFate}
 use Rattle.rc_program.specs.LineText.{◌&◌, line, bool_text, quoted_text, json_text, span_text, place_text}
 use Rattle.rc_program.specs.Lines.{Lines, block_lines}
 

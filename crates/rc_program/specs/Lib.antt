@@ -6,6 +6,7 @@ pub mod ValueLines
 pub mod Lines
 pub mod FunctionLines
 pub mod FaultLine
-pub mod Stop
+pub mod Code
 pub mod DueStatus
 pub mod Status
+pub mod inside

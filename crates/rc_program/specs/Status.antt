@@ -1,12 +1,10 @@
 -- The facts that each status gives of the words, of the bytes taken and of the bytes written.
-use Rattle.std.specs.Prelude.{◌≡◌, ℕ, ◌+◌, ◌≤◌, ◌<◌, List, [], ◌∷◌, Option, Result, Ok, Err, codes, ⊤, IsSome}
+use Rattle.std.specs.Prelude.{◌≡◌, ℕ, ◌+◌, ◌≤◌, ◌<◌, List, [], ◌∷◌, Option, codes, IsSome}
 use Rattle.std.specs.Io.KnownBytes.{Appends}
 use Rattle.rc_hir.specs.Model.{Environment, Fault}
 use Rattle.rc_pipe.specs.declared.pipeline.Pruned.{Pruned}
 use Rattle.rc_pipe.specs.Headline.{IsAnswer, IsCause}
 use Rattle.rc_doc.specs.declared.document.Doc.{Doc}
-use Rattle.rc_program.specs.declared.stop.Stop.{Stop}
-use Rattle.rc_program.specs.declared.stop.Stop.TheVariants as stops
 use Rattle.rc_program.specs.declared.status.Status.{Status}
 use Rattle.rc_program.specs.declared.status.Status.TheVariants.{Done, Usage, NotJson, NotDoc, Refused, ReadFault}
 use Rattle.rc_program.specs.declared.status.Status.TheVariants.{WriteFault, TooLarge, NoMemory}
@@ -27,14 +25,6 @@ HasTakenTooMany = HasTaken (λ count. (most_bytes < count) × (count ≤ most_by
 abbrev pub HasTakenSome : Option (List ℕ) → Option (List ℕ) → Type 0
 HasTakenSome = HasTaken (λ count. count ≤ most_bytes)
 
--- Reading to the end gave these bytes, or stopped for this reason.
-abbrev pub IsReadOrStop : {X : Type 0} → (X → List ℕ) → Option (List ℕ) → Option (List ℕ) → Result X Stop → Type 0
-IsReadOrStop bytes_of left left' (Ok read_bytes) = IsReadToEnd left left' (bytes_of read_bytes)
-IsReadOrStop bytes_of left left' (Err stops.TooLarge) = HasTakenTooMany left left'
-IsReadOrStop bytes_of left left' (Err stops.ReadFault) = HasTakenSome left left'
-IsReadOrStop bytes_of left left' (Err stops.NoMemory) = ⊤
-IsReadOrStop bytes_of left left' (Err _) = ⊥
-
 -- bytes for which this status is due were read to their end
 pub record HasReadDue (left left' : Option (List ℕ)) (status : Status) : Type 0 where
   pub bytes : List ℕ
@@ -46,16 +36,6 @@ pub record HasLoaded (left left' : Option (List ℕ)) (doc : Doc) : Type 0 where
   pub bytes : List ℕ
   pub whole : IsReadToEnd left left' bytes
   pub document : IsJsonOfDoc bytes doc
-
--- This document was loaded, or loading stopped for this reason.
-abbrev pub IsLoadOrStop : Option (List ℕ) → Option (List ℕ) → Result Doc Stop → Type 0
-IsLoadOrStop left left' (Ok doc) = HasLoaded left left' doc
-IsLoadOrStop left left' (Err stops.NotJson) = HasReadDue left left' NotJson
-IsLoadOrStop left left' (Err stops.NotDoc) = HasReadDue left left' NotDoc
-IsLoadOrStop left left' (Err stops.TooLarge) = HasTakenTooMany left left'
-IsLoadOrStop left left' (Err stops.ReadFault) = HasTakenSome left left'
-IsLoadOrStop left left' (Err stops.NoMemory) = ⊤
-IsLoadOrStop left left' (Err _) = ⊥
 
 -- the text has the lines of a function that is an answer for this document, by the headline
 pub record IsTreeText (doc : Doc) (text : List ℕ) : Type 0 where

@@ -5,7 +5,7 @@ ghost use Rattle.std.specs.Prelude.{string_bytes};
 ghost use Rattle.std.specs.Vec.Iter.{into_iter_items};
 ghost use Rattle.rc_program.specs.Status.{IsTree};
 
-use crate::stop::Stop;
+use crate::status::Status;
 use rc_names::{List, Text};
 use std::alloc::{AllocError, Global};
 use std::env::Args;
@@ -15,16 +15,19 @@ use std::io;
 pub type Words = List<Text>;
 
 /// Returns the words of a command line: `Usage` if one isn't UTF-8, and `NoMemory` when out of memory.
-pub fn words(alloc: Global, args: io::Result<Args>) -> Result<Words, Stop>
+pub fn words(alloc: Global, args: io::Result<Args>) -> Result<Words, Status>
     ensures ok { MatchResult args
         (λ args. IfOk result (λ words. words ≡ map string_bytes (drop 1 (into_iter_items args)))) (λ _. IsErr result) }
-    ensures usage { result ≡ Err Stop.Usage → IsErr args }
-    ensures only { IfErr result (λ stop. (stop ≡ Stop.Usage) ⊎ (stop ≡ Stop.NoMemory)) }
+    ensures usage { result ≡ Err Status.Usage → IsErr args }
+    ensures only { IfErr result (λ status. (status ≡ Status.Usage) ⊎ (status ≡ Status.NoMemory)) }
 {
     match args {
-        Ok(args) => Ok(words_after_name(alloc, args)?),
-        Err(error) if error.kind() == io::ErrorKind::OutOfMemory => Err(Stop::NoMemory),
-        Err(_) => Err(Stop::Usage),
+        Ok(args) => match words_after_name(alloc, args) {
+            Ok(words) => Ok(words),
+            Err(_) => Err(Status::NoMemory),
+        },
+        Err(error) if error.kind() == io::ErrorKind::OutOfMemory => Err(Status::NoMemory),
+        Err(_) => Err(Status::Usage),
     }
 }
 

@@ -21,6 +21,5 @@ pub use note::Note;
 pub use printing::lines;
 pub use standard::{StdSink, StdSource};
 pub use status::Status;
-pub use stop::Stop;
 pub use top::program;
 pub use write::write_lines;

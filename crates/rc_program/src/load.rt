@@ -3,8 +3,8 @@
 ghost use Rattle.std.specs.Prelude.{◌≤◌, IsErrOf, MatchResult, length};
 ghost use Rattle.serde_json.specs.View.{view};
 ghost use Rattle.rc_program.specs.Device.{HasRisen, most_bytes};
-ghost use Rattle.rc_program.specs.DueStatus.{IsJson, IsJsonOfDoc, IsStopFor};
-ghost use Rattle.rc_program.specs.Status.{IsLoadOrStop, IsReadOrStop};
+ghost use Rattle.rc_program.specs.DueStatus.{IsJson, IsJsonOfDoc};
+ghost use Rattle.rc_program.specs.inside.Stop.{IsLoadOrStop, IsReadOrStop, IsStopFor};
 
 use crate::device::Source;
 use crate::note::{Note, note_no_doc, note_no_json};

@@ -1,10 +1,11 @@
 //! The status with which the program ends.
 
-ghost use Rattle.std.specs.Prelude.{◌≡◌, ◌⊎◌, MatchOption};
-ghost use Rattle.rc_program.specs.declared.status.Status.{Status};
-ghost use Rattle.rc_program.specs.Stop.{code_of, status_of};
+ghost use Rattle.std.specs.Prelude.{◌≡◌, ◌↔◌, IsNone};
+ghost use Rattle.rc_program.specs.Code.{code_of};
 
-use crate::stop::Stop;
+/// How the program is called.
+const USAGE: &str =
+    "usage: rc tree < DOCUMENT\nrc: the document is read from standard input; no word names it";
 
 /// The status with which the program ends.
 #[derive(Clone, Copy, Debug, PartialEq, Eq)]
@@ -47,39 +48,20 @@ impl Status {
         }
     }
 
-    /// Returns the reason why the program stopped before its answer was written, if it did.
-    pub fn reason(&self) -> Option<Stop>
-        ensures { MatchOption result ((self.now ≡ Status.Done) ⊎ (self.now ≡ Status.Refused))
-            (λ stop. status_of stop ≡ self.now) }
+    /// Returns what standard error says of the status, if anything was wrong.
+    pub fn sentence(&self) -> Option<&'static str>
+        ensures { IsNone result ↔ (self.now ≡ Status.Done) }
     {
         match self {
-            Status::Done | Status::Refused => None,
-            Status::Usage => Some(Stop::Usage),
-            Status::NotJson => Some(Stop::NotJson),
-            Status::NotDoc => Some(Stop::NotDoc),
-            Status::ReadFault => Some(Stop::ReadFault),
-            Status::WriteFault => Some(Stop::WriteFault),
-            Status::TooLarge => Some(Stop::TooLarge),
-            Status::NoMemory => Some(Stop::NoMemory),
-        }
-    }
-}
-
-impl From<Result<Status, Stop>> for Status {
-    ghost use Rattle.rc_program.specs.Stop.{status_from};
-
-    ghost from_gives = { λ end status. status ≡ status_from end };
-
-    fn from(end: Result<Status, Stop>) -> Status {
-        match end {
-            Ok(status) => status,
-            Err(Stop::Usage) => Status::Usage,
-            Err(Stop::NotJson) => Status::NotJson,
-            Err(Stop::NotDoc) => Status::NotDoc,
-            Err(Stop::ReadFault) => Status::ReadFault,
-            Err(Stop::WriteFault) => Status::WriteFault,
-            Err(Stop::TooLarge) => Status::TooLarge,
-            Err(Stop::NoMemory) => Status::NoMemory,
+            Status::Done => None,
+            Status::Usage => Some(USAGE),
+            Status::NotJson => Some("standard input is not JSON"),
+            Status::NotDoc => Some("standard input is no document"),
+            Status::Refused => Some("the document's graph is refused"),
+            Status::ReadFault => Some("reading standard input failed"),
+            Status::WriteFault => Some("writing standard output failed"),
+            Status::TooLarge => Some("standard input has more than 16777216 bytes"),
+            Status::NoMemory => Some("there is too little memory"),
         }
     }
 }

@@ -1,34 +1,29 @@
-//! The reasons why the program stops before its answer is written.
+//! The reasons why the program stops before its answer is written, each of which is a status.
 
 ghost use Rattle.std.specs.Prelude.{◌≡◌};
 ghost use Rattle.rc_program.specs.declared.stop.Stop.TheVariants as stops;
+ghost use Rattle.rc_program.specs.inside.Stop.{status_from};
 
+use crate::status::Status;
 use std::alloc::{AllocError, AllocFailed};
 use thiserror::Error;
 
-/// The reason why the program stops before its answer is written, with its words for standard error.
+/// The reason why a step of the program stops it. Nothing prints these texts.
 #[derive(Clone, Copy, Debug, PartialEq, Eq, Error)]
 pub enum Stop {
-    /// The words aren't the one word `tree`.
-    #[error("usage: rc tree < DOCUMENT\nrc: the document is read from standard input; no word names it")]
+    #[error("the words are not the one word `tree`")]
     Usage,
-    /// The bytes are no JSON.
-    #[error("standard input is not JSON")]
+    #[error("the bytes are no JSON")]
     NotJson,
-    /// The value is no document.
-    #[error("standard input is no document")]
+    #[error("the value is no document")]
     NotDoc,
-    /// A call of the source failed.
-    #[error("reading standard input failed")]
+    #[error("a call of the source failed")]
     ReadFault,
-    /// A call of the sink failed.
-    #[error("writing standard output failed")]
+    #[error("a call of the sink failed")]
     WriteFault,
-    /// There are more than 16,777,216 bytes.
-    #[error("standard input has more than 16777216 bytes")]
+    #[error("there are more bytes than a document may have")]
     TooLarge,
-    /// Memory ran out.
-    #[error("there is too little memory")]
+    #[error("memory ran out")]
     NoMemory,
 }
 
@@ -45,5 +40,21 @@ impl<T: Drop> From<AllocFailed<T>> for Stop {
 
     fn from(_error: AllocFailed<T>) -> Stop {
         Stop::NoMemory
+    }
+}
+
+/// Returns the status of steps that stopped the program, or that came to their end with one.
+pub fn status_from(end: Result<Status, Stop>) -> Status
+    ensures { result ≡ status_from end }
+{
+    match end {
+        Ok(status) => status,
+        Err(Stop::Usage) => Status::Usage,
+        Err(Stop::NotJson) => Status::NotJson,
+        Err(Stop::NotDoc) => Status::NotDoc,
+        Err(Stop::ReadFault) => Status::ReadFault,
+        Err(Stop::WriteFault) => Status::WriteFault,
+        Err(Stop::TooLarge) => Status::TooLarge,
+        Err(Stop::NoMemory) => Status::NoMemory,
     }
 }

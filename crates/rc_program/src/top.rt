@@ -5,7 +5,7 @@ ghost use Rattle.rc_program.specs.declared.status.Status.{Status};
 ghost use Rattle.rc_program.specs.Device.{HasRisen};
 ghost use Rattle.rc_program.specs.DueStatus.{IsDue, CanReplace};
 ghost use Rattle.rc_program.specs.Status.{IsTree, IsOutcome};
-ghost use Rattle.rc_program.specs.Stop.{status_from};
+ghost use Rattle.rc_program.specs.inside.Stop.{status_from};
 
 use crate::answer::answer_for;
 use crate::command_line::{Words, is_tree};
@@ -13,7 +13,7 @@ use crate::device::{Sink, Source};
 use crate::load::load;
 use crate::note::Note;
 use crate::status::Status;
-use crate::stop::Stop;
+use crate::stop::{Stop, status_from};
 use crate::write::write_lines;
 use std::alloc::Global;
 
@@ -49,7 +49,7 @@ pub fn program<S: Source, K: Sink>(
         → ¬ HasRisen (S.faults source.old) (S.faults source.new) → ¬ HasRisen (K.faults sink.old) (K.faults sink.new)
         → (result ≡ Status.Done) ⊎ (result ≡ Status.NoMemory) }
 {
-    Status::from(run(alloc, words, source, sink, note))
+    status_from(run(alloc, words, source, sink, note))
 }
 
 /// The steps of the program, each of which may stop it.

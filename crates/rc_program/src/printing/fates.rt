@@ -5,7 +5,7 @@ ghost use Rattle.rc_program.specs.FunctionLines.{fate_text, scope_fate_text, fat
 
 use crate::printing::page::Page;
 use rc_names::ScopeId;
-use rc_pipe::{Fate, ScopeFate};
+use rc_tree::{Fate, ScopeFate};
 use std::alloc::AllocError;
 
 /// A line for each scope, behind so many spaces.

@@ -10,8 +10,7 @@ use crate::printing::statement::write_block;
 use crate::printing::text::{write_bool, write_json, write_span};
 use rc_hir::ParamPattern;
 use rc_names::{List, Text};
-use rc_pipe::ScopeFate;
-use rc_tree::ReactiveFunction;
+use rc_tree::{ReactiveFunction, ScopeFate};
 use std::alloc::{AllocError, Global};
 
 /// The printed lines of a function and of the fates of its scopes. The only error is want of memory.

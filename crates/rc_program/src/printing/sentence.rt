@@ -60,7 +60,8 @@ fn rule_sentence(rule: Rule) -> &'static str {
         Rule::KeyDiffers => " has another id than its key",
         Rule::UnsetId => " has a row or a terminal with the id 0, which means unset",
         Rule::Twice => " is named at least twice",
-        Rule::BreakTarget => " breaks to a block that no statement around it lets it name",
+        Rule::BreakTarget =>
+            " breaks to a block that no statement around it lets it name, or branches to one that a jump can name",
         Rule::ContinueTarget => " continues to a block with which no loop around it begins a turn",
         Rule::CaseLabel => " jumps to the block of a case",
         Rule::ScopeBreak => " breaks to the fallthrough of a scope",
@@ -72,7 +73,8 @@ fn rule_sentence(rule: Rule) -> &'static str {
         Rule::ValueEnd => " ends a value otherwise than the parts around the value ask",
         Rule::NotValue => " must give a value, and none can end in its terminal",
         Rule::Tested => " tests another declaration than that of the value",
-        Rule::LoudArm => " begins an arm that must be silent and isn't",
+        Rule::LoudArm =>
+            " begins an arm that has a row with an effect, or that doesn't go on by `Goto` alone",
         Rule::ShortArm => " has another alternate than the test of the outer optional",
         Rule::Handler => " has a `MaybeThrow` with another handler than the current one",
         Rule::ThrowInTry => " ends in `Throw` inside the block of a `Try`",

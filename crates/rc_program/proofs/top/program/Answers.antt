@@ -4,5 +4,5 @@ use Rattle.rc_program.proofs.top.program.Goals as goal
 
 pub returns-clause-exact : goal.returns-clause-exact
 returns-clause-exact g c = λ bytes due tree told deserved.
-    rw c.from.ensures (answers_due bytes _ _ _ _ due _ _ _ tree deserved (rw told at c.run.ensures.outcome)
+    rw c.status_from.ensures (answers_due bytes _ _ _ _ due _ _ _ tree deserved (rw told at c.run.ensures.outcome)
     (search rules) (search rules))

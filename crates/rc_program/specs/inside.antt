@@ -1,0 +1,2 @@
+-- How private functions say that they stop the program.
+pub mod Stop

@@ -1,0 +1,49 @@
+-- What holds where a step of the program stops it: the status of the reason, and the facts of the status.
+use Rattle.std.specs.Prelude.{ℕ, List, Option, Result, Ok, Err, ⊤}
+use Rattle.rc_doc.specs.declared.document.Doc.{Doc}
+use Rattle.rc_program.specs.declared.stop.Stop.{Stop}
+use Rattle.rc_program.specs.declared.stop.Stop.TheVariants as stops
+use Rattle.rc_program.specs.declared.status.Status.{Status}
+use Rattle.rc_program.specs.declared.status.Status.TheVariants.{Usage, NotJson, NotDoc, ReadFault, WriteFault}
+use Rattle.rc_program.specs.declared.status.Status.TheVariants.{TooLarge, NoMemory}
+use Rattle.rc_program.specs.Device.{IsReadToEnd}
+use Rattle.rc_program.specs.DueStatus.{IsDue}
+use Rattle.rc_program.specs.Status.{HasLoaded, HasReadDue, HasTakenSome, HasTakenTooMany}
+
+-- the status of a program that stopped
+abbrev pub status_of : Stop → Status
+status_of stops.Usage = Usage
+status_of stops.NotJson = NotJson
+status_of stops.NotDoc = NotDoc
+status_of stops.ReadFault = ReadFault
+status_of stops.WriteFault = WriteFault
+status_of stops.TooLarge = TooLarge
+status_of stops.NoMemory = NoMemory
+
+-- the status of a program that stopped, or that came to its end with this status
+abbrev pub status_from : Result Status Stop → Status
+status_from (Ok status) = status
+status_from (Err stop) = status_of stop
+
+-- a step over these bytes stopped with the status that is due for them, or ran out of memory
+abbrev pub IsStopFor : List ℕ → Stop → Type 0
+IsStopFor bytes stops.NoMemory = ⊤
+IsStopFor bytes stop = IsDue bytes (status_of stop)
+
+-- Reading to the end gave these bytes, or stopped for this reason.
+abbrev pub IsReadOrStop : {X : Type 0} → (X → List ℕ) → Option (List ℕ) → Option (List ℕ) → Result X Stop → Type 0
+IsReadOrStop bytes_of left left' (Ok read_bytes) = IsReadToEnd left left' (bytes_of read_bytes)
+IsReadOrStop bytes_of left left' (Err stops.TooLarge) = HasTakenTooMany left left'
+IsReadOrStop bytes_of left left' (Err stops.ReadFault) = HasTakenSome left left'
+IsReadOrStop bytes_of left left' (Err stops.NoMemory) = ⊤
+IsReadOrStop bytes_of left left' (Err _) = ⊥
+
+-- This document was loaded, or loading stopped for this reason.
+abbrev pub IsLoadOrStop : Option (List ℕ) → Option (List ℕ) → Result Doc Stop → Type 0
+IsLoadOrStop left left' (Ok doc) = HasLoaded left left' doc
+IsLoadOrStop left left' (Err stops.NotJson) = HasReadDue left left' NotJson
+IsLoadOrStop left left' (Err stops.NotDoc) = HasReadDue left left' NotDoc
+IsLoadOrStop left left' (Err stops.TooLarge) = HasTakenTooMany left left'
+IsLoadOrStop left left' (Err stops.ReadFault) = HasTakenSome left left'
+IsLoadOrStop left left' (Err stops.NoMemory) = ⊤
+IsLoadOrStop left left' (Err _) = ⊥
