@@ -93,7 +93,7 @@ def one_function(count=10_000, loads=False):
 
 
 def loaded_context():
-    return one_function(loads=True)
+    return one_function(3_000, loads=True)
 
 
 def function_of_scopes(count=10_000):

@@ -26,6 +26,7 @@ use Rattle.rc_runs.specs.Grammar as grammar
 use Rattle.rc_runs.specs.Completion.{Completion, Normal, Ended, leaves, caught}
 use Rattle.rc_runs.specs.BodyRun.{RunsList, RunsAfter}
 use Rattle.rc_runs.specs.BodyRun as body
+use Rattle.rc_runs.proofs.SuccessorsLemmas.{fails_there}
 use Rattle.rc_runs.proofs.GraphLemmas.{usable_block-at, ends_unreachable-at}
 use Rattle.rc_runs.proofs.SetIds.{usable_block-set}
 use Rattle.rc_runs.proofs.FramesLemmas.{Fits, fits_inside, Aims, Aims-leaves, leaving, falls_to-next, caught-ended}
@@ -84,14 +85,22 @@ module _ {hir : HirFunction} {env : Environment} where
   elsewhere {context} {next} {outcome = outcome} l after =
       redirect after (λ key aim. Aims-leaves context next outcome key l aim) (λ end e. e)
 
+  -- the completion of a statement, from that of its parts
+  pub after_statement : {inner context : ListContext} {run : List Event → End → Type 0} {events : List Event}
+      {outcome outer : Completion} (whole : Completion → Completion) → ((end : End) → whole (Ended end) ≡ Ended end)
+      → After hir env inner run events outcome →
+      ((key : BlockId) → Aims inner outcome key → Aims context (whole outcome) key)
+      → outer ≡ whole outcome → After hir env context run events outer
+  after_statement {context = context} whole ended after aims q =
+      redirect after (λ key aim. subst (λ o. Aims context o key) (sym q) (aims key aim))
+      (λ end e. q ∙ ap whole e ∙ ended end)
+
   -- a completion of a statement's parts, after the statement's label
   pub behind_label : {inner context : ListContext} {run : List Event → End → Type 0} {events : List Event}
       {outcome outer : Completion} (label : Option ReactiveLabel) → After hir env inner run events outcome →
       ((key : BlockId) → Aims inner outcome key → Aims context (caught label outcome) key)
       → outer ≡ caught label outcome → After hir env context run events outer
-  behind_label {context = context} label after aims q =
-      redirect after (λ key aim. subst (λ o. Aims context o key) (sym q) (aims key aim))
-      (λ end e. q ∙ ap (caught label) e ∙ caught-ended label end)
+  behind_label label after aims q = after_statement (caught label) (caught-ended label) after aims q
 
   mutual
     -- a list that a block begins
@@ -118,7 +127,7 @@ module _ {hir : HirFunction} {env : Environment} where
         → After hir env context (GraphRun hir env rows terminal) events outcome
     from_rows (row ∷ rows) set d fits live moves alive carries = carries fits _ _ _ (row_then set d) live moves alive
     from_rows [] set (grammar.may_throw {continuation = key} current further d) fits live moves alive carries =
-        ahead [] (at_block d fits (λ n. moves [] key graph.goes_on) alive carries) refl
+        ahead [] (at_block d fits (λ n. fails_there (ends_unreachable hir) graph.goes_on moves) alive carries) refl
         (λ events end run. graph.moved graph.goes_on run refl)
     from_rows [] set d fits live moves alive carries = carries fits _ _ _ (rows_done set d refl) live moves alive
 
@@ -129,7 +138,7 @@ module _ {hir : HirFunction} {env : Environment} where
       → AllAlive hir used → Carries hir env context part events outcome
       → After hir env context (GraphRun hir env [] terminal) (step ++ events) outcome
   in_part {step = step} {key} move d fits moves alive carries =
-      ahead step (at_block d fits (λ n. moves step key move) alive carries) refl
+      ahead step (at_block d fits (λ n. fails_there (ends_unreachable hir) move moves) alive carries) refl
       (λ events end r. graph.moved move r refl)
 
   -- a part of a statement that has a label if its fallthrough is opened
@@ -142,8 +151,8 @@ module _ {hir : HirFunction} {env : Environment} where
       → Carries hir env (inside opened (frame_kinds.Statement fallthrough) context) part events inner
       → After hir env (leaving opened fallthrough context) (GraphRun hir env [] terminal) (step ++ events) outer
   labeled_part {label = label} {context} {inner = inner} opened f fits l q move d moves alive carries =
-      behind_label label (in_part move d (fits_inside opened (frame_kinds.Statement f) tt fits) moves alive carries)
-      (aims_labeled opened (frame_kinds.Statement f) context label refl refl l inner) q
+      behind_label label (in_part move d (fits_inside opened (frame_kinds.Statement f) refl tt fits) moves alive carries)
+      (aims_labeled opened (frame_kinds.Statement f) f context label refl refl refl l inner) q
 
   -- the part of a scope
   pub scope_part : {terminal : Terminal} {key : BlockId} {context : ListContext} {part : Statements}
@@ -154,7 +163,7 @@ module _ {hir : HirFunction} {env : Environment} where
       → Carries hir env (inside opened (frame_kinds.Scope fallthrough) context) part events outcome
       → After hir env (leaving opened fallthrough context) (GraphRun hir env [] terminal) events outcome
   scope_part {context = context} {outcome = outcome} opened f fits move d moves alive carries =
-      behind_label None (in_part move d (fits_inside opened (frame_kinds.Scope f) tt fits) moves alive carries)
+      behind_label None (in_part move d (fits_inside opened (frame_kinds.Scope f) refl tt fits) moves alive carries)
       (aims_scope opened f context outcome) refl
 
   -- an edge straight to the fallthrough
@@ -163,7 +172,7 @@ module _ {hir : HirFunction} {env : Environment} where
       → falls_to opened fallthrough context.next ≡ true → HasNoUnreachableSuccessor hir terminal
       → After hir env (leaving opened fallthrough context) (GraphRun hir env [] terminal) step Normal
   past_part {step = step} {key} opened f context move same falls moves =
-      leads {key = key} (falls_to-next opened f context.next falls ∙ ap Some (sym same)) (moves step key move)
+      leads {key = key} (falls_to-next opened f context.next falls ∙ ap Some (sym same)) (fails_there (ends_unreachable hir) move moves)
       (λ more end r. graph.moved move r refl)
 
   -- no statements follow

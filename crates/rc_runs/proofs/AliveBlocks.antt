@@ -1,12 +1,11 @@
 -- No used block leads to one that ends in `Unreachable`: what that says of a part's blocks, and of a loop's.
-use Rattle.std.proofs.Common.{◌≡◌, Bool, true, false, List, [], ◌∷◌, ◌++◌, Option, Some, refl, sym, subst, arith}
+use Rattle.std.proofs.Common.{◌≡◌, Bool, false, List, [], ◌∷◌, ◌++◌, Option, Some, refl, sym, subst, arith}
 use Rattle.std.proofs.Common.{Contains}
 use Rattle.std.proofs.lemmas.List.Elements.{Contains-append_left, Contains-append_right}
 use Rattle.rc_names.specs.Numbers.{BlockId}
 use Rattle.rc_hir.specs.Model.{Terminal, HirFunction, Environment}
-use Rattle.rc_runs.specs.Event.{Arm}
 use Rattle.rc_runs.specs.Graph.{Block, block_at, ends_unreachable}
-use Rattle.rc_runs.specs.GraphRun.{branch_true, branch_false, goes_to, HasNoUnreachableSuccessor}
+use Rattle.rc_runs.specs.GraphRun.{then_arm, else_arm, goes_to, HasNoUnreachableSuccessor}
 use Rattle.rc_runs.specs.PlainTree.{Value}
 use Rattle.rc_runs.specs.ListContext.{ValueContext}
 use Rattle.rc_runs.specs.ValueEnd.{ValueEnd, GoesTo}
@@ -14,6 +13,7 @@ use Rattle.rc_runs.specs.LoopValues.{SpellsTest}
 use Rattle.rc_runs.specs.ValueGrammar.{Nested, SpellsValue, named_test, last_block, last_throw, may_throw, value_row}
 use Rattle.rc_runs.specs.ValueGrammar.{SpellsNested, sequence_value, ternary_value, logical_value, optional_value}
 use Rattle.rc_runs.proofs.GraphLemmas.{usable_block-at}
+use Rattle.rc_runs.proofs.SuccessorsLemmas.{fails_there}
 
 module _ (hir : HirFunction) where
   -- none of these blocks leads to one that ends in `Unreachable`
@@ -60,7 +60,8 @@ module _ (hir : HirFunction) where
       {used : List BlockId} → SpellsValue hir env key context value end used → GoesTo next end → AllAlive used
       → ends_unreachable hir next ≡ false
   going_alive {next = next} spelled goes alive =
-      subst (HasNoUnreachableSuccessor hir) goes.goes (value_alive spelled alive) [] next goes_to
+      fails_there (ends_unreachable hir) goes_to
+      (subst (HasNoUnreachableSuccessor hir) goes.goes (value_alive spelled alive))
 
   -- the fallthrough of a value terminal doesn't end in `Unreachable`
   pub nested_alive : {env : Environment} {handler : Option BlockId} {terminal : Terminal} {nested : Nested}
@@ -82,4 +83,4 @@ module _ (hir : HirFunction) where
       → AllAlive used → (ends_unreachable hir consequent ≡ false) × (ends_unreachable hir alternate ≡ false)
   test_alive {consequent = consequent} {alternate} spelled alive =
       let moves = subst (HasNoUnreachableSuccessor hir) spelled.chooses.chooses (value_alive spelled.spelled alive) in
-      (moves (Arm true ∷ []) consequent branch_true, moves (Arm false ∷ []) alternate branch_false)
+      (fails_there (ends_unreachable hir) then_arm moves, fails_there (ends_unreachable hir) else_arm moves)

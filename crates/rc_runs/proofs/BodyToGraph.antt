@@ -31,8 +31,10 @@ use Rattle.rc_runs.specs.BodyRun.{Spot, RunsList, RunsStatement, RunsLoop, RunsC
 use Rattle.rc_runs.specs.BodyRun as body
 use Rattle.rc_runs.specs.ValueRun.{unset_row, set_row}
 use Rattle.rc_names.proofs.NumbersLemmas.{same_id-eq}
-use Rattle.rc_runs.proofs.FramesLemmas.{Fits, fits_body, fits_inside, leaving, loop_label, caught-normal, falls_to-next}
+use Rattle.rc_runs.proofs.FramesLemmas.{Fits, fits_body, fits_inside, fits_marked, leaving, loop_label, caught-normal, falls_to-next}
 use Rattle.rc_runs.proofs.JumpsLemmas.{falls_off, break_jumps, continue_jumps}
+use Rattle.rc_runs.specs.EarlyReturns.{NoEarlyReturnSet}
+use Rattle.rc_runs.proofs.ReturningLemmas.{statements_run}
 use Rattle.rc_runs.proofs.TreeOfLemmas.{block_of-injective}
 use Rattle.rc_runs.proofs.RowsLemmas.{row_then, rows_done}
 use Rattle.rc_runs.proofs.NoThrow.{no_throw_front, no_throw_behind}
@@ -123,17 +125,17 @@ module _ (hir : HirFunction) (env : Environment) where
     branch_to_graph (body.took_arm x q) no_throw fits (grammar.branch_arms {part_used = u} {other_used = v} d e w) moves
         alive =
         behind_label None
-        (in_part graph.branch_true d fits moves (alive_front hir u v w alive) (list_to_graph x no_throw))
+        (in_part graph.then_arm d fits moves (alive_front hir u v w alive) (list_to_graph x no_throw))
         (λ key aim. aim) q
     branch_to_graph (body.took_other (body.present x) q) no_throw fits
         (grammar.branch_arms {part_used = u} {other_used = v} d e w) moves alive =
         behind_label None
-        (in_part graph.branch_false e fits moves (alive_behind hir u v w alive) (list_to_graph x no_throw))
+        (in_part graph.else_arm e fits moves (alive_behind hir u v w alive) (list_to_graph x no_throw))
         (λ key aim. aim) q
     branch_to_graph {id = id} (body.took_arm x q) no_throw fits (grammar.branch_break t j d) moves alive =
-        behind_label None (jump_to_graph graph.branch_true moves (break_jumps _ _ id _ fits j) x) (λ key aim. aim) q
+        behind_label None (jump_to_graph graph.then_arm moves (break_jumps _ _ id _ fits j) x) (λ key aim. aim) q
     branch_to_graph (body.took_other (body.present x) q) no_throw fits (grammar.branch_break t j d) moves alive =
-        behind_label None (in_part graph.branch_false d fits moves alive (list_to_graph x no_throw)) (λ key aim. aim) q
+        behind_label None (in_part graph.else_arm d fits moves alive (list_to_graph x no_throw)) (λ key aim. aim) q
     branch_to_graph x no_throw fits (grammar.and_rest d r w) moves alive = elim d [ ]
 
     statement_to_graph : {terminal : Terminal} {context : ListContext} {opened : Bool} {fallthrough : BlockId}
@@ -158,23 +160,22 @@ module _ (hir : HirFunction) (env : Environment) where
         (grammar.if_else {part_used = u} {other_used = v} i l same d e w) moves alive =
         labeled_part _ _ fits l q graph.else_arm e moves (alive_behind hir u v w alive) (list_to_graph x no_throw)
     statement_to_graph (body.in_label x q) no_throw fits set (grammar.label_statement i l d) moves alive =
-        labeled_part _ _ fits l q graph.into_label d moves alive (list_to_graph x no_throw)
+        labeled_part _ _ fits l q graph.goes_to d moves alive (list_to_graph x no_throw)
     statement_to_graph (body.in_try x safe q) no_throw fits set
         (grammar.try_statement {part_used = u} {other_used = v} i l d e w) moves alive =
-        protected_part _ _ _ fits l q graph.into_try d moves (alive_front hir u v w alive) (list_to_graph x no_throw)
+        protected_part _ _ _ fits l q graph.goes_to d moves (alive_front hir u v w alive) (list_to_graph x no_throw)
     statement_to_graph (body.in_handler {first = a} {second = b} x reach y o q) no_throw fits set d moves alive =
         let thrown : true ≡ false = no_throw_behind a (Threw ∷ b) q no_throw in absurd (let bad : ⊥ = cc in bad)
     statement_to_graph (body.in_scope x) no_throw fits set (grammar.scope_statement i d) moves alive =
-        scope_part _ _ fits graph.into_scope d moves alive (list_to_graph x no_throw)
+        scope_part _ _ fits graph.goes_to d moves alive (list_to_graph x no_throw)
     statement_to_graph (body.in_pruned_scope x) no_throw fits set (grammar.pruned_scope_statement i d) moves alive =
-        scope_part _ _ fits graph.into_pruned_scope d moves alive (list_to_graph x no_throw)
-    statement_to_graph (body.in_case x q) no_throw fits set
-        (grammar.switch_statement {fallthrough = f} {context = context} {opened = opened} i l one tests keep reach d)
-        moves alive =
+        scope_part _ _ fits graph.goes_to d moves alive (list_to_graph x no_throw)
+    statement_to_graph (body.in_case x q) no_throw fits set (grammar.switch_statement {cases = cases} {fallthrough = f}
+        {context = context} {opened = opened} i l one tests keep reach d) moves alive =
         let is_target = opened || is_jump_target context.frames f in
         chosen_part is_target keep opened context l q
-        (chosen_to_graph x no_throw d (fits_inside opened (frame_kinds.Switch f) tt fits)
-        (kept_live is_target keep hir moves) alive)
+        (chosen_to_graph x no_throw d (fits_marked (fits_inside opened (frame_kinds.Switch f) refl tt fits))
+        (kept_live is_target cases f keep hir moves) alive)
     statement_to_graph (body.past_cases none) no_throw fits set
         (grammar.switch_statement {fallthrough = f} {context = context} {opened = opened} i l one tests keep reach d)
         moves alive =
@@ -182,24 +183,24 @@ module _ (hir : HirFunction) (env : Environment) where
     statement_to_graph (body.in_while x) no_throw fits set (grammar.while_loop live d) moves alive =
         let k = looped d fits alive in
         ahead [] (loop_to_graph x no_throw (with_before None (before_none k.before) k)) refl
-        (λ events end run. graph.moved graph.into_while run refl)
+        (λ events end run. graph.moved graph.goes_to run refl)
     statement_to_graph (body.in_do_while x) no_throw fits set (grammar.do_while_loop d) moves alive =
         let k = looped d fits alive in
         ahead [] (loop_to_graph x no_throw (with_before None (before_none k.before) k)) refl
-        (λ events end run. graph.moved graph.into_do_while run refl)
+        (λ events end run. graph.moved graph.goes_to run refl)
     statement_to_graph (body.in_init v) no_throw fits set (grammar.for_loop init d w) moves alive =
-        ends (graph.moved graph.into_for (going_stops init v) refl)
+        ends (graph.moved graph.goes_to (going_stops init v) refl)
     statement_to_graph (body.past_init {first = a} {second = b} v past x q) no_throw fits set
         (grammar.for_loop {init_used = u} {turns_used = t} init d w) moves alive =
         ahead a (loop_to_graph x (no_throw_behind a b q no_throw) (looped d fits (alive_behind hir u t w alive))) q
-        (λ events end run. graph.moved graph.into_for (going_on init v past run) refl)
+        (λ events end run. graph.moved graph.goes_to (going_on init v past run) refl)
     statement_to_graph (body.in_for_of x) no_throw fits set (grammar.for_of_loop {init_value = init} e d) moves alive =
         ahead [] (loop_to_graph x no_throw (with_before (Some init) e (looped d fits alive))) refl
-        (λ events end run. graph.moved graph.into_for_of run refl)
+        (λ events end run. graph.moved graph.goes_to run refl)
     statement_to_graph (body.in_for_in x) no_throw fits set (grammar.for_in_loop d) moves alive =
         let k = looped d fits alive in
         ahead [] (loop_to_graph x no_throw (with_before None (before_none k.before) k)) refl
-        (λ events end run. graph.moved graph.into_for_in run refl)
+        (λ events end run. graph.moved graph.goes_to run refl)
     statement_to_graph (body.row (unset_row u) o) no_throw fits set (grammar.value_statement i falls nested arm w) moves
         alive =
         let same = ap is_unset (nested_id nested) in absurd (let bad : ⊥ = cc in bad)
@@ -304,11 +305,11 @@ body_to_graph hir env statements spelled events end no_throw x =
 
 -- each run of a function that a graph spells is a run of the graph, if it has no throw
 pub function_to_graph : (hir : HirFunction) (env : Environment) (func : ReactiveFunction) → Spells hir env func
-    → (events : List Event) (end : End) → has_throw events ≡ false
+    → NoEarlyReturnSet env → (events : List Event) (end : End) → has_throw events ≡ false
     → IsBodyRun func env events end → IsGraphRun hir env events end
-function_to_graph hir env func spelled events end no_throw x =
+function_to_graph hir env func spelled none events end no_throw x =
     let body : func.body ≡ block_of spelled.statements = ap (λ (f : ReactiveFunction). f.body) spelled.whole in
     let same : x.statements ≡ spelled.statements = block_of-injective x.statements spelled.statements
     (sym x.body ∙ body) in
     body_to_graph hir env spelled.statements spelled.body events end no_throw
-    (subst (λ s. RunsList env s events (Ended end)) same x.run)
+    (subst (λ s. RunsList env s events (Ended end)) same (statements_run env none x))

@@ -8,25 +8,26 @@ use Rattle.std.specs.List.{list_any}
 use Rattle.rc_names.specs.Numbers.{BlockId, EvaluationOrder}
 use Rattle.rc_names.specs.declared.span.Span.{Span}
 use Rattle.rc_hir.specs.Model.{Place, Case, HirFunction, Environment}
-use Rattle.rc_hir.specs.Successors.{is_default}
+use Rattle.rc_hir.specs.Successors.{is_default, ByCase, blocks}
 use Rattle.rc_hir.specs.declared.terminal.Terminal.TheVariants as terminals
 use Rattle.rc_tree.specs.Model.{ReactiveLabel}
 use Rattle.rc_runs.specs.declared.frames.Frame.TheVariants as frame_kinds
 use Rattle.rc_runs.specs.Event.{Event, Chose, End}
 use Rattle.rc_runs.specs.Graph.{ends_unreachable}
-use Rattle.rc_runs.specs.GraphRun.{InCases, Edge, HasNoUnreachableSuccessor, GraphRun, GraphRunAt}
+use Rattle.rc_runs.specs.GraphRun.{InCases, Move, HasNoUnreachableSuccessor, GraphRun, GraphRunAt}
 use Rattle.rc_runs.specs.GraphRun as graph
 use Rattle.rc_runs.specs.PlainTree.{Statements, Cases}
-use Rattle.rc_runs.specs.ListContext.{ListContext, inside}
+use Rattle.rc_runs.specs.ListContext.{ListContext, inside, marked}
 use Rattle.rc_runs.specs.SwitchCases.{is_kept, kept_cases, has_one_default, case_context}
 use Rattle.rc_runs.specs.Fallthrough.{label_of, falls_to}
 use Rattle.rc_runs.specs.Grammar.{SpellsList, SpellsCases}
-use Rattle.rc_runs.specs.Completion.{Completion, Normal, leaves, caught}
+use Rattle.rc_runs.specs.Completion.{Completion, Normal, leaves, caught_unlabeled}
 use Rattle.rc_runs.specs.BodyRun.{has_default}
-use Rattle.rc_runs.proofs.FramesLemmas.{Fits, fits_cases, leaving, aims_labeled, aims_cases}
+use Rattle.rc_runs.proofs.SuccessorsLemmas.{fails_there}
+use Rattle.rc_runs.proofs.FramesLemmas.{Fits, fits_cases, leaving, aims_switch, aims_cases, caught_unlabeled-ended}
 use Rattle.rc_runs.proofs.KeptCases.{in_any, same_default, is_there, leads_on, kept_or_past}
 use Rattle.rc_runs.proofs.AliveBlocks.{AllAlive}
-use Rattle.rc_runs.proofs.AfterParts.{After, leads, Carries, ahead, redirect, behind_label, at_block, past_part}
+use Rattle.rc_runs.proofs.AfterParts.{After, leads, Carries, ahead, redirect, after_statement, at_block, past_part}
 
 -- a kept case is a case of the switch
 kept_in_cases : (is_target : Bool) (fallthrough : BlockId) (cases : List Case) {case : Case}
@@ -58,34 +59,31 @@ some_default (case ∷ cases) some = go (is_default case) refl some (some_defaul
         let further = behind some in
         record { case = further.case; among = graph.later further.among; default = further.default }
 
--- an edge by which the graph comes to the fallthrough with the event that no case is chosen
-record PastEdge (test : Place) (cases : List Case) (fallthrough : BlockId) (id : EvaluationOrder) (span : Option Span) :
-    Type 0 where
+-- a move by which the graph comes to the fallthrough with the event that no case is chosen
+record PastMove (cases : List Case) (fallthrough : BlockId) : Type 0 where
   key : BlockId
-  edge : Edge (terminals.Switch test cases fallthrough id span) (Chose None ∷ []) key
+  move : Move (ByCase cases fallthrough) (Chose None ∷ []) key
   is_past : key ≡ fallthrough
 
-past_edge : {test : Place} {cases kept : List Case} {fallthrough : BlockId} {id : EvaluationOrder}
-    {span : Option Span} (is_target : Bool) → has_one_default cases ≡ true
-    → kept ≡ kept_cases is_target fallthrough cases → list_any is_default kept ≡ false
-    → PastEdge test cases fallthrough id span
-past_edge {test} {cases} {fallthrough = f} {id} {span} is_target one keep none = go (list_any is_default cases) refl
+past_move : {cases kept : List Case} {fallthrough : BlockId} (is_target : Bool) → has_one_default cases ≡ true
+    → kept ≡ kept_cases is_target fallthrough cases → list_any is_default kept ≡ false → PastMove cases fallthrough
+past_move {cases} {fallthrough = f} is_target one keep none = go (list_any is_default cases) refl
   where
     left_out : list_any is_default (kept_cases is_target f cases) ≡ false
     left_out = sym (ap (list_any is_default) keep) ∙ none
 
-    by_default : SomeDefault cases → PastEdge test cases f id span
+    by_default : SomeDefault cases → PastMove cases f
     by_default d = elim (kept_or_past is_target f d.case cases one d.among) [
       | is_there among ↦ absurd (let bad : ⊥ = cc (in_any among d.default, left_out) in bad)
       | leads_on no_test past none ↦ record {
         key = d.case.block;
-        edge = graph.to_case d.among (sym no_test) refl;
+        move = graph.to_case d.among (sym no_test) refl;
         is_past = past;
       }
     ]
 
-    go : (some : Bool) → list_any is_default cases ≡ some → PastEdge test cases f id span
-    go false q = record { key = f; edge = graph.past_cases q; is_past = refl }
+    go : (some : Bool) → list_any is_default cases ≡ some → PastMove cases f
+    go false q = record { key = f; move = graph.past_cases q; is_past = refl }
     go true q = by_default (some_default cases q)
 
 -- a chosen case, and how runs of the graph go on after its block
@@ -96,35 +94,29 @@ pub record Chosen (hir : HirFunction) (env : Environment) (context : ListContext
   pub test : chosen ≡ case.test
   pub after : After hir env context (GraphRunAt hir env case.block) events outcome
 
-module _ {test : Place} {cases kept : List Case} {fallthrough : BlockId} {id : EvaluationOrder} {span : Option Span}
-    (is_target : Bool) (keep : kept ≡ kept_cases is_target fallthrough cases) where
-  -- the edge to a kept case
-  kept_edge : {case : Case} {chosen : Option Place} → InCases case kept → chosen ≡ case.test
-      → Edge (terminals.Switch test cases fallthrough id span) (Chose chosen ∷ []) case.block
-  kept_edge {case} among same =
+module _ {cases kept : List Case} {fallthrough : BlockId} (is_target : Bool)
+    (keep : kept ≡ kept_cases is_target fallthrough cases) where
+  -- the move to a kept case
+  kept_move : {case : Case} {chosen : Option Place} → InCases case kept → chosen ≡ case.test
+      → Move (ByCase cases fallthrough) (Chose chosen ∷ []) case.block
+  kept_move {case} among same =
       graph.to_case (kept_in_cases is_target fallthrough cases (subst (InCases case) keep among)) same refl
-
-  -- no kept case ends in `Unreachable`
-  pub kept_live : (hir : HirFunction)
-      → HasNoUnreachableSuccessor hir (terminals.Switch test cases fallthrough id span)
-      → (case : Case) → InCases case kept → ends_unreachable hir case.block ≡ false
-  kept_live hir moves case among = moves (Chose case.test ∷ []) case.block (kept_edge among refl)
 
   -- a chosen case, after the label of the switch
   pub chosen_part : {hir : HirFunction} {env : Environment} {label : Option ReactiveLabel} {chosen : Option Place}
-      {events : List Event} {inner outer : Completion} (opened : Bool) (context : ListContext)
-      → label ≡ label_of opened fallthrough → outer ≡ caught label inner
-      → Chosen hir env (inside opened (frame_kinds.Switch fallthrough) context) kept chosen events inner
+      {test : Place} {id : EvaluationOrder} {span : Option Span} {events : List Event} {inner outer : Completion} (opened : Bool) (context : ListContext)
+      → label ≡ label_of opened fallthrough → outer ≡ caught_unlabeled label inner
+      → Chosen hir env (marked (inside opened (frame_kinds.Switch fallthrough) context)) kept chosen events inner
       → After hir env (leaving opened fallthrough context)
       (GraphRun hir env [] (terminals.Switch test cases fallthrough id span)) (Chose chosen ∷ events) outer
   chosen_part {label = label} {chosen} {inner = inner} opened context l q c =
-      behind_label label
-      (ahead (Chose chosen ∷ []) c.after refl (λ events end run. graph.moved (kept_edge c.among c.test) run refl))
-      (aims_labeled opened (frame_kinds.Switch fallthrough) context label refl refl l inner) q
+      after_statement (caught_unlabeled label) (caught_unlabeled-ended label)
+      (ahead (Chose chosen ∷ []) c.after refl (λ events end run. graph.moved (kept_move c.among c.test) run refl))
+      (aims_switch opened fallthrough context label l inner) q
 
   -- no kept case is chosen
   pub past_kept : {hir : HirFunction} {env : Environment} {around : ListContext} {parts : Cases} {used : List BlockId}
-      (opened : Bool) (context : ListContext) → has_one_default cases ≡ true
+      {test : Place} {id : EvaluationOrder} {span : Option Span} (opened : Bool) (context : ListContext) → has_one_default cases ≡ true
       → list_any is_default kept || falls_to opened fallthrough context.next ≡ true
       → SpellsCases hir env kept around parts used → has_default parts ≡ false
       → HasNoUnreachableSuccessor hir (terminals.Switch test cases fallthrough id span)
@@ -133,8 +125,17 @@ module _ {test : Place} {cases kept : List Case} {fallthrough : BlockId} {id : E
   past_kept opened context one reach d none moves =
       let no_default = same_default d ∙ none in
       let falls = sym (ap (λ some. some || falls_to opened fallthrough context.next) no_default) ∙ reach in
-      let past : PastEdge test cases fallthrough id span = past_edge is_target one keep no_default in
-      past_part opened fallthrough context past.edge past.is_past falls moves
+      let past : PastMove cases fallthrough = past_move is_target one keep no_default in
+      past_part opened fallthrough context past.move past.is_past falls moves
+
+-- no kept case ends in `Unreachable`
+pub kept_live : {kept : List Case} (is_target : Bool) (cases : List Case) (fallthrough : BlockId)
+    → kept ≡ kept_cases is_target fallthrough cases → (hir : HirFunction)
+    → list_any (ends_unreachable hir) (blocks (ByCase cases fallthrough)) ≡ false → (case : Case) → InCases case kept
+    → ends_unreachable hir case.block ≡ false
+kept_live is_target cases fallthrough keep hir moves case among =
+    fails_there (ends_unreachable hir) (kept_move {cases = cases} {fallthrough = fallthrough} is_target keep among refl)
+    moves
 
 module _ {hir : HirFunction} {env : Environment} where
   -- the chosen case is further on

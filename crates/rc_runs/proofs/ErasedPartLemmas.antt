@@ -5,7 +5,7 @@ use Rattle.rc_names.specs.Numbers.{BlockId, EvaluationOrder}
 use Rattle.rc_names.specs.declared.span.Span.{Span}
 use Rattle.rc_hir.specs.Model.{InstructionValue, LogicalOperator, Place}
 use Rattle.rc_tree.specs.Unrolled.{UnrolledStatement, UnrolledTerminal}
-use Rattle.rc_tree.specs.inside.RewriteKeeps.{block}
+use Rattle.rc_tree.proofs.Measures.{block}
 use Rattle.rc_tree.specs.Model.{ReactiveTerminalTargetKind, ReactiveInstruction, ReactiveScopeBlock}
 use Rattle.rc_tree.specs.Model.{PrunedReactiveScopeBlock, ReactiveBlock, ReactiveTerminalStatement}
 use Rattle.rc_tree.specs.declared.value.ReactiveValue.{ReactiveValue, roll-ReactiveValue}

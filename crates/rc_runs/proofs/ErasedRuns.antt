@@ -13,7 +13,9 @@ use Rattle.rc_runs.specs.PlainTree.{ScopeStatement, PrunedScopeStatement, TreeTe
 use Rattle.rc_runs.specs.PlainTree.{Switch, DoWhile, While, For, ForOf, ForIn, If, Label, Try, Alternate, Absent}
 use Rattle.rc_runs.specs.PlainTree.{Present, Cases, NoCases, Case}
 use Rattle.rc_runs.specs.Completion.{Ended}
+use Rattle.rc_runs.specs.EarlyReturns.{NoEarlyReturnSet}
 use Rattle.rc_runs.specs.BodyRun.{RunsList, row, IsBodyRun}
+use Rattle.rc_runs.proofs.ReturningLemmas.{body_run, statements_run}
 use Rattle.rc_runs.specs.Erase.{erased_block, erased}
 use Rattle.rc_runs.proofs.PlainLists.{alone, labeled}
 use Rattle.rc_runs.proofs.ErasedValueRuns.{value_there, value_back, row_there, row_back}
@@ -154,29 +156,18 @@ module _ (env : Environment) where
           case-keeps_runs env test _ body _ rest inside.1 later.1,
         )
 
-module _ (env : Environment) (events : List Event) (end : End) where
+module _ (env : Environment) (none : NoEarlyReturnSet env) (events : List Event) (end : End) where
   run_there : (func : ReactiveFunction) → IsBodyRun func env events end → IsBodyRun (erased func) env events end
-  run_there func run = record {
-    statements = erased_plain run.statements;
-    body = ap erased_block run.body ∙ sym (block-erased run.statements);
-    run = (erased_plain-runs env run.statements).0 events (Ended end) run.run;
-  }
+  run_there func run = body_run env none (ap erased_block run.body ∙ sym (block-erased run.statements))
+      ((erased_plain-runs env run.statements).0 events (Ended end) (statements_run env none run))
 
   run_back : (func : ReactiveFunction) → IsBodyRun (erased func) env events end → IsBodyRun func env events end
   run_back func run =
       let plain = every_block_is_plain func.body in
       let unique = block_of-injective (erased_plain plain.0) run.statements in
       let same = unique (block-erased plain.0 ∙ ap erased_block plain.1 ∙ run.body) in
-      record {
-        statements = plain.0;
-        body = sym plain.1;
-        run = (erased_plain-runs env plain.0).1 events (Ended end)
-            (subst (λ statements. RunsList env statements events (Ended end)) (sym same) run.run);
-      }
-
-  -- a body has the same runs with its scopes and without them
-  pub erased_runs : (func : ReactiveFunction) → IsBodyRun func env events end ↔ IsBodyRun (erased func) env events end
-  erased_runs func = (run_there func, run_back func)
+      body_run env none (sym plain.1) ((erased_plain-runs env plain.0).1 events (Ended end)
+      (subst (λ statements. RunsList env statements events (Ended end)) (sym same) (statements_run env none run)))
 
   -- bodies that are the same without their scopes have the same runs
   pub same_erased_same_runs : (func other : ReactiveFunction) → erased func ≡ erased other →

@@ -1,9 +1,10 @@
 -- Runs at the corners of the definitions, where no spelled tree leads.
-use Rattle.std.proofs.Common.{[], ◌∷◌, Option, None, Some, false, true, refl}
+use Rattle.std.proofs.Common.{◌≡◌, [], ◌∷◌, Option, None, Some, false, true, if◌then◌else◌, refl, ap}
 use Rattle.rc_names.specs.Numbers.{BlockId, EvaluationOrder, to_id}
 use Rattle.rc_names.specs.declared.span.Span.{Span}
 use Rattle.rc_hir.specs.Model.{Environment, HirFunction, Place}
 use Rattle.rc_hir.specs.declared.instruction.InstructionValue.TheVariants as kinds
+use Rattle.rc_hir.specs.declared.pattern.InstructionKind.TheVariants.{Reassign}
 use Rattle.rc_hir.specs.declared.terminal.Terminal.TheVariants as terminals
 use Rattle.rc_tree.specs.Model.{ReactiveLabel}
 use Rattle.rc_tree.specs.declared.kind.ReactiveTerminalTargetKind.TheVariants.{Implicit, Labeled, Unlabeled}
@@ -16,7 +17,8 @@ use Rattle.rc_runs.specs.Event.{Arm, Chose, Did, Open}
 use Rattle.rc_runs.specs.SimpleStatements.{unlabeled}
 use Rattle.rc_runs.specs.GraphRun.{GraphRun, IsGraphRun, arrives, moved, then_arm}
 use Rattle.rc_runs.specs.PlainTree.{Value, Base, Break, Continue, Switch, While, For, TerminalStatement, Present}
-use Rattle.rc_runs.specs.PlainTree.{NoCases, Case}
+use Rattle.rc_runs.specs.PlainTree.{NoCases, Case, Return, RowStatement, Statements, Cons}
+use Rattle.rc_runs.specs.Returning.{is_early_label, returning, returning_after, returning_statement, returning_terminal}
 use Rattle.rc_runs.specs.Silent.{is_silent_value}
 use Rattle.rc_runs.specs.ValueRun.{quiet_value, did_value}
 use Rattle.rc_runs.proofs.PlainLists.{labeled}
@@ -44,16 +46,23 @@ named block = Some (record { id = block; implicit = false })
 abbrev load : Place → Value
 load place = Base (kinds.LoadLocal place place.span)
 
--- an unlabeled break in a switch leaves the loop around it, as in `a: while (x) { switch (x) { default: break a } }`
+-- a labeled break in a switch leaves the loop around it, as in `a: while (x) { switch (x) { default: break a } }`
 break_past_switch : (env : Environment) (place : Place) (id : EvaluationOrder)
     → RunsStatement env (TerminalStatement (While (load place)
-    (unlabeled (Switch place (Case None (Present (unlabeled (Break (to_id 5) Unlabeled id))) NoCases) id)) id)
+    (unlabeled (Switch place (Case None (Present (unlabeled (Break (to_id 5) Labeled id))) NoCases) id)) id)
     (named (to_id 5))) (Arm true ∷ Chose None ∷ []) Normal
 unfolding is_silent_value
 break_past_switch env place id =
-    let case = chosen_here (leaves_case (present (and_then break_unlabeled (leaves_list refl) refl)) refl) in
+    let case = chosen_here (leaves_case (present (and_then (break_labeled refl) (leaves_list refl) refl)) refl) in
     let body = and_then (in_case case refl) (leaves_list refl) refl in
     in_while (test_holds (quiet_value refl) refl (leaves_loop body refl refl) refl)
+
+-- an unlabeled break in a switch leaves the switch alone, as in `while (x) { switch (x) { default: break } }`
+break_out_of_switch : (env : Environment) (place : Place) (id : EvaluationOrder)
+    → RunsStatement env (TerminalStatement (Switch place (Case None (Present (unlabeled (Break (to_id 5) Unlabeled id)))
+    NoCases) id) None) (Chose None ∷ []) Normal
+break_out_of_switch env place id =
+    in_case (chosen_here (leaves_case (present (and_then break_unlabeled (leaves_list refl) refl)) refl)) refl
 
 -- a labeled continue leaves the inner loop, and the outer one begins its next turn, as in
 -- `a: while (x) { b: while (x) { continue a } }`
@@ -78,3 +87,24 @@ continue_to_update env place id span =
     let body = and_then continue_implicit (goes_on nothing) refl in
     let again = past_before refl (did_value refl) refl (test_fails (quiet_value refl) refl refl) refl in
     past_init (quiet_value refl) refl (test_holds (quiet_value refl) refl (next_turn body refl again refl) refl) refl
+
+-- a store of the place into a variable that exists already, and what is after it
+abbrev stores : Place → Place → EvaluationOrder → Statements → Statements
+stores variable place id rest =
+    Cons (RowStatement id None (Base (kinds.StoreLocal (record { kind = Reassign; place = variable }) place None)) None) rest
+
+-- a break to the label of an early return is one directly after the store, as in `x = y; break a`
+returns_after_store : (env : Environment) (target : BlockId) → is_early_label env target ≡ true
+    → (variable place : Place) (id : EvaluationOrder)
+    → returning env (stores variable place id (unlabeled (Break target Labeled id)))
+    ≡ stores variable place id (unlabeled (Return place id))
+unfolding returning_after returning_statement returning_terminal
+returns_after_store env target label variable place id =
+    ap (λ early. stores variable place id (unlabeled (if early then Return place id else Break target Labeled id))) label
+
+-- it stays a break where another row is in between, as in `x = y; z; break a`
+breaks_after_row : (env : Environment) (target : BlockId) (variable place : Place) (id : EvaluationOrder)
+    → let rest : Statements = Cons (RowStatement id None (load place) None) (unlabeled (Break target Labeled id)) in
+    returning env (stores variable place id rest) ≡ stores variable place id rest
+unfolding returning_after returning_statement returning_terminal
+breaks_after_row env target variable place id = refl

@@ -10,13 +10,13 @@ use Rattle.rc_tree.specs.Model.{ReactiveLabel}
 use Rattle.rc_runs.specs.declared.frames.Frame.{Frame}
 use Rattle.rc_runs.specs.declared.frames.Frame.TheVariants as frame_kinds
 use Rattle.rc_runs.specs.Event.{End}
-use Rattle.rc_runs.specs.Frames.{break_block, fall_block, is_jump_target, is_loop}
-use Rattle.rc_runs.specs.ListContext.{ListContext, outermost, inside, protected_by}
+use Rattle.rc_runs.specs.Frames.{break_block, fall_block, is_block, is_jump_target, is_loop, is_mark, takes_unlabeled}
+use Rattle.rc_runs.specs.ListContext.{ListContext, outermost, inside, marked, protected_by}
 use Rattle.rc_runs.specs.LoopParts.{LoopBlocks, turn_start, loop_frame}
 use Rattle.rc_runs.specs.SwitchCases.{case_context}
 use Rattle.rc_runs.specs.Fallthrough.{label_of, is_next, falls_to}
-use Rattle.rc_runs.specs.Completion.{Completion, Normal, BreakTo, BreakLoop, ContinueTo, ContinueLoop, Ended, leaves}
-use Rattle.rc_runs.specs.Completion.{caught, turns_again, left_loop}
+use Rattle.rc_runs.specs.Completion.{Completion, Normal, BreakTo, BreakInnermost, ContinueTo, ContinueLoop, Ended, leaves}
+use Rattle.rc_runs.specs.Completion.{caught, turns_again, caught_unlabeled}
 use Rattle.rc_names.proofs.NumbersLemmas.{same_id-eq}
 
 -- if the frame is a loop's, no jump further out can name its break block
@@ -28,46 +28,51 @@ abbrev pub AreApart : List Frame → Type 0
 AreApart [] = Unit {0}
 AreApart (frame ∷ frames) = IsApart frame frames × AreApart frames
 
+-- the innermost frame but for marks
+abbrev pub innermost : List Frame → Option Frame
+innermost [] = None
+innermost (frame ∷ frames) = if is_mark frame then innermost frames else Some frame
+
 -- the innermost frame determines which block falling off reaches, and each loop has a break block of its own
 pub record Fits (context : ListContext) : Type 0 where
-  pub falls : (frame : Frame) (rest : List Frame) → context.frames ≡ frame ∷ rest
-      → context.next ≡ Some (fall_block frame)
+  pub falls : (frame : Frame) → innermost context.frames ≡ Some frame → context.next ≡ fall_block frame
   pub apart : AreApart context.frames
 
 -- a labeled break can leave the frame
 abbrev pub takes_labeled : Frame → Bool
 takes_labeled (frame_kinds.Scope block) = false
 takes_labeled (frame_kinds.Case block) = false
+takes_labeled frame_kinds.Mark = false
 takes_labeled _ = true
 
 -- the innermost frame with that break block takes labeled breaks
 abbrev pub has_target : List Frame → BlockId → Bool
 has_target [] target = false
 has_target (frame ∷ frames) target =
-    if same_id (break_block frame) target then takes_labeled frame else has_target frames target
+    if is_block (break_block frame) target then takes_labeled frame else has_target frames target
 
--- the break block of the innermost loop
+-- the break block of the innermost loop; none where a mark is further inside
 abbrev pub loop_break : List Frame → Option BlockId
 loop_break [] = None
-loop_break (frame ∷ frames) = if is_loop frame then Some (break_block frame) else loop_break frames
+loop_break (frame ∷ frames) = if takes_unlabeled frame then break_block frame else loop_break frames
 
 -- the continue block of the innermost loop
 abbrev pub loop_continue : List Frame → Option BlockId
 loop_continue [] = None
-loop_continue (frame ∷ frames) = if is_loop frame then Some (fall_block frame) else loop_continue frames
+loop_continue (frame ∷ frames) = if is_loop frame then fall_block frame else loop_continue frames
 
 -- the continue block of the innermost loop with that break block
 abbrev pub continue_of : List Frame → BlockId → Option BlockId
 continue_of [] target = None
 continue_of (frame ∷ frames) target =
-    if is_loop frame then (if same_id (break_block frame) target then Some (fall_block frame) else continue_of frames
-    target) else continue_of frames target
+    if is_loop frame then (if is_block (break_block frame) target then fall_block frame else continue_of frames target)
+    else continue_of frames target
 
 -- a completion of statements in that context leads to the block
 abbrev pub Aims : ListContext → Completion → BlockId → Type 0
 Aims context Normal key = context.next ≡ Some key
 Aims context (BreakTo target) key = (target ≡ key) × (has_target context.frames target ≡ true)
-Aims context BreakLoop key = loop_break context.frames ≡ Some key
+Aims context BreakInnermost key = loop_break context.frames ≡ Some key
 Aims context (ContinueTo target) key = continue_of context.frames target ≡ Some key
 Aims context ContinueLoop key = loop_continue context.frames ≡ Some key
 Aims context (Ended end) key = ⊥
@@ -81,7 +86,7 @@ pub Aims-leaves : (context : ListContext) (next : Option BlockId) (outcome : Com
     → leaves outcome ≡ true → Aims (record context { next = next }) outcome key → Aims context outcome key
 Aims-leaves context next Normal key h a = absurd (let bad : ⊥ = cc in bad)
 Aims-leaves context next (BreakTo target) key h a = a
-Aims-leaves context next BreakLoop key h a = a
+Aims-leaves context next BreakInnermost key h a = a
 Aims-leaves context next (ContinueTo target) key h a = a
 Aims-leaves context next ContinueLoop key h a = a
 Aims-leaves context next (Ended end) key h a = a
@@ -90,7 +95,7 @@ Aims-leaves context next (Ended end) key h a = a
 pub by_leaves : (outcome : Completion) → (outcome ≡ Normal) ⊎ (leaves outcome ≡ true)
 by_leaves Normal = inl refl
 by_leaves (BreakTo target) = inr refl
-by_leaves BreakLoop = inr refl
+by_leaves BreakInnermost = inr refl
 by_leaves (ContinueTo target) = inr refl
 by_leaves ContinueLoop = inr refl
 by_leaves (Ended end) = inr refl
@@ -104,57 +109,92 @@ pub caught-normal : (label : Option ReactiveLabel) → caught label Normal ≡ N
 caught-normal None = refl
 caught-normal (Some label) = refl
 
--- a frame that isn't a loop hides no loop, and its parts fall off to its break block
-behind : {A : Type 0} (frame : Frame) (own rest found : A) → is_loop frame ≡ false
-    → (if is_loop frame then own else rest) ≡ found → rest ≡ found
-behind frame own rest found n e = sym (ap (λ loop. if loop then own else rest) n) ∙ e
+-- what is found further out than a frame that takes no unlabeled jumps
+behind : {A : Type 0} (takes : Bool) (own rest found : A) → takes ≡ false → (if takes then own else rest) ≡ found
+    → rest ≡ found
+behind takes own rest found n e = sym (ap (λ b. if b then own else rest) n) ∙ e
 
-falls_to_break_block : (frame : Frame) → is_loop frame ≡ false → fall_block frame ≡ break_block frame
+-- a frame that takes no unlabeled breaks is no loop
+no_loop : (frame : Frame) → takes_unlabeled frame ≡ false → is_loop frame ≡ false
+no_loop (frame_kinds.Loop block again) n = absurd (let bad : ⊥ = cc in bad)
+no_loop frame_kinds.Mark n = refl
+no_loop frame n = refl
+
+-- the parts of such a frame fall off to its break block
+falls_to_break_block : (frame : Frame) → takes_unlabeled frame ≡ false → fall_block frame ≡ break_block frame
 falls_to_break_block (frame_kinds.Loop block again) n = absurd (let bad : ⊥ = cc in bad)
 falls_to_break_block frame n = refl
 
 -- a frame that is opened and takes labeled breaks, with its label
-aims_opened : (frame : Frame) (context : ListContext) → takes_labeled frame ≡ true → is_loop frame ≡ false
+aims_opened : (frame : Frame) (block : BlockId) (context : ListContext) → break_block frame ≡ Some block
+    → takes_labeled frame ≡ true → takes_unlabeled frame ≡ false
     → (outcome : Completion) (key : BlockId) → Aims (inside true frame context) outcome key
-    → Aims (leaving true (break_block frame) context) (caught (label_of true (break_block frame)) outcome) key
-aims_opened frame context t n Normal key a = ap Some (sym (falls_to_break_block frame n)) ∙ a
-aims_opened frame context t n (BreakTo target) key a = go (same_id (break_block frame) target) refl a.1
+    → Aims (leaving true block context) (caught (label_of true block) outcome) key
+aims_opened frame block context e t n Normal key a = sym e ∙ sym (falls_to_break_block frame n) ∙ a
+aims_opened frame block context e t n (BreakTo target) key a =
+    go (same_id block target) refl (sym (ap (λ b. if is_block b target then takes_labeled frame else
+    has_target context.frames target) e) ∙ a.1)
   where
-    go : (same : Bool) → same_id (break_block frame) target ≡ same
+    go : (same : Bool) → same_id block target ≡ same
         → (if same then takes_labeled frame else has_target context.frames target) ≡ true
-        → Aims (leaving true (break_block frame) context) (if same then Normal else BreakTo target) key
-    go true q h = ap Some (same_id-eq (break_block frame) target q ∙ a.0)
+        → Aims (leaving true block context) (if same then Normal else BreakTo target) key
+    go true q h = ap Some (same_id-eq block target q ∙ a.0)
     go false q h = (a.0, h)
-aims_opened frame context t n BreakLoop key a = behind frame _ _ _ n a
-aims_opened frame context t n (ContinueTo target) key a = behind frame _ _ _ n a
-aims_opened frame context t n ContinueLoop key a = behind frame _ _ _ n a
-aims_opened frame context t n (Ended end) key a = absurd a
+aims_opened frame block context e t n BreakInnermost key a = behind (takes_unlabeled frame) _ _ _ n a
+aims_opened frame block context e t n (ContinueTo target) key a = behind (is_loop frame) _ _ _ (no_loop frame n) a
+aims_opened frame block context e t n ContinueLoop key a = behind (is_loop frame) _ _ _ (no_loop frame n) a
+aims_opened frame block context e t n (Ended end) key a = absurd a
 
 -- a completion of the parts of a statement whose frame takes labeled breaks, after the statement's label
-pub aims_labeled : (opened : Bool) (frame : Frame) (context : ListContext) (label : Option ReactiveLabel) →
-    takes_labeled frame ≡ true → is_loop frame ≡ false → label ≡ label_of opened (break_block frame)
+pub aims_labeled : (opened : Bool) (frame : Frame) (block : BlockId) (context : ListContext)
+    (label : Option ReactiveLabel) → break_block frame ≡ Some block →
+    takes_labeled frame ≡ true → takes_unlabeled frame ≡ false → label ≡ label_of opened block
     → (outcome : Completion) (key : BlockId) → Aims (inside opened frame context) outcome key
-    → Aims (leaving opened (break_block frame) context) (caught label outcome) key
-aims_labeled true frame context label t n e outcome key a =
-    subst (λ l. Aims (leaving true (break_block frame) context) (caught l outcome) key) (sym e)
-    (aims_opened frame context t n outcome key a)
-aims_labeled false frame context label t n e outcome key a =
+    → Aims (leaving opened block context) (caught label outcome) key
+aims_labeled true frame block context label b t n e outcome key a =
+    subst (λ l. Aims (leaving true block context) (caught l outcome) key) (sym e)
+    (aims_opened frame block context b t n outcome key a)
+aims_labeled false frame block context label b t n e outcome key a =
     subst (λ l. Aims context (caught l outcome) key) (sym e) a
 
--- a completion that leaves a part whose frame takes no labeled breaks
-aims_past : (frame : Frame) (context : ListContext) → takes_labeled frame ≡ false → is_loop frame ≡ false
+-- a completion inside a mark: no unlabeled break leads anywhere from there
+pub aims_marked : (context : ListContext) (label : Option ReactiveLabel) (outcome : Completion) (key : BlockId)
+    → Aims (marked context) outcome key → Aims context outcome key × (caught_unlabeled label outcome ≡ caught label outcome)
+aims_marked context label Normal key a = (a, refl)
+aims_marked context label (BreakTo target) key a = (a, refl)
+aims_marked context label BreakInnermost key a = absurd (let bad : ⊥ = cc in bad)
+aims_marked context label (ContinueTo target) key a = (a, refl)
+aims_marked context label ContinueLoop key a = (a, refl)
+aims_marked context label (Ended end) key a = absurd a
+
+-- ends pass any loop and switch
+pub caught_unlabeled-ended : (label : Option ReactiveLabel) (end : End) → caught_unlabeled label (Ended end) ≡ Ended end
+caught_unlabeled-ended label end = caught-ended label end
+
+-- a completion of a case of a switch, after the switch
+pub aims_switch : (opened : Bool) (fallthrough : BlockId) (context : ListContext) (label : Option ReactiveLabel)
+    → label ≡ label_of opened fallthrough → (outcome : Completion) (key : BlockId)
+    → Aims (marked (inside opened (frame_kinds.Switch fallthrough) context)) outcome key
+    → Aims (leaving opened fallthrough context) (caught_unlabeled label outcome) key
+aims_switch opened fallthrough context label l outcome key a =
+    let m = aims_marked (inside opened (frame_kinds.Switch fallthrough) context) label outcome key a in
+    subst (λ o. Aims (leaving opened fallthrough context) o key) (sym m.1)
+    (aims_labeled opened (frame_kinds.Switch fallthrough) fallthrough context label refl refl refl l outcome key m.0)
+
+-- a completion that leaves a part whose frame takes no breaks
+aims_past : (frame : Frame) (context : ListContext) → takes_labeled frame ≡ false → takes_unlabeled frame ≡ false
     → (outcome : Completion) (key : BlockId) → leaves outcome ≡ true → Aims (inside true frame context) outcome key
     → Aims context outcome key
 aims_past frame context t n Normal key l a = absurd (let bad : ⊥ = cc in bad)
-aims_past frame context t n (BreakTo target) key l a = (a.0, go (same_id (break_block frame) target) a.1)
+aims_past frame context t n (BreakTo target) key l a = (a.0, go (is_block (break_block frame) target) a.1)
   where
     go : (same : Bool) → (if same then takes_labeled frame else has_target context.frames target) ≡ true
         → has_target context.frames target ≡ true
     go true h = absurd (let bad : ⊥ = cc in bad)
     go false h = h
-aims_past frame context t n BreakLoop key l a = behind frame _ _ _ n a
-aims_past frame context t n (ContinueTo target) key l a = behind frame _ _ _ n a
-aims_past frame context t n ContinueLoop key l a = behind frame _ _ _ n a
+aims_past frame context t n BreakInnermost key l a = behind (takes_unlabeled frame) _ _ _ n a
+aims_past frame context t n (ContinueTo target) key l a = behind (is_loop frame) _ _ _ (no_loop frame n) a
+aims_past frame context t n ContinueLoop key l a = behind (is_loop frame) _ _ _ (no_loop frame n) a
 aims_past frame context t n (Ended end) key l a = a
 
 -- a completion of the part of a scope; a scope has no label, and no labeled break leaves it
@@ -181,7 +221,7 @@ pub aims_protected : (handler : BlockId) (context : ListContext) (outcome : Comp
     → Aims (protected_by handler context) outcome key → Aims context outcome key
 aims_protected handler context Normal key a = a
 aims_protected handler context (BreakTo target) key a = a
-aims_protected handler context BreakLoop key a = a
+aims_protected handler context BreakInnermost key a = a
 aims_protected handler context (ContinueTo target) key a = a
 aims_protected handler context ContinueLoop key a = a
 aims_protected handler context (Ended end) key a = a
@@ -195,7 +235,7 @@ pub data Rounded (blocks : LoopBlocks) (context : ListContext) (outcome : Comple
   to_turn : turns_again (loop_label blocks) outcome ≡ true → key ≡ turn_start blocks
       → Rounded blocks context outcome key
   out_of_loop : turns_again (loop_label blocks) outcome ≡ false
-      → Aims (leaving true blocks.fallthrough context) (left_loop (loop_label blocks) outcome) key
+      → Aims (leaving true blocks.fallthrough context) (caught_unlabeled (loop_label blocks) outcome) key
       → Rounded blocks context outcome key
 
 pub rounded : (blocks : LoopBlocks) (context : ListContext) (outcome : Completion) (key : BlockId)
@@ -208,7 +248,7 @@ rounded blocks context (BreakTo target) key a = out_of_loop refl (go (same_id bl
         → Aims (leaving true blocks.fallthrough context) (if same then Normal else BreakTo target) key
     go true q h = ap Some (same_id-eq blocks.fallthrough target q ∙ a.0)
     go false q h = (a.0, h)
-rounded blocks context BreakLoop key a = out_of_loop refl a
+rounded blocks context BreakInnermost key a = out_of_loop refl a
 rounded blocks context (ContinueTo target) key a = go (same_id blocks.fallthrough target) refl a
   where
     go : (same : Bool) → same_id blocks.fallthrough target ≡ same
@@ -221,16 +261,23 @@ rounded blocks context (Ended end) key a = absurd a
 
 -- the context of a body fits
 pub fits_body : Fits outermost
-fits_body = record { falls = λ frame rest e. absurd (let bad : ⊥ = cc in bad); apart = tt }
+fits_body = record { falls = λ frame e. absurd (let bad : ⊥ = cc in bad); apart = tt }
 
 -- the context of a statement's part fits: the part falls off to the frame's fall block, if the fallthrough is opened
-pub fits_inside : (opened : Bool) (frame : Frame) {context : ListContext} → IsApart frame context.frames → Fits context
-    → Fits (inside opened frame context)
-fits_inside true frame apart fits = record {
-  falls = λ other rest q. let same : other ≡ frame = cc in ap (λ f. Some (fall_block f)) (sym same);
+pub fits_inside : (opened : Bool) (frame : Frame) {context : ListContext} → is_mark frame ≡ false
+    → IsApart frame context.frames → Fits context → Fits (inside opened frame context)
+fits_inside true frame {context} m apart fits = record {
+  falls = λ other q.
+      let same : frame ≡ other = let e : Some frame ≡ Some other =
+      sym (ap (λ b. if b then innermost context.frames else Some frame) m) ∙ q in cc in
+      ap fall_block same;
   apart = (apart, fits.apart);
 }
-fits_inside false frame apart fits = fits
+fits_inside false frame m apart fits = fits
+
+-- the context of the cases of a switch fits
+pub fits_marked : {context : ListContext} → Fits context → Fits (marked context)
+fits_marked fits = record { falls = fits.falls; apart = (tt, fits.apart) }
 
 -- the context of a part that a handler protects fits
 pub fits_protected : (handler : BlockId) {context : ListContext} → Fits context → Fits (protected_by handler context)
@@ -239,7 +286,7 @@ fits_protected handler fits = record { falls = fits.falls; apart = fits.apart }
 -- the context of a case fits
 pub fits_cases : (later : List Case) {context : ListContext} → Fits context → Fits (case_context later context)
 fits_cases [] fits = fits
-fits_cases (case ∷ later) fits = fits_inside true (frame_kinds.Case case.block) tt (fits_cases later fits)
+fits_cases (case ∷ later) fits = fits_inside true (frame_kinds.Case case.block) refl tt (fits_cases later fits)
 
 -- falling off reaches one block at most
 pub is_next-same : (next : Option BlockId) (key : BlockId) → is_next next key ≡ true → next ≡ Some key

@@ -11,7 +11,7 @@ use Rattle.rc_tree.specs.Model.{ReactiveFunction}
 use Rattle.rc_runs.specs.Event.{Event, Arm, End}
 use Rattle.rc_runs.specs.Silent.{is_unset}
 use Rattle.rc_runs.specs.Graph.{Block}
-use Rattle.rc_runs.specs.GraphRun.{branch_true, branch_false, goes_to, goes_on as goes_past, throws as throws_to}
+use Rattle.rc_runs.specs.GraphRun.{then_arm, else_arm, goes_to, goes_on as goes_past, throws as throws_to}
 use Rattle.rc_runs.specs.GraphRun.{GraphRunAt, arrives, enters, IsGraphRun, GraphRun, stopped, moved, returned, thrown}
 use Rattle.rc_runs.specs.PlainTree.{Statements, Cons, Statement, If, Alternate, Present}
 use Rattle.rc_runs.specs.ListContext.{ListContext, outermost}
@@ -20,7 +20,8 @@ use Rattle.rc_runs.specs.Grammar.{SpellsList, SpellsTerminal, SpellsRest, from_b
 use Rattle.rc_runs.specs.Grammar.{breaks, continues, leaves_try, may_throw_last, may_throw, branch_arms, branch_break}
 use Rattle.rc_runs.specs.Grammar.{and_rest, no_rest, value_statement, has_rest}
 use Rattle.rc_runs.specs.Spelled.{SpellsBody, Spells}
-use Rattle.rc_runs.specs.Completion.{Completion, Normal, BreakTo, BreakLoop, ContinueTo, ContinueLoop, Ended, leaves}
+use Rattle.rc_runs.specs.EarlyReturns.{NoEarlyReturnSet}
+use Rattle.rc_runs.specs.Completion.{Completion, Normal, BreakTo, BreakInnermost, ContinueTo, ContinueLoop, Ended, leaves}
 use Rattle.rc_runs.specs.BodyRun.{RunsList, RunsStatement, IsBodyRun, stopped as stops, nothing, and_then, goes_on}
 use Rattle.rc_runs.specs.BodyRun.{leaves_list, returned as returns_here, thrown as throws_here, took_arm, took_other}
 use Rattle.rc_runs.specs.BodyRun.{present}
@@ -36,6 +37,7 @@ use Rattle.rc_runs.proofs.Leads.{rows_lead, jump_leads, alone_leads}
 use Rattle.rc_runs.proofs.GraphToLoop.{turn_leads}
 use Rattle.rc_runs.proofs.GraphToStatement.{statement_leads}
 use Rattle.rc_runs.proofs.OneTree.{terminal_at}
+use Rattle.rc_runs.proofs.ReturningLemmas.{body_run}
 
 module _ {hir : HirFunction} {env : Environment} {bound : ℕ} {context : ListContext} where
   -- the arms of a branch
@@ -115,14 +117,14 @@ module _ {hir : HirFunction} {env : Environment} {bound : ℕ} (below : Below hi
   terminal_leads set (may_throw current n d) (moved (throws_to {handler = key}) run e) small =
       to_handler (throws_there [] stops (named_handler key context.handler current)
       (record { run = run; small = omega arith }) refl e)
-  terminal_leads set (branch_arms d other w) (moved branch_true run e) small =
+  terminal_leads set (branch_arms d other w) (moved then_arm run e) small =
       lead_events e (arm_leads (below.list d fits run (omega arith)))
-  terminal_leads set (branch_arms d other w) (moved branch_false run e) small =
+  terminal_leads set (branch_arms d other w) (moved else_arm run e) small =
       lead_events e (other_leads (below.list other fits run (omega arith)))
-  terminal_leads set (branch_break {consequent = target} {id = id} {part = part} t j other) (moved branch_true run e)
+  terminal_leads set (branch_break {consequent = target} {id = id} {part = part} t j other) (moved then_arm run e)
       small =
       lead_events e (arm_leads (jump_leads (break_jumps context target id part fits j) run (omega arith)))
-  terminal_leads set (branch_break t j other) (moved branch_false run e) small =
+  terminal_leads set (branch_break t j other) (moved else_arm run e) small =
       lead_events e (other_leads (below.list other fits run (omega arith)))
   terminal_leads set (and_rest (value_statement i falls d arm v) rest w) returned small = elim d [ ]
   terminal_leads set (and_rest (value_statement i falls d arm v) rest w) thrown small = elim d [ ]
@@ -167,7 +169,7 @@ stays (leads {outcome = outcome} {key} here aim run small e) = absurd (nowhere o
     nowhere : (outcome : Completion) (key : BlockId) → Aims outermost outcome key → ⊥
     nowhere Normal key a = let bad : ⊥ = cc in bad
     nowhere (BreakTo target) key a = let bad : ⊥ = cc (a.1) in bad
-    nowhere BreakLoop key a = let bad : ⊥ = cc in bad
+    nowhere BreakInnermost key a = let bad : ⊥ = cc in bad
     nowhere (ContinueTo target) key a = let bad : ⊥ = cc in bad
     nowhere ContinueLoop key a = let bad : ⊥ = cc in bad
     nowhere (Ended end) key a = a
@@ -181,9 +183,8 @@ graph_to_body {hir} {env} spelled events end run =
 
 -- every run of the graph is a run of the function that it spells
 pub graph_to_function : {hir : HirFunction} {env : Environment} {func : ReactiveFunction} → Spells hir env func →
-    (events : List Event) (end : End) → IsGraphRun hir env events end → IsBodyRun func env events end
-graph_to_function spelled events end run = record {
-  statements = spelled.statements;
-  body = ap (λ (f : ReactiveFunction). f.body) spelled.whole;
-  run = graph_to_body spelled.body events end run;
-}
+    NoEarlyReturnSet env → (events : List Event) (end : End) → IsGraphRun hir env events end
+    → IsBodyRun func env events end
+graph_to_function {env = env} spelled none events end run =
+    body_run env none (ap (λ (f : ReactiveFunction). f.body) spelled.whole)
+    (graph_to_body spelled.body events end run)

@@ -37,7 +37,7 @@ module _ {hir : HirFunction} {env : Environment} {bound : ℕ} {blocks : LoopBlo
       → (run : GraphRunAt hir env blocks.body events end) → size_at run < bound
       → LoopLeads hir env bound blocks context parts AtBody events end
   body_leads {events = events} {end} below (turns apart again test first body w) fits run small =
-      go (below.list body (fits_inside true (loop_frame blocks) apart fits) run small)
+      go (below.list body (fits_inside true (loop_frame blocks) refl apart fits) run small)
     where
       out : {front back : List Event} {outcome : Completion} {key : BlockId} → RunsList env parts.body front outcome →
           (run : GraphRunAt hir env key back end) → size_at run < bound → events ≡ front ++ back →

@@ -7,7 +7,7 @@ use Rattle.rc_hir.specs.Model.{Place, LogicalOperator, Terminal, HirFunction, En
 use Rattle.rc_hir.specs.declared.terminal.Terminal.TheVariants as terminals
 use Rattle.rc_runs.specs.Event.{Event, Arm, End}
 use Rattle.rc_runs.specs.Silent.{is_unset}
-use Rattle.rc_runs.specs.GraphRun.{branch_true, branch_false, GraphRunAt, GraphRun, stopped, moved}
+use Rattle.rc_runs.specs.GraphRun.{then_arm, else_arm, GraphRunAt, GraphRun, stopped, moved}
 use Rattle.rc_runs.specs.PlainTree.{Value, Logical, Conditional, Sequence, Optional, NoRows, Row}
 use Rattle.rc_runs.specs.ShortArms.{SpellsSilentArm, SpellsShortArm}
 use Rattle.rc_runs.specs.ValueGrammar.{Nested, SpellsNested}
@@ -113,12 +113,12 @@ module _ {hir : HirFunction} {env : Environment} {handler : Option BlockId} {bou
   unfolding size
   optional_chooses {front = front} set here stopped small rest =
       pass_events (append-nil front) (stops (in_optional_test (set_row set (value_stops here)) refl) refl)
-  optional_chooses {front = front} {end = end} set here (moved {events = back} branch_true run q) small rest =
+  optional_chooses {front = front} {end = end} set here (moved {events = back} then_arm run q) small rest =
       pass_events (ap (λ v. front ++ v) q ∙ sym (append_assoc front (Arm true ∷ []) back))
       (goes_past (goes_behind (front ++ Arm true ∷ [])
       (λ events progress arm. took_rest (set_row set here) arm refl (append_assoc front (Arm true ∷ []) events))
       (rest back end run (omega arith))))
-  optional_chooses {front = front} set here (moved {events = back} branch_false run q) small rest =
+  optional_chooses {front = front} set here (moved {events = back} else_arm run q) small rest =
       shortens {front = front ++ Arm false ∷ []} (took_short_end (set_row set here) refl refl) refl
       (record { run = run; small = omega arith }) (ap (λ v. front ++ v) q
       ∙ sym (append_assoc front (Arm false ∷ []) back))

@@ -12,12 +12,11 @@ use Rattle.rc_runs.specs.declared.frames.Frame.{Frame}
 use Rattle.rc_runs.specs.declared.frames.Frame.TheVariants as frame_kinds
 use Rattle.rc_runs.specs.Event.{Event, Arm, Chose, Threw, End, Open}
 use Rattle.rc_runs.specs.Silent.{is_unset}
-use Rattle.rc_runs.specs.GraphRun.{Edge, then_arm, else_arm, to_case, past_cases as past_all, into_while, into_do_while}
-use Rattle.rc_runs.specs.GraphRun.{into_for, into_for_of, into_for_in, into_label, into_try, into_scope}
-use Rattle.rc_runs.specs.GraphRun.{into_pruned_scope, GraphRunAt}
+use Rattle.rc_runs.specs.GraphRun.{Edge, then_arm, else_arm, to_case, past_cases as past_all, goes_to}
+use Rattle.rc_runs.specs.GraphRun.{GraphRunAt}
 use Rattle.rc_runs.specs.PlainTree.{Value, Statements, Statement, RowStatement, TerminalStatement, ScopeStatement}
 use Rattle.rc_runs.specs.PlainTree.{PrunedScopeStatement, For, Switch, Try, Cases}
-use Rattle.rc_runs.specs.ListContext.{ListContext, inside, protected_by}
+use Rattle.rc_runs.specs.ListContext.{ListContext, inside, marked, protected_by}
 use Rattle.rc_runs.specs.LoopParts.{LoopBlocks, LoopParts}
 use Rattle.rc_runs.specs.ShortArms.{SpellsSilentArm, SpellsShortArm}
 use Rattle.rc_runs.specs.ValueGrammar.{Nested}
@@ -27,12 +26,14 @@ use Rattle.rc_runs.specs.Grammar.{SpellsList, SpellsStatement, SpellsCases, Spel
 use Rattle.rc_runs.specs.Grammar.{label_statement, try_statement, scope_statement, pruned_scope_statement}
 use Rattle.rc_runs.specs.Grammar.{switch_statement, while_loop, do_while_loop, for_loop, for_of_loop, for_in_loop}
 use Rattle.rc_runs.specs.Grammar.{value_statement}
-use Rattle.rc_runs.specs.Completion.{Completion, Ended, caught}
+use Rattle.rc_runs.specs.Completion.{Completion, Ended, caught, caught_unlabeled}
+use Rattle.rc_runs.specs.Frames.{is_mark}
 use Rattle.rc_runs.specs.BodyRun.{RunsList, RunsStatement, took_arm, took_other, in_case, past_cases, in_while}
 use Rattle.rc_runs.specs.BodyRun.{in_do_while, in_init, past_init, in_for_of, in_for_in, in_label, in_try, in_handler}
 use Rattle.rc_runs.specs.BodyRun.{row, in_scope, in_pruned_scope, absent, present}
 use Rattle.rc_names.proofs.NumbersLemmas.{same_id-eq}
 use Rattle.rc_runs.proofs.FramesLemmas.{IsApart, Fits, fits_inside, Aims, leaving, falls_to-next, caught-normal}
+use Rattle.rc_runs.proofs.FramesLemmas.{fits_marked, caught_unlabeled-ended, aims_switch}
 use Rattle.rc_runs.proofs.FramesLemmas.{caught-ended, aims_labeled, aims_scope, aims_protected, fits_protected}
 use Rattle.rc_runs.proofs.RunSize.{size_at, run_to}
 use Rattle.rc_runs.proofs.FlattenedRuns.{value_stops}
@@ -59,7 +60,7 @@ module _ {hir : HirFunction} {env : Environment} {bound : ℕ} (below : Below hi
   -- a part of a statement, inside the frame of the statement's fallthrough
   part_leads : {key : BlockId} {part : Statements} {used : List BlockId} {events : List Event} {end : End} {S : Runs}
       {behind : ListContext} (opened : Bool) (own : Frame) (name : Option ReactiveLabel) (before : List Event) →
-      IsApart own context.frames → context.handler ≡ behind.handler →
+      is_mark own ≡ false → IsApart own context.frames → context.handler ≡ behind.handler →
       ((outcome : Completion) (key : BlockId) → Aims (inside opened own context) outcome key
       → Aims behind (caught name outcome) key) →
       ((events : List Event) (inner outer : Completion) → RunsList env part events inner → outer ≡ caught name inner
@@ -67,15 +68,15 @@ module _ {hir : HirFunction} {env : Environment} {bound : ℕ} (below : Below hi
       SpellsList hir env key (inside opened own context) part used
       → (run : GraphRunAt hir env key events end) → size_at run < bound
       → Leads hir env behind bound S (before ++ events) end
-  part_leads opened own name before apart same aims put d run small =
-      lead_out name before (inside-handler opened own context ∙ same) aims put
-      (below.list d (fits_inside opened own apart fits) run small)
+  part_leads opened own name before solid apart same aims put d run small =
+      lead_out (caught name) (caught-ended name) before (inside-handler opened own context ∙ same) aims put
+      (below.list d (fits_inside opened own solid apart fits) run small)
 
   -- past all cases of a switch that keeps no default
   past_leads : (opened : Bool) {test : Place} {kept : List Case} {fallthrough : BlockId} {id : EvaluationOrder}
       {cases : Cases} {label : Option ReactiveLabel} {used : List BlockId} {events : List Event} {end : End}
       → list_any is_default kept ≡ false → list_any is_default kept || falls_to opened fallthrough context.next ≡ true
-      → SpellsCases hir env kept (inside opened (frame_kinds.Switch fallthrough) context) cases used
+      → SpellsCases hir env kept (marked (inside opened (frame_kinds.Switch fallthrough) context)) cases used
       → (run : GraphRunAt hir env fallthrough events end) → size_at run < bound
       → StatementLeads hir env bound context opened fallthrough (TerminalStatement (Switch test cases id) label)
       (Chose None ∷ events) end
@@ -89,15 +90,15 @@ module _ {hir : HirFunction} {env : Environment} {bound : ℕ} (below : Below hi
       {cases : Cases} {label : Option ReactiveLabel} {used : List BlockId} {case : Case} {events : List Event}
       {end : End} → label ≡ label_of opened fallthrough → Kept kept fallthrough case
       → list_any is_default kept || falls_to opened fallthrough context.next ≡ true
-      → SpellsCases hir env kept (inside opened (frame_kinds.Switch fallthrough) context) cases used
+      → SpellsCases hir env kept (marked (inside opened (frame_kinds.Switch fallthrough) context)) cases used
       → (run : GraphRunAt hir env case.block events end) → size_at run < bound
       → StatementLeads hir env bound context opened fallthrough (TerminalStatement (Switch test cases id) label)
       (Chose case.test ∷ events) end
   switch_leads o {fallthrough = f} {label = l} {case = case} j (is_there among) reached d run small =
-      lead_out l (Chose case.test ∷ []) (inside-handler o (frame_kinds.Switch f) context)
-      (aims_labeled o (frame_kinds.Switch f) context l refl refl j)
+      lead_out (caught_unlabeled l) (caught_unlabeled-ended l) (Chose case.test ∷ []) (inside-handler o (frame_kinds.Switch f) context)
+      (aims_switch o f context l j)
       (λ events inner outer p q. in_case p q)
-      (chosen_leads below (fits_inside o (frame_kinds.Switch f) tt fits) among d run small)
+      (chosen_leads below (fits_marked (fits_inside o (frame_kinds.Switch f) refl tt fits)) among d run small)
   switch_leads o {events = events} j (leads_on test block none) reached d run small =
       let from = run_to block run small in
       lead_events (ap (λ chosen. Chose chosen ∷ events) test) (past_leads o none reached d from.0 from.1)
@@ -165,8 +166,8 @@ module _ {hir : HirFunction} {env : Environment} {bound : ℕ} (below : Below hi
   handler_leads o f {handler} {label = l} j d t =
       let from = run_to (let same : t.key ≡ handler = cc (t.current) in same) t.at.run t.at.small in
       lead_events (t.whole ∙ sym (append_assoc t.front (Threw ∷ []) t.back))
-      (part_leads o (frame_kinds.Statement f) l (t.front ++ Threw ∷ []) tt refl
-      (aims_labeled o (frame_kinds.Statement f) context l refl refl j)
+      (part_leads o (frame_kinds.Statement f) l (t.front ++ Threw ∷ []) refl tt refl
+      (aims_labeled o (frame_kinds.Statement f) f context l refl refl refl j)
       (λ events inner outer p q. in_handler t.inside refl p q (append_assoc t.front (Threw ∷ []) events)) d from.0
       from.1)
 
@@ -186,7 +187,7 @@ module _ {hir : HirFunction} {env : Environment} {bound : ℕ} (below : Below hi
   try_leads o f {handler} {label = l} j d (leads {outcome = outcome} {key} here aim run small e) =
       let out = aims_protected handler (inside o (frame_kinds.Statement f) context) outcome key aim in
       leads (in_try here (aims-not_thrown (inside o (frame_kinds.Statement f) context) outcome key out) refl)
-      (aims_labeled o (frame_kinds.Statement f) context l refl refl j outcome key out) run small e
+      (aims_labeled o (frame_kinds.Statement f) f context l refl refl refl j outcome key out) run small e
   try_leads o f j d (to_handler t) = handler_leads o f j d t
 
   -- an edge from a terminal that has a fallthrough
@@ -197,37 +198,37 @@ module _ {hir : HirFunction} {env : Environment} {bound : ℕ} (below : Below hi
       (run : GraphRunAt hir env key events end) → size_at run < bound →
       StatementLeads hir env bound context opened fallthrough statement (step ++ events) end
   statement_leads set (if_only {fallthrough = f} {opened = o} {label = l} i j x y d) then_arm run small =
-      part_leads o (frame_kinds.Statement f) l (Arm true ∷ []) tt refl
-      (aims_labeled o (frame_kinds.Statement f) context l refl refl j)
+      part_leads o (frame_kinds.Statement f) l (Arm true ∷ []) refl tt refl
+      (aims_labeled o (frame_kinds.Statement f) f context l refl refl refl j)
       (λ events inner outer p q. took_arm p q) d run small
   statement_leads set (if_only {alternate = a} {fallthrough = f} {opened = o} {label = l} i j x y d) else_arm run
       small =
       leads (took_other absent (sym (caught-normal l)))
       (falls_to-next o f context.next y ∙ ap Some (sym (same_id-eq a f x))) run small refl
   statement_leads set (if_else {fallthrough = f} {opened = o} {label = l} i j x d a w) then_arm run small =
-      part_leads o (frame_kinds.Statement f) l (Arm true ∷ []) tt refl
-      (aims_labeled o (frame_kinds.Statement f) context l refl refl j)
+      part_leads o (frame_kinds.Statement f) l (Arm true ∷ []) refl tt refl
+      (aims_labeled o (frame_kinds.Statement f) f context l refl refl refl j)
       (λ events inner outer p q. took_arm p q) d run small
   statement_leads set (if_else {fallthrough = f} {opened = o} {label = l} i j x d a w) else_arm run small =
-      part_leads o (frame_kinds.Statement f) l (Arm false ∷ []) tt refl
-      (aims_labeled o (frame_kinds.Statement f) context l refl refl j)
+      part_leads o (frame_kinds.Statement f) l (Arm false ∷ []) refl tt refl
+      (aims_labeled o (frame_kinds.Statement f) f context l refl refl refl j)
       (λ events inner outer p q. took_other (present p) q) a run small
-  statement_leads set (label_statement {fallthrough = f} {opened = o} {label = l} i j d) into_label run small =
-      part_leads o (frame_kinds.Statement f) l [] tt refl
-      (aims_labeled o (frame_kinds.Statement f) context l refl refl j)
+  statement_leads set (label_statement {fallthrough = f} {opened = o} {label = l} i j d) goes_to run small =
+      part_leads o (frame_kinds.Statement f) l [] refl tt refl
+      (aims_labeled o (frame_kinds.Statement f) f context l refl refl refl j)
       (λ events inner outer p q. in_label p q) d run small
-  statement_leads set (try_statement {handler = handler} {fallthrough = f} {opened = o} i j d other w) into_try run
+  statement_leads set (try_statement {handler = handler} {fallthrough = f} {opened = o} i j d other w) goes_to run
       small =
       try_leads o f j other
-      (below.list d (fits_protected handler (fits_inside o (frame_kinds.Statement f) tt fits)) run small)
-  statement_leads set (scope_statement {fallthrough = f} {scope = number} {opened = o} {part = part} i d) into_scope run
+      (below.list d (fits_protected handler (fits_inside o (frame_kinds.Statement f) refl tt fits)) run small)
+  statement_leads set (scope_statement {fallthrough = f} {scope = number} {opened = o} {part = part} i d) goes_to run
       small =
-      part_leads o (frame_kinds.Scope f) None [] tt refl (aims_scope o f context)
+      part_leads o (frame_kinds.Scope f) None [] refl tt refl (aims_scope o f context)
       (λ events inner outer p q. subst (RunsStatement env (ScopeStatement number part) events) (sym q)
       (in_scope p)) d run small
   statement_leads set (pruned_scope_statement {fallthrough = f} {scope = number} {opened = o} {part = part} i d)
-      into_pruned_scope run small =
-      part_leads o (frame_kinds.Scope f) None [] tt refl (aims_scope o f context)
+      goes_to run small =
+      part_leads o (frame_kinds.Scope f) None [] refl tt refl (aims_scope o f context)
       (λ events inner outer p q. subst (RunsStatement env (PrunedScopeStatement number part) events) (sym q)
       (in_pruned_scope p)) d run small
   statement_leads {events = events} set (switch_statement {cases = cases} {fallthrough = f} {opened = o} i j one past k
@@ -239,17 +240,17 @@ module _ {hir : HirFunction} {env : Environment} {bound : ℕ} (below : Below hi
   statement_leads set (switch_statement {cases = cases} {fallthrough = f} {opened = o} i j one past k reached d)
       (past_all none) run small =
       past_leads o (ap (list_any is_default) k ∙ none_among_kept _ f cases none) reached d run small
-  statement_leads set (while_loop alive d) into_while run small =
+  statement_leads set (while_loop alive d) goes_to run small =
       lead_behind [] (λ events outcome after. in_while (loop_with None (nothing_first d refl) after))
       (test_leads below d fits run (omega arith))
-  statement_leads set (do_while_loop d) into_do_while run small =
+  statement_leads set (do_while_loop d) goes_to run small =
       lead_behind [] (λ events outcome after. in_do_while (loop_with None (nothing_first d refl) after))
       (body_leads below d fits run small)
-  statement_leads set (for_loop init d w) into_for run small = for_leads d (size_at run) small (passes_going init run)
-  statement_leads set (for_of_loop {init_value = init} e d) into_for_of run small =
+  statement_leads set (for_loop init d w) goes_to run small = for_leads d (size_at run) small (passes_going init run)
+  statement_leads set (for_of_loop {init_value = init} e d) goes_to run small =
       lead_behind [] (λ events outcome after. in_for_of (loop_with (Some init) e after))
       (turn_leads below d fits run (omega arith))
-  statement_leads set (for_in_loop d) into_for_in run small =
+  statement_leads set (for_in_loop d) goes_to run small =
       lead_behind [] (λ events outcome after. in_for_in (loop_with None (nothing_first d refl) after))
       (test_leads below d fits run (omega arith))
   statement_leads set (value_statement {opened = o} i falls d arm w) edge run small =

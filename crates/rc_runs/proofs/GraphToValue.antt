@@ -9,7 +9,7 @@ use Rattle.rc_hir.specs.Model.{Terminal, Instruction, HirFunction, Environment}
 use Rattle.rc_runs.specs.Event.{Event, End}
 use Rattle.rc_runs.specs.Silent.{is_silent_value}
 use Rattle.rc_runs.specs.Graph.{Block, usable_block, only_goes}
-use Rattle.rc_runs.specs.GraphRun.{Edge, into_sequence, into_ternary, into_logical, into_optional, GraphRunAt, arrives}
+use Rattle.rc_runs.specs.GraphRun.{Edge, goes_to, GraphRunAt, arrives}
 use Rattle.rc_runs.specs.GraphRun.{enters, GraphRun, stopped, moved, returned, thrown}
 use Rattle.rc_runs.specs.PlainTree.{Value}
 use Rattle.rc_runs.specs.ListContext.{ValueContext, part_context}
@@ -167,18 +167,18 @@ module _ {hir : HirFunction} {env : Environment} where
         → SpellsNested hir env handler terminal nested used → Edge terminal step key
         → (run : GraphRunAt hir env key events end) → size_at run < bound
         → NestedPasses hir env handler bound nested (step ++ events) end
-    nested_passes bound (sequence_value d ends) into_sequence run small =
+    nested_passes bound (sequence_value d ends) goes_to run small =
         goes_past (past_value d ends (value_passes bound d run (omega arith)))
-    nested_passes bound (ternary_value test chooses d ends other other_ends w) into_ternary run small =
+    nested_passes bound (ternary_value test chooses d ends other other_ends w) goes_to run small =
         goes_past (conditional_goes (past_test test chooses (value_passes bound test run (omega arith)))
         (λ events end run small. past_value d ends (value_passes bound d run (omega arith)))
         (λ events end run small. past_value other other_ends (value_passes bound other run (omega arith))))
-    nested_passes bound (logical_value test chooses d silent other ends w) into_logical run small =
+    nested_passes bound (logical_value test chooses d silent other ends w) goes_to run small =
         goes_past (logical_goes (value_set test) (runs_quietly silent d) silent
         (past_test test chooses (value_passes bound test run (omega arith)))
         (λ events end run small. past_value other ends (value_passes bound other run (omega arith))))
     nested_passes bound (optional_value {alternate = own} {condition_end = condition_end} test chooses shares d ends w)
-        into_optional run small =
+        goes_to run small =
         optional_passes (value_set test)
         (λ key left. sym (same_alternate condition_end.left_open own key shares left))
         (ends_in chooses.chooses (value_passes bound test run (omega arith)))

@@ -6,7 +6,7 @@ use Rattle.rc_runs.specs.declared.frames.Frame.{Frame}
 use Rattle.rc_runs.specs.Event.{End, Open, Returned, Thrown}
 use Rattle.rc_runs.specs.ListContext.{ListContext, inside, is_current}
 use Rattle.rc_runs.specs.SwitchCases.{case_context}
-use Rattle.rc_runs.specs.Completion.{Completion, Normal, BreakTo, BreakLoop, ContinueTo, ContinueLoop, Ended, is_thrown}
+use Rattle.rc_runs.specs.Completion.{Completion, Normal, BreakTo, BreakInnermost, ContinueTo, ContinueLoop, Ended, is_thrown}
 use Rattle.rc_names.proofs.NumbersLemmas.{same_id-eq}
 use Rattle.rc_runs.proofs.FramesLemmas.{Aims}
 
@@ -52,7 +52,7 @@ pub aims-not_thrown : (context : ListContext) (outcome : Completion) (key : Bloc
     → is_thrown outcome ≡ false
 aims-not_thrown context Normal key a = refl
 aims-not_thrown context (BreakTo target) key a = refl
-aims-not_thrown context BreakLoop key a = refl
+aims-not_thrown context BreakInnermost key a = refl
 aims-not_thrown context (ContinueTo target) key a = refl
 aims-not_thrown context ContinueLoop key a = refl
 aims-not_thrown context (Ended end) key a = absurd a

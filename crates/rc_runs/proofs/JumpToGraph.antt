@@ -4,6 +4,7 @@ use Rattle.std.proofs.lemmas.List.{append-nil}
 use Rattle.rc_names.specs.Numbers.{BlockId}
 use Rattle.rc_hir.specs.Model.{Terminal, HirFunction, Environment}
 use Rattle.rc_runs.specs.Event.{Event, Open}
+use Rattle.rc_runs.specs.Graph.{ends_unreachable}
 use Rattle.rc_runs.specs.GraphRun.{Edge, HasNoUnreachableSuccessor, GraphRun}
 use Rattle.rc_runs.specs.GraphRun as graph
 use Rattle.rc_runs.specs.PlainTree.{Statements}
@@ -11,6 +12,7 @@ use Rattle.rc_runs.specs.ListContext.{ListContext}
 use Rattle.rc_runs.specs.Completion.{Completion, Ended}
 use Rattle.rc_runs.specs.BodyRun.{RunsList}
 use Rattle.rc_runs.specs.BodyRun as body
+use Rattle.rc_runs.proofs.SuccessorsLemmas.{fails_there}
 use Rattle.rc_runs.proofs.FramesLemmas.{Aims}
 use Rattle.rc_runs.proofs.JumpsLemmas.{Jumps, falls_off, breaks_implicit, breaks_labeled, breaks_unlabeled}
 use Rattle.rc_runs.proofs.JumpsLemmas.{continues_implicit, continues_labeled, continues_unlabeled}
@@ -50,5 +52,5 @@ jump_to_graph {hir} {env} {terminal} {step} {key} {context} {events = events} {o
     subst (λ l. After hir env context (GraphRun hir env [] terminal) l outcome) all (elim led.1 [
       | inl q ↦ subst (After hir env context (GraphRun hir env [] terminal) step) (sym q)
           (ends (graph.moved move graph.arrives (sym (append-nil step))))
-      | inr aim ↦ leads aim (moves step key move) (λ more end r. graph.moved move r refl)
+      | inr aim ↦ leads aim (fails_there (ends_unreachable hir) move moves) (λ more end r. graph.moved move r refl)
     ])

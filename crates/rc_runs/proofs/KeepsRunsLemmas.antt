@@ -8,7 +8,7 @@ use Rattle.rc_runs.specs.Event.{Event, Open}
 use Rattle.rc_runs.specs.PlainTree.{Statements, Nil, Cons, Statement, TerminalStatement, ScopeStatement}
 use Rattle.rc_runs.specs.PlainTree.{PrunedScopeStatement, TreeTerminal, Break, Continue, Return, Throw, If, Label, Try}
 use Rattle.rc_runs.specs.PlainTree.{Alternate, Absent, Present}
-use Rattle.rc_runs.specs.Completion.{Completion, Normal, BreakTo, BreakLoop, ContinueTo, ContinueLoop, Ended, caught}
+use Rattle.rc_runs.specs.Completion.{Completion, Normal, BreakTo, BreakInnermost, ContinueTo, ContinueLoop, Ended, caught}
 use Rattle.rc_runs.specs.BodyRun.{RunsList, stopped, nothing, and_then, RunsAfter, goes_on, leaves_list, RunsStatement}
 use Rattle.rc_runs.specs.BodyRun.{returned, thrown, break_implicit, break_labeled, break_unlabeled, continue_implicit}
 use Rattle.rc_runs.specs.BodyRun.{continue_labeled, continue_unlabeled, took_arm, took_other, in_label, in_try}
@@ -110,7 +110,7 @@ module _ (env : Environment) where
       RunsStatement env statement events outcome → RunsList env (alone statement) events outcome
   as_list {events = events} Normal r = and_then r (goes_on nothing) (sym (append-nil events))
   as_list {events = events} (BreakTo target) r = and_then r (leaves_list refl) (sym (append-nil events))
-  as_list {events = events} BreakLoop r = and_then r (leaves_list refl) (sym (append-nil events))
+  as_list {events = events} BreakInnermost r = and_then r (leaves_list refl) (sym (append-nil events))
   as_list {events = events} (ContinueTo target) r = and_then r (leaves_list refl) (sym (append-nil events))
   as_list {events = events} ContinueLoop r = and_then r (leaves_list refl) (sym (append-nil events))
   as_list {events = events} (Ended end) r = and_then r (leaves_list refl) (sym (append-nil events))

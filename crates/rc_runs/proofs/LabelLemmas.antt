@@ -2,8 +2,8 @@
 use Rattle.std.proofs.Common.{◌≡◌, Option, None, Some, if◌then◌else◌, refl, ap}
 use Rattle.rc_names.specs.Numbers.{BlockId, same_id}
 use Rattle.rc_tree.specs.Model.{ReactiveLabel}
-use Rattle.rc_runs.specs.Completion.{Completion, Normal, BreakTo, BreakLoop, ContinueTo, ContinueLoop, Ended, caught}
-use Rattle.rc_runs.specs.Completion.{turns_again, left_loop}
+use Rattle.rc_runs.specs.Completion.{Completion, Normal, BreakTo, BreakInnermost, ContinueTo, ContinueLoop, Ended, caught}
+use Rattle.rc_runs.specs.Completion.{turns_again, caught_unlabeled}
 
 -- the block that a label names, if there is a label
 abbrev pub named_block : Option ReactiveLabel → Option BlockId
@@ -24,7 +24,7 @@ caught-alike (Some label) (Some label') alike (BreakTo target) =
     ap (λ id. if same_id id target then Normal else BreakTo target)
     (let same : label.id ≡ label'.id = cc in same)
 caught-alike (Some label) (Some label') alike Normal = refl
-caught-alike (Some label) (Some label') alike BreakLoop = refl
+caught-alike (Some label) (Some label') alike BreakInnermost = refl
 caught-alike (Some label) (Some label') alike (ContinueTo target) = refl
 caught-alike (Some label) (Some label') alike ContinueLoop = refl
 caught-alike (Some label) (Some label') alike (Ended end) = refl
@@ -39,16 +39,16 @@ turns_again-alike (Some label) (Some label') alike (ContinueTo target) =
     ap (λ id. same_id id target) (let same : label.id ≡ label'.id = cc in same)
 turns_again-alike (Some label) (Some label') alike Normal = refl
 turns_again-alike (Some label) (Some label') alike (BreakTo target) = refl
-turns_again-alike (Some label) (Some label') alike BreakLoop = refl
+turns_again-alike (Some label) (Some label') alike BreakInnermost = refl
 turns_again-alike (Some label) (Some label') alike ContinueLoop = refl
 turns_again-alike (Some label) (Some label') alike (Ended end) = refl
 
 -- and they are left alike
-pub left_loop-alike : (label label' : Option ReactiveLabel) → NameAlike label label' → (outcome : Completion) →
-    left_loop label outcome ≡ left_loop label' outcome
-left_loop-alike label label' alike BreakLoop = refl
-left_loop-alike label label' alike Normal = caught-alike label label' alike Normal
-left_loop-alike label label' alike (BreakTo target) = caught-alike label label' alike (BreakTo target)
-left_loop-alike label label' alike (ContinueTo target) = caught-alike label label' alike (ContinueTo target)
-left_loop-alike label label' alike ContinueLoop = caught-alike label label' alike ContinueLoop
-left_loop-alike label label' alike (Ended end) = caught-alike label label' alike (Ended end)
+pub caught_unlabeled-alike : (label label' : Option ReactiveLabel) → NameAlike label label' → (outcome : Completion) →
+    caught_unlabeled label outcome ≡ caught_unlabeled label' outcome
+caught_unlabeled-alike label label' alike BreakInnermost = refl
+caught_unlabeled-alike label label' alike Normal = caught-alike label label' alike Normal
+caught_unlabeled-alike label label' alike (BreakTo target) = caught-alike label label' alike (BreakTo target)
+caught_unlabeled-alike label label' alike (ContinueTo target) = caught-alike label label' alike (ContinueTo target)
+caught_unlabeled-alike label label' alike ContinueLoop = caught-alike label label' alike ContinueLoop
+caught_unlabeled-alike label label' alike (Ended end) = caught-alike label label' alike (Ended end)

@@ -4,11 +4,10 @@
 -- aims, and continues from there; or it throws in the part, and continues from the current handler: this is `Leads`.
 -- `Below` is the claim for smaller runs. If a part needs other smaller runs than those of lists, these are a further
 -- field of it.
-use Rattle.std.proofs.Common.{◌≡◌, ℕ, suc, ◌<◌, List, [], ◌∷◌, ◌++◌, Option, refl, sym, ap, ◌∙◌, subst, append_assoc}
+use Rattle.std.proofs.Common.{◌≡◌, ℕ, suc, ◌<◌, List, [], ◌∷◌, ◌++◌, refl, sym, ap, ◌∙◌, subst, append_assoc}
 use Rattle.std.proofs.Common.{append-nil, arith, ◌⊎◌, inl, inr, true}
 use Rattle.rc_names.specs.Numbers.{BlockId}
 use Rattle.rc_hir.specs.Model.{Terminal, Instruction, HirFunction, Environment}
-use Rattle.rc_tree.specs.Model.{ReactiveLabel}
 use Rattle.rc_runs.specs.Event.{Event, Did, End, Open}
 use Rattle.rc_runs.specs.GraphRun.{GraphRunAt, GraphRun, stopped, quiet, did, moved, returned, thrown}
 use Rattle.rc_runs.specs.PlainTree.{Statements, Nil, Cons, Statement}
@@ -16,11 +15,11 @@ use Rattle.rc_runs.specs.ListContext.{ListContext}
 use Rattle.rc_runs.specs.LoopParts.{LoopBlocks, LoopParts, turn_start}
 use Rattle.rc_runs.specs.SimpleStatements.{rows_before}
 use Rattle.rc_runs.specs.Grammar.{SpellsList, SpellsTurns}
-use Rattle.rc_runs.specs.Completion.{Completion, Normal, Ended, leaves, caught}
+use Rattle.rc_runs.specs.Completion.{Completion, Normal, Ended, leaves}
 use Rattle.rc_runs.specs.BodyRun.{AtTurn, RunsList, RunsStatement, RunsLoop, stopped as stops, nothing, and_then}
 use Rattle.rc_runs.specs.BodyRun.{goes_on, leaves_list, row, break_implicit, break_labeled, break_unlabeled}
 use Rattle.rc_runs.specs.BodyRun.{continue_implicit, continue_labeled, continue_unlabeled}
-use Rattle.rc_runs.proofs.FramesLemmas.{Fits, Aims, leaving, caught-ended, by_leaves, loop_label}
+use Rattle.rc_runs.proofs.FramesLemmas.{Fits, Aims, leaving, by_leaves, loop_label}
 use Rattle.rc_runs.proofs.JumpsLemmas.{Jumps, falls_off, breaks_implicit, breaks_labeled, breaks_unlabeled}
 use Rattle.rc_runs.proofs.JumpsLemmas.{continues_implicit, continues_labeled, continues_unlabeled}
 use Rattle.rc_runs.proofs.RunSize.{size, size_at}
@@ -79,21 +78,22 @@ module _ {hir : HirFunction} {env : Environment} {context : ListContext} {bound 
   lead_behind before put (to_handler t) =
       to_handler (throw_behind before (λ events here. put events (Ended Open) here) t)
 
-  -- the part is in a statement with that label, which changes no handler
-  pub lead_out : {within : ListContext} {R S : Runs} {events : List Event} {end : End} (name : Option ReactiveLabel)
+  -- the part is in a statement that makes `whole` of its completion, and changes no handler
+  pub lead_out : {within : ListContext} {R S : Runs} {events : List Event} {end : End} (whole : Completion → Completion)
+      → ((end : End) → whole (Ended end) ≡ Ended end) →
       (before : List Event) → within.handler ≡ context.handler →
-      ((outcome : Completion) (key : BlockId) → Aims within outcome key → Aims context (caught name outcome) key) →
-      ((events : List Event) (inner outer : Completion) → R events inner → outer ≡ caught name inner
+      ((outcome : Completion) (key : BlockId) → Aims within outcome key → Aims context (whole outcome) key) →
+      ((events : List Event) (inner outer : Completion) → R events inner → outer ≡ whole inner
       → S (before ++ events) outer) →
       Leads hir env within bound R events end → Leads hir env context bound S (before ++ events) end
-  lead_out {events = events} {end} name before same aims put (ends here can) =
-      ends (put events (Ended end) (Ended end) here (sym (caught-ended name end)))
+  lead_out {events = events} {end} whole ended before same aims put (ends here can) =
+      ends (put events (Ended end) (Ended end) here (sym (ended end)))
       (sym (ap (can_end end) same) ∙ can)
-  lead_out name before same aims put (to_handler t) =
+  lead_out whole ended before same aims put (to_handler t) =
       to_handler (throw_under same (throw_behind before
-      (λ events here. put events (Ended Open) (Ended Open) here (sym (caught-ended name Open))) t))
-  lead_out name before same aims put (leads {front = front} {back} {outcome} {key} here aim run small e) =
-      leads (put front outcome (caught name outcome) here refl) (aims outcome key aim) run small
+      (λ events here. put events (Ended Open) (Ended Open) here (sym (ended Open))) t))
+  lead_out whole ended before same aims put (leads {front = front} {back} {outcome} {key} here aim run small e) =
+      leads (put front outcome (whole outcome) here refl) (aims outcome key aim) run small
       (ap (λ v. before ++ v) e ∙ sym (append_assoc before front back))
 
   -- the rows of a block, and then the statements of its terminal

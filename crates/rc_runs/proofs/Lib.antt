@@ -1,7 +1,7 @@
 pub mod AllLemmas
-pub mod AnyLemmas
 pub mod NoThrow
 pub mod GraphLemmas
+pub mod SuccessorsLemmas
 pub mod FramesLemmas
 pub mod JumpsLemmas
 pub mod RowsLemmas
@@ -41,6 +41,7 @@ pub mod Leads
 pub mod GraphToLoop
 pub mod GraphToCases
 pub mod GraphToStatement
+pub mod ReturningLemmas
 pub mod GraphToBody
 pub mod BodyToGraph
 pub mod NamesOutsideLemmas
@@ -50,8 +51,6 @@ mod PlainNames
 mod SpelledValueNames
 pub mod SpelledNames
 pub mod SpelledInTables
-pub mod RebuiltFaults
-pub mod RebuiltKeeps
 pub mod PlainLists
 pub mod LabelLemmas
 pub mod KeepsRunsLemmas

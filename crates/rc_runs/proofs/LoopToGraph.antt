@@ -5,14 +5,14 @@ use Rattle.rc_names.specs.Numbers.{BlockId}
 use Rattle.rc_hir.specs.Model.{HirFunction, Environment}
 use Rattle.rc_runs.specs.Event.{Event, Arm, End}
 use Rattle.rc_runs.specs.Graph.{ends_unreachable}
-use Rattle.rc_runs.specs.GraphRun.{branch_true, branch_false, GraphRunAt}
+use Rattle.rc_runs.specs.GraphRun.{then_arm, else_arm, GraphRunAt}
 use Rattle.rc_runs.specs.PlainTree.{Value}
 use Rattle.rc_runs.specs.ListContext.{ListContext, inside, value_context}
 use Rattle.rc_runs.specs.LoopParts.{LoopBlocks, LoopParts, first_of, turn_start, loop_frame}
 use Rattle.rc_runs.specs.LoopValues.{SpellsGoing, SpellsTest}
 use Rattle.rc_runs.specs.Grammar.{SpellsList, SpellsBefore, no_value, some_value, SpellsTurns, turns}
 use Rattle.rc_runs.specs.ValueRun.{Progress, goes_past, RunsValue}
-use Rattle.rc_runs.specs.Completion.{Completion, Normal, turns_again, left_loop}
+use Rattle.rc_runs.specs.Completion.{Completion, Normal, turns_again, caught_unlabeled}
 use Rattle.rc_runs.specs.BodyRun.{Spot, AtTurn, AtTest, AtBody}
 use Rattle.rc_runs.proofs.FramesLemmas.{Fits, fits_inside, Aims, leaving, loop_label, to_turn, out_of_loop, rounded}
 use Rattle.rc_runs.proofs.ValueToGraph.{test_chooses}
@@ -51,7 +51,7 @@ module _ {hir : HirFunction} {env : Environment} {blocks : LoopBlocks} {context 
         test = test;
         before = before;
         body = body;
-        fits = fits_inside true (loop_frame blocks) apart fits;
+        fits = fits_inside true (loop_frame blocks) refl apart fits;
         body_live = live.0;
         end_live = live.1;
         alive = alive_behind hir v w refl (alive_behind hir u (v ++ w) e alive);
@@ -94,7 +94,7 @@ module _ {hir : HirFunction} {env : Environment} {blocks : LoopBlocks} {context 
   into_body {first = first} {second} k run past after q =
       ahead (first ++ Arm true ∷ []) after (q ∙ sym (append_assoc first (Arm true ∷ []) second)) (λ events end r.
       subst (λ l. GraphRunAt hir env blocks.test l end) (sym (append_assoc first (Arm true ∷ []) events))
-      (test_chooses k.test run past branch_true r))
+      (test_chooses k.test run past then_arm r))
 
   -- past the test out of the loop
   pub out_by_test : {parts : LoopParts} {first events : List Event} {progress : Progress}
@@ -103,7 +103,7 @@ module _ {hir : HirFunction} {env : Environment} {blocks : LoopBlocks} {context 
       → After hir env (leaving true blocks.fallthrough context) (GraphRunAt hir env blocks.test) events Normal
   out_by_test {first = first} k run past q = leads refl k.end_live (λ more end r.
       let regrouped = sym (append_assoc first (Arm false ∷ []) more) ∙ ap (λ l. l ++ more) (sym q) in
-      subst (λ l. GraphRunAt hir env blocks.test l end) regrouped (test_chooses k.test run past branch_false r))
+      subst (λ l. GraphRunAt hir env blocks.test l end) regrouped (test_chooses k.test run past else_arm r))
 
 -- past the body, into the next turn
 pub around_again : {hir : HirFunction} {env : Environment} (blocks : LoopBlocks) (context : ListContext)
@@ -121,11 +121,11 @@ around_again {hir} {env} blocks context {more = more} {outcome} {end} again (lea
 -- past the body, out of the loop
 pub out_by_body : {hir : HirFunction} {env : Environment} (blocks : LoopBlocks) (context : ListContext)
     {key : BlockId} {events : List Event} {outcome outer : Completion}
-    → turns_again (loop_label blocks) outcome ≡ false → outer ≡ left_loop (loop_label blocks) outcome
+    → turns_again (loop_label blocks) outcome ≡ false → outer ≡ caught_unlabeled (loop_label blocks) outcome
     → After hir env (inside true (loop_frame blocks) context) (GraphRunAt hir env key) events outcome
     → After hir env (leaving true blocks.fallthrough context) (GraphRunAt hir env key) events outer
 out_by_body blocks context {outcome = outcome} {outer} left q after =
-    redirect after aims (λ end e. q ∙ ap (left_loop (loop_label blocks)) e)
+    redirect after aims (λ end e. q ∙ ap (caught_unlabeled (loop_label blocks)) e)
   where
     aims : (key : BlockId) → Aims (inside true (loop_frame blocks) context) outcome key
         → Aims (leaving true blocks.fallthrough context) outer key

@@ -13,7 +13,7 @@ use Rattle.rc_runs.specs.Completion.{Completion}
 use Rattle.rc_runs.specs.BodyRun.{Spot, RunsLoop, nothing_before, in_before, past_before, in_test, test_fails}
 use Rattle.rc_runs.specs.BodyRun.{test_holds, next_turn, leaves_loop, in_while, in_do_while, in_init, past_init}
 use Rattle.rc_runs.specs.BodyRun.{in_for_of, in_for_in}
-use Rattle.rc_runs.proofs.LabelLemmas.{NameAlike, turns_again-alike, left_loop-alike}
+use Rattle.rc_runs.proofs.LabelLemmas.{NameAlike, turns_again-alike, caught_unlabeled-alike}
 use Rattle.rc_runs.proofs.PlainLists.{labeled}
 use Rattle.rc_runs.proofs.KeepsRunsLemmas.{KeepsRuns, TerminalKeepsRuns, statement-keeps_runs}
 
@@ -74,7 +74,7 @@ module _ (env : Environment) where
       (loop-keeps_runs keeps alike later) e
   loop-keeps_runs {label = label} {label' = label'} keeps alike (leaves_loop {inner = inner} r ends e) =
       leaves_loop (keeps.body _ _ r) (sym (turns_again-alike label label' alike inner) ∙ ends)
-      (e ∙ left_loop-alike label label' alike inner)
+      (e ∙ caught_unlabeled-alike label label' alike inner)
 
   module _ (id : EvaluationOrder) (from to : Statements) (label label' : Option ReactiveLabel)
       (keeps : KeepsRuns env from to) (alike : NameAlike label label') where

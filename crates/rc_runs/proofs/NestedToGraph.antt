@@ -8,8 +8,8 @@ use Rattle.rc_hir.specs.Model.{Place, LogicalOperator, Terminal, HirFunction, En
 use Rattle.rc_hir.specs.declared.terminal.Terminal.TheVariants as terminals
 use Rattle.rc_runs.specs.Event.{Event, Arm, End}
 use Rattle.rc_runs.specs.Silent.{is_unset}
-use Rattle.rc_runs.specs.GraphRun.{Edge, goes_to, branch_true, branch_false, into_sequence, into_ternary, into_logical}
-use Rattle.rc_runs.specs.GraphRun.{into_optional, GraphRun, stopped, moved, GraphRunAt, arrives}
+use Rattle.rc_runs.specs.GraphRun.{Edge, goes_to, then_arm, else_arm}
+use Rattle.rc_runs.specs.GraphRun.{GraphRun, stopped, moved, GraphRunAt, arrives}
 use Rattle.rc_runs.specs.PlainTree.{Value, Logical, Conditional, Sequence, Optional, NoRows, Row}
 use Rattle.rc_runs.specs.ValueEnd.{ValueEnd, GoesTo, ChoosesBetween}
 use Rattle.rc_runs.specs.ShortArms.{shares_alternate}
@@ -37,10 +37,10 @@ module _ (hir : HirFunction) (env : Environment) where
 module _ {env : Environment} {consequent alternate : BlockId} {end : ValueEnd} where
   -- a test leads to its consequent, or to its alternate
   to_consequent : ChoosesBetween env consequent alternate end → Edge end.last (Arm true ∷ []) consequent
-  to_consequent c = subst (λ t. Edge t (Arm true ∷ []) consequent) (sym c.chooses) branch_true
+  to_consequent c = subst (λ t. Edge t (Arm true ∷ []) consequent) (sym c.chooses) then_arm
 
   to_alternate : ChoosesBetween env consequent alternate end → Edge end.last (Arm false ∷ []) alternate
-  to_alternate c = subst (λ t. Edge t (Arm false ∷ []) alternate) (sym c.chooses) branch_false
+  to_alternate c = subst (λ t. Edge t (Arm false ∷ []) alternate) (sym c.chooses) else_arm
 
 module _ {hir : HirFunction} {env : Environment} where
   -- over an edge without an event, and on behind a part
@@ -81,7 +81,7 @@ module _ {hir : HirFunction} {env : Environment} where
       {end : ValueEnd} → GoesTo fallthrough end → CoversValue hir env false value None inner end.last
       → CoversNested hir env (terminals.Sequence inner fallthrough id span) value None fallthrough
   sequence_to_graph goes values events progress run =
-      covers_then (over_edge into_sequence) (to_fallthrough goes (values events progress run)) refl
+      covers_then (over_edge goes_to) (to_fallthrough goes (values events progress run)) refl
 
   pub ternary_to_graph : {test consequent alternate fallthrough : BlockId} {id : EvaluationOrder} {span : Option Span}
       {condition value other : Value} {condition_end end other_end : ValueEnd}
@@ -93,12 +93,12 @@ module _ {hir : HirFunction} {env : Environment} where
       fallthrough
   ternary_to_graph c goes other_goes tests values others events progress value_stopped = stays stopped
   ternary_to_graph c goes other_goes tests values others events progress (in_condition run) =
-      stays (moved into_ternary (and_stop (tests _ _ run)) refl)
+      stays (moved goes_to (and_stop (tests _ _ run)) refl)
   ternary_to_graph c goes other_goes tests values others events progress (took_consequent run past arm same e) =
-      covers_then (by_edge into_ternary (and_on (tests _ _ run) past))
+      covers_then (by_edge goes_to (and_on (tests _ _ run) past))
       (arm_covered (to_consequent c) goes (values _ _ arm) same) e
   ternary_to_graph c goes other_goes tests values others events progress (took_alternate run past arm same e) =
-      covers_then (by_edge into_ternary (and_on (tests _ _ run) past))
+      covers_then (by_edge goes_to (and_on (tests _ _ run) past))
       (arm_covered (to_alternate c) other_goes (others _ _ arm) same) e
 
   -- the left part of a logical: its test, and what a silent arm hands on
@@ -140,12 +140,12 @@ module _ {hir : HirFunction} {env : Environment} where
       (Logical operator (Sequence (Row own (Some answer) condition around NoRows) last value) other) None fallthrough
   logical_to_graph set c goes arm tests waits others events progress value_stopped = stays stopped
   logical_to_graph set c goes arm tests waits others events progress (in_left run) =
-      stays (moved into_logical (and_stop (left_covered set tests waits _ _ run)) refl)
+      stays (moved goes_to (and_stop (left_covered set tests waits _ _ run)) refl)
   logical_to_graph set c goes arm tests waits others events progress (left_decides run past at e) =
-      covers_then (by_edge into_logical (and_on (left_covered set tests waits _ _ run) past))
+      covers_then (by_edge goes_to (and_on (left_covered set tests waits _ _ run) past))
       (decided progress (to_consequent c) arm at) e
   logical_to_graph set c goes arm tests waits others events progress (took_right run past right same e) =
-      covers_then (by_edge into_logical (and_on (left_covered set tests waits _ _ run) past))
+      covers_then (by_edge goes_to (and_on (left_covered set tests waits _ _ run) past))
       (arm_covered (to_alternate c) goes (others _ _ right) same) e
 
   -- a test that isn't past is left by the alternate that it leaves open, which is the optional's
@@ -181,15 +181,15 @@ module _ {hir : HirFunction} {env : Environment} where
   optional_to_graph set c shares goes tests values events progress (in_optional_test (unset_row u) inside) =
       absurd (let bad : ⊥ = cc in bad)
   optional_to_graph set c shares goes tests values events progress (in_optional_test (set_row s one) inside) =
-      short_of_test into_optional shares inside (tests _ _ one)
+      short_of_test goes_to shares inside (tests _ _ one)
   optional_to_graph set c shares goes tests values events progress (took_short_end (unset_row u) at e) =
       absurd (let bad : ⊥ = cc in bad)
   optional_to_graph set c shares goes tests values events progress (took_short_end (set_row s one) at e) =
-      covers_then (by_edge into_optional (past_done (tests _ _ one))) (short_end progress (to_alternate c) at) e
+      covers_then (by_edge goes_to (past_done (tests _ _ one))) (short_end progress (to_alternate c) at) e
   optional_to_graph set c shares goes tests values events progress (took_rest (unset_row u) rest same e) =
       absurd (let bad : ⊥ = cc in bad)
   optional_to_graph set c shares goes tests values events progress (took_rest (set_row s one) rest same e) =
-      covers_then (by_edge into_optional (past_done (tests _ _ one)))
+      covers_then (by_edge goes_to (past_done (tests _ _ one)))
       (arm_covered (to_consequent c) goes (values _ _ rest) same) e
   optional_to_graph set c shares goes tests values events progress (in_other_optional other run same) =
       absurd (let bad : ⊥ = cc in bad)

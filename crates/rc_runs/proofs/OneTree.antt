@@ -14,7 +14,7 @@ use Rattle.rc_runs.specs.Frames.{is_jump_target}
 use Rattle.rc_runs.specs.PlainTree.{Value, Statements, Statement, RowStatement}
 use Rattle.rc_runs.specs.PlainTree.{Cases}
 use Rattle.rc_runs.specs.TreeOf.{block_of}
-use Rattle.rc_runs.specs.ListContext.{ListContext, inside, protected_by}
+use Rattle.rc_runs.specs.ListContext.{ListContext, inside, protected_by, marked}
 use Rattle.rc_runs.specs.LoopParts.{LoopBlocks, LoopParts}
 use Rattle.rc_runs.specs.SwitchCases.{kept_cases}
 use Rattle.rc_runs.specs.ShortArms.{SpellsShortArm}
@@ -87,11 +87,11 @@ module _ {hir : HirFunction} {env : Environment} where
 
   -- the derivation of the cases of a switch, where the same are kept and its fallthrough is equally opened
   pub cases_at : {parts : Cases} {used : List BlockId} (frame : Frame) (context : ListContext) (kept other : List Case)
-      (a b : Bool) → other ≡ kept → b ≡ a → SpellsCases hir env other (inside b frame context) parts used
-      → SpellsCases hir env kept (inside a frame context) parts used
+      (a b : Bool) → other ≡ kept → b ≡ a → SpellsCases hir env other (marked (inside b frame context)) parts used
+      → SpellsCases hir env kept (marked (inside a frame context)) parts used
   cases_at {parts} {used} frame context kept other a b k e d =
-      subst (λ cases. SpellsCases hir env cases (inside a frame context) parts used) k
-      (subst (λ v. SpellsCases hir env other (inside v frame context) parts used) e d)
+      subst (λ cases. SpellsCases hir env cases (marked (inside a frame context)) parts used) k
+      (subst (λ v. SpellsCases hir env other (marked (inside v frame context)) parts used) e d)
 
   -- the row of a value terminal
   a_row : {terminal : Terminal} {context : ListContext} {opened : Bool} {nested : Nested}

@@ -11,7 +11,7 @@ use Rattle.rc_names.specs.declared.span.Span.{Span}
 use Rattle.rc_hir.specs.Model.{Place, GotoVariant, Terminal, Instruction, HirFunction, Environment}
 use Rattle.rc_hir.specs.declared.terminal.Terminal.TheVariants as terminals
 use Rattle.rc_runs.specs.Event.{Event, Did, Arm, End, Open}
-use Rattle.rc_runs.specs.GraphRun.{goes_to, goes_on, throws, branch_true, branch_false, GraphRunAt, GraphRun, stopped}
+use Rattle.rc_runs.specs.GraphRun.{goes_to, goes_on, throws, then_arm, else_arm, GraphRunAt, GraphRun, stopped}
 use Rattle.rc_runs.specs.GraphRun.{quiet, did, moved}
 use Rattle.rc_runs.specs.PlainTree.{Value, Base, Rows, NoRows}
 use Rattle.rc_runs.specs.LastRow.{last_value, rows_then}
@@ -189,9 +189,9 @@ module _ {hir : HirFunction} {env : Environment} where
   past_branch {value} {front = front} here stopped small e =
       stays_in_test (subst (λ v. RunsValue env false value v Inside) (sym (e ∙ append-nil front)) (value_stops here))
       refl
-  past_branch {front = front} here (moved branch_true run q) small e =
+  past_branch {front = front} here (moved then_arm run q) small e =
       holds here run (omega arith) (e ∙ ap (λ v. front ++ v) q)
-  past_branch {front = front} here (moved branch_false run q) small e =
+  past_branch {front = front} here (moved else_arm run q) small e =
       fails here run (omega arith) (e ∙ ap (λ v. front ++ v) q)
 
   -- past a value that leaves nothing open, and on to the block to which the graph goes

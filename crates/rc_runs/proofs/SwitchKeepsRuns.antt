@@ -6,7 +6,7 @@ use Rattle.rc_tree.specs.Model.{ReactiveLabel}
 use Rattle.rc_runs.specs.PlainTree.{Switch, Alternate, Cases, NoCases, Case}
 use Rattle.rc_runs.specs.BodyRun.{RunsChosen, chosen_here, chosen_later, RunsCases, falls_into}
 use Rattle.rc_runs.specs.BodyRun.{leaves_case, in_case, past_cases, has_default}
-use Rattle.rc_runs.proofs.LabelLemmas.{NameAlike, caught-alike}
+use Rattle.rc_runs.proofs.LabelLemmas.{NameAlike, caught_unlabeled-alike}
 use Rattle.rc_runs.proofs.PlainLists.{labeled}
 use Rattle.rc_runs.proofs.KeepsRunsLemmas.{AreAmong, KeepsRuns, AlternateKeepsRuns, TerminalKeepsRuns}
 use Rattle.rc_runs.proofs.KeepsRunsLemmas.{statement-keeps_runs}
@@ -55,5 +55,5 @@ module _ (env : Environment) where
     where
       inside : TerminalKeepsRuns env (Switch test from id) label (Switch test to id) label'
       inside events outcome (in_case {chosen = chosen} {inner = inner} r q) =
-          in_case (keeps.chosen chosen _ _ r) (q ∙ caught-alike label label' alike inner)
+          in_case (keeps.chosen chosen _ _ r) (q ∙ caught_unlabeled-alike label label' alike inner)
       inside events outcome (past_cases none) = past_cases (keeps.default ∙ none)

@@ -97,7 +97,7 @@ module _ (env : Environment) (place : Place) where
         let back = enters (usable_block-at hir (to_id 4) _ after) graph.returned in
         let handled = enters (usable_block-at hir (to_id 3) _ handler) (did refl (moved graph.goes_to back refl)) in
         let called = enters (usable_block-at hir (to_id 1) _ first) (did refl (moved graph.throws handled refl)) in
-        enters (usable_block-at hir (to_id 0) _ entry) (moved graph.into_try called refl)
+        enters (usable_block-at hir (to_id 0) _ entry) (moved graph.goes_to called refl)
 
     -- a run from the block under a key is one of that block
     run_of : {block other : Block} {events : List Event} {end : End} (key : BlockId)
@@ -117,8 +117,8 @@ module _ (env : Environment) (place : Place) where
     after_entry : {all events : List Event} {end : End} → all ≡ Threw ∷ events
         → GraphRun hir env [] (terminals.Try (to_id 1) None (to_id 3) (to_id 4) (to_id 1) None) all end → ⊥
     after_entry e graph.stopped = let bad : ⊥ = cc in bad
-    after_entry e (moved graph.into_try arrives w) = let bad : ⊥ = cc in bad
-    after_entry e (moved graph.into_try (enters found run) w) =
+    after_entry e (moved graph.goes_to arrives w) = let bad : ⊥ = cc in bad
+    after_entry e (moved graph.goes_to (enters found run) w) =
         after_call (sym w ∙ e) (run_of (to_id 1) first found run)
 
     -- in the graph a block throws at its end alone, so the call comes first

@@ -29,6 +29,6 @@ pub protected_part : {hir : HirFunction} {env : Environment} {terminal : Termina
 protected_part {label = label} {context} {inner = inner} opened f handler fits l q move d moves alive carries =
     let around = inside opened (frame_kinds.Statement f) context in
     behind_label label
-    (in_part move d (fits_protected handler (fits_inside opened (frame_kinds.Statement f) tt fits)) moves alive carries)
-    (λ key aim. aims_labeled opened (frame_kinds.Statement f) context label refl refl l inner key
+    (in_part move d (fits_protected handler (fits_inside opened (frame_kinds.Statement f) refl tt fits)) moves alive carries)
+    (λ key aim. aims_labeled opened (frame_kinds.Statement f) f context label refl refl refl l inner key
     (aims_protected handler around inner key aim)) q

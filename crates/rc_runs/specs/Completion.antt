@@ -5,11 +5,12 @@ use Rattle.rc_tree.specs.Model.{ReactiveLabel}
 use Rattle.rc_runs.specs.Event.{End, Open, Thrown}
 use Rattle.rc_runs.specs.ValueRun.{Progress, Inside}
 
--- the way in which a statement completes: it goes on with the next statement, jumps out, or ends the run
+-- the way in which a statement completes: it goes on with the next statement, leaves the statement with a label or the
+-- innermost loop or switch, begins the next turn of the loop with a label or of the innermost loop, or ends the run
 pub data Completion : Type 0 where
   Normal : Completion
   BreakTo : (target : BlockId) → Completion
-  BreakLoop : Completion
+  BreakInnermost : Completion
   ContinueTo : (target : BlockId) → Completion
   ContinueLoop : Completion
   Ended : (end : End) → Completion
@@ -36,10 +37,10 @@ turns_again label ContinueLoop = true
 turns_again (Some label) (ContinueTo target) = same_id label.id target
 turns_again label _ = false
 
--- the completion of a loop with that label whose body leaves it
-abbrev pub left_loop : Option ReactiveLabel → Completion → Completion
-left_loop label BreakLoop = Normal
-left_loop label outcome = caught label outcome
+-- the completion of a loop or of a switch with that label: unlabeled breaks go on with the next statement too
+abbrev pub caught_unlabeled : Option ReactiveLabel → Completion → Completion
+caught_unlabeled label BreakInnermost = Normal
+caught_unlabeled label outcome = caught label outcome
 
 -- the run ends by a throw statement
 abbrev pub is_thrown : Completion → Bool

@@ -23,4 +23,5 @@ pub mod Grammar
 pub mod Spelled
 pub mod ValueRun
 pub mod Completion
+pub mod Returning
 pub mod BodyRun

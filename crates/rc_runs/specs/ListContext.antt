@@ -3,6 +3,7 @@ use Rattle.std.specs.Prelude.{Bool, true, false, List, [], ◌∷◌, Option, So
 use Rattle.rc_names.specs.Numbers.{BlockId, same_id}
 use Rattle.rc_names.specs.declared.span.Span.{Span}
 use Rattle.rc_runs.specs.declared.frames.Frame.{Frame}
+use Rattle.rc_runs.specs.declared.frames.Frame.TheVariants as frame_kinds
 use Rattle.rc_runs.specs.Frames.{fall_block}
 
 -- the context of a list: the block that falling off it reaches, the frames, and the current handler
@@ -18,7 +19,11 @@ outermost = record { next = None; frames = []; handler = None }
 -- the context of a part of a statement: it has one more frame if the statement's fallthrough is opened
 abbrev pub inside : Bool → Frame → ListContext → ListContext
 inside opened frame context =
-    if opened then record context { next = Some (fall_block frame); frames = frame ∷ context.frames } else context
+    if opened then record context { next = fall_block frame; frames = frame ∷ context.frames } else context
+
+-- the context of the cases of a switch, inside its mark
+abbrev pub marked : ListContext → ListContext
+marked context = record context { frames = frame_kinds.Mark ∷ context.frames }
 
 -- the context of a part that a handler protects
 abbrev pub protected_by : BlockId → ListContext → ListContext

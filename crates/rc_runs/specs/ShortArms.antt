@@ -4,9 +4,8 @@
 -- arm, which is used once, by the outermost of them.
 use Rattle.std.specs.Prelude.{◌≡◌, Bool, true, false, List, [], ◌∷◌, Option, Some, None}
 use Rattle.std.specs.List.{list_all}
-use Rattle.rc_names.specs.Numbers.{BlockId, EvaluationOrder, same_id}
-use Rattle.rc_names.specs.declared.span.Span.{Span}
-use Rattle.rc_hir.specs.Model.{GotoVariant, Instruction, HirFunction, Environment}
+use Rattle.rc_names.specs.Numbers.{BlockId, same_id}
+use Rattle.rc_hir.specs.Model.{Instruction, HirFunction, Environment}
 use Rattle.rc_hir.specs.declared.terminal.Terminal.TheVariants as terminals
 use Rattle.rc_runs.specs.Silent.{is_silent}
 use Rattle.rc_runs.specs.Graph.{Block, usable_block}
@@ -17,29 +16,24 @@ abbrev pub are_silent : Environment → List Instruction → Bool
 are_silent env rows = list_all (λ row. is_silent env row.id row.value) rows
 
 -- a silent arm under a handler: a chain of blocks without events, after which the graph goes on at the next block
-pub data SpellsSilentArm (hir : HirFunction) (env : Environment) (handler : Option BlockId) (next : BlockId) :
-    BlockId → List BlockId → Type 0 where
-  silent_block : {key : BlockId} {block : Block} {variant : GotoVariant} {id : EvaluationOrder} {span : Option Span} →
-      usable_block hir key ≡ Some block → are_silent env block.rows ≡ true →
-      block.terminal ≡ terminals.Goto next variant id span →
+pub data SpellsSilentArm (hir : HirFunction) (env : Environment) (handler : Option BlockId) (next : BlockId) : BlockId
+    → List BlockId → Type 0 where
+  silent_block : {key : _} {block : Block} {variant id span : _} → usable_block hir key ≡ Some block →
+      are_silent env block.rows ≡ true → block.terminal ≡ terminals.Goto next variant id span →
       SpellsSilentArm hir env handler next key (key ∷ [])
-  silent_chain : {key continuation : BlockId} {block : Block} {named : Option BlockId} {id : EvaluationOrder}
-      {span : Option Span} {used : List BlockId} →
-      usable_block hir key ≡ Some block → are_silent env block.rows ≡ true →
-      block.terminal ≡ terminals.MaybeThrow continuation named id span → is_current named handler ≡ true →
-      SpellsSilentArm hir env handler next continuation used →
+  silent_chain : {key continuation : _} {block : Block} {named id span used : _} → usable_block hir key ≡ Some block →
+      are_silent env block.rows ≡ true → block.terminal ≡ terminals.MaybeThrow continuation named id span →
+      is_current named handler ≡ true → SpellsSilentArm hir env handler next continuation used →
       SpellsSilentArm hir env handler next key (key ∷ used)
 
 -- the short arm of a value terminal: there is none, it is left to the test that the value answers, or it is its own.
 -- The alternate that is left open then, from the one that the value behind leaves open
 pub data SpellsShortArm (hir : HirFunction) (env : Environment) (handler : Option BlockId) (next : BlockId) : Bool →
     Option BlockId → Option BlockId → Option BlockId → List BlockId → Type 0 where
-  no_arm : {answers : Bool} {behind : Option BlockId} →
-      SpellsShortArm hir env handler next answers None behind behind []
-  left_to_test : {alternate : BlockId} {behind : Option BlockId} →
+  no_arm : {answers behind : _} → SpellsShortArm hir env handler next answers None behind behind []
+  left_to_test : {alternate behind : _} →
       SpellsShortArm hir env handler next true (Some alternate) behind (Some alternate) []
-  own_arm : {alternate : BlockId} {behind : Option BlockId} {used : List BlockId} →
-      SpellsSilentArm hir env handler next alternate used →
+  own_arm : {alternate behind used : _} → SpellsSilentArm hir env handler next alternate used →
       SpellsShortArm hir env handler next false (Some alternate) behind behind used
 
 -- the alternate that a test leaves open, if there is one, is that of the optional

@@ -4,8 +4,7 @@
 -- and so on outward. Everywhere else its short end is its end.
 use Rattle.std.specs.Prelude.{◌≡◌, Bool, true, false, List, [], ◌∷◌, ◌++◌, Option, Some}
 use Rattle.rc_names.specs.Numbers.{EvaluationOrder}
-use Rattle.rc_names.specs.declared.span.Span.{Span}
-use Rattle.rc_hir.specs.Model.{Place, InstructionValue, LogicalOperator, Environment}
+use Rattle.rc_hir.specs.Model.{Place, Environment}
 use Rattle.rc_runs.specs.Event.{Event, Did, Arm}
 use Rattle.rc_runs.specs.Silent.{is_unset, is_silent_value}
 use Rattle.rc_runs.specs.PlainTree.{Value, Base, Logical, Conditional, Sequence, Optional, Rows, NoRows, Row}
@@ -56,87 +55,72 @@ abbrev pub is_test_and_rest : Value → Bool
 is_test_and_rest (Sequence (Row id target value span NoRows) last rest) = true
 is_test_and_rest value = false
 
-mutual
-  -- a run of a value, which is the test of an optional or not
-  pub data RunsValue (env : Environment) : Bool → Value → List Event → Progress → Type 0 where
-    -- each prefix of a run is a run
-    value_stopped : {is_test : Bool} {value : Value} → RunsValue env is_test value [] Inside
-    quiet_value : {is_test : Bool} {value : InstructionValue} → is_silent_value env value ≡ true →
-        RunsValue env is_test (Base value) [] Done
-    did_value : {is_test : Bool} {value : InstructionValue} → is_silent_value env value ≡ false →
-        RunsValue env is_test (Base value) (Did value ∷ []) Done
-    -- the same, stopped right after the event
-    did_and_stopped : {is_test : Bool} {value : InstructionValue} → is_silent_value env value ≡ false →
-        RunsValue env is_test (Base value) (Did value ∷ []) Inside
-    in_sequence : {is_test : Bool} {rows : Rows} {id : EvaluationOrder} {value : Value} {events : List Event}
-        {progress : Progress} → RunsRows env is_test rows value events progress →
-        RunsValue env is_test (Sequence rows id value) events progress
-    -- a conditional runs its test, and then one of its arms
-    in_condition : {is_test : Bool} {test consequent alternate : Value} {events : List Event} →
-        RunsValue env false test events Inside →
-        RunsValue env is_test (Conditional test consequent alternate) events Inside
-    took_consequent : {is_test : Bool} {test consequent alternate : Value} {first second events : List Event}
-        {past arm progress : Progress} →
-        RunsValue env false test first past → goes_past past ≡ true → RunsValue env false consequent second arm →
-        progress ≡ settled arm → events ≡ first ++ (Arm true ∷ second) →
-        RunsValue env is_test (Conditional test consequent alternate) events progress
-    took_alternate : {is_test : Bool} {test consequent alternate : Value} {first second events : List Event}
-        {past arm progress : Progress} →
-        RunsValue env false test first past → goes_past past ≡ true → RunsValue env false alternate second arm →
-        progress ≡ settled arm → events ≡ first ++ (Arm false ∷ second) →
-        RunsValue env is_test (Conditional test consequent alternate) events progress
-    -- a logical runs its left part, which decides, or else its right part too
-    in_left : {is_test : Bool} {operator : LogicalOperator} {left right : Value} {events : List Event} →
-        RunsValue env false left events Inside → RunsValue env is_test (Logical operator left right) events Inside
-    left_decides : {is_test : Bool} {operator : LogicalOperator} {left right : Value} {first events : List Event}
-        {past progress : Progress} → RunsValue env false left first past → goes_past past ≡ true →
-        is_at Done progress ≡ true → events ≡ first ++ Arm true ∷ [] →
-        RunsValue env is_test (Logical operator left right) events progress
-    took_right : {is_test : Bool} {operator : LogicalOperator} {left right : Value} {first second events : List Event}
-        {past arm progress : Progress} →
-        RunsValue env false left first past → goes_past past ≡ true → RunsValue env false right second arm →
-        progress ≡ settled arm → events ≡ first ++ (Arm false ∷ second) →
-        RunsValue env is_test (Logical operator left right) events progress
-    -- an optional runs its test, and then the rest, or takes its short end
-    in_optional_test : {is_test optional : Bool} {id last : EvaluationOrder} {target : Option Place}
-        {test rest : Value} {span : Option Span} {events : List Event} {progress : Progress} →
-        RunsRow env true id test events progress → is_done progress ≡ false →
-        RunsValue env is_test (Optional (Sequence (Row id target test span NoRows) last rest) optional) events progress
-    took_short_end : {is_test optional : Bool} {id last : EvaluationOrder} {target : Option Place}
-        {test rest : Value} {span : Option Span} {first events : List Event} {progress : Progress} →
-        RunsRow env true id test first Done → is_at Short progress ≡ true → events ≡ first ++ Arm false ∷ [] →
-        RunsValue env is_test (Optional (Sequence (Row id target test span NoRows) last rest) optional) events progress
-    took_rest : {is_test optional : Bool} {id last : EvaluationOrder} {target : Option Place} {test rest : Value}
-        {span : Option Span} {first second events : List Event} {arm progress : Progress} →
-        RunsRow env true id test first Done → RunsValue env false rest second arm →
-        progress ≡ settled arm → events ≡ first ++ (Arm true ∷ second) →
-        RunsValue env is_test (Optional (Sequence (Row id target test span NoRows) last rest) optional) events progress
-    -- an optional of another form, which no graph spells, runs its value
-    in_other_optional : {is_test optional : Bool} {value : Value} {events : List Event} {part progress : Progress} →
-        is_test_and_rest value ≡ false → RunsValue env false value events part → progress ≡ settled part →
-        RunsValue env is_test (Optional value optional) events progress
+module _ (env : Environment) where
+  mutual
+    -- a run of a value, which is the test of an optional or not
+    pub data RunsValue : Bool → Value → List Event → Progress → Type 0 where
+      -- each prefix of a run is a run
+      value_stopped : {is_test value : _} → RunsValue is_test value [] Inside
+      quiet_value : {is_test value : _} → is_silent_value env value ≡ true → RunsValue is_test (Base value) [] Done
+      did_value : {is_test value : _} → is_silent_value env value ≡ false →
+          RunsValue is_test (Base value) (Did value ∷ []) Done
+      -- the same, stopped right after the event
+      did_and_stopped : {is_test value : _} → is_silent_value env value ≡ false →
+          RunsValue is_test (Base value) (Did value ∷ []) Inside
+      in_sequence : {is_test rows id value events progress : _} → RunsRows is_test rows value events progress →
+          RunsValue is_test (Sequence rows id value) events progress
+      -- a conditional runs its test, and then one of its arms
+      in_condition : {is_test test consequent alternate events : _} → RunsValue false test events Inside →
+          RunsValue is_test (Conditional test consequent alternate) events Inside
+      took_consequent : {is_test test consequent alternate first second events past arm progress : _} →
+          RunsValue false test first past → goes_past past ≡ true → RunsValue false consequent second arm →
+          progress ≡ settled arm → events ≡ first ++ (Arm true ∷ second) →
+          RunsValue is_test (Conditional test consequent alternate) events progress
+      took_alternate : {is_test test consequent alternate first second events past arm progress : _} →
+          RunsValue false test first past → goes_past past ≡ true → RunsValue false alternate second arm →
+          progress ≡ settled arm → events ≡ first ++ (Arm false ∷ second) →
+          RunsValue is_test (Conditional test consequent alternate) events progress
+      -- a logical runs its left part, which decides, or else its right part too
+      in_left : {is_test operator left right events : _} → RunsValue false left events Inside →
+          RunsValue is_test (Logical operator left right) events Inside
+      left_decides : {is_test operator left right first events past progress : _} → RunsValue false left first past →
+          goes_past past ≡ true → is_at Done progress ≡ true → events ≡ first ++ Arm true ∷ [] →
+          RunsValue is_test (Logical operator left right) events progress
+      took_right : {is_test operator left right first second events past arm progress : _} →
+          RunsValue false left first past → goes_past past ≡ true → RunsValue false right second arm →
+          progress ≡ settled arm → events ≡ first ++ (Arm false ∷ second) →
+          RunsValue is_test (Logical operator left right) events progress
+      -- an optional runs its test, and then the rest, or takes its short end
+      in_optional_test : {is_test optional id last target test rest span events progress : _} →
+          RunsRow true id test events progress → is_done progress ≡ false →
+          RunsValue is_test (Optional (Sequence (Row id target test span NoRows) last rest) optional) events progress
+      took_short_end : {is_test optional id last target test rest span first events progress : _} →
+          RunsRow true id test first Done → is_at Short progress ≡ true → events ≡ first ++ Arm false ∷ [] →
+          RunsValue is_test (Optional (Sequence (Row id target test span NoRows) last rest) optional) events progress
+      took_rest : {is_test optional id last target test rest span first second events arm progress : _} →
+          RunsRow true id test first Done → RunsValue false rest second arm → progress ≡ settled arm →
+          events ≡ first ++ (Arm true ∷ second) →
+          RunsValue is_test (Optional (Sequence (Row id target test span NoRows) last rest) optional) events progress
+      -- an optional of another form, which no graph spells, runs its value
+      in_other_optional : {is_test optional value events part progress : _} → is_test_and_rest value ≡ false →
+          RunsValue false value events part → progress ≡ settled part →
+          RunsValue is_test (Optional value optional) events progress
 
-  -- a run of the rows of a sequence, and then of its value
-  pub data RunsRows (env : Environment) : Bool → Rows → Value → List Event → Progress → Type 0 where
-    past_rows : {is_test : Bool} {value : Value} {events : List Event} {progress : Progress} →
-        RunsValue env is_test value events progress → RunsRows env is_test NoRows value events progress
-    past_row : {is_test : Bool} {id : EvaluationOrder} {target : Option Place} {own value : Value}
-        {span : Option Span} {rest : Rows} {first second events : List Event} {row progress : Progress} →
-        RunsRow env false id own first row →
-        goes_past_row (is_row_of_test env is_test target own rest value) row ≡ true →
-        RunsRows env is_test rest value second progress → events ≡ first ++ second →
-        RunsRows env is_test (Row id target own span rest) value events progress
-    -- stopped inside the row, or out of the sequence by its short end
-    in_row : {is_test : Bool} {id : EvaluationOrder} {target : Option Place} {own value : Value}
-        {span : Option Span} {rest : Rows} {events : List Event} {progress : Progress} →
-        RunsRow env false id own events progress →
-        goes_past_row (is_row_of_test env is_test target own rest value) progress ≡ false →
-        RunsRows env is_test (Row id target own span rest) value events progress
+    -- a run of the rows of a sequence, and then of its value
+    pub data RunsRows : Bool → Rows → Value → List Event → Progress → Type 0 where
+      past_rows : {is_test value events progress : _} → RunsValue is_test value events progress →
+          RunsRows is_test NoRows value events progress
+      past_row : {is_test id target own value span rest first second events row progress : _} →
+          RunsRow false id own first row → goes_past_row (is_row_of_test env is_test target own rest value) row ≡ true →
+          RunsRows is_test rest value second progress → events ≡ first ++ second →
+          RunsRows is_test (Row id target own span rest) value events progress
+      -- stopped inside the row, or out of the sequence by its short end
+      in_row : {is_test id target own value span rest events progress : _} → RunsRow false id own events progress →
+          goes_past_row (is_row_of_test env is_test target own rest value) progress ≡ false →
+          RunsRows is_test (Row id target own span rest) value events progress
 
-  -- a run of a row: a row whose id is unset has no event
-  pub data RunsRow (env : Environment) : Bool → EvaluationOrder → Value → List Event → Progress → Type 0 where
-    unset_row : {is_test : Bool} {id : EvaluationOrder} {value : Value} → is_unset id ≡ true →
-        RunsRow env is_test id value [] Done
-    set_row : {is_test : Bool} {id : EvaluationOrder} {value : Value} {events : List Event} {progress : Progress} →
-        is_unset id ≡ false → RunsValue env is_test value events progress →
-        RunsRow env is_test id value events progress
+    -- a run of a row: a row whose id is unset has no event
+    pub data RunsRow : Bool → EvaluationOrder → Value → List Event → Progress → Type 0 where
+      unset_row : {is_test id value : _} → is_unset id ≡ true → RunsRow is_test id value [] Done
+      set_row : {is_test id value events progress : _} → is_unset id ≡ false → RunsValue is_test value events progress →
+          RunsRow is_test id value events progress

@@ -32,6 +32,8 @@ pub enum Frame {
         block: BlockId,
         continue_block: BlockId,
     },
+    /// A switch, with a frame of its own or not, which an unlabeled break would leave. No jump names it.
+    Mark,
 }
 
 /// The resolution of a break.
@@ -62,8 +64,8 @@ pub enum ContinueResult {
 }
 
 impl Frame {
-    /// Returns the block that a break out of the frame names.
-    pub fn break_block(self) -> BlockId
+    /// Returns the block that a break out of the frame names, and `None` if it is a mark.
+    pub fn break_block(self) -> Option<BlockId>
         ensures { result ≡ spec.break_block self }
     {
         match self {
@@ -71,7 +73,8 @@ impl Frame {
             | Frame::Switch { block }
             | Frame::Case { block }
             | Frame::Scope { block }
-            | Frame::Loop { block, .. } => block,
+            | Frame::Loop { block, .. } => Some(block),
+            Frame::Mark => None,
         }
     }
 
@@ -83,25 +86,30 @@ impl Frame {
             Frame::Statement { .. }
             | Frame::Switch { .. }
             | Frame::Case { .. }
-            | Frame::Scope { .. } => None,
+            | Frame::Scope { .. }
+            | Frame::Mark => None,
             Frame::Loop { continue_block, .. } => Some(continue_block),
         }
     }
 
-    /// Returns the block that falling off a part of the frame reaches.
-    pub fn fall_block(self) -> BlockId
+    /// Returns the block that falling off a part of the frame reaches, and `None` if it is a mark.
+    pub fn fall_block(self) -> Option<BlockId>
         ensures { result ≡ spec.fall_block self }
     {
         match self {
             Frame::Statement { block }
             | Frame::Switch { block }
             | Frame::Case { block }
-            | Frame::Scope { block } => block,
-            Frame::Loop { continue_block, .. } => continue_block,
+            | Frame::Scope { block } => Some(block),
+            Frame::Loop {
+                continue_block: again,
+                ..
+            } => Some(again),
+            Frame::Mark => None,
         }
     }
 
-    /// Returns whether an unlabeled break leaves the frame.
+    /// Returns whether an unlabeled continue goes to the frame, if it is the innermost such frame.
     pub fn is_loop(self) -> bool
         ensures { result ≡ spec.is_loop self }
     {
@@ -110,13 +118,41 @@ impl Frame {
             Frame::Statement { .. }
             | Frame::Switch { .. }
             | Frame::Case { .. }
+            | Frame::Scope { .. }
+            | Frame::Mark => false,
+        }
+    }
+
+    /// Returns whether an unlabeled break leaves the frame or its switch, if it is the innermost such frame.
+    pub fn takes_unlabeled(self) -> bool
+        ensures { result ≡ spec.takes_unlabeled self }
+    {
+        match self {
+            Frame::Loop { .. } | Frame::Mark => true,
+            Frame::Statement { .. }
+            | Frame::Switch { .. }
+            | Frame::Case { .. }
             | Frame::Scope { .. } => false,
         }
     }
 
-    /// Resolves a break to this frame. `innermost`: no frame is inside it; `in_loop`: a loop is inside it.
-    pub fn resolve_break(self, innermost: bool, in_loop: bool) -> BreakResult
-        ensures { result ≡ spec.resolve_at innermost in_loop self }
+    /// Returns whether the frame is a mark.
+    pub fn is_mark(self) -> bool
+        ensures { result ≡ spec.is_mark self }
+    {
+        match self {
+            Frame::Mark => true,
+            Frame::Statement { .. }
+            | Frame::Switch { .. }
+            | Frame::Case { .. }
+            | Frame::Scope { .. }
+            | Frame::Loop { .. } => false,
+        }
+    }
+
+    /// Resolves a break to this frame. `innermost`: marks alone are inside it; `taken`: a loop or a mark is inside it.
+    pub fn resolve_break(self, innermost: bool, taken: bool) -> BreakResult
+        ensures { result ≡ spec.resolve_at innermost taken self }
     {
         match self {
             Frame::Statement { .. } | Frame::Switch { .. } => BreakResult::Breaks(if innermost {
@@ -136,16 +172,34 @@ impl Frame {
             } else {
                 BreakResult::LeavesScope
             },
-            Frame::Loop { .. } => BreakResult::Breaks(if in_loop {
+            Frame::Loop { .. } => BreakResult::Breaks(if taken {
                 ReactiveTerminalTargetKind::Labeled
             } else {
                 ReactiveTerminalTargetKind::Unlabeled
             }),
+            Frame::Mark => BreakResult::NoFrame,
         }
     }
 
-    /// Returns the kind of a continue of a loop. `innermost`: no frame is inside the loop's; `in_loop`: a loop is.
-    pub fn continue_kind(innermost: bool, in_loop: bool) -> ReactiveTerminalTargetKind
+    /// Resolves a continue to this frame. `innermost`: marks alone are inside it; `in_loop`: a loop is inside it.
+    pub fn resolve_continue(self, innermost: bool, in_loop: bool) -> ContinueResult
+        ensures { result ≡ spec.continue_at innermost in_loop self }
+    {
+        match self {
+            Frame::Loop { block, .. } => ContinueResult::Continues {
+                target: block,
+                kind: Frame::continue_kind(innermost, in_loop),
+            },
+            Frame::Statement { .. }
+            | Frame::Switch { .. }
+            | Frame::Case { .. }
+            | Frame::Scope { .. }
+            | Frame::Mark => ContinueResult::NoLoop,
+        }
+    }
+
+    /// Returns the kind of a continue of a loop. `innermost`: marks alone are inside the loop's; `in_loop`: a loop is.
+    fn continue_kind(innermost: bool, in_loop: bool) -> ReactiveTerminalTargetKind
         ensures { result ≡ spec.continue_kind innermost in_loop }
     {
         if in_loop {
