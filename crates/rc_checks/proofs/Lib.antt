@@ -1,5 +1,4 @@
 mod FaultNames
-mod NumbersStay
 mod BreakTargets
 mod LabelPruning
 pub mod MembershipCheck

@@ -5,8 +5,8 @@
 use Rattle.std.specs.Prelude.{◌≡◌, ℕ, suc, List, [], ◌∷◌, Option, None, Some, Contains, flat_map, slice_get, take}
 use Rattle.std.specs.Prelude.{option_and_then}
 use Rattle.rc_names.specs.Numbers.{BlockId}
-use Rattle.rc_tree.specs.TreeFold.{TreeFold, over_block, over_statement}
-use Rattle.rc_tree.specs.Model.{ReactiveBlock, ReactiveStatement, ReactiveLabel}
+use Rattle.rc_tree.specs.TreeFold.{TreeFold, over_block}
+use Rattle.rc_tree.specs.Model.{ReactiveBlock, ReactiveLabel}
 use Rattle.rc_tree.specs.declared.statement.ReactiveStatement.TheOpen as layer
 use Rattle.rc_tree.specs.declared.statement.ReactiveStatement.TheOpen.{ReactiveStatement-F, ReactiveTerminal-F}
 
@@ -48,9 +48,6 @@ meeting = record {
 -- the terminals that are met in a list, and at a statement
 unfoldable pub met_in : ReactiveBlock → Terminals
 met_in = over_block meeting
-
-unfoldable pub met_at : ReactiveStatement → Terminals
-met_at = over_statement meeting
 
 -- the block of a label, where there is one
 abbrev pub label_block : Option ReactiveLabel → List BlockId

@@ -47,10 +47,6 @@ contents_of_parts = record {
 abbrev pub contents : ReactiveBlock → Contents
 contents = collected contents_of_parts
 
--- a `Return` stands in the block outside its scope blocks
-abbrev pub returns_in : ReactiveBlock → Bool
-returns_in block = (contents block).returns
-
 -- the scope blocks of the tree
 abbrev pub scope_blocks : ReactiveBlock → List ScopeBlock
 scope_blocks block = (contents block).blocks

@@ -1,4 +1,5 @@
 -- The steps of the checks and passes, by which their private functions are specified.
+pub mod MetStatements
 pub mod TargetSteps
 pub mod OpenScopes
 pub mod MembershipSteps

@@ -6,7 +6,8 @@
 
 ghost use Rattle.std.specs.Prelude.{◌≡◌, ◌⊎◌, IfErr, OnOk};
 ghost use Rattle.rc_checks.specs.BreakTargets as spec;
-ghost use Rattle.rc_checks.specs.BreakTargets.{met_at, met_in, HasMetTargets, IsFirstUnmet};
+ghost use Rattle.rc_checks.specs.BreakTargets.{met_in, HasMetTargets, IsFirstUnmet};
+ghost use Rattle.rc_checks.specs.inside.MetStatements.{met_at};
 ghost use Rattle.rc_checks.specs.inside.TargetSteps.{met_terminal, target_step, terminal_step, with_label};
 ghost use Rattle.rc_hir.specs.Model.{HirFunction as Hir};
 ghost use Rattle.rc_names.specs.Numbers.{BlockId as Block};

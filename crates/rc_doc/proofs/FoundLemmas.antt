@@ -21,7 +21,8 @@ use Rattle.serde_json.specs.View.{members_view}
 use Rattle.serde_json.specs.declared.value.Value.{Value}
 use Rattle.rc_doc.specs.declared.refusal.Refusal.{Refusal}
 use Rattle.rc_doc.specs.declared.refusal.Refusal.TheVariants.{Memory, NotDoc}
-use Rattle.rc_doc.specs.Reading.{all_known, are_ascending, only}
+use Rattle.rc_doc.specs.Reading.{all_known, only}
+use Rattle.rc_doc.specs.inside.Names.{are_ascending}
 use Rattle.rc_doc.specs.inside.Found.{AreMembers, Finds, after_named, first_named, from_next, if_none, keys}
 
 is_less : (o : Ordering) → is_lt o ≡ true → o ≡ Less

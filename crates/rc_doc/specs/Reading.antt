@@ -4,10 +4,8 @@
 use Rattle.std.specs.Prelude.{◌≡◌, ℕ, ◌^◌, ◌&&◌, Bool, true, false, nat_lt, List, [], ◌∷◌, Option, Some, None, Result}
 use Rattle.std.specs.Prelude.{Ok, Err, ⊤}
 use Rattle.std.specs.Prelude.{option_and_then, option_map, if◌then◌else◌, codes}
-use Rattle.std.specs.Cmp.Lexicographic.{slice_cmp}
 use Rattle.std.specs.List.{list_any}
 use Rattle.std.specs.Option.{option_map_or}
-use Rattle.std.specs.Ordering.{is_lt, nat_cmp}
 use Rattle.std.specs.Str.{bytes_eq}
 use Rattle.serde_json.specs.Data.{Data, null, boolean, number, string, array, object, Items, no_items, item, Members}
 use Rattle.serde_json.specs.Data.{no_members, member}
@@ -88,16 +86,6 @@ has_only names d = option_map_or (all_known names) (as_object d) false
 -- an object in which each key is one of these names
 abbrev pub only : List (List ℕ) → Data → Option ⊤
 only names d = if has_only names d then Some tt else None
-
--- the name is below the first of these, in byte order
-abbrev pub is_below : List ℕ → List (List ℕ) → Bool
-is_below name [] = true
-is_below name (next ∷ names) = is_lt (slice_cmp nat_cmp name next)
-
--- each name is below the next one, in byte order
-abbrev pub are_ascending : List (List ℕ) → Bool
-are_ascending [] = true
-are_ascending (name ∷ names) = is_below name names && are_ascending names
 
 -- the name of an enum's variant that has fields
 abbrev pub tag_of : Data → Option (List ℕ)

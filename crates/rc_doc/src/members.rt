@@ -5,7 +5,8 @@ ghost use Rattle.std.specs.Prelude.{◌≡◌, [], ◌∷◌, true, IfOk, Some, 
 ghost use Rattle.rc_doc.specs.declared.refusal.Refusal.TheVariants as refusals;
 ghost use Rattle.serde_json.specs.Find.{as_object};
 ghost use Rattle.serde_json.specs.View.{view};
-ghost use Rattle.rc_doc.specs.Reading.{IsRead, are_ascending};
+ghost use Rattle.rc_doc.specs.Reading.{IsRead};
+ghost use Rattle.rc_doc.specs.inside.Names.{are_ascending};
 ghost use Rattle.rc_doc.specs.inside.Found.{Finds, after_named, first_named, found_data, if_none, keys, left};
 
 use crate::refusal::Refusal;

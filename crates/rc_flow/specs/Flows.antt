@@ -14,6 +14,7 @@ use Rattle.rc_flow.specs.Flows.Values.{steps_of_row, steps_of_value, steps_of_va
 use Rattle.rc_flow.specs.declared.step.Step.{Step}
 use Rattle.rc_flow.specs.declared.step.Step.TheVariants.{Ends}
 
+-- the steps of a part, in the order in which they happen
 abbrev pub Steps : Type 0
 Steps = List Step
 

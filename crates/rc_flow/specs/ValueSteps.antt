@@ -48,6 +48,7 @@ listed (Some step) = step ∷ []
 abbrev pub Steps : Type 0
 Steps = Bool → List ValueStep
 
+-- the steps of a row: what it makes or copies, by the instruction of its value
 abbrev pub steps_of_row : ReactiveInstruction → Steps
 steps_of_row row in_scope = listed (step_of in_scope row.lvalue row.value)
 

@@ -11,7 +11,8 @@ use Rattle.serde_json.specs.Find.{as_array, get, get_member}
 use Rattle.serde_json.specs.View.{view}
 use Rattle.rc_doc.specs.Reading.{tag_of}
 use Rattle.rc_misread.specs.Misread.{Found, Move, asked_of, field, if_misread, item_at, item_form, misread_by}
-use Rattle.rc_misread.specs.Misread.{IsWay, a_document, found_of, misread_field, misread_item, move_of, onward, start}
+use Rattle.rc_misread.specs.Misread.{IsWay, a_document, misread_field, misread_item, move_of, onward, start}
+use Rattle.rc_misread.specs.inside.Parts.{found_of}
 use Rattle.rc_misread.specs.Misread.{misread_part, not_null, or_later, part_at}
 use Rattle.rc_misread.specs.Fields.{fields_of}
 use Rattle.rc_misread.specs.Forms.{Row, is_read, may_be_null}

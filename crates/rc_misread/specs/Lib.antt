@@ -3,3 +3,4 @@ pub mod Kinds
 pub mod Terminals
 pub mod Fields
 pub mod Misread
+pub mod inside

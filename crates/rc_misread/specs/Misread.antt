@@ -10,7 +10,6 @@ use Rattle.rc_doc.specs.Reading.{tag_of}
 use Rattle.rc_misread.specs.Fields.{fields_of}
 use Rattle.rc_misread.specs.Forms.{Row, is_list, is_read, may_be_null}
 use Rattle.rc_misread.specs.declared.misread.Misread.{Misread}
-use Rattle.rc_misread.specs.declared.misread.Part.{Part}
 use Rattle.rc_misread.specs.declared.misread.Step.{Step}
 use Rattle.rc_misread.specs.declared.misread.Step.TheVariants as steps
 use Rattle.rc_misread.specs.declared.form.Asked.{Asked}
@@ -32,10 +31,6 @@ pub record Found : Type 0 where
   pub move : Move
   pub asked : Asked
   pub value : Data
-
--- a part that the code found
-abbrev pub found_of : Part → Found
-found_of part = record { move = move_of part.step; asked = part.asked; value = view part.value.now }
 
 -- the part behind this step, if it is there and isn't read as it is asked
 abbrev pub if_misread : Move → Asked → Option Data → Option Found

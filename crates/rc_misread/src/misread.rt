@@ -2,7 +2,8 @@
 
 ghost use Rattle.std.specs.Prelude.{◌≡◌, IfOk, map, option_map};
 ghost use Rattle.serde_json.specs.View.{view, items_view};
-ghost use Rattle.rc_misread.specs.Misread.{IsFinding, found_of, item_form, misread_field, misread_item, misread_part};
+ghost use Rattle.rc_misread.specs.Misread.{IsFinding, item_form, misread_field, misread_item, misread_part};
+ghost use Rattle.rc_misread.specs.inside.Parts.{found_of};
 ghost use Rattle.rc_misread.specs.Misread.{if_misread, move_of, part_at};
 ghost use Rattle.rc_misread.specs.Forms.{row_of};
 

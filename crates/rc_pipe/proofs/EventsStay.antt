@@ -18,7 +18,8 @@ use Rattle.rc_tree.proofs.CollectedLemmas.{collected-block, collected-Instructio
 use Rattle.rc_tree.proofs.CollectedLemmas.{collected-Scope, collected-Terminal}
 use Rattle.rc_tree.proofs.JoiningLemmas.{around_monoid, lists_monoid}
 use Rattle.rc_tree.specs.Collected.{Contributions, collected, collected_list, collected_statement, collected_terminal}
-use Rattle.rc_tree.specs.Joining.{IsMonoid, lists}
+use Rattle.rc_tree.specs.Joining.{lists}
+use Rattle.rc_tree.specs.inside.JoiningLaws.{IsMonoid}
 use Rattle.rc_tree.specs.Model.{ReactiveBlock, ReactiveFunction, ReactiveStatement, ReactiveTerminalStatement}
 use Rattle.rc_tree.specs.Unrolled.{UnrolledTerminal}
 use Rattle.rc_tree.specs.declared.statement.ReactiveStatement.TheOpen as layer

@@ -1,13 +1,13 @@
 -- The fates that are listed by what the passes decided are those of the rules.
-use Rattle.std.proofs.Common.{◌≡◌, ◌∙◌, ◌↔◌, ◌⊎◌, inl, inr, ◌≤◌, ◌+◌, ◌++◌, Bool, true, false, List, [], ◌∷◌, map, All}
-use Rattle.std.proofs.Common.{Contains, get_or, if◌then◌else◌, arith, not, true≢false, refl, sym, ap, subst, append-nil}
-use Rattle.std.proofs.lemmas.List.Elements.{Contains-append_right, Contains-get_or}
-use Rattle.rc_names.specs.Numbers.{DeclarationId, ScopeId, same_id, times}
-use Rattle.rc_names.proofs.NumbersLemmas.{same_id-eq}
-use Rattle.rc_tree.proofs.DistinctLemmas.{at_least_once, at_most_once}
+use Rattle.std.proofs.Common.{◌≡◌, ◌∙◌, ◌↔◌, ◌⊎◌, inl, inr, true, false, List, All}
+use Rattle.std.proofs.Common.{Contains, get_or, arith, not, true≢false, sym, ap, subst}
+use Rattle.std.proofs.lemmas.List.Elements.{Contains-get_or}
+use Rattle.rc_names.specs.Numbers.{DeclarationId, ScopeId, times}
+use Rattle.rc_tree.proofs.DistinctLemmas.{at_least_once, at_most_once, from_times}
 use Rattle.rc_tree.proofs.FateLemmas.{fate_told}
 use Rattle.rc_tree.proofs.ListedOnce.{from_filter, into_map}
-use Rattle.rc_tree.specs.Decided.{IsFateBy, fate_by}
+use Rattle.rc_tree.specs.Decided.{IsFateBy}
+use Rattle.rc_tree.specs.inside.DecisionLogs.{fate_by}
 use Rattle.rc_tree.specs.Model.{ReactiveBlock}
 use Rattle.rc_tree.specs.ScopesIn.{HasScopesOnce, scopes_in}
 use Rattle.rc_tree.specs.declared.fate.Fate.{Fate}
@@ -19,20 +19,10 @@ use Rattle.rc_escape.specs.WholeRecord.{HasWholeRecord}
 use Rattle.rc_memo.specs.Record.{IsRecordOf}
 use Rattle.rc_pipe.proofs.EventsStay.{events_stay, same_needed, same_record}
 use Rattle.rc_pipe.proofs.PassesLemmas.{decided, labels_keep_scopes, not_escaping_first}
-use Rattle.rc_pipe.specs.Fates.{AreFates, AreKeptExactly, fate_rules, listed_scopes}
+use Rattle.rc_pipe.specs.Fates.{AreKeptExactly, fate_rules, listed_scopes}
 use Rattle.rc_pipe.specs.Passes.{PassState, IsPruned}
 use Rattle.rc_pipe.specs.declared.passes.Decisions.{Decisions}
 use Rattle.rc_pipe.specs.inside.PrunedParts.{IsPrunedWith}
-
--- a scope that is at least once in a list is there
-is_there : (scope : ScopeId) (scopes : List ScopeId) → 1 ≤ times scope scopes → Contains scopes scope
-is_there scope [] some = absurd (omega (arith, some))
-is_there scope (x ∷ xs) some = by (is_there scope xs) (same_id scope x) refl some
-  where
-    by : (1 ≤ times scope xs → Contains xs scope) → (same : Bool) → same_id scope x ≡ same
-        → 1 ≤ (if same then 1 else 0) + times scope xs → Contains (x ∷ xs) scope
-    by later true is enough = (0, omega arith, sym (same_id-eq scope x is))
-    by later false is enough = Contains-append_right (x ∷ []) xs scope (later (omega (arith, enough)))
 
 -- the scope has a scope block at the end exactly if its fate is `Kept`
 abbrev IsLeftExactly : ScopeId → Fate → ReactiveBlock → Type 0
@@ -90,7 +80,7 @@ module _ {spelled pruned : PassState} {decisions : Decisions} (parts : IsPrunedW
         both : (scope : ScopeId) (fate : Fate) → IsLeftExactly scope fate pruned.func.body
             → (fate ≡ Kept) ↔ Contains (scopes_in pruned.func.body) scope
         both scope fate (inl is) =
-            (λ kept. is_there scope (scopes_in pruned.func.body) (omega (arith, is.1)), λ there. is.0)
+            (λ kept. from_times scope (scopes_in pruned.func.body) (omega (arith, is.1)), λ there. is.0)
         both scope fate (inr is) = (
           λ kept. absurd (is.0 kept),
           λ there. absurd (omega (arith, is.1, at_least_once scope (scopes_in pruned.func.body) there)),

@@ -15,7 +15,7 @@ use Rattle.indexmap.specs.IndexMap.{insert_entry}
 use Rattle.rc_names.proofs.KeyedLemmas.{lookup-insert_there, lookup-insert_other}
 use Rattle.rc_names.proofs.NumbersLemmas.{ids_equivalence, same_id-eq}
 use Rattle.rc_names.specs.Numbers.{ScopeId, same_id, to_id}
-use Rattle.rc_tree.specs.Decided.{fate_by}
+use Rattle.rc_tree.specs.inside.DecisionLogs.{fate_by}
 use Rattle.rc_tree.specs.declared.fate.Fate.{Fate}
 use Rattle.rc_tree.specs.declared.fate.Fate.TheVariants.{Kept}
 use Rattle.rc_tree.specs.declared.fate.ScopeFate.{ScopeFate}

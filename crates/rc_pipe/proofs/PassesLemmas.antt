@@ -5,7 +5,8 @@ use Rattle.rc_hir.specs.Model.{Environment, Fault, HirFunction}
 use Rattle.rc_hir.specs.declared.fault.Fault.TheVariants as faults
 use Rattle.rc_names.specs.Numbers.{EvaluationOrder, ScopeId, times}
 use Rattle.rc_tree.proofs.DistinctLemmas.{at_most_once, times-append}
-use Rattle.rc_tree.specs.Decided.{AreDecidedBy, FateRule, IsDecidedBy, IsFateBy, decided as decided_scopes}
+use Rattle.rc_tree.specs.Decided.{FateRule, IsDecidedBy, IsFateBy, decided as decided_scopes}
+use Rattle.rc_tree.specs.inside.DecisionLogs.{AreDecidedBy}
 use Rattle.rc_tree.specs.Model.{ReactiveBlock, ReactiveFunction}
 use Rattle.rc_runs.specs.BodyRun.{IsBodyRun}
 use Rattle.rc_runs.specs.EarlyReturns.{NoEarlyReturnSet}
@@ -24,7 +25,8 @@ use Rattle.rc_tree.specs.Visits.{visits_of}
 use Rattle.rc_tree.specs.declared.fate.Fate.TheVariants.{NotEscaping}
 use Rattle.rc_tree.specs.declared.fate.ScopeFate.{ScopeFate}
 use Rattle.rc_pipe.specs.Headline.{IsAccepted, IsCause}
-use Rattle.rc_pipe.specs.Passes.{AfterLabels, AreInside, EndsOutside, IsPassFault, IsPruned, PassState, state}
+use Rattle.rc_pipe.specs.Passes.{AfterLabels, AreInside, EndsOutside, IsPruned, PassState, state}
+use Rattle.rc_pipe.specs.inside.PassFaults.{IsPassFault}
 use Rattle.rc_pipe.specs.Fates.{fate_rules}
 use Rattle.rc_pipe.specs.declared.passes.Decisions.{Decisions}
 use Rattle.rc_pipe.specs.inside.PrunedParts.{HasOthersPruned, IsChecked, IsPrunedWith}

@@ -1,6 +1,6 @@
 -- The sequence of passes over a spelled function and its environment, and the faults with which they refuse one.
-use Rattle.std.specs.Prelude.{◌≡◌, All, List, ⊤}
-use Rattle.rc_hir.specs.Model.{Environment, Fault}
+use Rattle.std.specs.Prelude.{◌≡◌, All, List}
+use Rattle.rc_hir.specs.Model.{Environment}
 use Rattle.rc_hir.specs.declared.fault.Fault.TheVariants as faults
 use Rattle.rc_names.specs.Numbers.{EvaluationOrder, ScopeId}
 use Rattle.rc_tree.specs.Model.{ReactiveFunction, ReactiveBlock}
@@ -11,7 +11,6 @@ use Rattle.rc_checks.specs.Labels.{IsWithoutUnusedLabels}
 use Rattle.rc_checks.specs.Membership.{IsInside, IsLastOutside}
 use Rattle.rc_checks.specs.ScopeBlocks.{scope_blocks}
 use Rattle.rc_checks.specs.UnusedScopes.{LosesUnusedScopes}
-use Rattle.rc_escape.specs.WholeRecord.{LacksNode, LacksScope}
 use Rattle.rc_escape.specs.NotEscaping.{HasDecidedNotEscaping}
 use Rattle.rc_flow.specs.AlwaysInvalidating.{PrunesInvalidating}
 use Rattle.rc_flow.specs.ReactiveDependencies.{HasReactiveDependencies}
@@ -80,20 +79,3 @@ pub record IsPruned (spelled pruned : PassState) : Type 0 where
   pub scopes : AfterUnusedScopes reactive used unused
   pub always_invalidating : List ScopeFate
   pub invalidating : AfterInvalidating used pruned always_invalidating
-
--- The passes may refuse, with this fault, a function that the graph spells and whose numbers are in their tables.
-abbrev pub IsPassFault : PassState → Fault → Type 0
-IsPassFault spelled (faults.ScopeCompleted id scope) = EndsOutside spelled.env spelled.func.body id scope
-IsPassFault spelled (faults.Uninitialised declaration) =
-    AreInside spelled.env spelled.func.body × LacksNode spelled.env spelled.func declaration
-IsPassFault spelled (faults.NoScopeNode scope) =
-    AreInside spelled.env spelled.func.body × LacksScope spelled.env spelled.func scope
-IsPassFault spelled faults.NoMemory = ⊤
--- faults of the builder, and faults that no spelled function gives
-IsPassFault spelled (faults.Malformed block rule) = ⊥
-IsPassFault spelled (faults.Todo block) = ⊥
-IsPassFault spelled (faults.EarlyReturnSet scope) = ⊥
-IsPassFault spelled (faults.BadName table index) = ⊥
-IsPassFault spelled faults.NoIds = ⊥
-IsPassFault spelled (faults.BadTarget target) = ⊥
-IsPassFault spelled (faults.FunctionCycle function) = ⊥

@@ -2,3 +2,4 @@
 pub mod ListedFates
 pub mod PrunedParts
 pub mod OpenedScopes
+pub mod PassFaults

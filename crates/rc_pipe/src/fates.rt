@@ -1,11 +1,11 @@
 //! Each scope of the spelled tree is kept, unless a pass decided of it.
 
-ghost use Rattle.std.specs.Prelude.{◌≡◌, ◌↔◌, [], map, All, Contains, IfOk, OnOk};
+ghost use Rattle.std.specs.Prelude.{◌≡◌, ◌↔◌, map, All, Contains, IfOk, OnOk};
 ghost use Rattle.std.specs.BTreeSet.{IsFromIterResult};
 ghost use Rattle.std.specs.List.Sorted.{IsStrictlyIncreasing};
 ghost use Rattle.std.specs.Map.{lookup};
 ghost use Rattle.rc_names.specs.Numbers.{ScopeId as Scope, same_id};
-ghost use Rattle.rc_tree.specs.Decided.{fate_by};
+ghost use Rattle.rc_tree.specs.inside.DecisionLogs.{fate_by};
 ghost use Rattle.rc_tree.specs.declared.fate.Fate.TheVariants.{Kept};
 ghost use Rattle.rc_pipe.specs.Fates.{listed_scopes};
 ghost use Rattle.rc_pipe.specs.inside.ListedFates.{decided_or, noted, scopes_of};

@@ -13,7 +13,8 @@ ghost use Rattle.rc_runs.specs.EarlyReturns.{NoEarlyReturnSet};
 ghost use Rattle.rc_runs.specs.Erase.{erased};
 ghost use Rattle.rc_runs.specs.Event.{Event, End};
 ghost use Rattle.rc_runs.specs.Spelled.{Spells};
-ghost use Rattle.rc_pipe.specs.Passes.{AreInside, EndsOutside, IsPassFault, state};
+ghost use Rattle.rc_pipe.specs.Passes.{AreInside, EndsOutside, state};
+ghost use Rattle.rc_pipe.specs.inside.PassFaults.{IsPassFault};
 ghost use Rattle.rc_pipe.specs.inside.PrunedParts.{HasOthersPruned, IsChecked, IsPrunedWith};
 
 use crate::spelled_scopes::spelled_scopes;

@@ -6,7 +6,8 @@ use Rattle.rc_names.specs.Numbers.{EvaluationOrder}
 use Rattle.rc_tree.specs.Collected.{Contributions, collected, collected_case, collected_list, collected_statement}
 use Rattle.rc_tree.specs.Collected.{collected_terminal}
 use Rattle.rc_tree.specs.CollectedValues.{ValueContributions, collected_row, collected_value}
-use Rattle.rc_tree.specs.Joining.{IsMonoid, all_of}
+use Rattle.rc_tree.specs.Joining.{all_of}
+use Rattle.rc_tree.specs.inside.JoiningLaws.{IsMonoid}
 use Rattle.rc_tree.specs.Model.{PrunedReactiveScopeBlock, ReactiveScopeBlock, ReactiveBlock, ReactiveStatement}
 use Rattle.rc_tree.specs.Model.{ReactiveTerminalStatement, ReactiveInstruction, ReactiveValue}
 use Rattle.rc_tree.specs.declared.statement.ReactiveStatement.TheVariants as reactive

@@ -11,7 +11,8 @@ use Rattle.rc_tree.proofs.JoiningLemmas.{lists_monoid}
 use Rattle.rc_tree.proofs.RebuiltHolds.{HoldsOfRules, and_then, having, rebuilt_holds}
 use Rattle.rc_tree.proofs.TerminalShapes.{leaf, of_leaf, collected-leaf}
 use Rattle.rc_tree.specs.Collected.{collected_list, collected_terminal}
-use Rattle.rc_tree.specs.Decided.{decided, AreSameScopes, LosesDecided, DecidesOf, TellsDecisions}
+use Rattle.rc_tree.specs.Decided.{decided, AreSameScopes, LosesDecided}
+use Rattle.rc_tree.specs.inside.DecisionLogs.{DecidesOf, TellsDecisions}
 use Rattle.rc_tree.specs.Rebuilt.{Rebuilds, Rules, rebuilt_block}
 use Rattle.rc_tree.specs.ScopesIn.{HasScopesOnce, scope_parts, scopes_in}
 use Rattle.rc_tree.specs.Step.{bind}

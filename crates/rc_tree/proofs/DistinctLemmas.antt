@@ -1,6 +1,7 @@
 -- How often a scope is in a list: scopes are distinct exactly if each is among them once at most.
 use Rattle.std.proofs.Common.{◌≡◌, ◌≤◌, ◌+◌, Bool, true, false, List, [], ◌∷◌, ◌++◌, if◌then◌else◌, arith, refl, sym}
 use Rattle.std.proofs.Common.{◌∙◌, ℕ, zero, suc, Contains, ap, get_or, length, subst}
+use Rattle.std.proofs.lemmas.List.Elements.{Contains-append_right}
 use Rattle.std.specs.List.{AllByRecursion, IsDistinct}
 use Rattle.rc_names.specs.Numbers.{ScopeId, same_id, times}
 use Rattle.rc_names.proofs.NumbersLemmas.{ids_equivalence, same_id-eq}
@@ -63,3 +64,13 @@ at_least_once scope (x ∷ xs) there = by (at_least_once scope xs) there.0 there
         let one : ◌≡◌ {A = ℕ} (if same_id scope x then 1 else 0) 1 = ap (λ b. if b then 1 else 0) same in
         omega (arith, one)
     by later (suc place) below is = let rest = later (place, omega (arith, below), is) in omega (arith, rest)
+
+-- the other way round: a scope that is at least once in a list is there
+pub from_times : (scope : ScopeId) (scopes : List ScopeId) → 1 ≤ times scope scopes → Contains scopes scope
+from_times scope [] some = absurd (omega (arith, some))
+from_times scope (x ∷ xs) some = by (from_times scope xs) (same_id scope x) refl some
+  where
+    by : (1 ≤ times scope xs → Contains xs scope) → (same : Bool) → same_id scope x ≡ same
+        → 1 ≤ (if same then 1 else 0) + times scope xs → Contains (x ∷ xs) scope
+    by later true is enough = (0, omega arith, sym (same_id-eq scope x is))
+    by later false is enough = Contains-append_right (x ∷ []) xs scope (later (omega (arith, enough)))

@@ -5,7 +5,8 @@ use denote.Hole.Carrier.{Values}
 use denote.Param.Weighed.{most}
 use Rattle.rc_hir.specs.Model.{Fault, HirFunction}
 use Rattle.rc_names.specs.Numbers.{EvaluationOrder}
-use Rattle.rc_tree.specs.Fuel.{Fueled, OutOfFuel, Failed, Done, bind, after, last, HasFuel, Hook, FueledWalk}
+use Rattle.rc_tree.specs.Fuel.{Fueled, OutOfFuel, Failed, Done, bind, after, last, Hook, FueledWalk}
+use Rattle.rc_tree.specs.inside.EnoughFuel.{HasFuel}
 use Rattle.rc_tree.specs.Fuel.{FueledInto, in_turn, kept_into, each_part, around, by_answer}
 use Rattle.rc_tree.specs.Rewrite.Values.{inside_base, instruction_inside, instruction_at, rows_at, value_layer}
 use Rattle.rc_tree.specs.Rewrite.Values.{value_inside, value_to}

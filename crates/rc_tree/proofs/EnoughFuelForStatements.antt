@@ -7,7 +7,8 @@ use Rattle.rc_names.specs.Numbers.{EvaluationOrder}
 use Rattle.rc_tree.proofs.EnoughFuel.{known_bind, known_after, known_turn, known_each, known_around, done}
 use Rattle.rc_tree.proofs.EnoughFuel.{visit, hook, part}
 use Rattle.rc_tree.specs.Unrolled.{UnrolledStatement, UnrolledTerminal}
-use Rattle.rc_tree.specs.Fuel.{Done, HasFuel, FueledWalk, perhaps_part}
+use Rattle.rc_tree.specs.Fuel.{Done, FueledWalk, perhaps_part}
+use Rattle.rc_tree.specs.inside.EnoughFuel.{HasFuel}
 use Rattle.rc_tree.specs.Rewrite.{scope_inside, scope_at, pruned_scope_inside, pruned_scope_at, statement_layer}
 use Rattle.rc_tree.specs.Rewrite.{statement_at, into_at, statements_at, block_inside, block_to, in_place}
 use Rattle.rc_tree.specs.Rewrite.Terminals.{case_at, cases_at, parts_layer, parts_at, terminal_inside, terminal_at}

@@ -5,8 +5,9 @@ use Rattle.std.proofs.lemmas.List.Elements.{All-head, All-tail}
 use Rattle.rc_names.specs.Numbers.{ScopeId, same_id, times}
 use Rattle.rc_names.proofs.NumbersLemmas.{same_id-eq}
 use Rattle.rc_tree.proofs.DistinctLemmas.{times-append}
-use Rattle.rc_tree.specs.Decided.{decided, fate_by, FateRules, NoMore, Then, IsFateBy}
-use Rattle.rc_tree.specs.Decided.{AreDecidedBy}
+use Rattle.rc_tree.specs.Decided.{decided, FateRules, NoMore, Then, IsFateBy}
+use Rattle.rc_tree.specs.inside.DecisionLogs.{fate_by}
+use Rattle.rc_tree.specs.inside.DecisionLogs.{AreDecidedBy}
 use Rattle.rc_tree.specs.ScopesIn.{scopes_in}
 use Rattle.rc_tree.specs.Model.{ReactiveBlock}
 use Rattle.rc_tree.specs.declared.fate.Fate.{Fate}

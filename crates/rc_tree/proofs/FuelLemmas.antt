@@ -11,7 +11,8 @@ use Rattle.rc_hir.specs.declared.fault.Fault.TheVariants.{NoMemory}
 use Rattle.rc_tree.proofs.StepLemmas.{Err-injective, Ok-injective, not_err, gives_next, gives_fault}
 use Rattle.rc_tree.proofs.PlaceLemmas.{ends_with, at_place}
 use Rattle.rc_tree.specs.Step.{IsStep}
-use Rattle.rc_tree.specs.Fuel.{Fueled, OutOfFuel, Failed, Done, bind, after, last, IsFueled, HasFuel, as_step, Hook}
+use Rattle.rc_tree.specs.Fuel.{Fueled, OutOfFuel, Failed, Done, bind, after, last, as_step, Hook}
+use Rattle.rc_tree.specs.inside.EnoughFuel.{IsFueled, HasFuel}
 use Rattle.rc_tree.specs.Fuel.{FueledWalk, FueledInto, in_turn, kept_into, by_answer}
 use Rattle.rc_tree.specs.Model.{Enter}
 use Rattle.rc_tree.specs.declared.hooks.Enter.TheVariants.{Inside}

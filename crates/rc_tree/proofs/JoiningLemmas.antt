@@ -1,7 +1,8 @@
 -- The laws of joining: for lists, and for contents that depend on the surroundings.
 use Rattle.std.proofs.Common.{◌≡◌, ◌∙◌, List, [], ◌∷◌, ◌++◌, append_assoc, refl, sym, ap}
 use Rattle.std.proofs.lemmas.List.{append-nil}
-use Rattle.rc_tree.specs.Joining.{Joining, IsMonoid, lists, from_around, all_of}
+use Rattle.rc_tree.specs.Joining.{Joining, lists, from_around, all_of}
+use Rattle.rc_tree.specs.inside.JoiningLaws.{IsMonoid}
 
 -- lists, appended
 pub lists_monoid : {X : Type 0} → IsMonoid (lists {X = X})

@@ -10,7 +10,8 @@ use Rattle.rc_tree.proofs.TerminalShapes.{leaf, of_leaf}
 use Rattle.rc_tree.specs.Collected.{collected_list, collected_terminal}
 use Rattle.rc_tree.specs.ScopesIn.{scope_parts, scopes_in}
 use Rattle.rc_tree.specs.inside.Refines.{RebuildsTo}
-use Rattle.rc_tree.specs.Rebuilt.{Rebuilds, Rules, FaultsOnly, rebuilt_block}
+use Rattle.rc_tree.specs.Rebuilt.{Rebuilds, Rules, rebuilt_block}
+use Rattle.rc_tree.specs.inside.RuleFaults.{FaultsOnly}
 use Rattle.rc_tree.specs.Step.{bind}
 use Rattle.rc_tree.specs.Model.{ReactiveBlock, ReactiveStatement, ReactiveTerminalStatement}
 

@@ -5,7 +5,8 @@ use Rattle.rc_tree.proofs.FuelLemmas.{meets_next, meets_fault, meets_last}
 use Rattle.rc_tree.specs.Unrolled.{UnrolledStatement}
 use Rattle.rc_tree.specs.Step.{IsStep}
 use Rattle.rc_tree.specs.Step as outcome
-use Rattle.rc_tree.specs.Fuel.{Fueled, OutOfFuel, Failed, Done, bind, after, last, IsFueled, Hook, FueledWalk}
+use Rattle.rc_tree.specs.Fuel.{Fueled, OutOfFuel, Failed, Done, bind, after, last, Hook, FueledWalk}
+use Rattle.rc_tree.specs.inside.EnoughFuel.{IsFueled}
 use Rattle.rc_tree.specs.Rewrite.{in_place, scope_at, pruned_scope_at, statement_layer, statement_at, into_at}
 use Rattle.rc_tree.specs.Rewrite.Terminals.{terminal_at}
 use Rattle.rc_tree.specs.Rewrite.Values.{rewrite_instruction}

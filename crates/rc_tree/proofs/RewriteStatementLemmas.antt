@@ -9,7 +9,8 @@ use Rattle.rc_tree.proofs.EnoughFuelForStatements.{known_block_to, known_block_i
 use Rattle.rc_tree.proofs.EnoughFuelForStatements.{known_scope_inside, known_pruned_scope_inside}
 use Rattle.rc_tree.proofs.EnoughFuelForStatements.{known_terminal_inside}
 use Rattle.rc_tree.specs.Step.{IsStep, perhaps}
-use Rattle.rc_tree.specs.Fuel.{Done, bind, after, IsFueled, Hook, FueledWalk, in_turn, kept_into, perhaps_part}
+use Rattle.rc_tree.specs.Fuel.{Done, bind, after, Hook, FueledWalk, in_turn, kept_into, perhaps_part}
+use Rattle.rc_tree.specs.inside.EnoughFuel.{IsFueled}
 use Rattle.rc_tree.specs.Fuel.{perhaps_hook, by_answer}
 use Rattle.rc_tree.specs.Rewrite.{scope_inside, scope_at, pruned_scope_inside, pruned_scope_at, statement_at, into_at}
 use Rattle.rc_tree.specs.Rewrite.{statements_at, block_inside, block_to, rewrite_block, inside_block, inside_scope}

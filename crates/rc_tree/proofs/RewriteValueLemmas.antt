@@ -6,7 +6,8 @@ use Rattle.rc_tree.proofs.EnoughFuel.{known_instruction, known_instruction_insid
 use Rattle.rc_tree.proofs.EnoughFuel.{known_value_to}
 use Rattle.rc_tree.proofs.FuelLemmas.{gives_settled}
 use Rattle.rc_tree.specs.Step.{IsStep}
-use Rattle.rc_tree.specs.Fuel.{after, IsFueled, FueledWalk, in_turn, kept_into, by_answer}
+use Rattle.rc_tree.specs.Fuel.{after, FueledWalk, in_turn, kept_into, by_answer}
+use Rattle.rc_tree.specs.inside.EnoughFuel.{IsFueled}
 use Rattle.rc_tree.specs.Rewrite.Values.{inside_instruction, inside_value, instruction_at, instruction_inside, rows_at}
 use Rattle.rc_tree.specs.Rewrite.Values.{rewrite_instruction, rewrite_value, value_inside, value_to}
 use Rattle.rc_tree.specs.RewriteSteps.{RewriteSteps, EntersNoDeeper}

@@ -32,3 +32,14 @@ pub pruned_names : (x : ReactiveScopeBlock)
     → one names_measure (reactive.PrunedScope (as_pruned x)) ≡ one names_measure (reactive.Scope x)
 pruned_names x = same_alone names_of_parts (reactive.Scope x) (reactive.PrunedScope (as_pruned x))
     (collected-PrunedScope names_of_parts (as_pruned x) ∙ sym (collected-Scope names_of_parts x))
+
+-- where a pass changes a body whose numbers stay, they are in their tables as before
+pub still_known : (env : Environment) (old new : ReactiveFunction) → new ≡ record old { body = new.body }
+    → names_in new.body ≡ names_in old.body → TreeInTables old env → TreeInTables new env
+still_known env old new header same known = record {
+  params = subst (λ params. All (IsInTable (lengths env 0)) (flat_map parameter_names params))
+      (sym (ap (λ f. f.params) header)) known.params;
+  body = subst (All (IsInTable (lengths env 0))) (sym same) known.body;
+  functions = known.functions;
+  environment = known.environment;
+}

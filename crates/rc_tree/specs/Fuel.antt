@@ -1,5 +1,5 @@
 -- Computations with fuel, which bounds their depth: a computation runs out of fuel, fails, or is done.
-use Rattle.std.specs.Prelude.{◌≡◌, ◌⊎◌, List, [], ◌∷◌, ◌++◌, Option, None, Some, Result, Ok, Err}
+use Rattle.std.specs.Prelude.{List, [], ◌∷◌, ◌++◌, Option, None, Some, Result, Ok, Err}
 use Rattle.rc_hir.specs.Model.{Fault}
 use Rattle.rc_hir.specs.declared.fault.Fault.TheVariants.{NoMemory}
 use Rattle.rc_tree.specs.Model.{Enter}
@@ -26,19 +26,6 @@ after (Err fault) next = Failed fault
 abbrev pub last : {A : Type 0} → Result A Fault → Fueled A
 last (Ok a) = Done a
 last (Err fault) = Failed fault
-
--- a call returns the computation's result and leaves the expected state, or runs out of memory; where the computation
--- runs out of fuel, nothing is said of the call
-abbrev pub IsFueled : {A S : Type 0} → Fueled (A × S) → Result A Fault → S → Type 0
-IsFueled OutOfFuel result end = Unit {0}
-IsFueled (Failed fault) result end = (result ≡ Err NoMemory) ⊎ (result ≡ Err fault)
-IsFueled (Done d) result end = (result ≡ Err NoMemory) ⊎ ((result ≡ Ok d.0) × (end ≡ d.1))
-
--- the fuel was enough
-unfoldable pub HasFuel : {A : Type 0} → Fueled A → Type 0
-HasFuel OutOfFuel = ⊥
-HasFuel (Failed fault) = Unit {0}
-HasFuel (Done a) = Unit {0}
 
 -- a computation that has enough fuel, as a step; without enough fuel, which doesn't happen, it would be out of memory
 unfoldable pub as_step : {A : Type 0} → Fueled A → Result A Fault

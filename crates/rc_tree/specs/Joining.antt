@@ -1,7 +1,7 @@
 -- The contents of parts put together: no contents, and the contents of two parts.
 --
 -- Contents are a list in most cases. If they depend on the surroundings of a part, they are a function of these.
-use Rattle.std.specs.Prelude.{◌≡◌, List, [], ◌∷◌, ◌++◌, Option, None, Some}
+use Rattle.std.specs.Prelude.{List, [], ◌∷◌, ◌++◌, Option, None, Some}
 
 -- the contents of no part, and those of two parts
 pub record Joining (A : Type 0) : Type 0 where
@@ -29,9 +29,3 @@ module _ {A : Type 0} (j : Joining A) where
   abbrev pub if_there : Option A → A
   if_there None = j.nothing
   if_there (Some x) = x
-
--- no contents add nothing on either side, and joining is associative
-pub record IsMonoid {A : Type 0} (j : Joining A) : Type 0 where
-  pub before : (x : A) → j.both j.nothing x ≡ x
-  pub behind : (x : A) → j.both x j.nothing ≡ x
-  pub associative : (x y z : A) → j.both (j.both x y) z ≡ j.both x (j.both y z)

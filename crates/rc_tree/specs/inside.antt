@@ -2,3 +2,7 @@
 pub mod RewriteInPlace
 pub mod Refines
 pub mod StatementsRefine
+pub mod EnoughFuel
+pub mod RuleFaults
+pub mod JoiningLaws
+pub mod DecisionLogs

@@ -7,7 +7,8 @@ use Rattle.std.proofs.lemmas.Option.{slice_get_within}
 use Rattle.rc_hir.specs.Model.{Fault, HirFunction}
 use Rattle.rc_tree.proofs.FuelLemmas.{SoFar, most-reverse, so_far_fault, so_far_next}
 use Rattle.rc_tree.proofs.PlaceLemmas.{at_place, most_place}
-use Rattle.rc_tree.specs.Fuel.{Fueled, OutOfFuel, Failed, Done, IsFueled, FueledWalk, bind, in_turn}
+use Rattle.rc_tree.specs.Fuel.{Fueled, OutOfFuel, Failed, Done, FueledWalk, bind, in_turn}
+use Rattle.rc_tree.specs.inside.EnoughFuel.{IsFueled}
 use Rattle.rc_tree.specs.Model.{ReactiveBlock, ReactiveStatement, Transformed}
 use Rattle.rc_tree.specs.Rewrite.{in_place, into_at, statement_at}
 use Rattle.rc_tree.specs.RewriteSteps.{RewriteSteps}

@@ -14,7 +14,8 @@ use Rattle.rc_tree.specs.declared.terminal.ReactiveTerminal.{ReactiveTerminal, o
 use Rattle.rc_tree.specs.declared.terminal.ReactiveTerminal.{roll-out-ReactiveTerminal}
 use Rattle.rc_tree.proofs.TreeFoldLemmas.{over_block-parts, over_labeled-parts, over_pruned_scope-parts}
 use Rattle.rc_tree.proofs.TreeFoldLemmas.{over_scope-parts, over_statement-roll, over_terminal-roll}
-use Rattle.rc_checks.specs.BreakTargets.{target_of, meeting, met_in, met_at}
+use Rattle.rc_checks.specs.BreakTargets.{target_of, meeting, met_in}
+use Rattle.rc_checks.specs.inside.MetStatements.{met_at}
 use Rattle.rc_checks.specs.inside.TargetSteps.{MetLabels, met_terminal, terminal_step}
 
 -- the terminals that are met in a block, and at each form of statement

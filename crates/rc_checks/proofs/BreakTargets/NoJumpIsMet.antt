@@ -29,7 +29,8 @@ use Rattle.rc_runs.specs.declared.frames.BreakResult.{BreakResult}
 use Rattle.rc_runs.specs.declared.frames.BreakResult.TheVariants.{NoFrame, LeavesScope, LeavesCase, FallsOff, Breaks}
 use Rattle.rc_runs.specs.declared.frames.ContinueResult.{ContinueResult}
 use Rattle.rc_runs.specs.declared.frames.ContinueResult.TheVariants.{NoLoop}
-use Rattle.rc_checks.specs.BreakTargets.{Terminals, met_in, met_at, target_of, IsFirstUnmet, IsJumpTo}
+use Rattle.rc_checks.specs.BreakTargets.{Terminals, met_in, target_of, IsFirstUnmet, IsJumpTo}
+use Rattle.rc_checks.specs.inside.MetStatements.{met_at}
 use Rattle.rc_checks.proofs.BreakTargets.MetLemmas.{met_in-statements, met_at-Instruction, met_at-Terminal}
 use Rattle.rc_checks.proofs.BreakTargets.MetLemmas.{met_at-Scope, met_at-PrunedScope}
 

@@ -9,7 +9,8 @@ use Rattle.rc_names.specs.Numbers.{EvaluationOrder}
 use Rattle.rc_tree.specs.Unrolled.{UnrolledTerminal}
 use Rattle.rc_tree.proofs.Measures.{Measure, block, one, Compositional}
 use Rattle.rc_tree.specs.Collected.{Contributions, collected, collected_statement, collected_terminal}
-use Rattle.rc_tree.specs.Joining.{IsMonoid, lists}
+use Rattle.rc_tree.specs.Joining.{lists}
+use Rattle.rc_tree.specs.inside.JoiningLaws.{IsMonoid}
 use Rattle.rc_tree.specs.TreeNames.{names_in, names_of_parts}
 use Rattle.rc_tree.specs.Model.{ReactiveBlock, ReactiveLabel, ReactiveTerminalStatement}
 use Rattle.rc_tree.specs.declared.statement.ReactiveStatement.TheOpen as layer

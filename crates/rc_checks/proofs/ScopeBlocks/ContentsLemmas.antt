@@ -4,7 +4,7 @@ use Rattle.std.proofs.Math.Bool.{or-false, or_assoc}
 use Rattle.std.proofs.lemmas.List.{append-nil, map-append}
 use Rattle.rc_names.specs.Numbers.{ScopeId}
 use Rattle.rc_tree.proofs.CollectedRelated.{RelatedParts, collected_related}
-use Rattle.rc_tree.specs.Joining.{IsMonoid}
+use Rattle.rc_tree.specs.inside.JoiningLaws.{IsMonoid}
 use Rattle.rc_tree.specs.Model.{ReactiveBlock}
 use Rattle.rc_tree.specs.ScopesIn.{scope_parts, scopes_in}
 use Rattle.rc_checks.specs.ScopeBlocks.{Contents, ScopeBlock, contents, contents_of_parts, scopes_of}

@@ -27,7 +27,7 @@ use Rattle.rc_tree.specs.declared.statement.ReactiveStatement.TheOpen as layer
 use Rattle.rc_tree.specs.declared.terminal.ReactiveTerminal.{ReactiveTerminal, out-ReactiveTerminal}
 use Rattle.rc_tree.specs.declared.terminal.ReactiveTerminal.TheVariants as tree
 use Rattle.rc_checks.proofs.ScopeBlocks.ContentsLemmas.{contents_monoid}
-use Rattle.rc_checks.specs.ScopeBlocks.{Contents, ScopeBlock, contents_of_parts, contents, returns_in, scope_blocks}
+use Rattle.rc_checks.specs.ScopeBlocks.{Contents, ScopeBlock, contents_of_parts, contents, scope_blocks}
 use Rattle.rc_checks.specs.ScopeBlocks.{joining}
 use Rattle.rc_checks.specs.UnusedScopes.{IsBlockOutside, staying_blocks, IsFirstScopeOutside, LosesUnusedScopes}
 use Rattle.rc_checks.specs.UnusedScopes.{Progress, decisions, has_own_output, is_return, is_used, judged}
@@ -239,7 +239,7 @@ module _ (env : Environment) where
   -- the scope blocks that stay, the decisions on the others, and whether a `Return` stands outside them
   pub used_scopes_stay : (before after : ReactiveBlock) (log : List ScopeFate)
       → LosesUnusedScopes env before after log → (scope_blocks after ≡ staying_blocks env before)
-      × (log ≡ decisions env (scope_blocks before)) × (returns_in after ≡ returns_in before)
+      × (log ≡ decisions env (scope_blocks before)) × ((contents after).returns ≡ (contents before).returns)
   unfolding Stays
   used_scopes_stay before after log h =
       let known = subst (λ e. Stays (contents before) nothing_met (having contents e)) h.rebuilt

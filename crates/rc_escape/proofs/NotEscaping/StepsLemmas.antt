@@ -5,7 +5,8 @@ use Rattle.rc_hir.specs.declared.fault.Fault.TheVariants.{NoMemory}
 use Rattle.rc_names.specs.Numbers.{DeclarationId}
 use Rattle.rc_tree.proofs.RebuiltFaultsLemmas.{leaves_faults}
 use Rattle.rc_tree.proofs.RefinesLemmas.{follows_body}
-use Rattle.rc_tree.specs.Rebuilt.{FaultsOnly, Rules, rebuilt_block}
+use Rattle.rc_tree.specs.Rebuilt.{Rules, rebuilt_block}
+use Rattle.rc_tree.specs.inside.RuleFaults.{FaultsOnly}
 use Rattle.rc_tree.specs.Rewrite.{in_place, rewrite_block}
 use Rattle.rc_tree.specs.Step.{IsStep}
 use Rattle.rc_tree.specs.inside.Refines.{RebuildsTo, Refines}

@@ -1,11 +1,10 @@
 -- Which scopes have a scope block left, where the blocks that depend on an unmemoized value became pruned ones.
 use Rattle.std.proofs.Common.{◌≡◌, ◌∙◌, ◌+◌, ◌≤◌, ◌⊎◌, inl, inr, ℕ, zero, suc, Bool, true, false, List, [], ◌∷◌, Some}
 use Rattle.std.proofs.Common.{Contains, slice_get, if◌then◌else◌, arith, add-zero, refl, sym, ap, subst, true≢false}
-use Rattle.std.proofs.lemmas.List.Elements.{Contains-append_right}
 use Rattle.rc_hir.specs.Model.{Environment}
 use Rattle.rc_names.specs.Numbers.{IdentifierId, ScopeId, same_id, times}
 use Rattle.rc_names.proofs.NumbersLemmas.{ids_equivalence, same_id-eq}
-use Rattle.rc_tree.proofs.DistinctLemmas.{at_least_once}
+use Rattle.rc_tree.proofs.DistinctLemmas.{at_least_once, from_times}
 use Rattle.rc_tree.specs.Model.{ReactiveBlock}
 use Rattle.rc_tree.specs.ScopesIn.{scopes_in}
 use Rattle.rc_flow.proofs.AlwaysInvalidating.EndedScopes.{ended, same_ends}
@@ -15,16 +14,6 @@ use Rattle.rc_flow.specs.Unmemoized.{AreAnswers, no_more, makes, copies, ends, H
 use Rattle.rc_flow.specs.ValueSteps.{value_steps_in}
 use Rattle.rc_flow.specs.declared.value_step.ValueStep.{ValueStep}
 use Rattle.rc_flow.specs.declared.value_step.ValueStep.TheVariants.{Makes, Copies, Ends}
-
--- a scope that is in a list at least once is in it
-from_times : (scope : ScopeId) (scopes : List ScopeId) → 1 ≤ times scope scopes → Contains scopes scope
-from_times scope [] some = absurd (omega (arith, some))
-from_times scope (x ∷ xs) some = by (from_times scope xs) (same_id scope x) refl some
-  where
-    by : (1 ≤ times scope xs → Contains xs scope) → (b : Bool) → same_id scope x ≡ b
-        → 1 ≤ (if b then 1 else 0) + times scope xs → Contains (x ∷ xs) scope
-    by in_rest true is enough = (0, omega arith, sym (same_id-eq scope x is))
-    by in_rest false is enough = Contains-append_right (x ∷ []) xs scope (in_rest (omega (arith, enough)))
 
 not_made : (name : IdentifierId) (in_scope : Bool) (scope : ScopeId) → Some (Makes name in_scope) ≡ Some (Ends scope)
     → ⊥

@@ -1,14 +1,12 @@
 -- The pass that drops scope blocks follows its rules, which keep the numbers of a tree and the tree without its scopes.
 use Rattle.std.proofs.Common.{◌≡◌, ◌∙◌, ◌↔◌, ◌⊎◌, ◌-◌, Bool, true, false, List, [], ◌∷◌, ◌++◌, Option, None, Some}
-use Rattle.std.proofs.Common.{Result, Ok, Err, All, IsNone, IfSome, IfNone, IfErr, OnOk, inl, inr, refl, sym, ap, subst}
+use Rattle.std.proofs.Common.{Result, Ok, Err, IsNone, IfSome, IfNone, IfErr, OnOk, inl, inr, refl, sym, ap, subst}
 use Rattle.std.proofs.Common.{length, drop, reverse, take, unwrap_or, arith}
 use Rattle.std.proofs.lemmas.List.{length-append, reverse-append}
 use Rattle.std.proofs.lemmas.Result.{IfErr-weaker}
 use Rattle.std.proofs.Math.Seq.{take-append_seam}
-use Rattle.std.specs.List.{flat_map, last_or}
-use Rattle.rc_hir.specs.Model.{Environment, Fault, HirFunction}
-use Rattle.rc_hir.specs.Names.{IsInTable, lengths}
-use Rattle.rc_hir.specs.PartNames.{parameter_names}
+use Rattle.std.specs.List.{last_or}
+use Rattle.rc_hir.specs.Model.{Fault, HirFunction}
 use Rattle.rc_hir.specs.declared.fault.Fault.TheVariants.{NoMemory}
 use Rattle.rc_runs.proofs.EraseLemmas.{erase_kept, erase_measure, pruned_like_kept}
 use Rattle.rc_runs.specs.Erase.{erased}
@@ -18,12 +16,13 @@ use Rattle.rc_tree.proofs.RebuiltKeeps.{RulesKeep}
 use Rattle.rc_tree.proofs.StatementsRefineLemmas.{statements_rebuilt}
 use Rattle.rc_tree.proofs.TreeNamesLemmas.{names_kept, names_measure, pruned_names}
 use Rattle.rc_tree.specs.Pruned.{as_pruned}
-use Rattle.rc_tree.specs.Rebuilt.{FaultsOnly, rebuilt_block}
+use Rattle.rc_tree.specs.Rebuilt.{rebuilt_block}
+use Rattle.rc_tree.specs.inside.RuleFaults.{FaultsOnly}
 use Rattle.rc_tree.specs.Rewrite.{in_place, rewrite_block}
 use Rattle.rc_tree.specs.StatementSteps.{over_statements}
 use Rattle.rc_tree.proofs.StatementsNoDeeper.{over_statements_no_deeper}
 use Rattle.rc_tree.specs.Step.{IsStep}
-use Rattle.rc_tree.specs.TreeNames.{TreeInTables, names_in}
+use Rattle.rc_tree.specs.TreeNames.{names_in}
 use Rattle.rc_tree.specs.inside.Refines.{RebuildsTo}
 use Rattle.rc_tree.specs.inside.StatementsRefine.{StatementsRefine}
 use Rattle.rc_tree.specs.Model.{ReactiveBlock, ReactiveFunction, ReactiveScopeBlock}
@@ -164,14 +163,3 @@ module _ {T : Type 0} (functions : T → List HirFunction) (t : T) (w : T × Lis
       memory fault (inl e) = e
       memory fault (inr e) = absurd (subst (λ r. IfErr r (λ fault. ⊥)) e
           (rebuilt_faults (λ fault. ⊥) dropping_rules never before answers))
-
--- numbers that stay are in their tables as before
-pub still_known : (env : Environment) (old new : ReactiveFunction) → new ≡ record old { body = new.body }
-    → names_in new.body ≡ names_in old.body → TreeInTables old env → TreeInTables new env
-still_known env old new header same known = record {
-  params = subst (λ params. All (IsInTable (lengths env 0)) (flat_map parameter_names params))
-      (sym (ap (λ f. f.params) header)) known.params;
-  body = subst (All (IsInTable (lengths env 0))) (sym same) known.body;
-  functions = known.functions;
-  environment = known.environment;
-}

@@ -10,7 +10,8 @@ use Rattle.rc_tree.specs.inside.Refines.{StepAgrees}
 use Rattle.rc_tree.specs.Step.{IsStep}
 use Rattle.rc_tree.specs.Step as outcome
 use Rattle.rc_tree.specs.Rebuilt.{Rebuilds, in_order, joined}
-use Rattle.rc_tree.specs.Fuel.{Fueled, OutOfFuel, Failed, Done, HasFuel, bind, after, as_step, FueledWalk, FueledInto}
+use Rattle.rc_tree.specs.Fuel.{Fueled, OutOfFuel, Failed, Done, bind, after, as_step, FueledWalk, FueledInto}
+use Rattle.rc_tree.specs.inside.EnoughFuel.{HasFuel}
 use Rattle.rc_tree.specs.Fuel.{in_turn, kept_into, perhaps_part}
 use Rattle.rc_tree.specs.Rewrite.{in_place}
 use Rattle.rc_tree.specs.Model.{ReactiveStatement, Transformed}

@@ -3,7 +3,7 @@
 
 ghost use Rattle.std.specs.Prelude.{◌≡◌, ◌+◌, ◌++◌, ◌∷◌, ℕ, [], drop, IfErr, IfOk, IsTrue, List as Entries, OnOk};
 ghost use Rattle.rc_tree.specs.Step.{IsStep};
-ghost use Rattle.rc_tree.specs.Fuel.{IsFueled};
+ghost use Rattle.rc_tree.specs.inside.EnoughFuel.{IsFueled};
 ghost use Rattle.rc_tree.specs.Rewrite.{block_inside, block_to, inside_block, inside_pruned_scope, inside_scope};
 ghost use Rattle.rc_tree.specs.Rewrite.{inside_terminal, into_at, pruned_scope_at, pruned_scope_inside, rewrite_block};
 ghost use Rattle.rc_tree.specs.Rewrite.{rewrite_statement, scope_at, scope_inside, statements_at};

@@ -3,7 +3,8 @@
 
 ghost use Rattle.std.specs.Prelude.{ℕ};
 ghost use Rattle.rc_tree.specs.Step.{IsStep};
-ghost use Rattle.rc_tree.specs.Fuel.{IsFueled, perhaps_hook, perhaps_part};
+ghost use Rattle.rc_tree.specs.Fuel.{perhaps_hook, perhaps_part};
+ghost use Rattle.rc_tree.specs.inside.EnoughFuel.{IsFueled};
 ghost use Rattle.rc_tree.specs.Rewrite.{block_to};
 ghost use Rattle.rc_tree.specs.Rewrite.Terminals.{case_at, cases_at, parts_at};
 ghost use Rattle.rc_tree.specs.Rewrite.Values.{rewrite_value};

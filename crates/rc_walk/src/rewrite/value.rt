@@ -3,7 +3,8 @@
 
 ghost use Rattle.std.specs.Prelude.{ℕ};
 ghost use Rattle.rc_tree.specs.Step.{IsStep};
-ghost use Rattle.rc_tree.specs.Fuel.{IsFueled, kept_into};
+ghost use Rattle.rc_tree.specs.Fuel.{kept_into};
+ghost use Rattle.rc_tree.specs.inside.EnoughFuel.{IsFueled};
 ghost use Rattle.rc_tree.specs.Rewrite.Values.{inside_instruction, inside_value, instruction_at, instruction_inside};
 ghost use Rattle.rc_tree.specs.Rewrite.Values.{rewrite_instruction, rewrite_value, rows_at, value_inside, value_to};
 

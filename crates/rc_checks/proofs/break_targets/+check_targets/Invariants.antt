@@ -1,6 +1,7 @@
 use Rattle.std.proofs.Common.{◌≡◌, drop}
 use Rattle.rc_tree.specs.Step.{each}
-use Rattle.rc_checks.specs.BreakTargets.{met_at, met_in}
+use Rattle.rc_checks.specs.BreakTargets.{met_in}
+use Rattle.rc_checks.specs.inside.MetStatements.{met_at}
 use Rattle.rc_checks.specs.inside.TargetSteps.{terminal_step}
 use Rattle.rc_checks.proofs.break_targets.+check_targets.Given as goal
 

@@ -7,7 +7,7 @@ use Rattle.rc_checks.proofs.LabelPruning.Keep.{labels_keep_names, labels_keep_sc
 use Rattle.rc_checks.proofs.LabelPruning.Keep.{labels_keep_visits}
 use Rattle.rc_checks.proofs.LabelPruning.WalkLemmas.{without_labels_is_walked}
 use Rattle.rc_checks.proofs.LabelPruning.KeepRuns.{labels_keep_runs}
-use Rattle.rc_checks.proofs.NumbersStay.{still_known}
+use Rattle.rc_tree.proofs.TreeNamesLemmas.{still_known}
 use Rattle.rc_checks.proofs.labels.prune_unused_labels.Goals as goal
 
 pub returns-clause-ok : goal.returns-clause-ok

@@ -1,7 +1,7 @@
 use Rattle.std.proofs.Common.{◌∙◌, map, ap, subst, sym}
 use Rattle.rc_checks.specs.ScopeBlocks.{ScopeBlock}
 use Rattle.rc_checks.specs.UnusedScopes.{LosesUnusedScopes}
-use Rattle.rc_checks.proofs.NumbersStay.{still_known}
+use Rattle.rc_tree.proofs.TreeNamesLemmas.{still_known}
 use Rattle.rc_checks.proofs.ScopeBlocks.ContentsLemmas.{same_scopes}
 use Rattle.rc_checks.proofs.UnusedScopes.Decided.{unused_decided}
 use Rattle.rc_checks.proofs.UnusedScopes.Faults.{first_is_outside, named_outside, only_memory}

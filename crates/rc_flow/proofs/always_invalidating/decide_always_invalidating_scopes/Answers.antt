@@ -7,7 +7,8 @@ use Rattle.rc_flow.proofs.AlwaysInvalidating.DecidedScopes.{invalidating_decided
 use Rattle.rc_flow.proofs.AlwaysInvalidating.LeftScopes.{leaves_others}
 use Rattle.rc_flow.proofs.AlwaysInvalidating.MarksLemmas.{prunes_invalidating}
 use Rattle.rc_flow.proofs.AlwaysInvalidating.RulesLemmas.{left_rebuilt, only_memory, rebuilt_keeps_erased}
-use Rattle.rc_flow.proofs.AlwaysInvalidating.RulesLemmas.{rebuilt_keeps_names, still_known}
+use Rattle.rc_flow.proofs.AlwaysInvalidating.RulesLemmas.{rebuilt_keeps_names}
+use Rattle.rc_tree.proofs.TreeNamesLemmas.{still_known}
 use Rattle.rc_flow.proofs.always_invalidating.decide_always_invalidating_scopes.Goals as goal
 
 pub returns-clause-ok : goal.returns-clause-ok

@@ -1,7 +1,7 @@
 use Rattle.std.proofs.Common.{◌≡◌, drop}
 use Rattle.std.specs.Map.{lookup}
 use Rattle.rc_names.specs.Numbers.{ScopeId as Scope, same_id}
-use Rattle.rc_tree.specs.Decided.{fate_by}
+use Rattle.rc_tree.specs.inside.DecisionLogs.{fate_by}
 use Rattle.rc_pipe.specs.inside.ListedFates.{decided_or}
 use Rattle.rc_pipe.proofs.fates.decisions.Given as goal
 

@@ -3,7 +3,7 @@ use Rattle.std.proofs.Common.{◌≡◌, ◌↔◌, All, Contains, Err, ap, inr,
 use Rattle.std.proofs.lemmas.Result.{err_from_is_err_and}
 use Rattle.rc_checks.proofs.ScopeBlocks.SpelledOnce.{spelled_once}
 use Rattle.rc_names.specs.Numbers.{ScopeId}
-use Rattle.rc_tree.specs.Decided.{fate_by}
+use Rattle.rc_tree.specs.inside.DecisionLogs.{fate_by}
 use Rattle.rc_pipe.specs.Fates.{listed_scopes}
 use Rattle.rc_pipe.proofs.CausesLemmas.{build_cause, only_memory}
 use Rattle.rc_pipe.proofs.EnvironmentStays.{keeps_own}

@@ -11,7 +11,8 @@ use Rattle.rc_tree.proofs.RewriteInPlaceLemmas.{meets_put, meets_put_fault}
 use Rattle.rc_tree.proofs.RewriteStatementLemmas.{meets_block_to, meets_terminal_at, meets_scope_at}
 use Rattle.rc_tree.proofs.RewriteStatementLemmas.{meets_pruned_scope_at, meets_For, both_same, cases_at-in_turn}
 use Rattle.rc_tree.proofs.RewriteStatementLemmas.{statements_at-in_turn}
-use Rattle.rc_tree.specs.Fuel.{IsFueled, perhaps_hook}
+use Rattle.rc_tree.specs.Fuel.{perhaps_hook}
+use Rattle.rc_tree.specs.inside.EnoughFuel.{IsFueled}
 use Rattle.rc_tree.specs.Rewrite.{block_inside, block_to, into_at, pruned_scope_inside, scope_inside, statements_at}
 use Rattle.rc_tree.specs.Rewrite.Terminals.{case_at, cases_at, parts_at, terminal_inside}
 use Rattle.rc_tree.specs.Rewrite.Values.{rewrite_value}

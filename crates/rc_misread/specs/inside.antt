@@ -1,0 +1,2 @@
+-- What private functions, and lemmas, say of each other.
+pub mod Parts
