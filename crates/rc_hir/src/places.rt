@@ -9,7 +9,7 @@ use std::alloc::{AllocError, Global};
 use std::marker::Model;
 use std::slice;
 
-/// Places in order, which contracts see as their list. Those that stand in a list already, and a single one, are
+/// Places in order, which contracts see as their list. Those that are in a list already, and a single one, are
 /// borrowed; up to three others take no memory.
 #[derive(Drop)]
 pub struct Places<'p> {
@@ -148,7 +148,7 @@ impl<'p> Form<'p> {
     }
 }
 
-/// These places and one more behind them.
+/// These places and one more after them.
 fn appended<'p>(alloc: Global, places: &[Place], place: Place) -> Result<Form<'p>, AllocError>
     ensures { IfOk result (λ form. places_in form ≡ places.now ++ place ∷ []) }
 {

@@ -23,7 +23,7 @@ use Rattle.rc_misread.specs.declared.form.Form.TheVariants as forms
 use Rattle.rc_misread.specs.declared.form.Need.{Need}
 use Rattle.rc_misread.specs.declared.form.Need.TheVariants as needs
 
--- a field: its name, how it may stand in its object, and its form or that of its items
+-- a field: its name, whether it must be there, and its form or that of its items
 abbrev pub Row : Type 0
 Row = List ℕ × Need × Form
 

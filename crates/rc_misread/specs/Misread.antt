@@ -32,7 +32,7 @@ pub record Found : Type 0 where
   pub asked : Asked
   pub value : Data
 
--- the part behind this step, if it is there and isn't read as it is asked
+-- the part that this step leads to, if it is there and isn't read as it is asked
 abbrev pub if_misread : Move → Asked → Option Data → Option Found
 if_misread move asked None = None
 if_misread move asked (Some d) =

@@ -71,7 +71,7 @@ pub enum Form {
     Document,
 }
 
-/// How a field may stand in its object.
+/// Whether an object must have a field.
 #[derive(Clone, Copy, Debug, PartialEq, Eq)]
 pub(crate) enum Need {
     /// It is there.
@@ -108,7 +108,7 @@ impl Need {
     }
 }
 
-/// A field: its name, how it may stand in its object, and its form or that of its items.
+/// A field: its name, whether it must be there, and its form or that of its items.
 #[derive(Clone, Copy, Debug, PartialEq, Eq)]
 pub(crate) struct Field(pub &'static str, pub Need, pub Form);
 

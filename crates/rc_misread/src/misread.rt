@@ -42,7 +42,7 @@ pub struct Misread<'a> {
     pub value: &'a Value,
 }
 
-/// Returns where a value isn't read as a document, and `None` for a document: the part behind the first steps that lead
+/// Returns where a value isn't read as a document, and `None` for a document: the part after the first steps that lead
 /// to a part which isn't read as it is asked, in the order in which fields are read. Fails only when out of memory.
 pub fn find_misread(alloc: Global, value: &Value) -> Result<Option<Misread<'_>>, AllocError>
     ensures { IfOk result (IsFinding (view value.now)) }
@@ -149,7 +149,7 @@ fn misread_item<'a>(
     Ok(None)
 }
 
-/// The part behind this step, if it is there and isn't read as it is asked.
+/// The part that this step leads to, if it is there and isn't read as it is asked.
 fn if_misread<'a>(
     alloc: Global,
     step: Step,

@@ -12,7 +12,7 @@ use std::fmt::Write;
 /// The most bytes of a text that are shown.
 const MOST_SHOWN: usize = 60;
 
-/// Returns the way to the part that isn't read, what stands there and what was expected, and `None` for a document.
+/// Returns the way to the part that isn't read, what is there and what was expected, and `None` for a document.
 /// Fails only when out of memory.
 pub fn misread_words(alloc: Global, value: &Value) -> Result<Option<Text>, AllocError> {
     let Some(found) = find_misread(alloc, value)? else {

@@ -1,4 +1,4 @@
--- Printing forms have no floats and no signs, and their fields stand in byte order.
+-- Printing forms have no floats and no signs, and their fields are in byte order.
 use Rattle.std.proofs.Common.{◌≡◌, ℕ, Bool, true, false, cond, List, [], ◌∷◌, Option, None, Some, refl}
 use Rattle.serde_json.specs.Data.{Data, string}
 use Rattle.rc_show.specs.inside.Plain.{is_plain, items_plain}

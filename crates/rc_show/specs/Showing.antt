@@ -1,4 +1,4 @@
--- The printing form: the fields of an object stand in the byte order of their names. A field that is `None` is left
+-- The printing form: the fields of an object are in the byte order of their names. A field that is `None` is left
 -- out; empty lists and false are written.
 use Rattle.std.specs.Prelude.{◌≡◌, ℕ, List, Option, None, Some, codes, map}
 use Rattle.serde_json.specs.Data.{Data, array, member, Members, no_members, number, object, string, unsigned}

@@ -1,4 +1,4 @@
-//! Numbers and quoted texts behind what was written before.
+//! Numbers and quoted texts after what was written before.
 
 ghost use Rattle.std.specs.Prelude.{◌≡◌, ◌++◌, OnOk, decimal, string_bytes};
 ghost use Rattle.serde_json.specs.Data.{string};

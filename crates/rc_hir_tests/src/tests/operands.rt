@@ -194,7 +194,7 @@ fn store_operands(alloc: Global) -> Result<List<Place>, Fault> {
     operands(alloc, &computed_store(), &Environment::empty(alloc))
 }
 
-/// How many operands a value has, where they stand.
+/// How many operands a value has.
 fn count(alloc: Global, value: &InstructionValue, env: &Environment) -> Result<usize, Fault> {
     Ok(borrowed_operands(alloc, value, env)?.as_slice().len())
 }

@@ -27,7 +27,7 @@ abbrev mutual
   items_plain no_items = true
   items_plain (item d items) = is_plain d && items_plain items
 
-  -- the fields, behind those that were found before
+  -- the fields, after those that were found before
   pub fields_plain : Members → Members → Bool
   fields_plain found no_members = true
   fields_plain found (member name d fields) =
