@@ -21,7 +21,7 @@ use Rattle.rc_tree.specs.declared.fate.ScopeFate.{ScopeFate}
 use Rattle.rc_tree.specs.declared.terminal.ReactiveTerminal.{ReactiveTerminal}
 
 module _ {S : Type 0} (rules : Rules S) (told : S → List ScopeFate) (tells : TellsDecisions rules told) where
-  -- of a part with these scopes, and what is in its place: no scope is lost but those that are told
+  -- from a part with these scopes to what replaces it: no scope is lost but those that `told` lists
   unfoldable Loses : List ScopeId → S → Result (S × List ScopeId) Fault → Type 0
   Loses scopes s (Ok r) = AreSameScopes (scopes ++ decided (told s)) (r.1 ++ decided (told r.0))
   Loses scopes s (Err fault) = Unit {0}

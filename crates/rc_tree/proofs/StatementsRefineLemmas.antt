@@ -62,7 +62,7 @@ module _ {T S R St : Type 0} (rules : Rules S) (steps : T → StatementSteps St)
           (follows.block r s x);
     }
 
-    -- a call with the result of the walk leaves the block that the rules rebuild, and the state that stands for theirs
+    -- a call with the result of the walk leaves the block that the rules rebuild, and the state that represents theirs
     pub statements_rebuilt : EntersNoDeeper (over_statements steps) → (functions : T → List HirFunction) (t : T)
         → StatementsRefine rules (steps t) at inner
         → (r : R) (s : S) (x y : ReactiveBlock) (w : T × St) (result : Result (Unit {0}) Fault)

@@ -9,7 +9,7 @@ use Rattle.rc_tree.specs.CollectedValues.{ValueContributions, collected_row, col
 use Rattle.rc_tree.specs.Joining.{Joining, all_of, from_around, if_there, lists}
 use Rattle.rc_tree.specs.Model.{ReactiveBlock}
 
--- an operand where it is visited; the scopes around it stand with the innermost first
+-- an operand where it is visited; the scopes around it are listed innermost first
 pub record PlacedOperand : Type 0 where
   pub id : EvaluationOrder
   pub place : Place

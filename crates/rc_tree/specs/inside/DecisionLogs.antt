@@ -1,4 +1,4 @@
--- How a log of decisions comes about: what each rule of a pass tells, and the logs of passes that follow each other.
+-- How a log of decisions comes about: what each rule of a pass logs, and the logs of passes that follow each other.
 use Rattle.std.specs.Prelude.{◌≡◌, List, [], ◌∷◌, ◌++◌, Result, Ok, Err, if◌then◌else◌}
 use Rattle.rc_hir.specs.Model.{Fault}
 use Rattle.rc_names.specs.Numbers.{ScopeId, same_id}
@@ -13,15 +13,15 @@ use Rattle.rc_tree.specs.declared.fate.Fate.TheVariants.{Kept}
 use Rattle.rc_tree.specs.declared.fate.ScopeFate.{ScopeFate}
 use Rattle.rc_tree.specs.declared.statement.ReactiveStatement.TheVariants as reactive
 
--- what statements become by a rule has their scope blocks, without those that the rule decided; `told` gives what was
--- decided up to a state
+-- a rule's replacement has the scope blocks of what it replaces, without those that the rule decided; `told` lists what
+-- was decided up to a state
 abbrev pub DecidesOf : {S : Type 0} → (S → List ScopeFate) → List ScopeId → S
     → Result (S × List ReactiveStatement) Fault → Type 0
 DecidesOf told scopes s (Ok r) =
     AreSameScopes (scopes ++ decided (told s)) (collected_list scope_parts r.1 ++ decided (told r.0))
 DecidesOf told scopes s (Err fault) = Unit {0}
 
--- each rule of a pass tells each scope block that it takes away
+-- each rule of a pass logs each scope block that it takes away
 pub record TellsDecisions {S : Type 0} (rules : Rules S) (told : S → List ScopeFate) : Type 0 where
   pub row : (x : ReactiveInstruction) (s : S) → DecidesOf told [] s (rules.row x s)
   pub terminal : (x : ReactiveTerminalStatement) (s : S)
