@@ -20,13 +20,13 @@ most_drop μ zero xs = omega arith
 most_drop μ (suc n) [] = omega arith
 most_drop μ (suc n) (x ∷ xs) = let h = most_drop μ n xs in omega (arith, h)
 
--- entries that stand as before from an index on, taken out and turned round, are no deeper than all
+-- unchanged entries from an index on, taken out and reversed, are no deeper than all the old entries
 pub most_behind : {X : Type 0} (μ : X → ℕ) (n : ℕ) (before after left : List X) → left ≡ reverse (drop n after)
     → drop n after ≡ drop n before → most μ left ≤ most μ before
 most_behind μ n before after left turned same =
     rw (turned, most-reverse μ (drop n after), same) (most_drop μ n before)
 
--- an entry that stands where the entries are as before is no deeper than all of those
+-- the first of unchanged entries from an index on is no deeper than all the old entries
 pub most_entry : {X : Type 0} (μ : X → ℕ) (n : ℕ) (before after : List X) (x : X) → drop n after ≡ drop n before
     → slice_get after n ≡ Some x → μ x ≤ most μ before
 most_entry μ n before after x same there =
@@ -38,11 +38,11 @@ module _ {T S : Type 0} (v : RewriteSteps (T × S)) (functions : T → List HirF
   abbrev into : T × S → TreeStatements → ReactiveStatement → Fueled (Unit {0} × ((T × S) × TreeStatements))
   into = into_at v functions inner
 
-  -- a call walks a statement, and puts what stands in its place behind those that are done
+  -- a call walks a statement, and puts its replacement after those that are done
   abbrev Puts : T × S → TreeStatements → ReactiveStatement → Result (Unit {0}) Fault → T × S → TreeStatements → Type 0
   Puts w done x r w1 ys = IsFueled {S = (T × S) × TreeStatements} (into w done x) r (w1, ys)
 
-  -- it can be put behind more statements
+  -- the replacement can be put after more statements
   into_behind : (w : T × S) (done : TreeStatements) (x : ReactiveStatement) (r : Result (Unit {0}) Fault) (w1 : T × S)
       (ys : TreeStatements) → Puts w [] x r w1 ys → Puts w done x r w1 (done ++ ys)
   unfolding into_at

@@ -15,7 +15,7 @@ reversed_rest [] = refl
 reversed_rest (x ∷ xs) =
     sym (before_last (reverse (x ∷ xs)) (reverse xs) x (reverse-append (x ∷ []) xs))
 
--- the entries behind an index, reversed
+-- the entries after an index, reversed
 pub popped_behind : {X : Type 0} (all from now : List X) (i : ℕ) → from ≡ reverse (drop i all)
     → now ≡ take (length from - 1) from → now ≡ reverse (drop (i + 1) all)
 popped_behind all from now i is popped =

@@ -1,4 +1,4 @@
-//! The replacement of a statement: it is asked of the `transform_` hook, and put in the statement's place.
+//! The replacement of a statement: the `transform_` hook gives it, and it is put in the statement's place.
 #![tactic(auto, using(rc_tree::proofs::FuelLemmas::rewriting, rc_tree::proofs::RewriteStatementLemmas::rewriting_statements))]
 
 ghost use Rattle.std.specs.Prelude.{◌≡◌, ◌++◌, false, true, IfOk, IsTrue};
@@ -14,8 +14,8 @@ use rc_names::List;
 use rc_tree::{ReactiveStatement, Transformed};
 use std::alloc::AllocError;
 
-/// Puts a statement's replacement, which is asked of the `transform_` hook, in its place if that is one statement, and
-/// else at the end of those that are done. Returns whether it is one.
+/// Asks the `transform_` hook for a statement's replacement, and puts it in the statement's place if it is one
+/// statement, and else at the end of those that are done. Returns whether it is one.
 ///
 /// It isn't inlined, so that the answer takes no room in the stack frames of the walk.
 #[inline(never)]

@@ -147,7 +147,7 @@ fn walk_statements<T: ReactiveFunctionTransform>(
 }
 
 /// Walks statements. None is copied, and replacements aren't walked. Each is walked in its place, up to the first one
-/// whose replacement isn't one statement; those behind that one are moved.
+/// whose replacement isn't one statement; those after that one are moved.
 ///
 /// A statement stays in its list while it is walked, so that the stack frames of the walk hold only references.
 #[cycle(rewrite_tree)]

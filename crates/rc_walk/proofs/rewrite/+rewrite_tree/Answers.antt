@@ -25,7 +25,7 @@ use Rattle.rc_walk.specs.inside.FrontWalk.{with_replacement, without_answer}
 use Rattle.rc_walk.proofs.FrontWalked.{front_fails, front_goes_on, front_stops, most_behind, most_entry}
 use Rattle.rc_walk.proofs.rewrite.+rewrite_tree.Goals as goal
 
--- at first the statements behind the first one are left whose replacement isn't one statement
+-- at first the statements are left that come after the first one whose replacement isn't one statement
 pub statement::walk_list-statement-init : goal.statement::walk_list-statement-init
 statement::walk_list-statement-init g t c =
     let place = c.in_ok-staying.staying in
@@ -40,7 +40,7 @@ statement::walk_list-statement-init g t c =
       ) (c.in_ok-staying.ensures.front n);
     }
 
--- the walk of the statements in front fails, or memory runs out behind it
+-- the walk of the statements in front fails, or memory runs out after it
 pub statement::walk_list-returns-in_err-staying : goal.statement::walk_list-returns-in_err-staying
 statement::walk_list-returns-in_err-staying g t c = λ n.
     let p = err_from_is_err_and c.from_residual.result c.from_residual.ensures.1 in
@@ -146,7 +146,7 @@ statement::walk_last_into-returns-in_err-stays g t c =
           c.in-Some-get_mut.ensures.value)) (c.in_err-stays.ensures.put n));
     }
 
--- the last statement is walked, and what stays of it is put behind those that are done
+-- the last statement is walked, and its replacement is put after those that are done
 pub statement::walk_last_into-returns : goal.statement::walk_last_into-returns
 statement::walk_last_into-returns g t c =
     let steps = g.T.ReactiveFunctionTransform.steps in
