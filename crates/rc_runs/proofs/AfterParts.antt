@@ -63,7 +63,7 @@ module _ {hir : HirFunction} {env : Environment} where
       let regrouped = sym (append_assoc first events more) ∙ sym (ap (λ l. l ++ more) q) in
       subst (λ l. run l end) regrouped (put (events ++ more) end (go more end r)))
 
-  -- no events behind
+  -- no more events after
   pub alone : {context : ListContext} {run : List Event → End → Type 0} {first all : List Event} {outcome : Completion}
       → After hir env context run first outcome → all ≡ first ++ [] → After hir env context run all outcome
   alone {context} {run} {first} {outcome = outcome} after q =

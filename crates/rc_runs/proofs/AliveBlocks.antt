@@ -31,7 +31,7 @@ module _ (hir : HirFunction) where
   alive_behind front behind e alive =
       λ key c. alive key (subst (λ u. Contains u key) (sym e) (Contains-append_right front behind key c))
 
-  -- the blocks of a value terminal's row, of the value behind it, and of its short arm
+  -- the blocks of a value terminal's row, of the value after it, and of its short arm
   pub row_alive : {key : BlockId} {used : List BlockId} (row value arm : List BlockId)
       → used ≡ key ∷ (row ++ (value ++ arm)) → AllAlive used → AllAlive row × AllAlive value × AllAlive arm
   row_alive {key} row value arm e alive =

@@ -236,7 +236,7 @@ module _ (hir : HirFunction) (env : Environment) where
         chosen_further case
         (chosen_to_graph x no_throw d fits (λ case among. live case (graph.later among)) (alive_front hir u v w alive))
 
-    -- the cases from the first one on, behind the block that falling off to them reaches
+    -- the cases from the first one on, at the block that falling off to them reaches
     cases_to_graph : {kept : List Case} {context : ListContext} {cases : Cases} {used : List BlockId}
         {events : List Event} {outcome : Completion} → RunsCases env cases events outcome → has_throw events ≡ false
         → SpellsCases hir env kept context cases used → Fits context → AllAlive hir used → (key : BlockId)

@@ -1,4 +1,4 @@
--- A run of a row or of a value as runs of the graph, up to what is behind that part, or to the alternate that it leaves
+-- A run of a row or of a value as runs of the graph, up to what is after that part, or to the alternate that it leaves
 -- open.
 use Rattle.std.proofs.Common.{◌≡◌, true, false, Bool, List, [], ◌∷◌, ◌++◌, ◌||◌, Option, Some, None, refl, sym, ap}
 use Rattle.std.proofs.Common.{◌∙◌, subst, append_assoc}
@@ -14,11 +14,11 @@ use Rattle.rc_runs.specs.PlainTree.{Base}
 use Rattle.rc_runs.specs.ValueRun.{Progress, Done, Short, Inside, goes_past, goes_past_row, value_stopped, quiet_value}
 use Rattle.rc_runs.specs.ValueRun.{did_value, did_and_stopped, RunsRow, unset_row, set_row}
 
--- any run of what is behind the part continues the run of the part
+-- any run of what is after the part continues the run of the part
 pub record Extends (whole behind : List Event → End → Type 0) (events : List Event) : Type 0 where
   pub on : (more : List Event) (end : End) → behind more end → whole (events ++ more) end
 
--- past the part, a run goes on behind it; past its short end, from the alternate that it leaves open; inside the part,
+-- past the part, a run goes on after it; past its short end, from the alternate that it leaves open; inside the part,
 -- it stops
 pub data Covers (hir : HirFunction) (env : Environment) (left : Option BlockId)
     (whole behind : List Event → End → Type 0) (events : List Event) : Progress → Type 0 where
@@ -49,7 +49,7 @@ module _ {hir : HirFunction} {env : Environment} {whole behind : List Event → 
   pub and_stop : {left : Option BlockId} → Covers hir env left whole behind events Inside → whole events Open
   and_stop (stays stop) = stop
 
-  -- out of the rows of a sequence inside the part, whatever is behind the rows
+  -- out of the rows of a sequence inside the part, whatever is after the rows
   pub out_of_row : {middle : List Event → End → Type 0} {left : Option BlockId} {progress : Progress}
       (is_last : Bool) → Covers hir env left whole middle events progress → goes_past_row is_last progress ≡ false
       → Covers hir env left whole behind events progress

@@ -52,7 +52,7 @@ test_and_rest-plain (Sequence (Row id target value span (Row next place other at
 test_and_rest-plain (Sequence NoRows last rest) = refl
 test_and_rest-plain value = refl
 
--- the run goes on behind a row without flags where it goes on behind the row
+-- the run goes on after a row without flags where it goes on after the row
 past_there : (env : Environment) (is_test : Bool) (target : Option Place) (own : Value) (rest : Rows) (value : Value)
     (progress : Progress) {past : Bool} → goes_past_row (is_row_of_test env is_test target own rest value) progress
     ≡ past

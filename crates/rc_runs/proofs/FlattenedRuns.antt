@@ -1,7 +1,7 @@
 -- A flattened value has the runs of the value itself.
 --
 -- The rows of nested sequences run in the same order in one sequence. The row for the final value runs as that value
--- does; it is left out for a load alone, which is silent. The `undefined` behind it is silent too. The rows keep their
+-- does; it is left out for a load alone, which is silent. The `undefined` after it is silent too. The rows keep their
 -- ids, and the id of the new row has to be set, as all ids of usable blocks are.
 use Rattle.std.proofs.Common.{◌≡◌, Bool, true, false, List, [], ◌∷◌, Option, Some, if◌then◌else◌, refl, sym, ◌∙◌}
 use Rattle.std.proofs.Common.{ap, subst}
@@ -29,7 +29,7 @@ use Rattle.rc_runs.specs.ValueRun.{past_row, in_row, RunsRow, unset_row, set_row
 use Rattle.rc_runs.proofs.SetIds.{usable_block-set, last_set, AreSet}
 use Rattle.rc_runs.proofs.LastRowLemmas.{runs_alike}
 
--- a run that doesn't go on behind a row isn't done with it, and stays in it where it is stopped
+-- a run that doesn't go on after a row isn't done with it, and stays in it where it is stopped
 not_past_not_done : (of_test : Bool) (progress : Progress) → goes_past_row of_test progress ≡ false
     → is_done progress ≡ false
 not_past_not_done true progress e = e
@@ -41,7 +41,7 @@ pub inside_stays : (of_test : Bool) → goes_past_row of_test Inside ≡ false
 inside_stays true = refl
 inside_stays false = refl
 
--- the value behind all rows is an instruction, which has no short end
+-- the value after all rows is an instruction, which has no short end
 abbrev pub ends_in_base : Value → Bool
 ends_in_base (Base value) = true
 ends_in_base (Sequence rows id value) = ends_in_base value
@@ -278,7 +278,7 @@ value_base (may_throw {block = block} {value = value} {end = end} found ends cur
     ap ends_in_base whole ∙ after_rows-base block.rows end.id value ∙ value_base behind
 value_base (value_row found row behind arm whole end used) = ap ends_in_base whole ∙ value_base behind
 
--- a run of a spelled value is a run of the value as it stands in a loop
+-- a run of a spelled value is a run of the value as it is in a loop
 pub runs-shown : {hir : HirFunction} {env : Environment} {key : BlockId} {context : ValueContext} {value : Value}
     {end : ValueEnd} {used : List BlockId} {events : List Event} {progress : Progress} (flat : Bool)
     (span : Option Span) → SpellsValue hir env key context value end used → RunsValue env false value events progress
@@ -287,7 +287,7 @@ runs-shown {value = value} {end} true span spelled run =
     runs-flattened end.answer end.id span value (value_set spelled) (value_base spelled) run
 runs-shown false span spelled run = run
 
--- a run of the value as it stands in a loop is a run of the spelled value
+-- a run of the value as it is in a loop is a run of the spelled value
 pub shown-runs : {hir : HirFunction} {env : Environment} {key : BlockId} {context : ValueContext} {value : Value}
     {end : ValueEnd} {used : List BlockId} {events : List Event} {progress : Progress} (flat : Bool)
     (span : Option Span) → SpellsValue hir env key context value end used

@@ -118,7 +118,7 @@ pub nothing_first : {hir : HirFunction} {env : Environment} {blocks : LoopBlocks
     → parts.before ≡ None
 nothing_first (turns apart again test first body w) e = no_value_there first e
 
--- a run of a loop, of which the value before the test is known
+-- a run of a loop whose value before the test is known
 pub loop_with : {env : Environment} {label : Option ReactiveLabel} {parts : LoopParts} {spot : Spot}
     {events : List Event} {outcome : Completion} (first : Option Value) → parts.before ≡ first
     → RunsLoop env label parts spot events outcome

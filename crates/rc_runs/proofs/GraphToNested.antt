@@ -27,7 +27,7 @@ use Rattle.rc_runs.proofs.Passes.{AtLast, Passes, stops, passes, shortens, throw
 use Rattle.rc_runs.proofs.Passes.{throws_inside, Chooses, stays_in_test, holds, fails, throws_in_test, pass_behind}
 use Rattle.rc_runs.proofs.Passes.{goes_behind, pass_events, goes_events, goes_past}
 
--- the runs of a row that holds a value terminal, and of the value behind it
+-- the runs of a row that holds a value terminal, and of the value after it
 abbrev RunsNestedRow : Environment → Bool → Nested → Option Span → Value → List Event → Progress → Type 0
 RunsNestedRow env is_test nested span value =
     RunsRows env is_test (Row nested.id (Some nested.answer) nested.value span NoRows) value
@@ -69,7 +69,7 @@ module _ {hir : HirFunction} {env : Environment} {handler : Option BlockId} {bou
       (λ events progress arm. took_alternate here refl arm refl (append_assoc front (Arm false ∷ []) events))
       (two back end run small))
 
-  -- a logical, of which the consequent has no events
+  -- a logical whose consequent has no events
   pub logical_goes : {operator : LogicalOperator} {id last : EvaluationOrder} {target : Option Place}
       {test value other : Value} {span : Option Span} {consequent alternate : BlockId} {arm_used : List BlockId}
       {events : List Event} {end : End} → is_unset id ≡ false → RunsValue env false value [] Done
@@ -143,7 +143,7 @@ module _ {hir : HirFunction} {env : Environment} {handler : Option BlockId} {bou
 
 module _ {hir : HirFunction} {env : Environment} {handler : Option BlockId} {bound : ℕ}
     {Behind : List Event → End → Type 0} {is_test : Bool} {value : Value} where
-  -- what the value behind leaves open where it has a short end, the whole leaves open too
+  -- what the value after the row leaves open where it has a short end, the whole leaves open too
   left_open_as : {left_open other : Option BlockId} {events : List Event} {end : End}
       → ((events : List Event) → RunsValue env is_test value events Short → other ≡ left_open)
       → Passes hir env handler (RunsValue env is_test value) left_open Behind bound events end
@@ -155,7 +155,7 @@ module _ {hir : HirFunction} {env : Environment} {handler : Option BlockId} {bou
 
 module _ {hir : HirFunction} {env : Environment} {handler : Option BlockId} {bound : ℕ}
     {Behind : List Event → End → Type 0} {is_test : Bool} {nested : Nested} {value : Value} {span : Option Span} where
-  -- a row that holds a value terminal, and then the value behind it, at its fallthrough
+  -- a row that holds a value terminal, and then the value after it, at its fallthrough
   pub nested_row_passes : {terminal : Terminal} {behind_open left_open : Option BlockId}
       {nested_used arm_used : List BlockId} {events : List Event} {end : End} → is_unset nested.id ≡ false
       → SpellsNested hir env handler terminal nested nested_used

@@ -1,4 +1,4 @@
--- Silent arms have no events: a run of the graph that begins at one comes to the block behind it, or throws.
+-- Silent arms have no events: a run of the graph that begins at one comes to the block after it, or throws.
 use Rattle.std.proofs.Common.{◌≡◌, ℕ, ◌<◌, Bool, true, List, [], ◌∷◌, ◌++◌, Option, Some, refl, sym, ap, ◌∙◌}
 use Rattle.std.proofs.Common.{subst, append-nil, arith}
 use Rattle.std.proofs.lemmas.Bool.{and_parts}
@@ -38,7 +38,7 @@ quiet_rows {env} (row ∷ rows) others silent behind =
     let parts = and_parts (is_silent env row.id row.value) (are_silent env (rows ++ others)) silent in
     past_row (quiet_row parts.0) (done_goes_past _) (quiet_rows rows others parts.1 behind) refl
 
--- the rows of a silent block, of which the last one is a value
+-- the rows of a silent block, the last of which is a value
 quiet_last : {env : Environment} {is_test : Bool} (rows : List Instruction) (row : Instruction)
     → AreSet (rows ++ row ∷ []) → are_silent env (rows ++ row ∷ []) ≡ true
     → RunsRows env is_test (rows_then rows NoRows) (Base (last_value env row.value)) [] Done
@@ -72,7 +72,7 @@ module _ {hir : HirFunction} {env : Environment} {handler : Option BlockId} {nex
       let parts = and_parts (is_silent env row.id row.value) (are_silent env rows) silent in
       absurd (let bad : ⊥ = cc (parts.0, h) in bad)
 
-  -- the jump to the block behind the arm
+  -- the jump to the block after the arm
   past_jump : {variant : GotoVariant} {id : EvaluationOrder} {span : Option Span} {events : List Event} {end : End}
       → (run : GraphRun hir env [] (terminals.Goto next variant id span) events end) → size run < bound
       → PassesArm hir env handler next bound events end
@@ -96,7 +96,7 @@ module _ {hir : HirFunction} {env : Environment} {handler : Option BlockId} {nex
   past_link current (moved (throws {handler = key}) run e) small go =
       throws_in_arm (named_handler key handler current) (record { run = run; small = omega arith }) e
 
-  -- a run in the block of a silent arm, of which the terminal is known
+  -- a run in a block of a silent arm; the block's terminal is known
   in_block : {block other : Block} {terminal : Terminal} {events : List Event} {end : End}
       → other ≡ block → are_silent env block.rows ≡ true → block.terminal ≡ terminal
       → (run : GraphRun hir env other.rows other.terminal events end) → size run < bound

@@ -184,7 +184,7 @@ module _ {hir : HirFunction} {env : Environment} where
         (ends_in chooses.chooses (value_passes bound test run (omega arith)))
         (λ events end run small. past_value d ends (value_passes bound d run (omega arith)))
 
-  -- the value as it stands in a loop
+  -- the value as it is in a loop
   shown_passes : {key : BlockId} {span : Option Span} {handler : Option BlockId} {value : Value} {value_end : ValueEnd}
       {used : List BlockId} {last : Terminal} {events : List Event} {end : End} (flat : Bool) (around : Option Span)
       (shown_value : Value) → SpellsValue hir env key (part_context span handler) value value_end used

@@ -28,7 +28,7 @@ pub cases-handler : (later : List Case) (context : ListContext)
 cases-handler [] context = refl
 cases-handler (case ∷ later) context = cases-handler later context
 
--- a list under that handler can end a run so: a throw statement stands outside of handlers alone
+-- a list under that handler can end a run so: throw statements are only outside of handlers
 abbrev pub can_end : End → Option BlockId → Bool
 can_end (Thrown place) handler = is_none handler
 can_end _ handler = true

@@ -40,7 +40,7 @@ jump_run (continues_implicit n) (body.and_then body.continue_implicit (body.leav
 jump_run (continues_labeled n) (body.and_then body.continue_labeled (body.leaves_list l) q) = (q, inr n)
 jump_run (continues_unlabeled n) (body.and_then body.continue_unlabeled (body.leaves_list l) q) = (q, inr n)
 
--- a jump behind an edge to its target
+-- a jump, after an edge to its target
 pub jump_to_graph : {hir : HirFunction} {env : Environment} {terminal : Terminal} {step : List Event} {key : BlockId}
     {context : ListContext} {statements : Statements} {events : List Event} {outcome : Completion}
     → Edge terminal step key → HasNoUnreachableSuccessor hir terminal → Jumps context key statements

@@ -30,7 +30,7 @@ in_any (later {other = other} {cases = cases} among) h =
     or_right (is_default other) (list_any is_default cases) (in_any among h)
 
 module _ (keep : Case → Bool) where
-  -- a case that passes a filter is behind it
+  -- a case that passes a filter is among the filtered cases
   in_filter : {case : Case} {cases : List Case} → InCases case cases → keep case ≡ true
       → InCases case (filter keep cases)
   in_filter {case} (first {other = other} {cases = cases} same) h = go (keep other) (sym (ap keep same) ∙ h)

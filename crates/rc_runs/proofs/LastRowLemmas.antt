@@ -1,4 +1,4 @@
--- The last row of a value runs as the row itself: where a load stands for a store, both are silent.
+-- The last row of a value runs as the row itself: where a load replaces a store, both are silent.
 use Rattle.std.proofs.Common.{◌≡◌, List, ◌∷◌, [], Bool, true, false, if◌then◌else◌, refl, sym, ap, ◌∙◌, subst}
 use Rattle.rc_hir.specs.Model.{InstructionValue, Environment}
 use Rattle.rc_hir.specs.declared.instruction.InstructionValue.TheVariants as kinds

@@ -131,7 +131,7 @@ module _ {hir : HirFunction} {env : Environment} {context : ListContext} {bound 
   jump_leads (continues_unlabeled n) run small =
       leads (and_then continue_unlabeled (leaves_list refl) refl) n run small refl
 
-  -- a statement that stands alone
+  -- a statement that is alone in its list
   pub alone_leads : {statement : Statement} {events : List Event} {end : End}
       → Leads hir env context bound (RunsStatement env statement) events end
       → Leads hir env context bound (RunsList env (Cons statement Nil)) events end

@@ -1,6 +1,6 @@
 -- The row of a value terminal in the graph, and the value at its fallthrough.
 --
--- Behind its short end a value terminal goes on at its fallthrough, by its own short arm, unless the row is the last
+-- After its short end a value terminal goes on at its fallthrough, by its own short arm, unless the row is the last
 -- one of a test that it answers: then that test goes on by the alternate that is left open.
 use Rattle.std.proofs.Common.{◌≡◌, Bool, true, false, List, [], Option, Some, None, ◌⊎◌, inl, inr}
 use Rattle.std.proofs.Common.{if◌then◌else◌, refl, sym, ap, ◌∙◌, subst}
@@ -30,7 +30,7 @@ if_holds true answers holds = holds
 if_holds false answers holds = absurd (let bad : ⊥ = cc in bad)
 
 module _ {hir : HirFunction} {env : Environment} where
-  -- past a value terminal: behind its short end, its own short arm leads to the fallthrough
+  -- past a value terminal: after its short end, its own short arm leads to the fallthrough
   past_nested : {whole : List Event → End → Type 0} {handler : Option BlockId} {next : BlockId}
       {answers is_last : Bool} {short behind left : Option BlockId} {used : List BlockId} {events : List Event}
       {progress : Progress} → SpellsShortArm hir env handler next answers short behind left used
@@ -74,7 +74,7 @@ module _ {hir : HirFunction} {env : Environment} where
       → Extends whole (GraphRunAt hir env next) events
   past_own_arm arm covered past = past_nested {is_last = false} arm (λ alternate is_short. refl) covered past
 
-  -- what the value behind leaves open stays open, unless it has no short end
+  -- what the value after the terminal leaves open stays open, unless it has no short end
   reopen : {whole after : List Event → End → Type 0} {behind left : Option BlockId} {answers : Bool}
       {events : List Event} {progress : Progress} → (left ≡ behind) ⊎ (answers ≡ true)
       → (answers ≡ true → progress ≡ Short → ⊥) → Covers hir env behind whole after events progress
@@ -108,7 +108,7 @@ module _ {hir : HirFunction} {env : Environment} where
   row_then_value {value = value} is_test set spelled arm nesteds values events progress (in_row (set_row s one) out) =
       out_of_nested arm (λ alternate is_short. row_of_test is_test value spelled is_short) (nesteds _ _ one) out
 
-  -- the rows of a block in a sequence, and what stands for its last rows
+  -- the rows of a block in a sequence, and what represents its last rows
   pub sequence_covered : {is_test : Bool} {left : Option BlockId} {terminal : Terminal} {more : Rows}
       {id : EvaluationOrder} {value : Value} {after : List Event → End → Type 0} {events : List Event}
       {progress : Progress} (rows : List Instruction) → ((events : List Event) (progress : Progress)

@@ -43,7 +43,7 @@ module _ {env : Environment} {consequent alternate : BlockId} {end : ValueEnd} w
   to_alternate c = subst (λ t. Edge t (Arm false ∷ []) alternate) (sym c.chooses) else_arm
 
 module _ {hir : HirFunction} {env : Environment} where
-  -- over an edge without an event, and on behind a part
+  -- over an edge without an event, and on after a part
   by_edge : {terminal : Terminal} {key : BlockId} {behind : List Event → End → Type 0} {events : List Event}
       → Edge terminal [] key → Extends (GraphRunAt hir env key) behind events
       → Extends (GraphRun hir env [] terminal) behind events

@@ -1,6 +1,6 @@
 -- Where a run of the graph leads that begins at a part of a value.
 --
--- Such a run stops inside the part, or passes it and goes on behind it, or takes a short end, which leads to the
+-- Such a run stops inside the part, or passes it and goes on after it, or takes a short end, which leads to the
 -- alternate that the part leaves open, or throws inside and goes on from the current handler. A value that is no
 -- optional's test leaves nothing open: for such values, `Goes` and `Chooses` say what follows them. No run that goes on
 -- is longer than the bound, and past an edge it is shorter.
@@ -32,7 +32,7 @@ module _ (hir : HirFunction) (env : Environment) where
     pub run : GraphRun hir env [] last events end
     pub small : size run ≤ bound
 
-  -- a run of the graph under a handler that begins at a part with the runs `R`, with what is behind the part
+  -- a run of the graph under a handler that begins at a part with the runs `R`; `Behind` is what comes after the part
   pub data Passes (handler : Option BlockId) (R : List Event → Progress → Type 0) (left_open : Option BlockId)
       (Behind : List Event → End → Type 0) (bound : ℕ) (events : List Event) (end : End) : Type 0 where
     stops : R events Inside → end ≡ Open → Passes handler R left_open Behind bound events end
@@ -113,7 +113,7 @@ module _ {hir : HirFunction} {env : Environment} where
   goes_events {handler} {value} {next} {bound} {end = end} e d =
       subst (λ all. Goes hir env handler value next bound all end) (sym e) d
 
-  -- a value without a short end, in whatever place it stands
+  -- a value without a short end, wherever it is
   pub goes_past : {handler : Option BlockId} {value : Value} {next : BlockId} {left_open : Option BlockId} {bound : ℕ}
       {events : List Event} {end : End} → Goes hir env handler value next bound events end
       → Passes hir env handler (RunsValue env false value) left_open (AtBlock hir env next bound) bound events end

@@ -86,7 +86,7 @@ module _ (env : Environment) where
     HeldCases NoCases = Unit {0}
     HeldCases (Case test body rest) = HeldPlace test × HeldAlternate body × HeldCases rest
 
-  -- an equal list of numbers, of one part and of another one behind it
+  -- an equal list of numbers, of one part followed by another
   by_parts : {names : List Name} (first second : List Name) → names ≡ first ++ second → Held env first →
       Held env second → Held env names
   by_parts first second e held later = subst (Held env) (sym e) (All-append (InTable env) first second held later)

@@ -1,4 +1,4 @@
--- Runs of rows that stand in the graph too, and when a run goes on behind a row.
+-- Runs of rows that the graph has too, and when a run goes on after a row.
 use Rattle.std.proofs.Common.{◌≡◌, Bool, true, false, List, [], ◌∷◌, ◌||◌, refl, sym, ap, ◌∙◌}
 use Rattle.std.proofs.lemmas.Bool.{or_parts}
 use Rattle.rc_names.specs.Numbers.{EvaluationOrder}
@@ -10,7 +10,7 @@ use Rattle.rc_runs.specs.LastRow.{rows_then, after_rows}
 use Rattle.rc_runs.specs.ValueRun.{Progress, Done, goes_past_row, RunsValue, quiet_value, did_value, in_sequence}
 use Rattle.rc_runs.specs.ValueRun.{RunsRows, past_rows, RunsRow, unset_row, set_row}
 
--- behind a row that is done a run always goes on
+-- after a row that is done a run always goes on
 pub done_goes_past : (ends_test : Bool) → goes_past_row ends_test Done ≡ true
 done_goes_past true = refl
 done_goes_past false = refl

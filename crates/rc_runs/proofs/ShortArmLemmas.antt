@@ -15,7 +15,7 @@ use Rattle.rc_runs.specs.ValueGrammar.{SpellsNested, sequence_value, ternary_val
 use Rattle.rc_runs.specs.ValueRun.{Progress, Short, goes_past, goes_past_row, is_row_of_test, RunsValue}
 use Rattle.rc_names.proofs.NumbersLemmas.{same_id-eq}
 
--- a run that goes on behind a row came past it
+-- a run that goes on after a row came past it
 pub past_row_is_past : (is_last : Bool) (progress : Progress) → goes_past_row is_last progress ≡ true
     → goes_past progress ≡ true
 past_row_is_past false progress past = past
@@ -36,7 +36,7 @@ same_alternate (Some left) alternate own shares e =
     let same : left ≡ own = cc in sym same ∙ same_id-eq left alternate shares
 
 module _ {hir : HirFunction} {env : Environment} where
-  -- what the value behind leaves open is what is left open, unless that value answers the test
+  -- what the value after the row leaves open is what is left open, unless that value answers the test
   pub left_behind : {handler : Option BlockId} {next : BlockId} {answers : Bool} {short behind left : Option BlockId}
       {used : List BlockId} → SpellsShortArm hir env handler next answers short behind left used
       → (left ≡ behind) ⊎ (answers ≡ true)
@@ -71,7 +71,7 @@ module _ {hir : HirFunction} {env : Environment} where
   nested_id (logical_value test chooses value arm other goes e) = refl
   nested_id (optional_value test chooses shares value goes e) = refl
 
-  -- the row of a value terminal with a short end is the last one of a test if the value behind it answers that test
+  -- the row of a value terminal with a short end is the last one of a test if the value after it answers that test
   pub row_of_test : {handler : Option BlockId} {terminal : Terminal} {nested : Nested} {used : List BlockId}
       {short : BlockId} (is_test : Bool) (value : Value) → SpellsNested hir env handler terminal nested used
       → nested.short ≡ Some short

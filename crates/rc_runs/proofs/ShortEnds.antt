@@ -1,4 +1,4 @@
--- Where a short end of a value terminal leads: to the test that the value behind it answers, or through its own arm.
+-- Where a short end of a value terminal leads: to the test that the value after it answers, or through its own arm.
 use Rattle.std.proofs.Common.{◌≡◌, Bool, true, false, List, Option, Some, ◌⊎◌, inl, inr, refl, sym, ap, ◌∙◌, subst}
 use Rattle.rc_names.specs.Numbers.{BlockId}
 use Rattle.rc_hir.specs.Model.{Terminal, HirFunction, Environment}
@@ -34,7 +34,7 @@ module _ {hir : HirFunction} {env : Environment} where
   by_arm {handler} {next} {used = used} (own_arm silent) e =
       inr (refl, subst (λ key. SpellsSilentArm hir env handler next key used) (held_same e) silent)
 
-  -- where the value behind has a short end, no more is left open than it leaves
+  -- where the value after the terminal has a short end, exactly what it leaves open is left open
   pub short_end_keeps : {handler : Option BlockId} {next : BlockId} {short behind left : Option BlockId}
       {used : List BlockId} {events : List Event} (is_test : Bool) (nested : Nested) (value : Value)
       → SpellsShortArm hir env handler next (row_answers env is_test nested value) short behind left used

@@ -92,7 +92,7 @@ module _ {hir : HirFunction} {env : Environment} {terminal : Terminal} {left : O
       absurd (let bad : ⊥ = cc in bad)
 
 module _ {hir : HirFunction} {env : Environment} {terminal : Terminal} {left : Option BlockId} {is_test : Bool} where
-  -- silent rows, and then the value behind them
+  -- silent rows, and then the value after them
   silent_rows : {value : Value} {events : List Event} {progress : Progress} (rows : List Instruction)
       → are_silent env rows ≡ true → ((events : List Event) (progress : Progress)
       → RunsValue env is_test value events progress → Waits hir env left terminal events progress)
@@ -114,7 +114,7 @@ module _ {hir : HirFunction} {env : Environment} {terminal : Terminal} {left : O
   silent_after_rows (first ∷ rows) id silent behind value_stopped = stays stopped
   silent_after_rows (first ∷ rows) id silent behind (in_sequence run) = silent_rows (first ∷ rows) silent behind run
 
-  -- the value of a last block of which the rows are silent
+  -- the value of a last block whose rows are silent
   silent_last_block : (key : BlockId) {block other : Block} {events : List Event} {progress : Progress}
       (rows : List Instruction) (row : Instruction) → usable_block hir key ≡ Some block
       → are_silent env block.rows ≡ true → usable_block hir key ≡ Some other → other.rows ≡ rows ++ row ∷ []

@@ -12,8 +12,8 @@ module _ (hir : HirFunction) (env : Environment) where
     pub run : GraphRunAt hir env key events end
     pub small : size_at run < bound
 
-  -- a run that begins at a part, of which `R` are the events up to a place inside, throws there and goes on from the
-  -- current handler
+  -- a run that begins at a part has events of `R` up to a place inside, throws there, and goes on from the current
+  -- handler
   pub record Throws (handler : Option BlockId) (R : List Event → Type 0) (bound : ℕ) (events : List Event) (end : End) :
       Type 0 where
     pub front : List Event

@@ -36,7 +36,7 @@ module _ (env : Environment) (place : Place) (id : EvaluationOrder) (set : is_un
       in_optional_test (set_row set (in_sequence (in_row (set_row set short)
       (ap (λ of_test. goes_past_row of_test Short) declared)))) refl
 
-  -- with a row behind it, it doesn't answer that test: its short end is its own, and the outer optional chooses too
+  -- with a row after it, it doesn't answer that test: its short end is its own, and the outer optional chooses too
   short_of_one : RunsValue env false (optional (Sequence (row (optional load) (row load NoRows)) id load))
       (Arm false ∷ Arm true ∷ []) Done
   unfolding is_silent_value

@@ -15,7 +15,7 @@ use Rattle.rc_runs.proofs.LastRowLemmas.{last_value-runs}
 use Rattle.rc_runs.proofs.ShortArmLemmas.{past_row_is_past}
 use Rattle.rc_runs.proofs.Covers.{Covers, stays, and_on, out_of_row, covers_then, row_covered}
 
--- the value behind no rows
+-- the value after no rows
 behind_no_rows : {hir : HirFunction} {env : Environment} {left : Option BlockId} {is_test : Bool} {value : Value}
     {whole after : List Event → End → Type 0} {events : List Event} {progress : Progress}
     → ((events : List Event) (progress : Progress) → RunsValue env is_test value events progress
@@ -24,7 +24,7 @@ behind_no_rows : {hir : HirFunction} {env : Environment} {left : Option BlockId}
 behind_no_rows tail (past_rows run) = tail _ _ run
 
 module _ {hir : HirFunction} {env : Environment} {left : Option BlockId} {is_test : Bool} {terminal : Terminal} where
-  -- the rows of a block, and then what more rows of the sequence stand for
+  -- the rows of a block, and then what more rows of the sequence represent
   pub rows_covered : (rows behind : List Instruction) {more : Rows} {value : Value}
       {after : List Event → End → Type 0} {events : List Event} {progress : Progress}
       → ((events : List Event) (progress : Progress) → RunsRows env is_test more value events progress
@@ -36,7 +36,7 @@ module _ {hir : HirFunction} {env : Environment} {left : Option BlockId} {is_tes
       covers_then (and_on (row_covered row one) (past_row_is_past _ _ past)) (rows_covered rows behind tail run) e
   rows_covered (row ∷ rows) behind tail (in_row one out) = out_of_row _ (row_covered row one) out
 
-  -- the rows of a block, and then the value behind them
+  -- the rows of a block, and then the value after them
   pub after_rows_covered : (rows : List Instruction) (id : EvaluationOrder) {value : Value}
       {after : List Event → End → Type 0} {events : List Event} {progress : Progress}
       → ((events : List Event) (progress : Progress) → RunsValue env is_test value events progress

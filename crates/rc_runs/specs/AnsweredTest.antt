@@ -15,7 +15,7 @@ abbrev pub same_declaration : Environment → Place → Place → Bool
 same_declaration env a b =
     declared_alike (slice_get env.identifiers a.identifier.0) (slice_get env.identifiers b.identifier.0)
 
--- with this value behind it, a row that writes the place answers for the whole sequence: the value only loads the place
+-- with this value after it, a row that writes the place answers for the whole sequence: the value only loads the place
 abbrev pub answers_test : Environment → Place → Value → Bool
 answers_test env place (Base (kinds.LoadLocal loaded span)) = same_declaration env place loaded
 answers_test env place value = false

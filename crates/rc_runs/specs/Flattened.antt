@@ -1,4 +1,4 @@
--- Flattening of a loop's part: the rows of nested sequences stand in one sequence, whose own value is `undefined`.
+-- Flattening of a loop's part: the rows of nested sequences are put in one sequence, whose own value is `undefined`.
 use Rattle.std.specs.Prelude.{Bool, false, Option, Some, if◌then◌else◌}
 use Rattle.rc_names.specs.Numbers.{EvaluationOrder, same_id}
 use Rattle.rc_names.specs.declared.span.Span.{Span}

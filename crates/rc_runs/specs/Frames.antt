@@ -1,6 +1,6 @@
 -- Frames: which blocks a jump can name, where falling off leads, and how a break or a continue is resolved. The
 -- innermost frame is the first. Each switch puts a mark outside the frames of its cases, whether it has a frame of its own
--- or not: no jump names a mark, and it tells that an unlabeled break would leave the switch.
+-- or not: no jump names a mark, and it says that an unlabeled break would leave the switch.
 use Rattle.std.specs.Prelude.{Bool, true, false, List, [], ◌∷◌, Option, Some, None, if◌then◌else◌, ◌||◌, ◌&&◌}
 use Rattle.rc_names.specs.Numbers.{BlockId, same_id}
 use Rattle.rc_tree.specs.Model.{ReactiveTerminalTargetKind}

@@ -1,4 +1,4 @@
--- The rows of a value's last block: the last one is the value, and the earlier ones stand in a sequence before it.
+-- The rows of a value's last block: the last one is the value, and the earlier ones are in a sequence before it.
 use Rattle.std.specs.Prelude.{Bool, true, false, List, [], ◌∷◌, Some, if◌then◌else◌}
 use Rattle.rc_names.specs.Numbers.{EvaluationOrder}
 use Rattle.rc_hir.specs.Model.{Place, InstructionValue, Instruction, Environment, Terminal}

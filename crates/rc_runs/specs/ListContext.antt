@@ -35,7 +35,7 @@ is_current None current = true
 is_current (Some named) None = false
 is_current (Some named) (Some current) = same_id named current
 
--- the context of a value: the span of the terminal in whose value it stands, the current handler, and whether it is the
+-- the context of a value: the span of the terminal in whose value it is, the current handler, and whether it is the
 -- test of an optional
 pub record ValueContext : Type 0 where
   pub around : Option Span

@@ -9,7 +9,7 @@ use Rattle.rc_runs.specs.Flattened.{flattened}
 use Rattle.rc_runs.specs.ValueEnd.{ValueEnd, GoesTo, ChoosesBetween}
 use Rattle.rc_runs.specs.ValueGrammar.{SpellsValue}
 
--- a value as it stands in a loop, which flattens it or not
+-- a value as it is in a loop, which flattens it or not
 abbrev pub shown : Bool → Option Span → ValueEnd → Value → Value
 shown flat span end value = if flat then flattened end.answer end.id span value else value
 

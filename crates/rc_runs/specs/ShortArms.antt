@@ -27,7 +27,7 @@ pub data SpellsSilentArm (hir : HirFunction) (env : Environment) (handler : Opti
       SpellsSilentArm hir env handler next key (key ∷ used)
 
 -- the short arm of a value terminal: there is none, it is left to the test that the value answers, or it is its own.
--- The alternate that is left open then, from the one that the value behind leaves open
+-- It says which alternate is left open then, given the one that the value after the terminal leaves open
 pub data SpellsShortArm (hir : HirFunction) (env : Environment) (handler : Option BlockId) (next : BlockId) : Bool →
     Option BlockId → Option BlockId → Option BlockId → List BlockId → Type 0 where
   no_arm : {answers behind : _} → SpellsShortArm hir env handler next answers None behind behind []

@@ -1,4 +1,4 @@
--- The end of a value, and where the graph goes on behind it.
+-- The end of a value, and where the graph goes on after it.
 use Rattle.std.specs.Prelude.{◌≡◌, true, Option}
 use Rattle.rc_names.specs.Numbers.{BlockId, EvaluationOrder}
 use Rattle.rc_names.specs.declared.span.Span.{Span}

@@ -1,6 +1,6 @@
 -- The value that a graph spells from a block on, its end, and the blocks that it uses.
 --
--- A value terminal is a row of the value in which it stands, and the value goes on at the fallthrough.
+-- A value terminal is a row of the value in which it is, and the value goes on at the fallthrough.
 -- A block that may throw names the current handler, or none, and the value goes on at its continuation.
 --
 -- The indices are: a block, the context of the value, the value, its end, and the used blocks in the order in which they

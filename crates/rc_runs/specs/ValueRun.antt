@@ -1,7 +1,7 @@
 -- Runs of values: the events of a value, and whether the run came past it.
 --
--- An optional that chooses its short end goes on behind the optional of which it is the test, if it answers that test,
--- and so on outward. Everywhere else its short end is its end.
+-- An optional that chooses its short end goes on after the optional whose test it is, if it answers that test, and so
+-- on outward. Everywhere else its short end is its end.
 use Rattle.std.specs.Prelude.{◌≡◌, Bool, true, false, List, [], ◌∷◌, ◌++◌, Option, Some}
 use Rattle.rc_names.specs.Numbers.{EvaluationOrder}
 use Rattle.rc_hir.specs.Model.{Place, Environment}
@@ -16,7 +16,7 @@ pub data Progress : Type 0 where
   Short : Progress
   Inside : Progress
 
--- the run goes on behind the value
+-- the run goes on after the value
 abbrev pub goes_past : Progress → Bool
 goes_past Inside = false
 goes_past _ = true
@@ -45,7 +45,7 @@ is_row_of_test env false target own rest value = false
 is_row_of_test env true (Some place) (Optional own optional) NoRows value = answers_test env place value
 is_row_of_test env true target own rest value = false
 
--- the run goes on behind a row
+-- the run goes on after a row
 abbrev pub goes_past_row : Bool → Progress → Bool
 goes_past_row false progress = goes_past progress
 goes_past_row true progress = is_done progress
