@@ -1,4 +1,4 @@
--- Label pruning keeps what the parts of a tree tell, and so the memo record.
+-- Label pruning keeps the events of a tree's parts, and so the memo record.
 use Rattle.std.proofs.Common.{◌≡◌, ◌∙◌, Bool, true, false, [], ◌∷◌, None, Some, if◌then◌else◌, map, refl, sym, ap}
 use Rattle.std.specs.FinSet.{empty}
 use Rattle.std.specs.List.{flat_map}
@@ -43,7 +43,7 @@ module _ (env : Environment) where
       → collected_list parts (reactive.Terminal x ∷ []) ≡ collected_terminal parts x.terminal
   terminal_alone x = alone (reactive.Terminal x) (collected_terminal parts x.terminal) (collected-Terminal parts x)
 
-  -- what stands in the place of a terminal has the terminal's events
+  -- what is put in a terminal's place has the terminal's events
   placed : (targets : Targets) (x : ReactiveTerminalStatement) (l : UnrolledTerminal)
       → out-ReactiveTerminal x.terminal ≡ l
       → collected_list parts (in_place_of targets x (flattened targets x.label l))

@@ -81,7 +81,7 @@ abbrev pub Follows : List (ScopeId × Fate) → List ScopeFate → List ScopeFat
 Follows decided rest log =
     (scope : ScopeId) → decided_or (lookup (same_id scope) decided) (fate_by rest scope) ≡ fate_by log scope
 
--- the next entry tells nothing of a scope of which something is decided
+-- the next entry changes nothing if its scope is decided already
 pub passed_entry : (decided : List (ScopeId × Fate)) (entry : ScopeFate) (rest log : List ScopeFate) (fate : Fate)
     → lookup (same_id entry.scope) decided ≡ Some fate → Follows decided (entry ∷ rest) log → Follows decided rest log
 passed_entry decided entry rest log fate there follows scope = by (same_id scope entry.scope) refl ∙ follows scope
@@ -96,7 +96,7 @@ passed_entry decided entry rest log fate there follows scope = by (same_id scope
         in
         ap (λ it. decided_or it (fate_by rest scope)) found ∙ sym (ap (λ it. decided_or it entry.fate) found)
 
--- the next entry is noted where nothing is decided of its scope
+-- the next entry is noted if its scope isn't decided yet
 new_entry : (decided : List (ScopeId × Fate)) (entry : ScopeFate) (rest log : List ScopeFate)
     → lookup (same_id entry.scope) decided ≡ None → Follows decided (entry ∷ rest) log
     → Follows (insert_entry same_id decided entry.scope entry.fate) rest log

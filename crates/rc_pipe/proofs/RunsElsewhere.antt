@@ -32,7 +32,7 @@ record RunsAlike (old new : Environment) : Type 0 where
   answers : (place : Place) (value : Value) → answers_test new place value ≡ answers_test old place value
 
 module _ (old new : Environment) (same : RunsAlike old new) where
-  -- whether the run goes on behind a row
+  -- whether the run goes on after a row
   row_alike : (is_test : Bool) (target : Option Place) (own : Value) (rest : Rows) (value : Value)
       → is_row_of_test new is_test target own rest value ≡ is_row_of_test old is_test target own rest value
   row_alike false target own rest value = refl

@@ -15,7 +15,7 @@ use Rattle.rc_checks.proofs.ScopeBlocks.SpelledOnce.{body_times}
 use Rattle.rc_tree.specs.ScopesIn.{scopes_in}
 use Rattle.rc_pipe.specs.inside.OpenedScopes.{OpensNoScope}
 
--- scopes among which no scope stands are none
+-- a list in which no scope occurs is empty
 none_among : (scopes : List ScopeId) → ((scope : ScopeId) → times scope scopes ≤ 0) → scopes ≡ []
 none_among [] never = refl
 none_among (scope ∷ scopes) never =

@@ -35,7 +35,7 @@ pub struct Pruned {
 /// - `EarlyReturnSet`: a scope has an early return already; the fault names the lowest such scope;
 /// - `NoIds`: too few numbers are left for those that early returns may need;
 /// - `Malformed`: the graph spells no tree; the fault names a block and a rule whose fact holds of it;
-/// - `Todo`: the graph spells no tree; the fault names a block that stands for a value and ends in a `Label`;
+/// - `Todo`: the graph spells no tree; the fault names a block that must give a value and ends in a `Label`;
 /// - `ScopeCompleted`: an operand is outside the blocks of its scope; the fault names the last one;
 /// - `Uninitialised`: the memo record needs a node of a name that has none yet; the fault names the first such name;
 /// - `NoScopeNode`: a scope of a node of the memo record has no record; the fault names the lowest such scope.
