@@ -59,7 +59,7 @@ module _ (bytes : List ℕ) where
   due_once Done due' d d' = search (rules, no_value, no_other, no_refusal)
   due_once _ due' d d' = absurd d
 
-  -- a source whose bytes are known and of which none is left gave all of them
+  -- a source whose bytes are known gave all of them if none is left
   all_read : (taken : List ℕ) (left' : Option (List ℕ)) → IsReadToEnd (Some bytes) left' taken → taken ≡ bytes
   all_read taken left' whole = Consumes-all (Some bytes) left' taken [] taken whole.taken whole.end refl
 

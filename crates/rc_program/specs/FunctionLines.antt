@@ -19,7 +19,7 @@ marks_text func = codes " generator " & bool_text func.generator & codes " async
 abbrev pub name_text : ReactiveFunction → List ℕ
 name_text func = codes "function " & json_text func.id & codes " hint " & json_text func.name_hint & marks_text func
 
--- a parameter; three dots stand ahead of one that takes the rest
+-- a parameter; three dots come before one that takes the rest
 abbrev pub param_text : ParamPattern → List ℕ
 param_text (Place place) = codes "param " & place_text place
 param_text (Spread spread) = codes "param ..." & place_text spread.place

@@ -1,4 +1,4 @@
--- The words that printed lines are made of. A line begins with spaces, two more for each level that it stands deeper.
+-- The words that printed lines are made of. A line begins with spaces, two more for each level that it is deeper.
 use Rattle.std.specs.Prelude.{ℕ, ◌+◌, Bool, List, [], ◌++◌, Option, Some, None, if◌then◌else◌, codes, decimal}
 use Rattle.std.specs.Prelude.{replicate}
 use Rattle.serde_json.specs.Data.{string}
@@ -14,7 +14,7 @@ infixr 6 ◌&◌
 abbrev pub ◌&◌ : List ℕ → List ℕ → List ℕ
 text & more = text ++ more
 
--- the line with this text, behind so many spaces
+-- the line with this text, after so many spaces
 abbrev pub line : ℕ → List ℕ → List ℕ
 line indent text = replicate indent 32 & text & codes "\n"
 
@@ -35,7 +35,7 @@ abbrev pub json_text : Option (List ℕ) → List ℕ
 json_text None = codes "null"
 json_text (Some text) = quoted_text text
 
--- the part of the source that something stands for, where it is known
+-- a part of the source, where it is known
 abbrev pub span_text : Option Span → List ℕ
 span_text None = []
 span_text (Some span) = codes " @" & decimal span.start & codes ".." & decimal span.end
@@ -53,6 +53,6 @@ abbrev pub label_text : Option ReactiveLabel → List ℕ
 label_text None = []
 label_text (Some label) = codes " as bb" & decimal label.id.0 & implicit_text label.implicit
 
--- where a statement stands in the order of evaluation, and its label
+-- a statement's number in the order of evaluation, and its label
 abbrev pub id_text : EvaluationOrder → Option ReactiveLabel → List ℕ
 id_text id label = codes " id " & decimal id.0 & label_text label

@@ -15,7 +15,7 @@ use Rattle.rc_program.specs.ValueLines.{value_text, row_text}
 abbrev pub Lines : Type 0
 Lines = ℕ → List ℕ
 
--- the lines of one part, and then those of another, behind the same spaces
+-- the lines of one part, and then those of another, with the same spaces in front
 abbrev pub in_order : Joining Lines
 in_order = from_around lists
 
@@ -31,11 +31,11 @@ part name block indent = line indent name & block (deeper indent)
 abbrev pub optional_part : List ℕ → Option Lines → Lines
 optional_part name block = if_there in_order (option_map (part name) block)
 
--- a value behind its name
+-- a value after its name
 abbrev pub value_line : List ℕ → ReactiveValue → Lines
 value_line name value indent = line indent (name & value_text value)
 
--- a value behind its name, where there is one
+-- a value after its name, where there is one
 abbrev pub optional_value_line : List ℕ → Option ReactiveValue → Lines
 optional_value_line name value = if_there in_order (option_map (value_line name) value)
 
@@ -81,7 +81,7 @@ loop head values body = record { head = head; values = values; blocks = part (co
 abbrev pub WithLines : (Type 0 → Type 0 → Type 0 → Type 0 → Type 0 → Type 0 → Type 0 → Type 0) → Type 0
 WithLines Open = Open Lines TerminalLines Lines Lines Lines Lines Lines
 
--- each terminal; the test of a do-while stands behind its body
+-- each terminal; the test of a do-while comes after its body
 abbrev pub of_terminal : WithLines layer.ReactiveTerminal-F → TerminalLines
 of_terminal (layer.Break target kind id) =
     one_line (named (codes "break bb" & decimal target.0 & codes " " & kind_word kind) id)

@@ -1,4 +1,4 @@
--- The text of a value and of a row, which each stand on one line.
+-- The text of a value and of a row, each on one line.
 use Rattle.std.specs.Prelude.{ℕ, Bool, true, false, List, [], ◌∷◌, Option, Some, None, if◌then◌else◌, codes, decimal}
 use Rattle.serde_json.specs.Written.{compact_text}
 use Rattle.rc_names.specs.Numbers.{EvaluationOrder}

@@ -57,7 +57,7 @@ fn read_to_end<S: Source>(alloc: Global, source: &mut S) -> Result<Vec<u8>, Stop
     Err(Stop::TooLarge)
 }
 
-/// The document of which the bytes are JSON.
+/// The document whose JSON the bytes are.
 fn document(alloc: Global, bytes: Vec<u8>, note: &mut Note) -> Result<Doc, Stop>
     requires { length bytes.items ≤ most_bytes }
     ensures { MatchResult result (IsJsonOfDoc bytes.items) (IsStopFor bytes.items) }
@@ -78,7 +78,7 @@ fn document(alloc: Global, bytes: Vec<u8>, note: &mut Note) -> Result<Doc, Stop>
     }
 }
 
-/// The value of which the bytes are JSON.
+/// The value whose JSON the bytes are.
 fn parse(alloc: Global, bytes: Vec<u8>, note: &mut Note) -> Result<Value, Stop>
     requires { length bytes.items ≤ most_bytes }
     ensures { MatchResult result (λ value. IsJson bytes.items (view value)) (IsStopFor bytes.items) }

@@ -8,7 +8,7 @@ use rc_names::ScopeId;
 use rc_tree::{Fate, ScopeFate};
 use std::alloc::AllocError;
 
-/// A line for each scope, behind so many spaces.
+/// A line for each scope, after so many spaces.
 pub fn write_fates(page: &mut Page, fates: &[ScopeFate], indent: usize) -> Result<(), AllocError>
     ensures { OnOk result (page.new ≡ page.old ++ fate_lines fates.now indent) }
 {

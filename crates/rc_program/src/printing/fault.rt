@@ -1,4 +1,4 @@
-//! The line that tells of a fault.
+//! The line that reports a fault.
 
 ghost use Rattle.std.specs.Prelude.{◌≡◌, ◌++◌, IfOk, OnOk, option_map, decimal};
 ghost use Rattle.rc_program.specs.FaultLine.{rule_name, table_name, fault_name, place_of_fault, fault_line};
@@ -8,10 +8,10 @@ use rc_hir::{Fault, Rule, TableName};
 use rc_names::Text;
 use std::alloc::{AllocError, Global};
 
-/// The line that tells of a fault, with its line feed. Want of memory has a status of its own, and a bad target and
+/// The line that reports a fault, with its line feed. `NoMemory` has a status of its own, and a bad target and
 /// a cycle of functions come from no whole run, so these have no line and give an empty text.
 ///
-/// The only error is want of memory.
+/// Fails only when out of memory.
 pub fn fault_line(alloc: Global, fault: &Fault) -> Result<Text, AllocError>
     ensures { IfOk result (λ text. text ≡ fault_line fault.now) }
 {
@@ -75,7 +75,7 @@ fn write_place(page: &mut Page, fault: Fault) -> Result<(), AllocError>
     }
 }
 
-/// A number behind its name.
+/// A number after its name.
 fn write_numbered(page: &mut Page, name: &str, n: u32) -> Result<(), AllocError>
     ensures { OnOk result (page.new ≡ page.old ++ (name.now ++ decimal n)) }
 {

@@ -13,7 +13,7 @@ use rc_names::{List, Text};
 use rc_tree::{ReactiveFunction, ScopeFate};
 use std::alloc::{AllocError, Global};
 
-/// The printed lines of a function and of the fates of its scopes. The only error is want of memory.
+/// The printed lines of a function and of the fates of its scopes. Fails only when out of memory.
 pub fn lines(
     alloc: Global,
     func: &ReactiveFunction,

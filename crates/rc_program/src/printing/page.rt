@@ -1,6 +1,6 @@
 //! The text that is being written.
 //!
-//! Lines begin with spaces, more of them the deeper they stand. The page keeps as many spaces as its deepest line
+//! Lines begin with spaces, more of them the deeper they are. The page keeps as many spaces as its deepest line
 //! began with, so that a line's spaces are one copy and a step down takes no memory.
 
 ghost use Rattle.std.specs.Prelude.{◌≡◌, [], ◌++◌, replicate, decimal, IfOk, OnOk, ◌≤◌, string_bytes, length};
@@ -99,7 +99,7 @@ impl Page {
     }
 }
 
-/// The spaces of a line one level below. The only error is want of memory: no line has more than 2^64 spaces.
+/// The spaces of a line one level below. Fails only when out of memory: no line has more than 2^64 spaces.
 pub fn deeper(indent: usize) -> Result<usize, AllocError>
     ensures { IfOk result (λ width. width ≡ deeper indent) }
 {

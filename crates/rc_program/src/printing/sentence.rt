@@ -53,7 +53,7 @@ fn write_about(page: &mut Page, front: &str, number: u32, back: &str) -> Result<
     page.push(back)
 }
 
-/// What holds of the block that breaks a rule, behind its number.
+/// What the sentence says of the block that breaks a rule, after its number.
 fn rule_sentence(rule: Rule) -> &'static str {
     match rule {
         Rule::NoBlock => " is named by a terminal or the entry, and isn't there",

@@ -72,7 +72,7 @@ fn write_statement(
     }
 }
 
-/// The blocks of a terminal. The test of a do-while stands behind its body.
+/// The blocks of a terminal. The test of a do-while comes after its body.
 #[cycle(statement)]
 fn write_blocks(
     page: &mut Page,

@@ -101,7 +101,7 @@ fn write_jump(
     page.push(kind.as_str())
 }
 
-/// The values of a loop, which stand above its body.
+/// The values of a loop that are printed above its body.
 pub fn write_values(
     page: &mut Page,
     terminal: &ReactiveTerminal,

@@ -54,7 +54,7 @@ fn write_label(page: &mut Page, label: Option<ReactiveLabel>) -> Result<(), Allo
     }
 }
 
-/// Where a statement stands in the order of evaluation, and its label.
+/// A statement's number in the order of evaluation, and its label.
 pub fn write_id(
     page: &mut Page,
     id: EvaluationOrder,

@@ -1,4 +1,4 @@
-//! A value and a row, which each stand on one line.
+//! A value and a row, each on one line.
 
 ghost use Rattle.std.specs.Prelude.{◌≡◌, ◌++◌, OnOk, false, map};
 ghost use Rattle.rc_program.specs.ValueLines.{operator_text, next_text, joined, rows_text, target_text, value_text};
