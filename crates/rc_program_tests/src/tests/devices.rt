@@ -41,7 +41,7 @@ fn is_answered_over<S: Source>(
     Ok(status == due && sink.bytes() == text.as_bytes())
 }
 
-/// A source of the document, of which one call fails.
+/// A source of the document that fails at one call.
 fn source_failing_at(alloc: Global, call: u64) -> Result<MemorySource, AllocError> {
     let bytes = list(alloc, DOCUMENT.as_bytes())?;
     Ok(MemorySource::new(bytes, list(alloc, &[call])?))
@@ -67,13 +67,13 @@ fn a_read_that_fails_stops_the_program_and_nothing_is_written(rt: HostRuntime) -
     Ok(())
 }
 
-/// A source of the document, of which no call fails.
+/// A source of the document that fails at no call.
 fn source(alloc: Global) -> Result<MemorySource, AllocError> {
     let bytes = list(alloc, DOCUMENT.as_bytes())?;
     Ok(MemorySource::new(bytes, List::new(alloc)))
 }
 
-/// Whether a sink with that room, of which these calls fail, makes the program fail and then has these bytes.
+/// Whether a sink with that room that fails at these calls makes the program fail, and has these bytes then.
 fn holds(alloc: Global, room: usize, failing: &[u64], written: &[u8]) -> Result<bool, AllocError> {
     let words = tree(alloc)?;
     let mut sink = MemorySink::new(alloc, room, 10, list(alloc, failing)?)?;

@@ -1,5 +1,5 @@
-//! The printed lines of a tree and of fates that no graph gives, beside a text that is written by hand from the table of
-//! printed lines. The lines that a graph gives stand in `tests/documents` and in `examples`.
+//! The printed lines of a tree and of fates that no graph gives, compared with a text written by hand from the table of
+//! printed lines. The lines that a graph gives are in `tests/documents` and in `examples`.
 
 mod parts;
 mod statements;

@@ -91,7 +91,7 @@ pub fn put_for(alloc: Global, block: &mut ReactiveBlock) -> Result<(), AllocErro
     put(alloc, block, terminal, None)
 }
 
-/// A loop over the values of a collection, without a label, of which no part is a sequence.
+/// A loop over the values of a collection, with no label and no part that is a sequence.
 pub fn put_for_of(alloc: Global, block: &mut ReactiveBlock) -> Result<(), AllocError> {
     let terminal = ReactiveTerminal::ForOf {
         init: Boxed::new(alloc, load(72))?,
@@ -103,7 +103,7 @@ pub fn put_for_of(alloc: Global, block: &mut ReactiveBlock) -> Result<(), AllocE
     put(alloc, block, terminal, None)
 }
 
-/// A loop over the property names of an object, without a label, of which no part is a sequence.
+/// A loop over the property names of an object, with no label and no part that is a sequence.
 pub fn put_for_in(alloc: Global, block: &mut ReactiveBlock) -> Result<(), AllocError> {
     let terminal = ReactiveTerminal::ForIn {
         init: Boxed::new(alloc, load(80))?,
