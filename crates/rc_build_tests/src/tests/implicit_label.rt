@@ -35,7 +35,7 @@ fn terminal(number: u32) -> Terminal {
     }
 }
 
-/// A block, of which the second one has the row.
+/// The block of a number; only the second one has the row.
 fn block(alloc: Global, number: u32) -> Result<BasicBlock, AllocError> {
     let mut instructions = List::new(alloc);
     if number == 1 {
@@ -77,7 +77,7 @@ fn make_implicit(func: &mut ReactiveFunction) -> bool {
     !was
 }
 
-/// What is broken if the graph spells its built tree, once its label is made implicit where that is asked.
+/// What `spells` returns for the graph and its built tree, whose label is made implicit first if that is asked.
 fn broken(alloc: Global, implicit: bool) -> Result<Option<Broken>, Fault> {
     let hir = graph(alloc)?;
     let env = environment(alloc)?;

@@ -34,7 +34,7 @@ pub enum Change {
     LoopSpan,
     /// The row that flattening adds has no span.
     FlatRowSpan,
-    /// The value behind the rows of the loop's init has no span.
+    /// The value after the rows of the loop's init has no span.
     UndefinedSpan,
     /// The labeled break is unlabeled.
     BreakKind,
@@ -46,7 +46,7 @@ pub enum Change {
     DroppedRow,
     /// The return is left out.
     DroppedReturn,
-    /// The two cases stand in the other order.
+    /// The two cases are in the other order.
     ExchangedCases,
     /// The default has no block.
     NoBlock,
