@@ -25,12 +25,12 @@ Targets = FinSet nat_cmp
 abbrev pub is_target : Targets → BlockId → Bool
 is_target targets block = contains targets block.0
 
--- the targets behind a jump of that kind
+-- the targets after a jump of that kind
 abbrev pub with_jump : ReactiveTerminalTargetKind → BlockId → Targets → Targets
 with_jump Labeled target targets = insert targets target.0
 with_jump _ target targets = targets
 
--- the targets behind a terminal whose inside is behind us
+-- the targets after a terminal, from those after its inside
 abbrev pub targets_behind : UnrolledTerminal → Targets → Targets
 targets_behind (layer.Break target kind id) targets = with_jump kind target targets
 targets_behind (layer.Continue target kind id) targets = with_jump kind target targets
@@ -41,13 +41,13 @@ abbrev pub is_named : Targets → Option ReactiveLabel → Bool
 is_named targets None = Bool.false
 is_named targets (Some label) = is_target targets label.id
 
--- the label behind the statement's inside: implicit where nothing names it
+-- the label after the statement's inside: implicit where nothing names it
 abbrev pub label_after : Targets → Option ReactiveLabel → Option ReactiveLabel
 label_after targets None = None
 label_after targets (Some label) =
     Some (if is_target targets label.id then label else record { id = label.id; implicit = Bool.true })
 
--- the statements of a `Label`, which stand in its place where nothing names it
+-- the statements of a `Label`, which replace it where nothing names it
 abbrev pub flattened : Targets → Option ReactiveLabel → UnrolledTerminal → Option (List ReactiveStatement)
 flattened targets label (layer.Label body id) = if is_named targets label then None else Some body.statements
 flattened targets label _ = None

@@ -1,20 +1,19 @@
--- The scope blocks of a tree, at every depth and in the order in which they end, each with whether a `Return` stands in
--- it.
+-- The scope blocks of a tree, at every depth and in the order in which they end, each with whether a `Return` is in it.
 --
--- A `Return` stands in the innermost scope block around it alone. A pruned block isn't a scope block, so that its
--- `Return`s stand in the block around.
+-- A `Return` is in the innermost scope block around it alone. A pruned block isn't a scope block, so its `Return`s are
+-- in the block around it.
 use Rattle.std.specs.Prelude.{Bool, true, false, List, [], ◌∷◌, ◌++◌, map, ◌||◌}
 use Rattle.rc_names.specs.Numbers.{ScopeId}
 use Rattle.rc_tree.specs.Collected.{Contributions, collected}
 use Rattle.rc_tree.specs.Joining.{Joining}
 use Rattle.rc_tree.specs.Model.{ReactiveBlock}
 
--- a scope block: the number of its scope, and whether a `Return` stands in it
+-- a scope block: the number of its scope, and whether a `Return` is in it
 pub record ScopeBlock : Type 0 where
   pub scope : ScopeId
   pub returns : Bool
 
--- the contents of a part of the tree: whether a `Return` stands in it outside its scope blocks, and its scope blocks
+-- the contents of a part of the tree: whether a `Return` is in it outside its scope blocks, and its scope blocks
 pub record Contents : Type 0 where
   pub returns : Bool
   pub blocks : List ScopeBlock

@@ -1,6 +1,6 @@
 -- A tree without its unused scopes: the block of a scope that gives nothing becomes a pruned one.
 --
--- A scope gives something where it reassigns a name, declares one of its own, or a `Return` stands in its block outside
+-- A scope gives something where it reassigns a name, declares one of its own, or has a `Return` in its block outside
 -- nested scope blocks. Blocks are judged from the inside. A `Return` in a nested scope block doesn't count, also where
 -- that block becomes a pruned one; one in a block that was pruned before does.
 use Rattle.std.specs.Prelude.{◌≡◌, Bool, true, false, List, [], ◌∷◌, Option, None, Some, Ok, Err, nat_eq}
@@ -36,7 +36,7 @@ belongs_to id entry = nat_eq entry.value.scope.0 id.0
 abbrev pub has_own_output : ReactiveScope → ScopeId → Bool
 has_own_output scope id = has_entry scope.reassignments || list_any (belongs_to id) scope.declarations
 
--- the scope gives something, where `returns` says whether a `Return` stands in its block
+-- the scope gives something, where `returns` says whether a `Return` is in its block
 abbrev pub is_used : ReactiveScope → ScopeId → Bool → Bool
 is_used scope id returns = returns || has_own_output scope id
 
@@ -45,7 +45,7 @@ pub record Progress : Type 0 where
   pub returns : Bool
   pub log : List ScopeFate
 
--- the state after a scope block and the block's replacement, from the state in front of it and the one at the end of its
+-- the state after a scope block and the block's replacement, from the state before it and the one at the end of its
 -- inside
 abbrev pub judged_by : Bool → Progress → ReactiveScopeBlock → Progress → Progress × List ReactiveStatement
 judged_by used around block met =

@@ -24,9 +24,9 @@ use rc_tree::{
 };
 use std::alloc::{AllocError, Global};
 
-/// Whether each break and continue that is met in the body names a label that is met by then, its own included.
+/// Checks that each break and continue that is met in the body names a label that is met by then, its own included.
 ///
-/// `BadTarget` names the target of the first one that doesn't, and never comes of the tree that a graph spells.
+/// `BadTarget` names the target of the first one that doesn't, and never comes for a tree that a graph spells.
 /// `NoMemory` means out of memory. No number is looked up, so `BadName` never comes.
 pub fn assert_well_formed_break_targets(
     alloc: Global,

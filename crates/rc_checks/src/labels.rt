@@ -1,10 +1,10 @@
 //! Unused labels: a `Label` that nothing names gives way to its statements, and any other label that nothing names
 //! becomes implicit.
 //!
-//! One pass notes the targets of labeled breaks and continues. A terminal is judged behind its inside, so that the
-//! jumps to its label are noted by then. The statements of a `Label` are put where the `Label` stands before it is
+//! One pass notes the targets of labeled breaks and continues. A terminal is judged after its inside, so that the
+//! jumps to its label are noted by then. The statements of a `Label` are put where the `Label` is before it is
 //! judged: one that gives way has nothing left to move, and one that stays takes them back. So no statement is moved
-//! once for each level around it. Of other blocks only the statements behind the first one that gives way are moved.
+//! once for each level around it. Of other blocks only the statements after the first one that gives way are moved.
 //!
 //! After oxc's prune_unused_labels.
 
@@ -269,7 +269,7 @@ fn prune_block_if(
     }
 }
 
-/// Puts the statements that are done from the start on back into a `Label`.
+/// Moves the statements that are done, from `start` on, back into a `Label`.
 fn refill(
     terminal: &mut ReactiveTerminal,
     done: &mut List<ReactiveStatement>,
@@ -284,7 +284,7 @@ fn refill(
     }
 }
 
-/// Takes the statements from the start on off the end of those that are done, in front of the others turned round.
+/// Moves the statements that are done, from `start` on, to the front of `statements`, whose own are reversed.
 fn take_back(
     statements: &mut List<ReactiveStatement>,
     done: &mut List<ReactiveStatement>,

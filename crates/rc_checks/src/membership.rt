@@ -1,4 +1,4 @@
-//! The check that the operands of a scope stand inside its scope blocks.
+//! The check that the operands of a scope are inside its scope blocks.
 //!
 //! One pass collects the scopes that have a scope block, and another the last place of each of these scopes in each
 //! function's context, by the scope's range. A read walk then looks up the scope of each operand, and whether a block
@@ -27,10 +27,10 @@ use rc_tree::{ReactiveBlock, ReactiveFunction};
 use rc_walk::visit_reactive_function;
 use std::alloc::{AllocError, Global};
 
-/// Whether each operand whose identifier has a scope, and that is visited inside the scope's range, stands in a scope
+/// Checks that each operand whose identifier has a scope, and that is visited inside the scope's range, is in a scope
 /// block of it, where the tree has one.
 ///
-/// `ScopeCompleted` names the id and the scope of the last operand of the read walk that doesn't. `BadName` names the
+/// `ScopeCompleted` names the id and the scope of the last operand of the read walk that isn't. `BadName` names the
 /// first number that is looked up in vain: of an operand's identifier, of its scope, or of a function whose context is
 /// read. It never comes where every number is in its table. `NoMemory` means out of memory.
 pub fn assert_scope_instructions_within_scopes(

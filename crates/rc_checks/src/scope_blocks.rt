@@ -10,8 +10,8 @@ use rc_names::{List, ScopeId};
 use rc_tree::ReactiveBlock;
 use std::alloc::{AllocError, Global};
 
-/// The scope of each scope block of the tree, in the order in which the blocks end; each is there once, where the tree is
-/// one that a graph spells. The only error is out of memory.
+/// The scope of each scope block of the tree, in the order in which the blocks end; each is there once if a graph
+/// spells the tree. The only error is out of memory.
 pub fn scopes_in(alloc: Global, block: &ReactiveBlock) -> Result<List<ScopeId>, AllocError>
     ensures found { IfOk result (λ scopes. scopes ≡ scopes_in block.now) }
     ensures once { (hir : HirFunction) (env : Environment) (func : ReactiveFunction) → Spells hir env func

@@ -30,9 +30,9 @@ use rc_walk::{OverStatements, StatementTransform};
 use std::alloc::{AllocError, Global};
 
 /// Makes the block of each scope that gives nothing a pruned one: the scope reassigns no name and declares none of its
-/// own, and no `Return` stands in its block outside nested scope blocks.
+/// own, and no `Return` is in its block outside nested scope blocks.
 ///
-/// The numbers of the tree stay, and so does all that stands in it outside its scopes.
+/// The numbers of the tree stay, and so does everything in it outside its scopes.
 ///
 /// `BadName` comes where the scope of a scope block is outside the table of scopes, and names the first, from the
 /// inside; the body has no stated content then. `NoMemory` means out of memory, and is the only fault where every
@@ -196,7 +196,7 @@ impl Judging {
         Ok(())
     }
 
-    /// A scope block ends: the flag of the block around it counts again. Answers its own.
+    /// A scope block ends: the flag of the block around it counts again. Returns its own.
     fn end_scope(&mut self) -> bool
         ensures met { result ≡ self.old.met }
         ensures outside { self.new ≡ steps.outside_scope self.old }

@@ -48,7 +48,7 @@ labels_of-push (y ∷ seen) x =
     append_assoc (label_block y.label) (labels_of seen) (label_block x.label)
     ∙ ap (λ l. label_block y.label ++ l) (labels_of-push seen x)
 
--- where the check of some terminals ends, behind others
+-- where the check of some terminals ends, after others
 
 abbrev AllMetFrom : Terminals → Terminals → Type 0
 AllMetFrom seen met = (place : ℕ) (target : BlockId) → IsJumpTo met place target

@@ -233,7 +233,7 @@ no_jump_is_met hir env func spelled place target jumps =
     (block_quiet spelled.statements (quiet_list spelled.body.list tt))
     (subst (λ met. IsJumpTo met place target) same jumps)
 
--- so the check of a spelled function ends in want of memory alone, where it ends in a fault
+-- so the check of a spelled function fails only when out of memory
 pub only_memory : (hir : HirFunction) (env : Environment) (func : ReactiveFunction)
     (result : Result (Unit {0}) Fault) → ((target : BlockId) → result ≡ Err (BadTarget target)
     → IsFirstUnmet (met_in func.body) target)

@@ -42,7 +42,7 @@ module _ (all now done done1 : TreeStatements) (t t1 t2 : Targets) (i : ℕ) (x 
       let split : drop i now ≡ x ∷ drop (i + 1) now = rw add-one (at_place now i x there) in
       sym so_far.behind ∙ split ∙ ap (λ l. x ∷ l) later
 
-  -- it is put behind those in front of it
+  -- it is put after those before it
   next_behind : (more : TreeStatements) → put_behind done (rebuilt_statement label_rules x t1) ≡ Ok (t2, more)
       → put_behind (take i now ++ more) (all_of (drop (i + 1) all) t2) ≡ all_of all t
   next_behind more e =
@@ -73,7 +73,7 @@ module _ (all now done done1 : TreeStatements) (t t1 t2 : Targets) (i : ℕ) (x 
     put = rw (take-set now i y) (next_behind done1 (rw (h, append-nil done1) at e));
   }
 
--- all statements, from those pruned in their place and those behind them
+-- all statements, from those pruned in their place and those after them
 pub all_put : (all now done : TreeStatements) (t t1 : Targets) (staying : ℕ)
     → IsFrontPruned all t staying now t1 done
     → put_behind (take staying now ++ done) (all_of (reverse (reverse (drop (staying + 1) now))) t1)

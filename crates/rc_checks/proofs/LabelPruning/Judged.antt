@@ -57,7 +57,7 @@ flattened-unless targets label (layer.If test consequent alternate id) = refl
 flattened-unless targets label (layer.Label body id) = refl
 flattened-unless targets label (layer.Try body binding handler id) = refl
 
--- the targets behind a terminal, and whether it gives way
+-- the targets after a terminal, and whether it gives way
 abbrev behind_it : ReactiveTerminal → Targets → Targets
 behind_it x t = targets_behind (out-ReactiveTerminal x) t
 
@@ -72,7 +72,7 @@ module _ (label : Option ReactiveLabel) (done : List ReactiveStatement) (whole :
   abbrev labeled : ReactiveTerminalStatement
   labeled = record { terminal = whole; label = label }
 
-  -- the terminal that is left, and the targets behind it
+  -- the terminal that is left, and the targets after it
   abbrev left_of : Option OpenLabel → ReactiveTerminal
   left_of l = emptied_label l whole
 

@@ -1,4 +1,4 @@
--- The breaks out of loops and switches name targets behind them, where those out of their bodies and cases do.
+-- A break out of a loop or switch names one of the targets after it, where each one out of its body and cases does.
 use Rattle.std.proofs.Common.{◌≡◌, ◌⊎◌, inl, inr, List, Option, sym, ◌∙◌}
 use Rattle.rc_names.specs.Numbers.{BlockId, EvaluationOrder}
 use Rattle.rc_names.specs.declared.span.Span.{Span}
@@ -74,7 +74,7 @@ module _ (env : Environment) where
   no_cases_named targets events outcome (inl chosen) block e = elim chosen.1 [ ]
   no_cases_named targets events outcome (inr no_more_cases) block e = absurd (let bad : ⊥ = cc in bad)
 
-  -- a case, and those after it, behind which the targets of the first are still targets
+  -- a case and those after it, at the end of which the targets of the first are still targets
   pub case_named : (targets targets' : Targets) → AllStay targets targets' → {test : Option Place} {body : Alternate}
       {rest : Cases} → AllNamed (RunsAlternate env body) targets → AllNamed (RunsSomeCases rest) targets'
       → AllNamed (RunsSomeCases (Case test body rest)) targets'

@@ -61,7 +61,7 @@ module _ (done : List ReactiveStatement) (t : Targets) where
     opened-Switch test cases cases1 id = on_ok_weaker r (λ h.
         rw (rebuilt-Switch label_rules test cases id t, h, tree.outs-Switch test cases1 id, append-nil done) refl)
 
-    -- the statements of a `Label` are put behind those that are done, and none are left in it
+    -- the statements of a `Label` are put after those that are done, and none are left in it
     pub opened-Label : (body : ReactiveBlock) (id : EvaluationOrder) (left done1 : List ReactiveStatement)
         → OnOk r (put_behind done (all_of (reverse (reverse body.statements)) t) ≡ Ok (t1, done1)) → OnOk r (left ≡ [])
         → OnOk r (Opens (tree.Label body id) t1 (tree.Label (record { statements = left }) id) done1)

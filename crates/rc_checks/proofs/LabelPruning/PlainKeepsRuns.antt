@@ -1,5 +1,5 @@
 -- Label pruning of the tree of plain statements leaves the tree of plain statements with the same runs: by recursion on
--- the statements, with the targets behind them.
+-- the statements, with the targets after them.
 use Rattle.std.proofs.Common.{Option, refl, sym}
 use Rattle.rc_hir.specs.Model.{Environment}
 use Rattle.rc_tree.specs.Unrolled.{UnrolledCase}

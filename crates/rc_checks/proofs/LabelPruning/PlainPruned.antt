@@ -1,6 +1,6 @@
 -- A part of a plain tree without its unused labels is a part of a plain tree again, with the same runs.
 --
--- A `Label` that gives way caught nothing, since a jump out of its statements names a target behind them.
+-- A `Label` that gives way caught nothing, since a jump out of its statements names one of the targets after them.
 use Rattle.std.proofs.Common.{◌≡◌, List, Bool, true, false, Option, Result, Ok, map, refl, sym, ap, ◌++◌, ◌∷◌, Err}
 use Rattle.rc_hir.specs.Model.{Environment, Fault}
 use Rattle.rc_names.specs.Numbers.{EvaluationOrder}
@@ -29,7 +29,7 @@ use Rattle.rc_tree.specs.Step.{bind}
 abbrev as_block : Targets × List ReactiveStatement → Result (Targets × ReactiveBlock) Fault
 as_block a = Ok (a.0, record { statements = a.1 })
 
--- the replacement of a statement, and then those of the statements behind it, each as a block
+-- the replacement of a statement, and then those of the statements after it, each as a block
 pub cons_rebuilt : (x : ReactiveStatement) (xs : List ReactiveStatement) (s s1 s2 : Targets)
     (here later : List ReactiveStatement) → rebuilt_statement label_rules x s ≡ Ok (s1, here)
     → rebuilt_block label_rules (record { statements = xs }) s1 ≡ Ok (s2, record { statements = later })
@@ -48,7 +48,7 @@ cons_rebuilt x xs s s1 s2 here later first rest =
     joins (Err fault) e = let bad : ⊥ = cc in absurd bad
 
 module _ (env : Environment) where
-  -- label pruning leaves a plain part that is like the part before, with the targets behind it. Each target stays one,
+  -- label pruning leaves a plain part that is like the part before, with the targets after it. Each target stays one,
   -- and each jump out of the part names one
   pub record Pruned {P X : Type 0} (part : Rebuilds Targets X) (tree_of : P → X) (IsAlike : P → Type 0)
       (Runs : List Event → Completion → Type 0) (targets : Targets) : Type 0 where

@@ -29,12 +29,12 @@ all_of statements t = joined (map (rebuilt_statement label_rules) statements) t
 abbrev pub all_cases : List ReactiveSwitchCase → Targets → Result (Targets × List ReactiveSwitchCase) Fault
 all_cases cases t = in_order (map (rebuilt_case label_rules) cases) t
 
--- a part that is put behind nothing
+-- a part that is put after nothing
 pub behind_nothing : {X : Type 0} (part : Result (Targets × List X) Fault) → put_behind [] part ≡ part
 behind_nothing (Ok a) = refl
 behind_nothing (Err fault) = refl
 
--- the statements that are done and a front, then a part behind both
+-- the statements that are done and a front, then a part after both
 behind_front : {X : Type 0} (done front : List X) (part : Result (Targets × List X) Fault)
     → put_behind done (bind part (λ b. Ok (b.0, front ++ b.1))) ≡ put_behind (done ++ front) part
 behind_front done front (Ok b) = ap (λ l. Ok (b.0, l)) (sym (append_assoc done front b.1))

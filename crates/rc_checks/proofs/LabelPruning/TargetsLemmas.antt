@@ -1,4 +1,4 @@
--- Label pruning changes no block that a label names, and the breaks out of each form name targets behind it.
+-- Label pruning changes no block that a label names, and a break out of a form names one of the targets after it.
 use Rattle.std.proofs.Common.{◌≡◌, List, Bool, true, false, Option, Some, None, if◌then◌else◌}
 use Rattle.std.proofs.Common.{refl, sym, ap, ◌∙◌, subst}
 use Rattle.std.proofs.lemmas.Bool.{or_left, or_right}
@@ -137,7 +137,7 @@ module _ (env : Environment) where
   pub absent_named : (targets : Targets) → AllNamed (RunsAlternate env Absent) targets
   absent_named targets events outcome absent block e = absurd (let bad : ⊥ = cc in bad)
 
-  -- one part and then another, behind which the targets of the first are still targets
+  -- one part and then another, after which the targets of the first are still targets
   module _ (targets targets' : Targets) (stay : AllStay targets targets') where
     pub cons_named : {statement : Statement} {rest : Statements} → AllNamed (RunsStatement env statement) targets
         → AllNamed (RunsList env rest) targets' → AllNamed (RunsList env (Cons statement rest)) targets'

@@ -45,7 +45,7 @@ module _ (env : Environment) (blocks : List ScopeId) (id : EvaluationOrder) wher
   abbrev found_of : List ScopeId → ScopeId → Result (Option ScopeId) Fault
   found_of around scope = bind (range_of env scope) (λ range. Ok (in_range around scope range))
 
-  -- a visit that finds that, and those of the places behind it
+  -- a visit that finds that, and those of the places after it
   abbrev then_visit : List Place → List ScopeId → Option Outside → Result (Option ScopeId) Fault
       → Result (Unit {0} × Seen) Fault
   then_visit places around last found =
@@ -60,7 +60,7 @@ module _ (env : Environment) (blocks : List ScopeId) (id : EvaluationOrder) wher
         each visit_place places (seen env blocks around (latest_outside id own last))
         ≡ each visit_place places (seen env blocks around last)
 
-    -- and behind a visit that finds that
+    -- the same after a visit that finds that
     abbrev IsCoveredBehind : Result (Option ScopeId) Fault → List Place → Option Outside → Type 0
     IsCoveredBehind found places last =
         then_visit places around (latest_outside id own last) found ≡ then_visit places around last found

@@ -121,7 +121,7 @@ module _ (env : Environment) (blocks : List ScopeId) where
       again around (Ok l) = refl
       again around (Err fault) = refl
 
-  -- a scope block is around its inside, and no more behind it
+  -- a scope block is around its inside, and not around what comes after it
   inside_of : (scope : ScopeId) {walk : Walk Seen} {visits : Visits} → Follows walk visits →
       Follows (λ s. bind (walk (seen (scope ∷ s.around) s.outside))
       (λ r. Ok (tt, seen (drop 1 r.1.around) r.1.outside))) (λ around. visits (scope ∷ around))

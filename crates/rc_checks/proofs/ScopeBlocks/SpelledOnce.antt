@@ -236,7 +236,7 @@ module _ (hir : HirFunction) (env : Environment) (s : ScopeId) where
       → SpellsList hir env key context statements used → times s (scopes_in (block_of statements)) ≤ used_times used
   body_times {statements = statements} d = omega (arith, part_times s statements, list_times d)
 
--- no scope number stands in two scope blocks of a spelled tree
+-- no two scope blocks of a spelled tree have the same scope number
 pub spelled_once : (hir : HirFunction) (env : Environment) (func : ReactiveFunction) → Spells hir env func
     → HasScopesOnce func.body
 spelled_once hir env func spelled =

@@ -49,7 +49,7 @@ module _ (env : Environment) (fault : Fault) where
   first_is_outside before (inl memory) = inl memory
   first_is_outside before (inr missing) = inr (names_a_scope_block env before fault missing)
 
-  -- where every number is in its table, only want of memory is left
+  -- where every number is in its table, the only fault is out of memory
   pub only_memory : (func : ReactiveFunction) → TreeInTables func env
       → (fault ≡ NoMemory) ⊎ TreeNamesOutside func env fault → fault ≡ NoMemory
   only_memory func known (inl memory) = memory

@@ -1,5 +1,5 @@
--- Pruning unused scopes keeps each measure that a scope block has as a pruned one. So it keeps the numbers of a tree, and
--- the tree without its scopes.
+-- Pruning unused scopes keeps each measure that a scope block has as a pruned one. So it keeps the numbers of a tree,
+-- and the tree without its scopes.
 use Rattle.std.proofs.Common.{◌≡◌, Bool, true, false, List, Option, None, Some, refl, slice_get}
 use Rattle.std.specs.Prelude.{IfOk}
 use Rattle.rc_hir.specs.Model.{Environment, ReactiveScope}

@@ -1,5 +1,5 @@
--- The pass on unused scopes follows its rules: flags are set aside and found again, an answer is the judgement, and what
--- was decided is listed.
+-- The pass on unused scopes follows its rules: flags are set aside and found again, an answer is the judgement, and
+-- what was decided is listed.
 use Rattle.std.proofs.Common.{◌≡◌, ◌∙◌, ◌↔◌, ◌⊎◌, ◌-◌, Bool, true, false, List, [], ◌∷◌, ◌++◌, Option, None, Some}
 use Rattle.std.proofs.Common.{Result, Ok, IsTrue, IsNone, IfSome, IfNone, IfErr, OnOk, not, refl, sym, ap, subst}
 use Rattle.std.proofs.Common.{length, slice_get, take, unwrap_or, arith}
@@ -101,8 +101,8 @@ scopes_follow env = record {
   block = λ around s block. (refl, refl);
 }
 
--- a call that gives what the walk gives leaves the body without its unused scopes and the list of them, or ends with want
--- of memory or the rules' fault
+-- a call that gives what the walk gives leaves the body without its unused scopes and the list of them, runs out of
+-- memory, or ends with the rules' fault
 module _ {T : Type 0} (env_of : T → Environment) (functions : T → List HirFunction) (t : T) (w : T × Judging)
     (start : Judging) (begins : start ≡ at [] nothing_met) (before after : ReactiveBlock)
     (result : Result (Unit {0}) Fault) where

@@ -236,7 +236,7 @@ module _ (env : Environment) where
   every_block_stays =
       rebuilt_holds (unused_scope_rules env) Stays contents_of_parts contents_of_parts contents_monoid all_stay
 
-  -- the scope blocks that stay, the decisions on the others, and whether a `Return` stands outside them
+  -- the scope blocks that stay, the decisions on the others, and whether a `Return` is outside them
   pub used_scopes_stay : (before after : ReactiveBlock) (log : List ScopeFate)
       → LosesUnusedScopes env before after log → (scope_blocks after ≡ staying_blocks env before)
       × (log ≡ decisions env (scope_blocks before)) × ((contents after).returns ≡ (contents before).returns)

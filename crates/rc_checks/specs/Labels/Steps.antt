@@ -9,11 +9,11 @@ use Rattle.rc_tree.specs.Model.{ReactiveBlock, ReactiveStatement, ReactiveTermin
 use Rattle.rc_tree.specs.declared.terminal.ReactiveTerminal.{out-ReactiveTerminal}
 use Rattle.rc_tree.specs.declared.hooks.Transformed.TheVariants.{Keep, ReplaceMany}
 
--- the targets behind a terminal
+-- the targets after a terminal
 abbrev pub targets_after : ReactiveTerminalStatement → Targets → Targets
 targets_after x targets = targets_behind (out-ReactiveTerminal x.terminal) targets
 
--- the statements of a `Label` that gives way, by the targets behind it
+-- the statements of a `Label` that gives way, by the targets after it
 abbrev pub statements_taken : Targets → ReactiveTerminalStatement → Option (List ReactiveStatement)
 statements_taken targets x = flattened targets x.label (out-ReactiveTerminal x.terminal)
 

@@ -31,7 +31,7 @@ module _ (env : Environment) (blocks : List ScopeId) where
   is_needed is_met (Ok None) = false
   is_needed is_met (Err fault) = true
 
-  -- a place, in front of those that are left of the places behind it, where it is needed
+  -- a place, where it is needed, in front of those that are left of the places after it
   abbrev pub in_front : Place → List Place → List Place
   in_front place left = if is_needed (has_scope env left) (scope_of env place.identifier) then place ∷ left else left
 

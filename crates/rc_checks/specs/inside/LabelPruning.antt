@@ -1,6 +1,6 @@
 -- The results of the calls that prune labels.
 --
--- A part is pruned in its place, but for a `Label`: its statements are put where it stands, at the end of those done,
+-- A part is pruned in its place, except a `Label`: its statements are put where it is, at the end of those done,
 -- before it is judged. One that stays takes them back.
 use Rattle.std.specs.Prelude.{◌≡◌, ◌+◌, ℕ, List, [], ◌∷◌, ◌++◌, Option, None, Some, Result, Ok}
 use Rattle.std.specs.Prelude.{drop, map, reverse, take}
@@ -27,7 +27,7 @@ pub record IsLastPut (left : TreeStatements) (targets : Targets) (done left1 : T
   pub is_last : left ≡ left1 ++ last ∷ []
   pub put : put_behind done (rebuilt_statement label_rules last targets) ≡ Ok (targets1, done1)
 
--- statements are pruned in their place up to the first one that gives way, and those behind it are as they were: the
+-- statements are pruned in their place up to the first one that gives way, and those after it are as they were: the
 -- ones that stay, the statements of that one, and the replacements of the others are the replacements of all
 pub record IsFrontPruned (statements : TreeStatements) (targets : Targets) (staying : ℕ) (statements1 : TreeStatements)
     (targets1 : Targets) (done1 : TreeStatements) : Type 0 where

@@ -1,4 +1,4 @@
--- How a scope is found among those that are open without a look through them. Blocks stand with the innermost first.
+-- How a scope is found among those that are open without a look through them. The innermost block comes first.
 use Rattle.std.specs.Prelude.{◌≡◌, List, [], ◌∷◌, map, not}
 use Rattle.indexmap.specs.IndexSet.{insert_key}
 use Rattle.rc_names.specs.Numbers.{ScopeId, is_among, same_id}

@@ -1,5 +1,5 @@
--- The steps of the pass on unused scopes, as a pass over statements: its flags, its decisions, its answers, and the scope
--- blocks that it leaves.
+-- The steps of the pass on unused scopes, as a pass over statements: its flags, its decisions, its answers, and the
+-- scope blocks that it leaves.
 use Rattle.std.specs.Prelude.{Bool, true, false, List, [], ◌∷◌, ◌++◌, ◌-◌, Option, None, Some, Result, Ok, Err, length}
 use Rattle.std.specs.Prelude.{slice_get, take, unwrap_or, ◌||◌}
 use Rattle.std.specs.List.{last_or}
@@ -18,7 +18,7 @@ use Rattle.rc_tree.specs.declared.statement.ReactiveStatement.TheVariants as rea
 use Rattle.rc_tree.specs.declared.terminal.ReactiveTerminal.{out-ReactiveTerminal}
 use Rattle.rc_tree.specs.declared.hooks.Transformed.TheVariants.{Keep, Replace}
 
--- the state of the walk that stands for one of the rules, with the flags of the blocks around
+-- the state of the walk that represents a state of the rules, with the flags of the blocks around
 abbrev pub at : List Bool → Progress → Judging
 at around s = record { met = s.returns; around = around; log = s.log }
 

@@ -14,8 +14,8 @@ use rc_tree::{
 use rc_walk::StatementTransform;
 
 /// Label pruning as a pass over statements; its state is the set of targets. The rewriting walk with it, from no
-/// targets on, gives the same tree as `prune_unused_labels`. Where unused labels stand one in the other, the walk moves
-/// their statements once for each level.
+/// targets on, gives the same tree as `prune_unused_labels`. Where unused labels are nested, the walk moves their
+/// statements once for each level.
 #[derive(Clone, Copy)]
 pub struct UnusedLabels;
 

@@ -1,4 +1,4 @@
-//! The places of nested functions' contexts to visit. A visit of any other would leave nothing behind.
+//! The places of nested functions' contexts to visit. A visit of any other would have no lasting effect.
 //!
 //! Each row that names a function visits its context. A place without a scope, or whose scope has no block, is inside
 //! wherever it is visited. The places of one scope are outside together, and only the last operand outside is kept. So

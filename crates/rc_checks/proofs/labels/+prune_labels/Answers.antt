@@ -23,7 +23,7 @@ use Rattle.rc_walk.proofs.FrontWalked.{most_behind, most_entry}
 use Rattle.rc_checks.proofs.labels.+prune_labels.Goals as goal
 use Rattle.rc_checks.proofs.labels.+prune_labels.Goals.{prune_last-in-Some+in_ok-stays, prune_last-in_default}
 
--- the statements behind the first one that gives way are no deeper than all
+-- the statements after the first one that gives way are no deeper than all
 pub prune_block-prune_reversed-requires : goal.prune_block-prune_reversed-requires
 prune_block-prune_reversed-requires t c =
     let h = most_behind statement.the_size (c.in_ok-staying.staying + 1) c.args.block.now.statements

@@ -1,4 +1,4 @@
--- the scopes of a spelled tree stand once in it
+-- each scope of a spelled tree is in it once
 use Rattle.std.proofs.Common.{sym, subst}
 use Rattle.rc_tree.specs.ScopesIn.{HasScopesOnce}
 use Rattle.rc_checks.proofs.ScopeBlocks.SpelledOnce.{spelled_once}
