@@ -59,7 +59,7 @@ fn check_in_if(alloc: Global) -> Result<(), Fault> {
     check(alloc, only(alloc, if_then(alloc, 1, None, inside)?)?)
 }
 
-/// A break behind the label that it names.
+/// A break after the label that it names.
 fn check_behind_label(alloc: Global) -> Result<(), Fault> {
     let body = only(alloc, labeling(alloc, 7)?)?;
     let body = behind(body, breaking(alloc, 7)?)?;
@@ -80,7 +80,7 @@ fn check_in_scopes(alloc: Global) -> Result<(), Fault> {
     check(alloc, only(alloc, outer)?)
 }
 
-/// A break behind the scope block that has its label.
+/// A break after the scope block that has its label.
 fn check_behind_scope(alloc: Global) -> Result<(), Fault> {
     let scope = scope_around(0, only(alloc, labeling(alloc, 7)?)?);
     let body = only(alloc, scope)?;

@@ -30,7 +30,7 @@ fn is_pruned_to(
     Ok(lines.as_slice() == expected)
 }
 
-/// A row, and a break behind it.
+/// A row, and a break after it.
 fn row_and_break(
     alloc: Global,
     id: u32,
@@ -238,7 +238,7 @@ fn the_statements_of_an_unnamed_label_stand_in_its_place(rt: HostRuntime) -> Res
     Ok(())
 }
 
-/// Behind a row, a `Label` that nothing names; in it, behind a row, one with a labeled break to it; and a row.
+/// After a row, a `Label` that nothing names; in it, after a row, one with a labeled break to it; and a row.
 fn named_in_unnamed(alloc: Global) -> Result<List<ReactiveStatement>, AllocError> {
     let inside = row_and_break(alloc, 5, 6, 8, Labeled)?;
     let named = label_around(alloc, 4, Some(8), inside)?;

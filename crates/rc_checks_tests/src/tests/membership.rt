@@ -91,7 +91,7 @@ fn check_deep_inside(alloc: Global) -> Result<(), Fault> {
     check(alloc, only(alloc, scope_around(0, only(alloc, taken)?))?)
 }
 
-/// An operand behind a block of its scope, in another block of it.
+/// An operand after a block of its scope, in another block of it.
 fn check_in_outer_block(alloc: Global) -> Result<(), Fault> {
     let inside = both(alloc, scope_around(0, List::new(alloc)), load(4, 1))?;
     check(alloc, only(alloc, scope_around(0, inside))?)

@@ -10,7 +10,7 @@ use std::alloc::{AllocError, Global};
 /// A label by its number, and whether it is implicit.
 pub type Label = Option<(u32, bool)>;
 
-/// A statement by its id or number. One that holds statements is opened, and closed behind them.
+/// A statement by its id or number. One that holds statements is opened, and closed after them.
 #[derive(Clone, Copy, Debug, PartialEq, Eq)]
 pub enum Line {
     Row(u32),

@@ -199,7 +199,7 @@ pub fn only(
     Ok(statements)
 }
 
-/// A list with one more statement behind the others.
+/// A list with one more statement after the others.
 pub fn behind(
     mut statements: List<ReactiveStatement>,
     last: ReactiveStatement,
