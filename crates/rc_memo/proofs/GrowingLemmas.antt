@@ -26,7 +26,7 @@ module _ {K : Type 0} where
       ap (distinct same_id) (sym (append_assoc keys (key ∷ []) more)) ∙ distinct-all (keys ++ key ∷ []) more
       ∙ ap (λ w. insert_all w more) (distinct_push same_id same_id-eq itself keys key)
 
-  -- more keys behind some
+  -- more keys after some
   pub insert_all-append : (keys first second : List (Id K))
       → insert_all (insert_all keys first) second ≡ insert_all keys (first ++ second)
   insert_all-append keys [] second = refl

@@ -1,4 +1,4 @@
--- The first name that is missing, as facts come behind others.
+-- The first name that is missing, as facts come after others.
 use Rattle.std.proofs.Common.{◌≡◌, ◌∙◌, ◌++◌, List, [], ◌∷◌, Option, None, Some, ap, append-nil, append_assoc, is_some}
 use Rattle.std.proofs.Common.{sym, true≢false}
 use Rattle.rc_names.specs.Numbers.{DeclarationId}

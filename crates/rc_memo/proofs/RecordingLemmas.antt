@@ -1,4 +1,4 @@
--- What is recorded of rows: their operands, where these stand, and their targets.
+-- What is recorded of rows: their operands, the positions of these, and their targets.
 use Rattle.std.proofs.Common.{◌≡◌, ◌∙◌, ◌++◌, ℕ, Bool, true, false, List, [], ◌∷◌, Option, None, Some, ap, append-nil}
 use Rattle.std.proofs.Common.{length, map, refl, subst, sym}
 use Rattle.std.specs.List.{flat_map}
@@ -155,7 +155,7 @@ module _ (env : Environment) where
           recorded refl refl refl));
     }
 
-  -- where the operands stand
+  -- the position of the operands
 
   pub puts_none : (places : List Place) (recording : Recording) → places ≡ []
       → PutsRow env places None recording recording

@@ -80,7 +80,7 @@ module _ (n : ℕ) (d : DeclarationId) (f : RowNode → RowNode)
       go true r = (keeps e.1 h.0, h.1)
       go false r = (h.0, r)
 
--- what a row tells of a node, in the node that this one stands for
+-- what a row adds to a node, in the node that this one stands for
 module _ (ops : RowOperands) (d : DeclarationId) (target : RowTarget) (names : List DeclarationId)
     (those : operands_of ops (option_to_list target.row) ≡ names) where
   grown : (node : RowNode) → node_of_rows ops d (with_target target node)
@@ -188,7 +188,7 @@ adds_missing fact d old nodes missing needs absent is = record {
         rows = λ gone. absurd (none_some (sym gone ∙ whole));
       }
 
--- a target of a row whose operands stand at a position
+-- a target of a row whose operands are at a position
 
 row_there : (ops : RowOperands) (row : Option ℕ) (names : List DeclarationId) → IsRow ops row names
     → AllByRecursion (λ row. row < length ops) (option_to_list row)
@@ -270,7 +270,7 @@ adds_operands old more operands is = record {
   kept = record { more = more; whole = is };
 }
 
--- what stands at a position stays there
+-- the names at a position stay there
 pub row_kept : (old new : RowOperands) (row : Option ℕ) (names : List DeclarationId) → Extends old new
     → IsRow old row names → IsRow new row names
 row_kept old new None names kept stands = stands

@@ -121,7 +121,7 @@ module _ (env : Environment) where
       (tells_plain (row_event env id operands []) old new refl refl
       (λ knows. adds_same env old new (sym (append-nil _)) (sym (append-nil _)) mentions))
 
-  -- a load lets go what is known of contexts
+  -- a load forgets what is known of contexts
   pub tells_load : (target loaded : DeclarationId) (old : Recording)
       (definitions : List (DeclarationId × DeclarationId)) (known : List (FunctionId × ℕ))
       → definitions ≡ insert_entry same_id old.definitions target loaded → known ≡ []

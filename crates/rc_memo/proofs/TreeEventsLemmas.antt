@@ -79,7 +79,7 @@ module _ (env : Environment) where
       (reassigned_by env block.scope)) old one) within first)
       (subst (λ w. Tells env (collected (events_of_parts env) block.instructions w) one new) within second)
 
-  -- the events of a part that are still to come, whatever is told behind them
+  -- the events of a part that are still to come, whatever is told after them
   pub next_told : (start old mid : Recording) (first rest left whole : List MemoEvent) → left ≡ first ++ rest
       → Tells env first old mid
       → ((new : Recording) → Tells env left old new → Tells env whole start new)

@@ -1,6 +1,6 @@
 -- What the events of a tree tell: their facts, with resolved names; the last loads; and the escaping names.
 --
--- A name that a row loads from another stands for that one in each row behind it, by one step.
+-- After a row that loads a name into another, the other stands for it; a name resolves by one load, not by several.
 use Rattle.std.specs.Prelude.{List, [], ◌∷◌, ◌++◌, Option, None, Some, map, unwrap_or, if◌then◌else◌}
 use Rattle.std.specs.List.{flat_map}
 use Rattle.rc_names.specs.Numbers.{DeclarationId, ScopeId, same_id}
@@ -20,7 +20,7 @@ abbrev pub last_load : DeclarationId → List Loaded → Option DeclarationId
 last_load name [] = None
 last_load name (load ∷ loads) = or_else (last_load name loads) (only_if (same_id name load.0) load.1)
 
--- the name that a name stands for behind some loads
+-- the name that a name stands for after some loads
 abbrev pub resolved_after : List Loaded → DeclarationId → DeclarationId
 resolved_after loads name = unwrap_or (last_load name loads) name
 

@@ -1,8 +1,7 @@
 -- The nodes that facts about names give, name by name.
 --
 -- A row tells facts of resolved names: a name is a target of some level, it depends on another name, it has a scope, or
--- it is needed. A name that is a target has a node, and what the facts tell of it stands there in the order in which it
--- first came.
+-- it is needed. A name that is a target has a node: what the facts tell of it, in the order in which it first came.
 use Rattle.std.specs.Prelude.{Bool, not, List, [], ◌∷◌, ◌++◌, Option, None, Some, filter, filter_map, map}
 use Rattle.std.specs.Prelude.{if◌then◌else◌}
 use Rattle.rc_names.specs.Numbers.{DeclarationId, ScopeId, is_among, same_id}

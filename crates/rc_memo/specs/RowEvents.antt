@@ -23,8 +23,8 @@ use Rattle.rc_memo.specs.declared.level.MemoizationLevel.TheVariants.{Conditiona
 use Rattle.rc_memo.specs.declared.table.LevelGiven.{LevelGiven}
 use Rattle.rc_memo.specs.Mentions.{mention_of, target_of}
 
--- what a value brings: to the row in which it stands, its operands and the events of the rows inside; and the events
--- of the rows inside where the value stands in a terminal, in which the test of a condition counts too
+-- what a value brings: to a row that it is in, its operands and the events of the rows inside; and to a terminal that
+-- it is in, the events of the rows inside, in which the test of a condition counts too
 pub record ValueParts : Type 0 where
   pub places : List Place
   pub rows : List MemoEvent

@@ -1,4 +1,4 @@
--- The memo record whose rows have their operands once, whatever number of targets a row has.
+-- The memo record whose rows have their operands once, however many targets a row has.
 use Rattle.std.specs.Prelude.{ℕ, not, List, [], filter, map, slice_get, unwrap_or}
 use Rattle.std.specs.List.{flat_map}
 use Rattle.rc_names.specs.Numbers.{DeclarationId, same_id}

@@ -19,8 +19,8 @@ use std::alloc::{AllocError, Global};
 /// Returns the memo record of a function.
 ///
 /// Fails with `Uninitialised` exactly if a name of which the record needs a node has none yet, and names the first such
-/// name. Fails with `NoMemory` when out of memory, and with no other fault. Numbers outside their tables are no cause of
-/// a fault: an identifier without an entry is in no scope and stands for the declaration of its own number.
+/// name. Fails with `NoMemory` when out of memory, and with no other fault. Numbers outside their tables cause no
+/// fault: an identifier without an entry is in no scope and stands for the declaration of its own number.
 ///
 /// After oxc's prune_non_escaping_scopes.
 pub fn collect(
@@ -46,8 +46,7 @@ pub fn collect(
 ///
 /// Fails as `collect` does: with `Uninitialised` exactly if a name of which the record needs a node has none yet, and
 /// names the first such name; with `NoMemory` when out of memory; and with no other fault. Numbers outside their tables
-/// are no cause of a fault: an identifier without an entry is in no scope and stands for the declaration of its own
-/// number.
+/// cause no fault: an identifier without an entry is in no scope and stands for the declaration of its own number.
 ///
 /// After oxc's prune_non_escaping_scopes, whose nodes hold their dependencies.
 pub fn collect_rows(

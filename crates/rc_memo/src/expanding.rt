@@ -1,4 +1,4 @@
-//! The record in which each name's dependencies stand in its node, made of one in which the operands of rows stand once.
+//! The record whose nodes hold the dependencies of their names, made from one that holds the operands of each row once.
 
 ghost use Rattle.std.specs.Prelude.{◌≡◌, [], ◌∷◌, Some, slice_get, IfOk, OnOk};
 ghost use Rattle.indexmap.specs.IndexMap.{insert_entry};

@@ -2,7 +2,7 @@
 //! compute it.
 //!
 //! The rows of a tree are read by the memo table, which says of each kind of instruction what it asks of its places.
-//! Each row is recorded as it is read: its operands once, and with each of its targets where they stand.
+//! Each row is recorded as it is read: its operands once, and with each of its targets where they are.
 //!
 //! After oxc's prune_non_escaping_scopes.
 #![tactic(auto)]

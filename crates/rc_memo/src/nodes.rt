@@ -1,7 +1,7 @@
 //! The nodes of names, as facts about the names come one by one.
 //!
-//! A node names the rows that its name is a target of, and the operands of a row stand once, whatever number of targets
-//! it has.
+//! A node names the rows that its name is a target of, and the operands of a row are held once, however many targets it
+//! has.
 
 ghost use Rattle.std.specs.Prelude.{◌≡◌, [], ◌∷◌, ◌++◌, None, Some, IfOk, OnOk};
 ghost use Rattle.std.specs.Map.{keys_of};

@@ -33,7 +33,7 @@ pub struct Recording {
     pub scopes: Keyed<ScopeId, List<DeclarationId>>,
     pub definitions: Keyed<DeclarationId, DeclarationId>,
     pub escaping: DeclSet,
-    /// Where the names of a function's context stand among the operands of rows.
+    /// Where the names of a function's context are among the operands of rows.
     pub known: Keyed<FunctionId, usize>,
 }
 
@@ -94,7 +94,7 @@ impl<'a> RowReader<'a> {
         Ok(())
     }
 
-    /// Adds a target of a row of that id, whose operands stand at a position.
+    /// Adds a target of a row of that id, whose operands are at a position.
     fn add_target(
         &self,
         recording: &mut Recording,
@@ -115,7 +115,7 @@ impl<'a> RowReader<'a> {
         self.record_active(&mut recording.scopes, target.mention.scope)
     }
 
-    /// Adds the targets of a row of that id, whose operands stand at a position.
+    /// Adds the targets of a row of that id, whose operands are at a position.
     fn add_targets(
         &self,
         recording: &mut Recording,
@@ -163,7 +163,7 @@ impl<'a> RowReader<'a> {
         Ok(Some(row))
     }
 
-    /// Puts the context of a function as the operands of a row, and keeps where it stands.
+    /// Puts the context of a function as the operands of a row, and keeps its position.
     fn put_context(
         &self,
         recording: &mut Recording,
@@ -180,7 +180,7 @@ impl<'a> RowReader<'a> {
         Ok(row)
     }
 
-    /// Returns the position of a row's operands, which are put unless they stand there as the context of a function.
+    /// Returns the position of a row's operands, which are put unless they are there as the context of a function.
     fn row_of(
         &self,
         recording: &mut Recording,

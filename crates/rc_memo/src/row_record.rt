@@ -14,7 +14,7 @@ pub struct RowNode {
     pub scopes: KeySet<ScopeId>,
 }
 
-/// What is recorded of a function: a `MemoRecord` in which the operands of a row stand once.
+/// What is recorded of a function: a `MemoRecord` that holds the operands of each row once.
 #[derive(Drop)]
 pub struct RowRecord {
     pub nodes: Keyed<DeclarationId, RowNode>,

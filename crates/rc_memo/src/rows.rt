@@ -301,7 +301,7 @@ impl<'a> RowReader<'a> {
         Ok(())
     }
 
-    /// Adds the events of the rows inside a value that stands in a row.
+    /// Adds the events of the rows inside a value that is in a row.
     #[cycle(rows)]
     fn add_inside(&self, recording: &mut Recording, value: &ReactiveValue) -> Result<(), AllocError>
         ensures { OnOk result (AddsRows self.now.env.now value.now recording.old recording.new) }
@@ -335,7 +335,7 @@ impl<'a> RowReader<'a> {
         Ok(())
     }
 
-    /// Adds the events of the rows inside a value that stands in a terminal.
+    /// Adds the events of the rows inside a value that is in a terminal.
     #[cycle(walked)]
     #[tactic(auto, using(crate::proofs::RowEventsLemmas::quiet_values))]
     pub fn add_walked(

@@ -32,7 +32,7 @@ module _ (env : Environment) where
   abbrev pub place_names : (DeclarationId → DeclarationId) → List Place → List DeclarationId
   place_names resolve places = map (λ place. resolve (declaration_of env place.identifier)) places
 
-  -- the names of known contexts stand where it is said
+  -- the names of each known context are at its recorded position
   unfoldable pub Knows : Recording → Type 0
   Knows recording = (function : FunctionId) (row : ℕ) → lookup (same_id function) recording.known ≡ Some row
       → IsRow recording.held.operands (Some row) (place_names (resolved recording.definitions) (context_of function))
@@ -51,7 +51,7 @@ module _ (env : Environment) where
       Adds (flat_map (mention_facts (resolved old.definitions)) (map (mention_of env id) places))
       (mention_scopes (map (mention_of env id) places)) old new
 
-  -- a call adds targets of a row of that id, where the names of the row's operands stand at a position
+  -- a call adds targets of a row of that id, where the names of the row's operands are at a position
   pub record AddsTargets (id : EvaluationOrder) (row : Option ℕ) (given : List LevelGiven)
       (old new : Recording) : Type 0 where
     pub adds : (operands : List Mention)
@@ -59,7 +59,7 @@ module _ (env : Environment) where
         → Adds (flat_map (target_facts (resolved old.definitions) operands) (map (target_of env id) given))
         (target_scopes (map (target_of env id) given)) old new
 
-  -- a call gives a position at which the names of places stand, and adds nothing else
+  -- a call gives a position at which the names of places are, and adds nothing else
   pub record PutsRow (places : List Place) (row : Option ℕ) (old new : Recording) : Type 0 where
     pub adds : Adds [] [] old new
     pub stands : Knows old → IsRow new.held.operands row (place_names (resolved old.definitions) places)

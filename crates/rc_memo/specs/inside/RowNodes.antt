@@ -52,17 +52,17 @@ pub record HoldsFacts (facts : List Fact) (held : HeldNodes) : Type 0 where
   pub missing : held.missing ≡ first_missing [] facts
   pub rows : held.missing ≡ None → HoldsRows facts held.operands held.nodes
 
--- there are these operands, and maybe more behind them
+-- there are these operands, and maybe more after them
 pub record Extends (old new : RowOperands) : Type 0 where
   pub more : RowOperands
   pub whole : new ≡ old ++ more
 
--- a call adds facts, whatever the facts before are, and keeps the operands of rows where they stand
+-- a call adds facts, whatever the facts before are, and keeps the operands of rows where they are
 pub record AddsFacts (facts : List Fact) (old new : HeldNodes) : Type 0 where
   pub holds : (before : List Fact) → HoldsFacts before old → HoldsFacts (before ++ facts) new
   pub kept : Extends old.operands new.operands
 
--- the names stand at the position among the operands of rows; at no position stand none
+-- the names are at the position among the operands of rows; without a position there are none
 abbrev pub IsRow : RowOperands → Option ℕ → List DeclarationId → Type 0
 IsRow operands None names = names ≡ []
 IsRow operands (Some row) names = (row < length operands) × (operands_at operands row ≡ names)
@@ -71,6 +71,6 @@ IsRow operands (Some row) names = (row < length operands) × (operands_at operan
 abbrev pub resolved : List (DeclarationId × DeclarationId) → DeclarationId → DeclarationId
 resolved definitions name = unwrap_or (lookup (same_id name) definitions) name
 
--- the names for which operands stand
+-- the names that operands stand for
 abbrev pub operand_names : (DeclarationId → DeclarationId) → List Mention → List DeclarationId
 operand_names resolve operands = map (λ operand. resolve operand.name) operands
