@@ -69,7 +69,7 @@ level_memoizes : (l : MemoizationLevel) (f c : Bool) → l ≡ Memoized → memo
 level_memoizes l f c e = subst (λ x. memoizes x f c ≡ true) (sym e) refl
 
 mutual
-  -- a name is met behind its visit, and the nodes that were visited are left
+  -- a name is met after its visit, and the nodes that were visited are left
   leaves_name : {r : MemoRecord} {d : DeclarationId} {f a : Bool} {s s1 : Progress} → VisitsName r d f s s1 a
       → IsMet r s1 d × Leaves r s s1
   leaves_name {s = s} (absent none) = (λ n h. cc, leaves_none s s (λ e. refl))

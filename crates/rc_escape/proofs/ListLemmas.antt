@@ -9,7 +9,7 @@ use Rattle.std.proofs.lemmas.List.Elements.{Contains-append_cases, Contains-appe
 pub reverse-push : {X : Type 0} (old new : List X) (x : X) → new ≡ old ++ x ∷ [] → reverse new ≡ x ∷ reverse old
 reverse-push old new x is = ap reverse is ∙ reverse-append old (x ∷ [])
 
--- the rest from a place that has an entry on is that entry and the rest behind it
+-- the rest from the place of an entry on is that entry and the rest after it
 pub drop-at : {X : Type 0} (xs : List X) (i j : ℕ) (x : X) → slice_get xs i ≡ Some x → j ≡ i + 1
     → drop i xs ≡ x ∷ drop j xs
 drop-at {X} xs i j x at next = subst (λ k. drop i xs ≡ x ∷ drop k xs) (sym (next ∙ add-one i)) (go xs i at)

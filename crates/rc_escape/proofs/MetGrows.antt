@@ -1,4 +1,4 @@
--- What the walk has met only grows, and a name is met behind its visit.
+-- What the walk has met only grows, and a name is met after its visit.
 use Rattle.std.proofs.Common.{◌≡◌, Bool, true, false, List, ap, refl, subst, sym}
 use Rattle.std.specs.Prelude.{◌||◌}
 use Rattle.rc_names.specs.Numbers.{DeclarationId, ScopeId, same_id}
@@ -60,7 +60,7 @@ mutual
   grows_takes {s = s} (takes_it {scope = c} at untaken visits rest) =
       grows_then (grows_taken s c) (grows_then (grows_names visits) (grows_takes rest))
 
--- a name that is met stays so, and is met behind its visit
+-- a name that is met stays so, and each name is met after its visit
 pub met_stays : (r : MemoRecord) {s s1 : Progress} (d : DeclarationId) → Grows s s1 → IsMet r s d → IsMet r s1 d
 met_stays r d grows met n at = grows.seen d (met n at)
 

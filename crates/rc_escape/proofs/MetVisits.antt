@@ -49,7 +49,7 @@ module _ (r : MemoRecord) where
   take_met (x ∷ xs) ys f a s t met (next_name {rest = b} visit visits is) =
       take_met xs ys f b s t met.1 (subst (λ w. VisitsNames r (xs ++ ys) f w t b) (sym (unchanged visit met.0)) visits)
 
-  -- a name behind names that are met is visited first, and then all of them
+  -- a name after names that are met is visited first, and then all of them
   pub visit_first : (xs ys : List DeclarationId) (x : DeclarationId) (f a b : Bool) (s s1 t : Progress)
       → Each (IsMet r s) xs → VisitsName r x f s s1 a → VisitsNames r (xs ++ x ∷ ys) f s1 t b
       → Visits (xs ++ x ∷ ys) f s t

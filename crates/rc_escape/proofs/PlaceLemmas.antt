@@ -17,7 +17,7 @@ use Rattle.rc_names.specs.Numbers.{same_id}
 use Rattle.rc_names.specs.declared.numbers.Id.{Id}
 use Rattle.rc_escape.specs.inside.WalkPlaces.{entry_at, entry_or}
 
--- an entry that is put at a place stands there, and any other place is as it was
+-- an entry that is put at a place is there, and any other place is as it was
 pub set-here : {X : Type 0} (d v : X) (xs : List X) (p : ℕ) → p < length xs → entry_or d (slice_set xs p v) p ≡ v
 set-here d v [] p lt = absurd (omega (arith, lt))
 set-here d v (x ∷ xs) zero lt = refl
@@ -113,7 +113,7 @@ module _ {K X : Type 0} where
   place_has_entry es d p at none =
       elim (slice_get_cases es p).1 [ inl w ↦ cc | inr w ↦ absurd (omega (arith, place_within es d p at)) ]
 
-  -- in distinct names the position of a name is the place at which it stands
+  -- in distinct names the position of a name is the place at which it is
   pub place_of_distinct : (es : List (Id K × X)) (p : ℕ) (x : Id K × X) → IsDistinct same_id (keys_of es)
       → slice_get es p ≡ Some x
       → position (same_id x.0) (keys_of es) ≡ Some p

@@ -1,5 +1,5 @@
 -- Names and scopes by their positions in the record: what one more of them that the walk has met, memoized or taken is,
--- and which one stands at a position.
+-- and which one is at a position.
 use Rattle.std.proofs.Common.{◌≡◌, ◌∙◌, ◌<◌, ℕ, Bool, true, false, List, [], ◌∷◌, Option, Some, None, ap, cond, length}
 use Rattle.std.proofs.Common.{refl, subst, sym}
 use Rattle.std.specs.Prelude.{◌||◌, option_map, position, slice_get, slice_set}

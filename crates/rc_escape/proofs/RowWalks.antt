@@ -96,7 +96,7 @@ first_visit r d n f b c s s2 s1 sound at unseen visits is decides =
         same true = seen_again s2 d ((grows_names visits).seen d itself)
         same false = refl
 
--- the operands of a row up to a place are met, and then the one at that place stands
+-- the operands of a row before a place are met, and the one at that place comes after them
 split_at : (P : DeclarationId → Type 0) (xs : List DeclarationId) (i : ℕ) (x : DeclarationId)
     → ((j : ℕ) (y : DeclarationId) → j < i → slice_get xs j ≡ Some y → P y) → slice_get xs i ≡ Some x
     → (front : List DeclarationId) × (back : List DeclarationId) × (xs ≡ front ++ x ∷ back) × Each P front
@@ -188,7 +188,7 @@ module _ (r : RowRecord) where
       let m = subst (λ w. Finishes r w (progress r s) t) (reverse-push old mid (Dependencies p f j) push) ends in
       (m.0, row_more (fits.met row) at here next none m.1, m.2)
 
-  -- behind the last row the node is decided
+  -- after the last row the node is decided
   pub dependencies_end : (p i : ℕ) (k : DeclarationId) (n : RowNode) (f m : Bool) (s : WalkState) (s1 : Progress)
       (rest later : List VisitFrame) → FitsRecord r s → slice_get r.nodes p ≡ Some (k, n) → slice_get n.rows i ≡ None
       → m ≡ memoizes n.level f (list_any (is_set s.answered) n.rows)

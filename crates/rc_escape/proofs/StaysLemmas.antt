@@ -23,7 +23,7 @@ apart s d e unseen seen = go (same_id e d) refl
     go true h = let same : s.seen d ≡ true = subst (λ w. s.seen w ≡ true) (same_id-eq e d h) seen in cc
 
 mutual
-  -- a name that is seen before is memoized behind exactly if it is before
+  -- a name that is seen before a visit is memoized after it exactly if it is before
   pub stays_name : {r : MemoRecord} {d : DeclarationId} {f a : Bool} {s t : Progress} → VisitsName r d f s t a
       → (e : DeclarationId) → s.seen e ≡ true → t.memoized e ≡ s.memoized e
   stays_name (absent none) e seen = refl
@@ -129,14 +129,14 @@ mutual
   sound_takes (takes_it at untaken visits rest) sound = sound_takes rest (sound_names visits (λ e h.
       let known = sound e h in record { node = known.node; found = known.found; seen = known.seen }))
 
--- a decision says whether the name is memoized behind it
+-- a decision says whether the name is memoized after it
 decision : {r : MemoRecord} {d : DeclarationId} {n : MemoNode} {a : Bool} {s t : Progress} → DecidesNode r d n a s t
     → s.memoized d ≡ false → a ≡ t.memoized d
 decision passes before = sym before
 decision {d = d} {s = s} (memoizes_it takes) before =
     sym ((grows_takes takes).memoized d (ap (λ b. b || s.memoized d) (ids_equivalence.refl d)))
 
--- the answer of a visit is whether the name is memoized behind it
+-- the answer of a visit is whether the name is memoized after it
 pub answer_name : {r : MemoRecord} {d : DeclarationId} {f a : Bool} {s t : Progress} → VisitsName r d f s t a
     → IsSound r s → a ≡ t.memoized d
 answer_name {r} {d} {s = s} (absent none) sound = sym (absent_not s d sound none)
@@ -145,7 +145,7 @@ answer_name {r} {d} {s = s} (first_time found unseen visits is decides) sound =
     decision decides
     (stays_names visits d (ap (λ b. b || s.seen d) (ids_equivalence.refl d)) ∙ unseen_not s d sound unseen)
 
--- a name that is met before visits is memoized behind them exactly if it is before
+-- a name that is met before visits is memoized after them exactly if it is before
 stays_met : {r : MemoRecord} {ds : List DeclarationId} {f a : Bool} {s t : Progress} → VisitsNames r ds f s t a
     → IsSound r s → (e : DeclarationId) → IsMet r s e → t.memoized e ≡ s.memoized e
 stays_met {r} {s = s} {t = t} visits sound e met = go (node_of r e) refl
@@ -154,7 +154,7 @@ stays_met {r} {s = s} {t = t} visits sound e met = go (node_of r e) refl
     go (Some n) at = stays_names visits e (met n at)
     go None none = absent_not t e (sound_names visits sound) none ∙ sym (absent_not s e sound none)
 
--- the answer of visits is whether one of the names is memoized behind them
+-- the answer of visits is whether one of the names is memoized after them
 pub answer_names : {r : MemoRecord} {ds : List DeclarationId} {f a : Bool} {s t : Progress} → VisitsNames r ds f s t a
     → IsSound r s → a ≡ list_any t.memoized ds
 answer_names no_names sound = refl

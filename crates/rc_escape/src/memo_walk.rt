@@ -1,7 +1,7 @@
 //! The walk over a record, by a stack of visits that aren't done.
 //!
 //! The walk takes no call of its own on the way down, so a long chain of dependencies takes memory and no stack. A name
-//! depends on the operands of its rows. The operands of a row are visited once, whatever number of names depend on the
+//! depends on the operands of its rows. The operands of a row are visited once, however many names depend on the
 //! row: each of these names goes on where the one before it has stopped.
 
 ghost use Rattle.std.specs.Prelude.{◌≡◌, ◌<◌, ◌≤◌, ◌+◌, ◌||◌, nat_eq, None, Some, length, reverse, slice_get};
@@ -147,7 +147,7 @@ impl WalkState {
         self.marks.get(place).unwrap_or(NodeMark::Unseen)
     }
 
-    /// Returns the next operand of a row that isn't visited through the row yet, with the place behind it, and `None`
+    /// Returns the next operand of a row that isn't visited through the row yet, with the place after it, and `None`
     /// where each of them is.
     fn operand_left(&self, rows: &RowRecord, row: usize) -> Option<(DeclarationId, usize)>
         ensures { MatchOption result (slice_get (operands_at rows.now.operands row) (passed_of self.now row) ≡ None)
@@ -367,7 +367,7 @@ impl WalkState {
         Ok(())
     }
 
-    /// Goes on with the next row of a node, or decides the node behind the last one. Fails only when out of memory.
+    /// Goes on with the next row of a node, or decides the node after the last one. Fails only when out of memory.
     #[tactic(auto, using(crate::proofs::StepRules::resume_dependencies))]
     fn resume_dependencies(
         &mut self,

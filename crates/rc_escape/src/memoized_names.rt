@@ -38,7 +38,7 @@ pub fn memoized(alloc: Global, rec: &MemoRecord) -> Result<DeclSet, Fault>
     Ok(set)
 }
 
-/// Returns the memoized names of the record for which the rows stand.
+/// Returns the memoized names of the record that the rows stand for.
 ///
 /// Fails as `memoized` does.
 #[tactic(auto, using(crate::proofs::MemoSetLemmas::memo_set))]

@@ -27,12 +27,12 @@ use rc_tree::{ReactiveFunction, ScopeFate};
 use rc_walk::rewrite::transform_reactive_function;
 use std::alloc::Global;
 
-/// Replaces each scope block by its statements whose scope has an output, none of them memoized, and no early return.
+/// Replaces each scope block whose scope has an output, none of them memoized, and no early return, by its statements.
 /// Sets the flag of each `FinishMemoize` whose name has a scope that gave way before it, or whose name has no scope and
 /// no name was stored into its declaration so far whose scope hasn't given way.
 ///
-/// A scope block stays whose scope has an output that must be memoized, as long as an escaping name reaches that output
-/// through recorded dependencies. Numbers stay in their tables, and so does all that stands in the tree outside its
+/// A scope block stays if its scope has an output that must be memoized, and an escaping name reaches that output
+/// through recorded dependencies. Numbers stay in their tables, and so does everything in the tree outside its
 /// scopes.
 ///
 /// Fails with `Uninitialised` exactly if a name of which the memo record needs a node has none yet, and names the first

@@ -30,8 +30,8 @@ pub(crate) struct WalkState {
     pub users: List<List<usize>>,
 }
 
-/// A part of the walk that isn't done. Nodes and scopes stand by their positions in the record, and `next` is the place
-/// of the first name, row or scope that is left.
+/// A part of the walk that isn't done. It names nodes and scopes by their positions in the record, and `next` is the
+/// place of the first name, row or scope that is left.
 #[derive(Clone, Copy, Debug, PartialEq, Eq)]
 pub(crate) enum VisitFrame {
     /// The escaping names are visited.

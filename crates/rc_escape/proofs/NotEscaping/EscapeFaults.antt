@@ -1,4 +1,4 @@
--- Want of memory, and what the memoized names fail with, are faults of the pass.
+-- Out of memory, and what the memoized names fail with, are faults of the pass.
 use Rattle.std.proofs.Common.{◌≡◌, ◌⊎◌, inl, inr, subst, sym}
 use Rattle.rc_hir.specs.Model.{Environment, Fault}
 use Rattle.rc_hir.specs.declared.fault.Fault.TheVariants as faults

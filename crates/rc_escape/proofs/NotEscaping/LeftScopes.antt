@@ -1,5 +1,5 @@
--- The scopes whose blocks stay are those that don't give way, and the log has the others, in the order in which the blocks
--- end.
+-- The scopes whose blocks stay are those that don't give way, and the log has the others, in the order in which the
+-- blocks end.
 use Rattle.std.proofs.Common.{◌≡◌, ◌∙◌, Bool, true, false, List, [], ◌∷◌, ◌++◌, Result, Ok, Err, append_assoc, map, not}
 use Rattle.std.proofs.Common.{Option, None, Some, if◌then◌else◌, refl, sym, ap, subst}
 use Rattle.std.proofs.lemmas.List.{append-nil, map-append}

@@ -1,4 +1,4 @@
--- What the frames of the walk by a stack still do. The walk is that of the record for which the rows stand.
+-- What the frames of the walk by a stack still do. The walk is that of the record that the rows stand for.
 use Rattle.std.specs.Prelude.{◌≡◌, ◌<◌, ℕ, Bool, true, false, List, [], ◌∷◌, None, Some, drop, length, slice_get}
 use Rattle.std.specs.Prelude.{if◌then◌else◌}
 use Rattle.std.specs.List.{IsDistinct, list_any}
