@@ -82,7 +82,7 @@ module _ (places : List RangedPlace) where
       ap (λ w. option_to_list w ++ flat_map (listed kept) entries) all.0
       ∙ ap (λ w. option_to_list (slice_get places entry.index) ++ w) (places_of entries all.1)
 
--- the place behind others is at its index, with its range
+-- the place after others is at its index, with its range
 
 next_place : (before : List RangedPlace) (ranged : RangedPlace) (places : List RangedPlace) (i : ℕ) → length before ≡ i
     → slice_get (before ++ ranged ∷ places) i ≡ Some ranged
@@ -96,7 +96,7 @@ next_of_place [] ranged places (suc i) is = absurd (omega (arith, is))
 next_of_place (first ∷ before) ranged places zero is = absurd (omega (arith, is))
 next_of_place (first ∷ before) ranged places (suc i) is = next_of_place before ranged places i (omega (arith, is))
 
--- the others behind one place more
+-- the others after one more place
 next_before : (before : List RangedPlace) (ranged : RangedPlace) (places : List RangedPlace)
     → (before ++ ranged ∷ []) ++ places ≡ before ++ ranged ∷ places
 next_before before ranged places = append_assoc before (ranged ∷ []) places

@@ -32,7 +32,7 @@ left-joined id [] = refl
 left-joined id (part ∷ parts) =
     ap (λ w. entries_left id part ++ w) (left-joined id parts) ∙ sym (filter-append _ part (joined parts))
 
--- what stands behind as many elements
+-- what comes after as many elements
 pub slice_get-at : {X : Type 0} (xs ys : List X) (y : X) (i : ℕ) → length xs ≡ i → slice_get (xs ++ y ∷ ys) i ≡ Some y
 slice_get-at [] ys y zero is = refl
 slice_get-at [] ys y (suc i) is = absurd (omega (arith, is))

@@ -24,7 +24,7 @@ abbrev AreInOrder : List Entry → Type 0
 AreInOrder [] = Unit {0}
 AreInOrder (entry ∷ entries) = AreFrom entry.index entries × AreInOrder entries
 
--- an entry that is put among others goes before the first one, or behind it
+-- an entry that is put among others goes before the first one, or after it
 put_cases : (entry first : Entry) (others : List Entry)
     → ((put_in_order entry (first ∷ others) ≡ entry ∷ first ∷ others) × (entry.index ≤ first.index))
     ⊎ ((put_in_order entry (first ∷ others) ≡ first ∷ put_in_order entry others) × (first.index < entry.index))

@@ -2,7 +2,7 @@
 
 use rc_hir::MutableRange;
 
-/// The range of a place, and the index at which the place stands among all that were given.
+/// The range of a place, and the index of the place among all that were given.
 #[derive(Clone, Copy)]
 pub struct Entry {
     pub range: MutableRange,

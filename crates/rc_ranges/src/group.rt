@@ -49,7 +49,7 @@ impl Group {
         self.ids
     }
 
-    /// Puts the indices of the entries whose range has an id behind others. Fails only when out of memory.
+    /// Appends the indices of the entries whose range has an id. Fails only when out of memory.
     pub fn put_indices_at(
         &self,
         indices: &mut Vec<usize>,
@@ -76,7 +76,7 @@ impl Group {
     }
 }
 
-/// Puts the indices of the entries whose range has an id behind others. Fails only when out of memory.
+/// Appends the indices of the entries whose range has an id. Fails only when out of memory.
 fn put_indices_of(
     entries: &[Entry],
     indices: &mut Vec<usize>,

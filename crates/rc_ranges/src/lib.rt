@@ -1,8 +1,7 @@
 //! Places found by an id in their range, without a look at all of them.
 //!
-//! Each place stands with a range of ids. The ranges are sorted by their start and stand in groups, and these in
-//! sections, each with a range around those of its entries. So an id is looked for in those sections and groups alone
-//! that can have it.
+//! Each place has a range of ids. The ranges are sorted by their start and put in groups, and these in sections, each
+//! with a range around those of its entries. So an id is looked for only in those sections and groups that can have it.
 #![tactic(auto)]
 
 mod entry;

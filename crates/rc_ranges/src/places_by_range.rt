@@ -12,7 +12,7 @@ use rc_names::{EvaluationOrder, List};
 use std::alloc::{AllocError, Global};
 use std::marker::Model;
 
-/// How many entries stand in one section, at most: 64 groups of 64.
+/// How many entries are in one section, at most: 64 groups of 64.
 const SECTION: usize = 4096;
 
 /// Places with their ranges, which contracts see as the list of those that are left, in the order in which they were

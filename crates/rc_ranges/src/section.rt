@@ -12,7 +12,7 @@ use rc_names::{EvaluationOrder, List};
 use std::alloc::{AllocError, Global};
 use std::marker::Model;
 
-/// How many entries stand in one group, at most.
+/// How many entries are in one group, at most.
 const GROUP: usize = 64;
 
 /// Some groups and a range that those of their entries are within, which contracts see as the list of all the entries.
@@ -46,7 +46,7 @@ impl Section {
         })
     }
 
-    /// Puts the indices of the entries whose range has an id behind others. Fails only when out of memory.
+    /// Appends the indices of the entries whose range has an id. Fails only when out of memory.
     pub fn put_indices_at(
         &self,
         indices: &mut Vec<usize>,
@@ -83,7 +83,7 @@ fn groups_of(alloc: Global, entries: &[Entry]) -> Result<List<Group>, AllocError
     Ok(groups)
 }
 
-/// Puts the indices of the entries of groups whose range has an id behind others. Fails only when out of memory.
+/// Appends the indices of the entries of groups whose range has an id. Fails only when out of memory.
 fn put_indices_of(
     groups: &[Group],
     indices: &mut Vec<usize>,

@@ -1,4 +1,4 @@
--- What is left of places, as entries that stand in another order.
+-- What is left of places, as entries in another order.
 use Rattle.std.specs.Prelude.{◌+◌, ℕ, Bool, List, [], ◌∷◌, Option, filter, map, nat_le, not, slice_get}
 use Rattle.std.specs.Prelude.{if◌then◌else◌}
 use Rattle.std.specs.List.{flat_map}
