@@ -32,11 +32,11 @@ pub by_place : {A : Type 0} {j : ℕ} (p k : ℕ) → p < j → j ≡ k + 1 → 
 by_place p k below next before here = elim (cases_lt p k) [ inl lt ↦ before lt | inr ge ↦ here (omega arith) ]
 
 module _ {X : Type 0} (all : List X) where
-  -- at one place stands one entry
+  -- a place has one entry
   pub one_at : {p k : ℕ} {x y : X} → p ≡ k → slice_get all p ≡ Some x → slice_get all k ≡ Some y → x ≡ y
   one_at e f g = some_same (sym f ∙ ap (slice_get all) e ∙ g)
 
-  -- the rest stands from that place on
+  -- from that place on comes the rest
   abbrev pub StandsAt : ℕ → List X → Type 0
   StandsAt k rest = (j : ℕ) → slice_get all (k + j) ≡ slice_get rest j
 

@@ -1,4 +1,4 @@
--- A key stands before a place of a list exactly if it is among the entries before that place.
+-- The position of a key is before a place of a list exactly if the key is among the entries before that place.
 use Rattle.std.proofs.Common.{◌≡◌, ◌∙◌, ◌≤◌, ◌+◌, ℕ, zero, suc, Bool, true, false, cond, ◌||◌, List, [], ◌∷◌}
 use Rattle.std.proofs.Common.{Option, None, Some, nat_lt, position, take, refl, sym, ap, arith, le-ltb, lt-ltb}
 use Rattle.std.specs.List.{list_any, position_from}

@@ -37,7 +37,7 @@ module _ (env : Environment) where
   targets (Ends scope) = outputs_if (slice_get env.scopes scope.0)
 
   -- the name is reactive at that place: a step before it marks the name, or carries on to it from a name that is
-  -- reactive where that step stands
+  -- reactive at that step
   pub data IsReached (steps : List Step) : ℕ → IdentifierId → Type 0 where
     marked : {place earlier : ℕ} {name : IdentifierId} → slice_get steps earlier ≡ Some (Marks name) → earlier < place
         → IsReached steps place name

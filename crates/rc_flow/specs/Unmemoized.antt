@@ -1,6 +1,6 @@
 -- Which values are new in every render at a place of the statements, and which scope blocks depend on one.
 --
--- A value is always new where it is made anew each time that its row runs. It is unmemoized where besides no scope
+-- A value is always new where it is made again each time that its row runs. It is unmemoized if, besides, no scope
 -- keeps it: it was made outside all scope blocks, or in a scope block that depends on such a value itself.
 use Rattle.std.specs.Prelude.{◌≡◌, ◌<◌, ◌+◌, ◌↔◌, ℕ, Bool, true, false, List, [], ◌∷◌, Some, slice_get}
 use Rattle.rc_hir.specs.Model.{Environment}
@@ -9,7 +9,7 @@ use Rattle.rc_flow.specs.Reached.{dependencies_if, outputs_if}
 use Rattle.rc_flow.specs.declared.value_step.ValueStep.{ValueStep}
 use Rattle.rc_flow.specs.declared.value_step.ValueStep.TheVariants.{Makes, Copies, Ends}
 
--- the name has a value at that place that is made anew each time
+-- the name has a value at that place that is made again each time
 pub data IsAlwaysNew (steps : List ValueStep) : ℕ → IdentifierId → Type 0 where
   made : {place earlier : ℕ} {name : IdentifierId} {in_scope : Bool}
       → slice_get steps earlier ≡ Some (Makes name in_scope) → earlier < place → IsAlwaysNew steps place name

@@ -35,7 +35,7 @@ use std::alloc::{AllocError, Global};
 
 /// Makes each scope block a pruned one that depends on a value that is new in every render and that no scope keeps.
 ///
-/// The numbers of the tree stay, and so does all that stands in it outside its scopes. The only fault is out of memory,
+/// The numbers of the tree stay, and so does everything in it outside its scopes. The only fault is out of memory,
 /// after which the body has no stated content.
 pub fn prune_always_invalidating_scopes(
     alloc: Global,

@@ -1,7 +1,7 @@
 //! One set of names grows over the steps of a walk, and notes its size where a scope block ends.
 //!
-//! Names stand in the set in the order in which they became reactive. So the names that were reactive at a place are
-//! the first ones, as many as were noted there.
+//! The set keeps names in the order in which they became reactive. So the names that were reactive at a place are the
+//! first ones, as many as were noted there.
 
 ghost use Rattle.std.specs.Prelude.{◌≡◌, OnOk};
 ghost use Rattle.std.specs.List.{list_any};

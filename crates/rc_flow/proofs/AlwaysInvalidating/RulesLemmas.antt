@@ -136,7 +136,7 @@ rebuilt_keeps_erased answers old new header is =
     erase_kept dropping_rules (rules_keep erase_measure (λ x. pruned_like_kept (as_pruned x) x refl)) old new answers
     is.left header is.rebuilt
 
--- a call with the result of the walk leaves the rebuilt body, and its only fault is want of memory
+-- a call with the result of the walk leaves the rebuilt body, and its only fault is out of memory
 module _ {T : Type 0} (functions : T → List HirFunction) (t : T) (w : T × List Bool) (answers : List Bool)
     (before after : ReactiveBlock) (result : Result (Unit {0}) Fault)
     (walk : IsStep (rewrite_block (over_statements (λ it. dropping_steps)) functions (t, reverse answers) before) result

@@ -125,7 +125,7 @@ module _ (env : Environment) (func : ReactiveFunction) where
       by (Ok s) none = tt
       by (Err fault) named = named
 
-  -- each fault of a call does but for want of memory
+  -- each fault of a call does, except `NoMemory`
   abbrev Named : {B : Type 0} → Result B Fault → Type 0
   Named result = IfErr result (λ fault. (fault ≡ NoMemory) ⊎ Outside fault)
 

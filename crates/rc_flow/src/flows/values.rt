@@ -187,7 +187,7 @@ fn add_step(
     steps.push(Step::Carries { from, to })
 }
 
-/// The places of a pattern; the only fault of reading them is want of memory.
+/// The places of a pattern; the only fault of reading them is `NoMemory`.
 fn pattern_places(alloc: Global, pattern: &Pattern) -> Result<Places<'_>, AllocError>
     ensures { IfOk result (λ places. places ≡ pattern_places pattern.now) }
 {
