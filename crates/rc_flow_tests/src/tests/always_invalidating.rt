@@ -73,7 +73,7 @@ fn three_scopes(
     Ok(list)
 }
 
-/// Whether of the three scope blocks behind and around these rows those become pruned ones.
+/// Whether exactly the expected ones of the three scope blocks around and after these rows become pruned ones.
 fn become_pruned(alloc: Global, rows: &[&[Row]; 3], expected: &[bool; 3]) -> Result<bool, Fault> {
     let statements = three_scopes(alloc, rows[0], rows[1], rows[2])?;
     let pruned = pruned_in(alloc, statements)?;
@@ -88,7 +88,7 @@ const FIRST: [bool; 3] = [true, false, false];
 
 #[test]
 fn a_scope_that_depends_on_a_new_value_is_pruned(rt: HostRuntime) -> Result<(), Fail> {
-    // Rows before the block of scope 0, in it, and behind it; and which of the three blocks become pruned ones.
+    // Rows before the block of scope 0, in it, and after it; and which of the three blocks become pruned ones.
     let table: [([&[Row]; 3], [bool; 3]); 18] = [
         ([&[], &[], &[]], NONE),
         // Five kinds of values are new each time, and no other.

@@ -32,7 +32,7 @@ fn pruned(alloc: Global, statements: List<ReactiveStatement>) -> Result<Environm
     Ok(env)
 }
 
-/// Whether these dependencies of scope 0 stay, whose block stands behind the rows.
+/// Whether these dependencies of scope 0 stay, whose block comes after the rows.
 fn stay_behind(alloc: Global, rows: &[Row], names: &[u32]) -> Result<bool, Fault> {
     let statements = parts(alloc, &[Part::Rows(rows), Part::Scope(0)])?;
     let env = pruned(alloc, statements)?;
@@ -41,7 +41,7 @@ fn stay_behind(alloc: Global, rows: &[Row], names: &[u32]) -> Result<bool, Fault
 
 #[test]
 fn a_row_carries_by_its_rule(rt: HostRuntime) -> Result<(), Fail> {
-    // Rows, and the names that are reactive behind them, in the order of the scope's list.
+    // Rows, and the names that are reactive after them, in the order of the scope's list.
     let table: [(&[Row], &[u32]); 15] = [
         (&[], &[]),
         (&[Row::Reads(0)], &[0]),
@@ -80,7 +80,7 @@ fn a_row_carries_by_its_rule(rt: HostRuntime) -> Result<(), Fail> {
     Ok(())
 }
 
-/// Whether these dependencies of the scopes 0 and 1 stay, whose blocks stand behind the rows, that of scope 1 first.
+/// Whether these dependencies of the scopes 0 and 1 stay, whose blocks come after the rows, that of scope 1 first.
 fn stay_in_both(alloc: Global, rows: &[Row], first: &[u32], second: &[u32]) -> Result<bool, Fault> {
     let statements = parts(alloc, &[Part::Rows(rows), Part::Scope(1), Part::Scope(0)])?;
     let env = pruned(alloc, statements)?;
@@ -89,7 +89,7 @@ fn stay_in_both(alloc: Global, rows: &[Row], first: &[u32], second: &[u32]) -> R
 
 #[test]
 fn a_scope_carries_from_its_dependencies_to_its_outputs(rt: HostRuntime) -> Result<(), Fail> {
-    // Rows, the dependencies of the scope that stay, and the names that are reactive behind its block.
+    // Rows, the dependencies of the scope that stay, and the names that are reactive after its block.
     let table: [(&[Row], &[u32], &[u32]); 3] = [
         (&[Row::Reads(0)], &[0], &[4, 3, 0]),
         (&[Row::Reads(5)], &[], &[5]),
@@ -104,7 +104,7 @@ fn a_scope_carries_from_its_dependencies_to_its_outputs(rt: HostRuntime) -> Resu
     Ok(())
 }
 
-/// Whether a name that becomes reactive behind the block of scope 1 isn't kept there.
+/// Whether a name that becomes reactive after the block of scope 1 isn't kept there.
 fn is_judged_at_its_end(alloc: Global) -> Result<bool, Fault> {
     let before: &[Row] = &[Row::Reads(0)];
     let behind: &[Row] = &[Row::Loads(0, 1)];
@@ -145,7 +145,7 @@ fn sequence(alloc: Global, entries: &[Row]) -> Result<ReactiveValue, AllocError>
     })
 }
 
-/// A `for` without rows but those of its update and of its body, in which the block of scope 0 stands.
+/// A `for` without rows but those of its update and of its body, in which the block of scope 0 is.
 fn for_loop(alloc: Global, update: &[Row], body: &[Row]) -> Result<ReactiveStatement, AllocError> {
     let update = Boxed::new(alloc, sequence(alloc, update)?)?;
     let mut statements = statements(alloc, body)?;

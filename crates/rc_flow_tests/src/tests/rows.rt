@@ -21,7 +21,7 @@ pub enum Row {
     Loads(u32, u32),
     /// Stores the first name in the second one, for the third one.
     Stores(u32, u32, u32),
-    /// Takes the first name apart into the second and, behind three dots, the third one, for the fourth one.
+    /// Takes the first name apart into the second and, after three dots, the third one, for the fourth one.
     TakesApart(u32, u32, u32, u32),
     /// Loads a property of the first name for the second one.
     LoadsProperty(u32, u32),
@@ -96,7 +96,7 @@ pub fn store(number: u32, value: Place) -> InstructionValue {
     }
 }
 
-/// A pattern of two names with a hole between them, the second behind three dots.
+/// A pattern of two names with a hole between them, the second after three dots.
 fn destructure(
     alloc: Global,
     value: u32,
