@@ -9,9 +9,10 @@ ghost use Rattle.rc_memo.specs.declared.level.MemoizationLevel.TheVariants as le
 pub enum MemoizationLevel {
     /// The name is memoized wherever it is needed.
     Memoized,
-    /// The name is memoized where one of its dependencies is, or where a memoized scope depends on it.
+    /// The name is memoized if it is needed and one of its dependencies is memoized, or if it is first needed by a
+    /// memoized scope.
     Conditional,
-    /// The name is memoized only where a memoized scope depends on it.
+    /// The name is memoized only if it is first needed by a memoized scope.
     Unmemoized,
     /// The name is never memoized.
     Never,

@@ -12,7 +12,8 @@ pub struct MemoNode {
     pub level: MemoizationLevel,
     /// The names that its value is computed from.
     pub dependencies: KeySet<DeclarationId>,
-    /// The scopes that have to stay where the name is memoized.
+    /// The scopes that were active at a row that has the name. If the name is memoized, what these scopes depend on is
+    /// visited as needed by a memoized scope.
     pub scopes: KeySet<ScopeId>,
 }
 
