@@ -1,4 +1,4 @@
-//! One block: whether a tree may use it where the walk stands, its rows, and its mark.
+//! One block: whether a tree may use it where the walk is, its rows, and its mark.
 
 ghost use Rattle.std.specs.Prelude.{◌≡◌, ◌≤◌, ◌++◌, true, false, None, Some, IfOk, IfErr};
 ghost use Rattle.std.specs.Option.{option_to_list};
@@ -25,7 +25,7 @@ use std::alloc::AllocError;
 impl<'g> Builder<'g> {
     /// Builds the rows of the site's block and marks it as used; returns its terminal.
     ///
-    /// - `Malformed`: no tree may use it there; it is no key (`NoBlock`), stands under another number than its
+    /// - `Malformed`: no tree may use it there; it is no key (`NoBlock`), is under another number than its
     ///   own (`KeyDiffers`), is used already or a jump target (`Twice`), has an unset id (`UnsetId`), leads to a
     ///   block that ends in `Unreachable` (`Dead`), or opens a scope that is used already (`ScopeTwice`).
     /// - `BadName`: one of its rows isn't there.

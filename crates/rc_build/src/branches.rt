@@ -61,7 +61,7 @@ impl<'g> Builder<'g> {
         }
     }
 
-    /// Builds a branch in a list, which is an if without a label whose arms stand where it stands; it ends the list.
+    /// Builds a branch in a list: an if without a label, whose arms are in the context of the list; it ends the list.
     ///
     /// - `Malformed` with `BreakTarget`: a jump can name the alternate.
     /// - `Malformed`, as for a break: a jump can name the consequent.
@@ -155,7 +155,7 @@ fn falls_elsewhere(
     alternate == fallthrough && !falls_to(opened, fallthrough, next)
 }
 
-/// Puts the statement of an if behind others. The only error is out of memory.
+/// Appends the statement of an if. The only error is out of memory.
 #[inline(never)]
 fn put_if(
     alloc: Global,

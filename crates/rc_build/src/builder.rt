@@ -84,7 +84,7 @@ impl Site {
 }
 
 impl<'g> Builder<'g> {
-    /// Nothing is used, no statement is built, and nothing stands around the list. It takes no memory.
+    /// Nothing is used, no statement is built, and no frame is around the list. It takes no memory.
     pub fn new(alloc: Global, hir: &'g HirFunction, env: &'g Environment) -> Builder<'g>
         ensures hir { result.hir.now ≡ hir.now }
         ensures env { result.env.now ≡ env.now }
@@ -162,12 +162,12 @@ pub fn label_at(opened: Option<BlockId>) -> Option<ReactiveLabel>
     }
 }
 
-/// Lets a part go that was built before a fault.
+/// Drops a part that was built before a fault.
 // It isn't inlined: the frames of nested calls then have no room for what is taken out of the part to let it go.
 #[inline(never)]
 pub fn let_go<T: Drop>(_part: T) {}
 
-/// Puts the statement of a terminal with a label behind others. The only error is out of memory.
+/// Appends the statement of a terminal with a label. The only error is out of memory.
 // It isn't inlined, nor are the functions that put one kind of statement: a statement takes no room in the frames of
 // nested calls.
 #[inline(never)]

@@ -40,7 +40,7 @@ impl Enclosure {
         }
     }
 
-    /// Puts the statement around a part behind others; scopes have no label. The only error is out of memory.
+    /// Appends the statement around a part; scopes have no label. The only error is out of memory.
     #[inline(never)]
     fn put(
         self,

@@ -1,4 +1,4 @@
-//! Flattening of a loop's part: its rows and its value stand in one sequence, whose own value is `undefined`.
+//! Flattening of a loop's part: its rows and its value are put in one sequence, whose own value is `undefined`.
 //!
 //! After the loops of oxc's build_reactive_function.
 
@@ -39,7 +39,7 @@ pub fn flattened(
     Boxed::new(alloc, sequence)
 }
 
-/// The rows of nested sequences, and the value behind all of them.
+/// The rows of nested sequences, and the value after all of them.
 #[derive(Drop)]
 struct FlatValue {
     rows: List<ReactiveInstruction>,

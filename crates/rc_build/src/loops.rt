@@ -1,6 +1,6 @@
 //! Loops: the values of their turns are built first, and then the body inside the loop's frame.
 //!
-//! No jump in a value can name the loop, so that its values stand outside of the frame.
+//! No jump in a value can name the loop, so its values are built outside of the frame.
 //!
 //! After the loops of oxc's build_reactive_function.
 
@@ -66,7 +66,7 @@ pub struct TurnValues {
     test: Boxed<ReactiveValue>,
 }
 
-/// Where the body of a loop stands.
+/// The block and the frame of a loop's body, and the loop's fallthrough.
 #[derive(Clone, Copy)]
 pub struct LoopBody {
     pub block: BlockId,
@@ -366,7 +366,7 @@ fn for_of(terminal: &Terminal) -> Option<LoopTerminal>
     }
 }
 
-/// Where the body of the loop that a terminal is stands.
+/// The body of the loop that a terminal is.
 // Not inlined, so that the frames of nested loops have no room for the parts of the terminal.
 #[inline(never)]
 fn body_of(terminal: &Terminal) -> LoopBody
@@ -381,8 +381,7 @@ fn body_of(terminal: &Terminal) -> LoopBody
     }
 }
 
-/// Puts the statement of the loop that a terminal is, whose parts are built, behind others. The only error is out of
-/// memory.
+/// Appends the statement of the loop that a terminal is, whose parts are built. The only error is out of memory.
 #[inline(never)]
 fn put_loop(
     alloc: Global,

@@ -25,8 +25,8 @@ use std::alloc::Global;
 /// A graph is refused, in this order,
 ///
 /// - with a number outside its table: `BadName`;
-/// - if it spells no function: `Malformed`, with a rule whose fact holds of the named block, or `Todo`, where the named
-///   block stands for a value and ends in a `Label`.
+/// - if it spells no function: `Malformed`, with a rule whose fact holds of the named block, or `Todo`, which names a
+///   block that must give a value and ends in a `Label`.
 ///
 /// `NoMemory` may come at any time.
 pub fn build_reactive_function(
@@ -44,7 +44,7 @@ pub fn build_reactive_function(
     ensures graph_to_body { IfOk result (λ built. NoEarlyReturnSet env.now
         → (events : Items Event) (end : End) → IsGraphRun hir.now env.now events end
         → IsBodyRun built env.now events end) }
-    // A body may throw behind any of its rows, and a graph only where a `MaybeThrow` stands.
+    // A body may throw after any of its rows, and a graph only where it has a `MaybeThrow`.
     ensures body_to_graph { IfOk result (λ built. NoEarlyReturnSet env.now
         → (events : Items Event) (end : End) → has_throw events ≡ false → IsBodyRun built env.now events end
         → IsGraphRun hir.now env.now events end) }
@@ -57,7 +57,7 @@ pub fn build_reactive_function(
     build_known_function(alloc, hir, env)
 }
 
-/// The same of a graph whose numbers are in their tables, which isn't looked at again: `BadName` doesn't come.
+/// The same for a graph whose numbers are in their tables; that isn't checked again, and `BadName` doesn't come.
 pub fn build_known_function(
     alloc: Global,
     hir: &HirFunction,
@@ -87,7 +87,7 @@ pub fn build_known_function(
 /// The function that a graph spells; nothing is asked of the graph.
 ///
 /// - `Malformed`: the graph spells none, and the rule's fact holds of the named block.
-/// - `Todo`: the graph spells none, and the named block stands for a value and ends in a `Label`.
+/// - `Todo`: the graph spells none, and the fault names a block that must give a value and ends in a `Label`.
 /// - `BadName`: a block names a row that isn't there.
 /// - `NoMemory`: out of memory.
 fn build(alloc: Global, hir: &HirFunction, env: &Environment) -> Result<ReactiveFunction, Fault>

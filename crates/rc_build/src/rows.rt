@@ -15,7 +15,7 @@ use rc_names::{BlockId, CloneIn, InstructionId, List};
 use rc_tree::{ReactiveInstruction, ReactiveStatement, ReactiveValue};
 use std::alloc::{AllocError, Global};
 
-/// Puts the statements of a block's rows behind others, where each row and the terminal have an id.
+/// Appends the statements of a block's rows, where each row and the terminal have an id.
 ///
 /// - `Malformed` with `UnsetId`: a row or the terminal has no id.
 /// - `BadName`: a row isn't there.
@@ -31,7 +31,7 @@ pub fn put_rows(
     ensures refused { IfRefused result (HasIds hir.now block.now → ⊥) }
     ensures facts { IfErr result (FaultFact hir.now) }
 {
-    // Room for the rows, and for the terminal behind them.
+    // Room for the rows, and for the terminal after them.
     out.reserve(block.instructions.len().saturating_add(1))?;
     put_each(alloc, hir, key, block, out)
 }

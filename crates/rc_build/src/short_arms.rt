@@ -29,7 +29,7 @@ pub struct ShortArm {
 
 impl<'g> Builder<'g> {
     /// Builds the short arm of a value terminal, if it has one and the value doesn't answer a test; returns the arm that is
-    /// left to the test, where the value behind leaves one open or this one does.
+    /// left to the test, where the value after the terminal leaves one open or this one does.
     ///
     /// `Malformed`, `BadName`: as for a silent arm.
     pub fn build_short_arm(
@@ -115,7 +115,7 @@ impl<'g> Builder<'g> {
         Ok(None)
     }
 
-    /// Refuses a value at the arm whose blocks were marked behind the first ones, where they are no silent arm.
+    /// Refuses a value at the arm if its blocks, which were marked after the first `before` ones, are no silent arm.
     /// `Malformed` with `LoudArm`: a row of them isn't silent, or one ends in a value terminal.
     pub fn check_silent_since(&self, before: usize, arm: BlockId) -> Result<(), Fault>
         requires { CanCheckSilent self.now.hir.now self.now.marks arm }
@@ -132,7 +132,7 @@ impl<'g> Builder<'g> {
         Ok(())
     }
 
-    /// Refuses a block of a value at the arm that is none of a silent arm. `Malformed` with `LoudArm`: a row of it isn't
+    /// Refuses a value's block at the arm, if a silent arm can't have it. `Malformed` with `LoudArm`: a row of it isn't
     /// silent, or it ends in a value terminal.
     fn check_arm_block(&self, arm: BlockId, key: BlockId) -> Result<(), Fault>
         requires { CanCheckBlock self.now.hir.now arm key }

@@ -128,7 +128,7 @@ impl<'g> Builder<'g> {
                 handler: site.handler,
             };
             let statements = self.build_apart(here)?;
-            // Before the frame is put, so that no statement is let go here after want of memory.
+            // Before the frame is pushed, so that no statement is dropped here when memory runs out.
             put_case(parts, kept, statements)?;
             self.frames.push(Frame::Case { block })?;
             next = Some(block);
@@ -238,8 +238,7 @@ fn last_block(cases: &List<Case>) -> Option<BlockId>
     Some(last.block)
 }
 
-/// Takes the last case out of a list, and puts the case of the tree with its test behind others. The only error is out of
-/// memory.
+/// Takes the last case out of a list, and appends the case of the tree with its test. The only error is out of memory.
 // Not inlined, so that the frames of nested switches have no room for a case.
 #[inline(never)]
 fn put_case(
@@ -259,7 +258,7 @@ fn put_case(
     })
 }
 
-/// Puts the statement of a switch behind others. The only error is out of memory.
+/// Appends the statement of a switch. The only error is out of memory.
 #[inline(never)]
 fn put_switch(
     alloc: Global,

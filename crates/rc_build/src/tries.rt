@@ -77,7 +77,7 @@ impl<'g> Builder<'g> {
     }
 }
 
-/// Puts the statement of a try behind others. The only error is out of memory.
+/// Appends the statement of a try. The only error is out of memory.
 #[inline(never)]
 fn put_try(
     alloc: Global,

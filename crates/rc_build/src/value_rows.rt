@@ -1,4 +1,4 @@
-//! The rows of a value's last block: the last one is the value, and the earlier ones stand in a sequence before it.
+//! The rows of a value's last block: the last one is the value, and the earlier ones are in a sequence before it.
 
 ghost use Rattle.std.specs.Prelude.{◌≡◌, ◌∷◌, [], List as Items, None, IfOk, IfErr, slice_get, map};
 ghost use Rattle.std.specs.List.{list_any};

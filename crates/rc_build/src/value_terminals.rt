@@ -82,7 +82,7 @@ impl ValueKind {
 }
 
 impl ValueTerminal {
-    /// What stands around the parts of the value terminal.
+    /// What is around the parts of the value terminal.
     fn around(self, handler: Option<BlockId>) -> Around
         ensures { result ≡ around_parts self handler }
     {
@@ -310,7 +310,7 @@ fn optional_value(
     Boxed::new(alloc, whole)
 }
 
-/// The sequence of a test, as its only row, and the value behind it. The only error is out of memory.
+/// The sequence of a test, as its only row, and the value after it. The only error is out of memory.
 #[inline(never)]
 fn tested_then(
     alloc: Global,

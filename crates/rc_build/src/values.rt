@@ -1,6 +1,6 @@
-//! Values: value terminals as rows, and the block behind them whose last row is the value.
+//! Values: value terminals as rows, and the block after them, whose last row is the value.
 //!
-//! Where each value stands in the fallthrough of the one before, a loop goes forward and another one back; only the
+//! Where a value goes on from block to block, one loop follows it forward and another one comes back; only the
 //! parts of a value terminal are built by a nested call.
 //!
 //! After the value blocks of oxc's build_reactive_function.
@@ -73,16 +73,16 @@ pub struct TestArms {
     pub span: Option<Span>,
 }
 
-/// What stands around a value.
+/// What is around a value.
 #[derive(Clone, Copy)]
 pub struct Around {
-    /// The span of the terminal in whose value it stands.
+    /// The span of the terminal in whose value it is.
     pub span: Option<Span>,
     /// The current handler.
     pub handler: Option<BlockId>,
 }
 
-/// How a value goes on behind a block of it.
+/// How a value goes on after one of its blocks.
 #[derive(Clone, Copy)]
 enum Step {
     /// At the fallthrough of a value terminal.
@@ -91,7 +91,7 @@ enum Step {
     Throws { throw: MayThrow },
 }
 
-/// The rows of a block of a value, and where the value goes on behind it.
+/// The rows of a block of a value, and where the value goes on after it.
 #[derive(Drop)]
 struct ValueRow {
     /// The rows of the block, and of its value terminal, if it ends in one.
@@ -253,7 +253,7 @@ impl<'g> Builder<'g> {
         Ok(built)
     }
 
-    /// Builds the rows of a block behind which the value goes on.
+    /// Builds the rows of a block after which the value goes on.
     ///
     /// `Malformed`, `Todo`, `BadName`: as for a value terminal's row, or for a block that may throw.
     #[cycle(values)]
@@ -271,7 +271,7 @@ impl<'g> Builder<'g> {
         }
     }
 
-    /// Builds the value terminal of a block as a row, behind the rows of the block.
+    /// Builds the value terminal of a block as a row, after the rows of the block.
     ///
     /// - `Malformed`, `BadName`: as for a block of a value.
     /// - `Malformed`, `Todo`, `BadName`: as for the value terminal.
@@ -310,7 +310,7 @@ impl<'g> Builder<'g> {
         })
     }
 
-    /// Builds the rows of a block that may throw, behind which the value goes on.
+    /// Builds the rows of a block that may throw, after which the value goes on.
     ///
     /// - `Malformed` with `Handler`: it names a handler that isn't the current one.
     /// - `Malformed`, `BadName`: as for a block of a value.
@@ -341,7 +341,7 @@ impl<'g> Builder<'g> {
         })
     }
 
-    /// The value of a row and of what is built behind it, with the short arm of the row.
+    /// The value of a row and of the built value after it, with the short arm of the row.
     ///
     /// `Malformed`, `BadName`: as for a short arm.
     fn put_behind(
@@ -367,7 +367,7 @@ impl<'g> Builder<'g> {
         Ok(built.behind(self.alloc, row.rows, left_open)?)
     }
 
-    /// How a value goes on behind the block under a key, if there is such a block and it isn't the value's last one.
+    /// How a value goes on after the block under a key, if there is such a block and it isn't the value's last one.
     fn step_at(&self, key: BlockId) -> Option<Step>
         ensures { result ≡ steps.step_at self.now.hir.now key }
     {
@@ -398,7 +398,7 @@ impl<'g> Builder<'g> {
 }
 
 impl Showing {
-    /// What stands around the value in a loop at the site.
+    /// What is around the value in a loop at the site.
     fn around(self, site: Site) -> Around
         ensures { result ≡ steps.around_at self.span site }
     {
@@ -419,7 +419,7 @@ impl TestArms {
 }
 
 impl<'g> BuiltValue<'g> {
-    /// The value behind these rows, if there are any, with the arm that both leave open. The only error is out of
+    /// The value after these rows, if there are any, with the arm that both leave open. The only error is out of
     /// memory.
     fn behind(
         self,
@@ -448,7 +448,7 @@ impl<'g> BuiltValue<'g> {
         })
     }
 
-    /// The value as it stands in a loop. The only error is out of memory.
+    /// The value as it is in a loop. The only error is out of memory.
     fn shown(self, alloc: Global, showing: Showing) -> Result<Boxed<ReactiveValue>, AllocError>
         ensures { (hir : HirFunction) (value : Value) (end : ValueEnd) → spec.IsBuilt hir value end self.entry →
             IfOk result (λ whole. whole ≡ value_of (loop_values.shown showing.flat showing.span end value)) }
@@ -476,7 +476,7 @@ fn refuse(built: BuiltValue<'_>, rule: Rule) -> Fault
     malformed(built.block, rule)
 }
 
-/// Puts a row with that value behind others. The only error is out of memory.
+/// Appends a row with that value. The only error is out of memory.
 #[inline(never)]
 fn put_row(
     rows: &mut List<ReactiveInstruction>,
@@ -495,8 +495,8 @@ fn put_row(
     })
 }
 
-/// How a value goes on behind a block with the terminal, if that isn't the value's last one: a block that may throw is,
-/// where only a `Goto` is behind it.
+/// How a value goes on after a block with the terminal, if that isn't the value's last one. A block that may throw
+/// counts as the last one if only a `Goto` comes after it.
 fn step_behind(hir: &HirFunction, terminal: &Terminal) -> Option<Step>
     ensures { result ≡ steps.step_behind hir.now terminal.now }
 {
