@@ -60,7 +60,7 @@ abbrev pub is_label : Terminal → Bool
 is_label (terminals.Label block fallthrough id span) = true
 is_label _ = false
 
--- a block of a value may end in the terminal, also where the value goes on behind it, or is refused for its `Label`
+-- a block of a value may end in the terminal, even if the value goes on after it, or is refused for its `Label`
 abbrev pub is_in_values : Terminal → Bool
 is_in_values (terminals.Branch test consequent alternate id span) = true
 is_in_values (terminals.Goto block variant id span) = true

@@ -10,7 +10,7 @@ use Rattle.rc_build.specs.declared.given_tree.Broken.{Broken}
 abbrev pub other_tree_at : BlockId → Broken
 other_tree_at entry = record { block = entry; rule = rules.OtherTree }
 
--- a rule that the graph breaks is answered; a fault that no rule stands for is passed on
+-- the rule that the graph breaks is returned, and `OtherTree` for a `Todo`; any other fault is passed on
 abbrev pub answer_to : Fault → BlockId → Result (Option Broken) Fault
 answer_to (faults.Malformed block rule) entry = Ok (Some (record { block = block; rule = rule }))
 answer_to (faults.Todo block) entry = Ok (Some (other_tree_at entry))

@@ -18,7 +18,7 @@ use Rattle.rc_build.specs.inside.Setting.{Setting, setting_of}
 use Rattle.rc_build.specs.inside.Task.{FromBlock, FromTerminal, Progress, Spells, SpellsAlternate, Task, join, left, pending}
 use Rattle.rc_build.specs.inside.Task.{SpellsConsequent, progress_of}
 
--- of a task, the statements in front of what is left of it stand behind the old ones, and their blocks are marked
+-- the statements of the task in front of its `rest` are appended to the old ones, and their blocks are marked
 pub record BuiltPrefix (setting : Setting) (task rest : Task) (old new : Progress) : Type 0 where
   pub statements : Statements
   pub newly : List BlockId
@@ -55,14 +55,14 @@ abbrev pub BuiltConsequent : Setting → BlockId → EvaluationOrder → List Re
 BuiltConsequent setting consequent id list old new =
     BuiltPart statements_of (SpellsConsequent setting consequent id) setting.hir (consequent ∷ []) list old new
 
--- the statements of a break stand behind the others, and nothing is marked
+-- the statements of a break are appended, and nothing is marked
 pub record PutsBreak (old new : Builder) (target : BlockId) (id : EvaluationOrder) : Type 0 where
   pub statements : Statements
   pub asked : break_statements (resolve_break old.frames target) target id ≡ Some statements
   pub put : new.out ≡ old.out ++ statements_of statements
   pub kept : new.marks ≡ old.marks
 
--- what S asks for uses no blocks that are sound behind the used ones
+-- nothing that S asks for uses blocks that are sound after the used ones
 abbrev pub Refused : {A : Type 0} → HirFunction → (A → List BlockId → Type 0) → List BlockId → Type 0
 Refused {A} hir S used = (value : A) (blocks : List BlockId) → S value blocks → AreSound hir (used ++ blocks) → ⊥
 

@@ -25,7 +25,7 @@ abbrev pub references_of : HirFunction → List BlockId → List BlockId
 references_of hir used = hir.body.entry ∷ flat_map
     (λ pair. if is_among used pair.0 then referenced_blocks pair.1.terminal else []) hir.body.blocks
 
--- the entry or a used block refers to each pending or used block, as often as it stands there
+-- the entry and the used blocks refer to each pending or used block at least as often as it is listed
 abbrev pub AreReferenced : HirFunction → List BlockId → List BlockId → Type 0
 AreReferenced hir used pending = (key : BlockId) → times key (pending ++ used) ≤ times key (references_of hir used)
 

@@ -16,7 +16,7 @@ IsOpened value (opened.Sequence rows behind) =
 IsOpened value (opened.Last last) = (last ≡ value) × ((rows : List ReactiveInstruction) (id : EvaluationOrder)
     (behind : ReactiveValue) → value ≡ reactive_values.SequenceExpression rows id behind → ⊥)
 
--- these rows stand before the rest of the value
+-- these rows come before the rest of the value
 pub record FlatSoFar (plain : Value) (rows : List ReactiveInstruction) (value : ReactiveValue) : Type 0 where
   pub rest : Value
   pub is : value ≡ value_of rest

@@ -38,7 +38,7 @@ pub record CanBuildBefore (hir : HirFunction) (marks : Marks) (at : Option Block
   pub marked : AreMarked hir marks
   pub value : (key : BlockId) → at ≡ Some key → CanBuildValue hir marks key
 
--- the value from the block on is built as it stands before the loop's test, where there is one
+-- the value from the block on is built as it is before the loop's test, if there is a block
 abbrev pub BuildsBefore : Builder → Builder → Site → LoopTerminal → Bool → Option BlockId →
     Result (Option ReactiveValue) Fault → Type 0
 BuildsBefore old new site t flat at result = Builds old new site
@@ -96,7 +96,7 @@ module _ (s : Setting) (t : LoopTerminal) where
   abbrev pub SpellsLoopBefore : Option Value → List BlockId → Type 0
   SpellsLoopBefore value used = SpellsBefore s.hir s.env (blocks_of t) s.context (before_of t.kind) value used
 
-  -- the values of a turn are built: its test, and what stands before it
+  -- the values of a turn are built: its test, and what runs before it
   pub record TurnValuesBuilt (turn : TurnValues) (old new : Progress) : Type 0 where
     pub mid : Progress
     pub tested : BuiltPart value_of SpellsLoopTest s.hir (t.test ∷ []) turn.test old mid
@@ -118,7 +118,7 @@ BuildsLoopValues old new site t result = Builds old new site
     (λ values. LoopValuesBuilt (setting_of old site) t values (progress_of old) (progress_of new))
     (Refused old.hir.now (Spells (setting_of old site) (FromTerminal (terminal_of t))) old.marks.used) result
 
--- where the body of a loop stands
+-- the block and the frame of a loop's body, and the loop's fallthrough
 abbrev pub body_of : LoopTerminal → LoopBody
 body_of t = record { block = t.body; frame = loop_frame (blocks_of t); fallthrough = t.fallthrough }
 
@@ -135,7 +135,7 @@ tree_with kinds.ForIn t values body = Some (tree.ForIn values.turn.test (record 
 abbrev pub tree_of : LoopTerminal → LoopValues → List ReactiveStatement → Option ReactiveTerminal
 tree_of t values body = tree_with t.kind t values body
 
--- the statement of a loop with these parts stands behind others
+-- the statement of a loop with these parts is appended
 abbrev pub PutsLoop : List ReactiveStatement → List ReactiveStatement → LoopTerminal → LoopValues
     → List ReactiveStatement → Type 0
 PutsLoop before after t values body = (looping : ReactiveTerminal) × (tree_of t values body ≡ Some looping)

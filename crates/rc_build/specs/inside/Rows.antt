@@ -19,7 +19,7 @@ pub record HasIds (hir : HirFunction) (block : BasicBlock) : Type 0 where
   pub filled : rows_of hir.instructions block.instructions ≡ Some rows
   pub set : has_all_ids (record { rows = rows; terminal = block.terminal }) ≡ true
 
--- the same, and the statements of the rows stand behind the others
+-- the same, and the statements of the rows are appended
 pub record BuiltRows (hir : HirFunction) (block : BasicBlock) (out whole : List ReactiveStatement) : Type 0 where
   pub rows : List Instruction
   pub filled : rows_of hir.instructions block.instructions ≡ Some rows

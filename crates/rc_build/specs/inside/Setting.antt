@@ -1,4 +1,4 @@
--- Where a list is built: from which graph, and what stands around it.
+-- Where a list is built: from which graph, and in which context.
 use Rattle.std.specs.Prelude.{Bool, false, Option, Some, None, is_some, if◌then◌else◌}
 use Rattle.rc_names.specs.Numbers.{BlockId}
 use Rattle.rc_hir.specs.Model.{HirFunction, Environment}
@@ -10,7 +10,7 @@ use Rattle.rc_build.specs.declared.builder.Site.{Site}
 use Rattle.rc_runs.specs.Frames.{fall_block}
 use Rattle.rc_runs.specs.ListContext.{ListContext, inside, marked}
 
--- what a list is built from and stands in: the graph with its environment, and the context of the list
+-- what a list is built from, and where it is: the graph with its environment, and the context of the list
 pub record Setting : Type 0 where
   pub hir : HirFunction
   pub env : Environment

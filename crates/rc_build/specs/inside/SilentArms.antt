@@ -48,12 +48,12 @@ pub record ArmBuilt (hir : HirFunction) (env : Environment) (handler : Option Bl
   pub marking : MarksBlocks hir (key ∷ []) [] old.marks new.marks newly
   pub kept : new.out ≡ old.out
 
--- no silent arm from the block on uses blocks that are sound behind the used ones
+-- no silent arm from the block on uses blocks that are sound after the used ones
 abbrev pub HasNoArm : HirFunction → Environment → Option BlockId → BlockId → BlockId → List BlockId → Type 0
 HasNoArm hir env handler next key used = (blocks : List BlockId) → SpellsSilentArm hir env handler next key blocks →
     AreSound hir (used ++ blocks) → ⊥
 
--- what is left of a silent arm behind a block of it: nothing, or the arm from a block on
+-- what is left of a silent arm after one of its blocks: nothing, or the arm from a block on
 abbrev pub SpellsArmRest : HirFunction → Environment → Option BlockId → BlockId → Option BlockId → List BlockId → Type 0
 SpellsArmRest hir env handler next None used = used ≡ []
 SpellsArmRest hir env handler next (Some key) used = SpellsSilentArm hir env handler next key used

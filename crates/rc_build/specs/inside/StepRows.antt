@@ -1,4 +1,4 @@
--- The row of each block behind which a value goes on.
+-- The row of each block after which a value goes on.
 use Rattle.std.specs.Prelude.{◌≡◌, true, false, List, [], ◌∷◌, Option, Some, None}
 use Rattle.rc_names.specs.Numbers.{BlockId, EvaluationOrder}
 use Rattle.rc_names.specs.declared.span.Span.{Span}
@@ -59,13 +59,13 @@ pub record IsThrowing (hir : HirFunction) (handler : Option BlockId) (key : Bloc
   pub short : row.short ≡ None
   pub valued : IsValueReferenced hir row.next
 
--- the rows of a block behind which a value goes on are the row
+-- the row is that of a block after which a value goes on
 pub data IsStep (hir : HirFunction) (env : Environment) (around : Around) (key : BlockId) (row : ValueRow)
     (used : List BlockId) : Type 0 where
   nested_row : IsRow hir env around key row used → IsStep hir env around key row used
   throwing_row : IsThrowing hir around.handler key row used → IsStep hir env around key row used
 
--- the row of a block is built as is said; the block where the value goes on, and the short arm, are pending
+-- the row of a block is built as `Is` says; the block where the value goes on, and the short arm, are pending
 pub record RowBuilt (hir : HirFunction) (Is : ValueRow → List BlockId → Type 0) (key : BlockId) (row : ValueRow)
     (old new : Progress) : Type 0 where
   pub newly : List BlockId
@@ -84,7 +84,7 @@ pub record CanBuildThrowing (hir : HirFunction) (marks : Marks) (key : BlockId) 
   pub here : BlockIs hir key (λ block. may_throw block.terminal ≡ Some throw)
   pub goes_on : is_empty_goto (block_at hir throw.continuation) ≡ false
 
--- the rows of a block behind which a value goes on can be built
+-- the rows of a block after which a value goes on can be built
 pub record CanBuildStep (hir : HirFunction) (marks : Marks) (key : BlockId) (step : Step) : Type 0 where
   pub can : CanBuildValue hir marks key
   pub here : BlockIs hir key (λ block. step_behind hir block.terminal ≡ Some step)

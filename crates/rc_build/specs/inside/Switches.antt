@@ -47,7 +47,7 @@ pub record EndsAt (cases : List Case) (block : BlockId) : Type 0 where
   pub split : cases ≡ front ++ last ∷ []
   pub is : last.block ≡ block
 
--- the last case is taken, and stands with these statements behind others
+-- the last case is taken out, and its test is appended with these statements as a case of the tree
 pub record TakesCase (front : List Case) (last : Case) (statements : List ReactiveStatement)
     (old new : List ReactiveSwitchCase) (left : List Case) : Type 0 where
   pub taken : left ≡ front

@@ -36,7 +36,7 @@ pub data Task : Type 0 where
   FromTerminal : Terminal → Task
   Nothing : Task
 
--- what is left of a list behind a statement: the list from the block where it goes on, if it does
+-- what is left of a list after a statement: the list from the block where it goes on, if it does
 abbrev pub left : Option BlockId → Task
 left None = Nothing
 left (Some key) = FromBlock key

@@ -27,7 +27,7 @@ pub record ArmSpelled (hir : HirFunction) (env : Environment) (key next : BlockI
   pub spelled : SpellsValue hir env key (in_part span handler false) value end used
   pub goes : GoesTo next end
 
--- a test with its first arm and the blocks that are used behind them: those of a second arm, but for the test of an
+-- a test with its first arm and the blocks that are used after them: those of a second arm, but for the test of an
 -- optional, which shares its alternate
 pub record TestParts (hir : HirFunction) (env : Environment) (test fallthrough : BlockId) (span : Option Span)
     (handler : Option BlockId) (is_test : Bool) (blocks : List BlockId) : Type 0 where

@@ -53,7 +53,7 @@ abbrev pub place_named : Terminal → Option NamedPlace
 place_named (terminals.Branch test consequent alternate id span) = Some (record { place = test; id = id })
 place_named _ = None
 
--- the rest of a value can be built: it doesn't go on behind the block
+-- the rest of a value can be built: it doesn't go on after the block
 pub record CanBuildLast (hir : HirFunction) (marks : Marks) (key : BlockId) : Type 0 where
   pub can : CanBuildValue hir marks key
   pub ends : step_at hir key ≡ None
@@ -70,7 +70,7 @@ pub record CanBuildLastThrow (hir : HirFunction) (marks : Marks) (key : BlockId)
   pub here : BlockIs hir key (λ block. may_throw block.terminal ≡ Some throw)
   pub goes : is_empty_goto (block_at hir throw.continuation) ≡ true
 
--- what is built of a block with that terminal is a value of the block alone, whatever stands around it
+-- what is built of a block with that terminal is a value of the block alone, in every context
 pub record IsValueOf (hir : HirFunction) (env : Environment) (key : BlockId) (terminal : Terminal) (built : BuiltValue) :
     Type 0 where
   pub value : Value

@@ -43,7 +43,7 @@ row_with id answer value span = record { id = id; lvalue = Some answer; value = 
 abbrev pub arms_of_rows : List ValueRow → List BlockId
 arms_of_rows rows = flat_map (λ row. arm_blocks row.short) rows
 
--- how far the loop over the blocks of a value has come, behind which it goes on
+-- how far the loop over the blocks after which a value goes on has come
 pub record RowsSoFar (old now : Builder) (key : BlockId) (around : Around) (rows : List ValueRow)
     (at : BlockId) : Type 0 where
   pub newly : List BlockId
@@ -53,7 +53,7 @@ pub record RowsSoFar (old now : Builder) (key : BlockId) (around : Around) (rows
   pub kept : now.out ≡ old.out
   pub setting : (site : Site) → setting_of now site ≡ setting_of old site
 
--- the loop from the key on has come to the last block of its value, behind these rows
+-- the loop from the key on has come to the last block of its value, after these rows
 pub record IsAtEnd (old now : Builder) (key : BlockId) (around : Around) (rows : List ValueRow) (at : BlockId) : Type 0
   where
     pub so_far : RowsSoFar old now key around rows at
@@ -64,7 +64,7 @@ pub record IsAtEnd (old now : Builder) (key : BlockId) (around : Around) (rows :
 abbrev pub CanBuildBack : Builder → List ValueRow → BlockId → Around → Type 0
 CanBuildBack now rows at around = (old : Builder) × (key : BlockId) × IsAtEnd old now key around rows at
 
--- they are, which builds the value from where the loop began
+-- the last block is built and the rows are put before it, which builds the value from where the loop began
 abbrev pub BuildsBack : Builder → Builder → List ValueRow → BlockId → Around → Bool → Result BuiltValue Fault → Type 0
 BuildsBack now new rows at around is_test result = (old : Builder) (key : BlockId) → IsAtEnd old now key around rows at
     → (site : Site) → BuildsValue old new site key (value_at around is_test) any_end result

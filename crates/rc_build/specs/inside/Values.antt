@@ -39,7 +39,7 @@ arms_of (terminals.Branch test consequent alternate id span) =
     Some (record { test = test; consequent = consequent; alternate = alternate; span = span })
 arms_of _ = None
 
--- a value can be built from the block on: a block refers to it as to a value, and nothing stands around it
+-- a value can be built from the block on: a block refers to it as to a value, and nothing is around it
 pub record CanBuildValue (hir : HirFunction) (marks : Marks) (key : BlockId) : Type 0 where
   pub can : CanBuildList hir marks None [] key
   pub referenced : IsValueReferenced hir key
@@ -86,7 +86,7 @@ pub record ValueBuilt (hir : HirFunction) (env : Environment) (key : BlockId) (c
   pub marking : MarksBlocks hir (key ∷ []) (referenced_blocks end.last) old.marks new.marks newly
   pub kept : new.out ≡ old.out
 
--- no value from the block on with an end as Q asks uses blocks that are sound behind the used ones
+-- no value from the block on with an end as Q asks uses blocks that are sound after the used ones
 abbrev pub HasNoValue : HirFunction → Environment → BlockId → ValueContext → (ValueEnd → Type 0) → List BlockId → Type 0
 HasNoValue hir env key context Q used = (value : Value) (end : ValueEnd) (blocks : List BlockId) →
     SpellsValue hir env key context value end blocks → Q end → AreSound hir (used ++ blocks) → ⊥
