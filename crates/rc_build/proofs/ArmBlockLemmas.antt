@@ -56,7 +56,7 @@ module _ {hir : HirFunction} {env : Environment} {handler : Option BlockId} {nex
         let there = sym (ap may_throw throws) ∙ ap may_throw (same_terminal hir key block found whole usable) ∙ stays in
         let bad : ⊥ = cc in absurd bad
 
-    -- the arm goes on behind one that may throw, which names the current handler or none
+    -- the arm goes on after one that may throw, which names the current handler or none
     pub arm_behind : (throw : MayThrow) → may_throw block.terminal ≡ Some throw → {used : List BlockId}
         → SpellsSilentArm hir env handler next key used → (is_current throw.handler handler ≡ true)
         × ((later : List BlockId) × SpellsSilentArm hir env handler next throw.continuation later
@@ -190,7 +190,7 @@ module _ {old : Builder} {handler : Option BlockId} {next arm : BlockId} where
       there = s.there key is;
     })
 
-    -- an arm that is refused behind its first blocks is refused
+    -- an arm that is refused after its first blocks is refused
     pub arm_refused_behind : (site : Site)
         → HasNoArm now.hir.now now.env.now handler next key now.marks.used
         → HasNoArm old.hir.now old.env.now handler next arm old.marks.used

@@ -125,7 +125,7 @@ module _ {s : Setting} {test : Place} {consequent alternate : BlockId} {id : Eva
       (unlabeled (If test part (Present other) id)) (z ++ back)) (sym p.1) (branch_break p.0 p.2 e)
   branch_spelled (inr d) e = branch_arms d e refl
 
-  -- the statement stands where it is to stand
+  -- once its parts are built and its statement is appended, the branch is built
   pub branch_built : {list others : List ReactiveStatement} {statement : ReactiveStatement} {old mid last : Progress}
       {whole : List ReactiveStatement} → BuiltConsequent s consequent id list old mid
       → BuiltList s alternate others mid last
@@ -153,7 +153,7 @@ module _ {s : Setting} {test : Place} {consequent alternate : BlockId} {id : Eva
       let p = branch_parts d in
       none p.part p.part_used p.part_spelled (refused_front s.hir used p.part_used p.other_used sound p.parts)
 
-  -- so is one whose alternate is refused behind its consequent
+  -- so is one whose alternate is refused after its consequent
   pub branch_refused_later : {list : List ReactiveStatement} {old mid : Progress}
       → BuiltConsequent s consequent id list old mid → Refused s.hir (Spells s (FromBlock alternate)) mid.marks.used
       → Refused s.hir (Spells s (FromTerminal (terminals.Branch test consequent alternate id span))) old.marks.used

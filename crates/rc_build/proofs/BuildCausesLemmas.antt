@@ -66,7 +66,7 @@ module _ (hir : HirFunction) (env : Environment) where
       (past_end hir.instructions index none) at.holds
 
 module _ (hir : HirFunction) (env : Environment) (names : NamesInTables hir env) where
-  -- a graph whose numbers are in their tables and that spells a function is refused for want of memory alone
+  -- a graph whose numbers are in their tables and that spells a function is refused only if memory runs out
   pub only_memory : (func : ReactiveFunction) → Spells hir env func → (fault : Fault) → IsBuildCause hir env fault
       → fault ≡ faults.NoMemory
   only_memory func spelled (faults.BadName table index) cause =

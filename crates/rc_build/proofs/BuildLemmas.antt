@@ -18,7 +18,7 @@ use Rattle.rc_build.proofs.BuiltLemmas.{whole_list}
 abbrev no_marks : Marks
 no_marks = record { used = []; scopes = [] }
 
--- nothing stands around the entry's list
+-- nothing is around the entry's list
 pub at_outermost : (builder : Builder) (block : BlockId) {hir : HirFunction} {env : Environment}
     → builder.hir.now ≡ hir → builder.env.now ≡ env → builder.frames ≡ []
     → setting_of builder (record { block = block; next = None; handler = None })

@@ -27,7 +27,7 @@ use Rattle.rc_build.proofs.MarksLemmas.{front_sound, referenced_fewer, times_app
 use Rattle.rc_build.proofs.UsableLemmas.{filled}
 use Rattle.rc_runs.proofs.OneTree.{one_terminal, one_statement, rest_at, terminal_at}
 
--- statements behind others, and none behind them
+-- statements after others, and none after them
 join-append : (a b : Statements) (rest : Statements) → join (join a b) rest ≡ join a (join b rest)
 join-append Nil b rest = refl
 join-append (Cons s a) b rest = ap (Cons s) (join-append a b rest)
@@ -84,13 +84,13 @@ module _ (hir : HirFunction) where
     referenced = λ others h. f.referenced (more ++ others) (subst (AreReferenced hir old.used) (append_assoc before more others) h);
   }
 
-  -- refused in front is refused
+  -- where blocks are sound after the used ones, so is their front
   pub refused_front : (used front back : List BlockId) {blocks : List BlockId} → AreSound hir (used ++ blocks)
       → blocks ≡ front ++ back → AreSound hir (used ++ front)
   refused_front used front back s e = front_sound hir (used ++ front) back
       (subst (AreSound hir) (ap (λ z. used ++ z) e ∙ sym (append_assoc used front back)) s)
 
-  -- the same behind what is marked
+  -- and so is their back, once the front is used
   pub refused_back : (used front back : List BlockId) {blocks later : List BlockId} → AreSound hir (used ++ blocks)
       → blocks ≡ front ++ back → later ≡ used ++ front → AreSound hir (later ++ back)
   refused_back used front back s e l =
@@ -157,7 +157,7 @@ module _ {s : Setting} where
       let h = p.only all used d in
       none h.0 h.1 h.2 (refused_back s.hir x.marks.used p.newly h.1 sound h.3 p.marking.used)
 
-  -- a list that is built to its end, where no statement stood in front of it
+  -- a list that is built to its end, where no statement was in front of it
   pub whole_list : {key : BlockId} {marks : Marks} {start outer kept list : List ReactiveStatement} {y : Progress}
       → BuiltPrefix s (FromBlock key) Nothing (record { marks = marks; out = start }) y → start ≡ [] → list ≡ y.out
       → kept ≡ outer

@@ -104,7 +104,7 @@ module _ {hir : HirFunction} where
                 ((option_to_list (before_of t.kind) ++ t.body ∷ t.fallthrough ∷ []) ++ pending_blocks frames),
           )) can.here (valued_with t t.kind t.test (tests_test t t.kind))
 
-      -- what stands before the test can be built, once that is marked
+      -- what runs before the test can be built, once the test is marked
       pub before_can : {new : Marks} {blocks : List BlockId} → MarksBlocks hir (t.test ∷ []) [] old new blocks
           → CanBuildBefore hir new (before_of t.kind)
       before_can m = record {

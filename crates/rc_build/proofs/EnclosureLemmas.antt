@@ -98,7 +98,7 @@ enclosure_can {hir} {marks} at (enclosures.Scope number) part fallthrough id spa
 enclosure_can {hir} {marks} at (enclosures.PrunedScope number) part fallthrough id span can =
     at_first_part hir (frame_kinds.Scope fallthrough) at can refl (none_used marks) (λ key. omega arith)
 
--- the statement stands where it is to stand
+-- once its part is built and it is appended, the statement is built
 pub enclosure_built : {s : Setting} {at : Option BlockId} (e : Enclosure) (part fallthrough : BlockId)
     (id : EvaluationOrder) (span : Option Span) {list : List ReactiveStatement} {statement : ReactiveStatement}
     {old mid : Progress} {whole : List ReactiveStatement}

@@ -15,7 +15,7 @@ use Rattle.rc_build.specs.declared.flatten.Opened.TheVariants as opened
 use Rattle.rc_build.specs.inside.Flattening.{FlatSoFar, IsOpened}
 use Rattle.rc_build.proofs.ValueRowsLemmas.{instructions_of-rows_join}
 
--- how many sequences stand inside each other
+-- how many sequences are inside each other
 abbrev pub deep : Value → ℕ
 deep (Sequence rows id value) = suc (deep value)
 deep value = 0
@@ -33,7 +33,7 @@ sequence_parts {front} {more} {id} {other} {value} {inner} e =
     ∙ reactive_values.outs-SequenceExpression more other inner in
     (cc, cc)
 
--- a value has more of them than the value behind its rows
+-- a value has more of them than the value after its rows
 pub sequences_fewer : (value inner : ReactiveValue) (more : List ReactiveInstruction) (id : EvaluationOrder)
     → value ≡ reactive_values.SequenceExpression more id inner → sequences inner < sequences value
 sequences_fewer value inner more id e =
@@ -76,7 +76,7 @@ flat_further {plain} {rows} {whole} {value} {inner} more s o w = go s.rest (sym 
     go (Conditional test consequent alternate) e are final = let bad : ⊥ = cc in absurd bad
     go (Optional value optional) e are final = let bad : ⊥ = cc in absurd bad
 
--- the value behind all sequences
+-- the value after all sequences
 pub flat_done : {plain : Value} {rows : List ReactiveInstruction} {value last : ReactiveValue}
     (s : FlatSoFar plain rows value) → IsOpened value (opened.Last last)
     → (rows ≡ instructions_of (flat_rows plain)) × (last ≡ value_of (final_value plain))

@@ -136,7 +136,7 @@ module _ {s : Setting} {at : Option BlockId} {test : Place} {consequent alternat
       (sym (append-nil front) ∙ ap (λ z. front ++ z) (sym arm.1)) (if_only (is_some-opened _ fallthrough opened) refl arm.0 (falls arm.0) d)
   if_spelled (Present other) back falls d arm = if_else (is_some-opened _ fallthrough opened) refl arm.0 d arm.1 refl
 
-  -- the statement stands where it is to stand
+  -- once its parts are built and its statement is appended, the if is built
   pub if_built : {list : List ReactiveStatement} {block : Option ReactiveBlock} {statement : ReactiveStatement}
       {old mid last : Progress} {whole : List ReactiveStatement}
       → (same_id alternate fallthrough && not (falls_to (is_some at) fallthrough s.context.next)) ≡ false
@@ -168,7 +168,7 @@ module _ {s : Setting} {at : Option BlockId} {test : Place} {consequent alternat
       none p.taken p.taken_used p.taken_spelled (refused_front s.hir used p.taken_used p.arm_used
       (refused_front s.hir used (p.taken_used ++ p.arm_used) p.rest_used sound p.parts) refl)
 
-  -- so is one whose alternate is refused behind its consequent
+  -- so is one whose alternate is refused after its consequent
   pub if_refused_later : {list : List ReactiveStatement} {old mid : Progress}
       → BuiltList (inner at fallthrough s) consequent list old mid
       → Refused s.hir (SpellsAlternate (inner at fallthrough s) alternate fallthrough) mid.marks.used

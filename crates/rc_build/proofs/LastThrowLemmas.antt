@@ -205,7 +205,7 @@ module _ {hir : HirFunction} {marks : Marks} {key : BlockId} {throw : MayThrow}
     goto_unscoped terminal goes = let bad : ⊥ = cc in absurd bad
 
     module _ {old mid : Progress} (same : old.marks ≡ marks) (m : Marked hir key block.terminal old mid) where
-      -- it can be marked behind the first one
+      -- it can be marked after the first one
       pub last_can_mark : is_unset (evaluation_order behind.terminal) ≡ false
           → CanMark hir mid.marks throw.continuation behind
       last_can_mark set = record {

@@ -1,4 +1,4 @@
--- The body of a loop, behind its values: when it can be built, and what both give together.
+-- The body of a loop, after its values: when it can be built, and what both give together.
 use Rattle.std.proofs.Common.{◌≡◌, ◌≤◌, List, ◌∷◌, Ok, Some, refl, sym, subst, arith, length}
 use Rattle.std.specs.Prelude.{IsSome}
 use Rattle.rc_hir.specs.Model.{Terminal}
@@ -68,7 +68,7 @@ module _ {old late : Builder} {site : Site} {terminal : Terminal} {t : LoopTermi
         (λ (z : LoopBody). P (part_setting (Some z.fallthrough) z.frame (setting_of old site)) z) place
         (subst (λ (z : Setting). P (part_setting (Some at.fallthrough) at.frame z) at) looping.same holds)
 
-    -- a loop whose body is refused behind its values is refused
+    -- a loop whose body is refused after its values is refused
     pub looping_refused :
         Refused late.hir.now (Spells (part_setting (Some at.fallthrough) at.frame (setting_of late site))
         (FromBlock at.block)) late.marks.used

@@ -16,7 +16,7 @@ use Rattle.rc_build.specs.References.{value_references}
 use Rattle.rc_build.specs.inside.LoopKinds.{before_of, init_of, is_while_kind, loop_of, loop_with, terminal_of}
 use Rattle.rc_build.specs.inside.LoopKinds.{terminal_with}
 
--- a block is the first of these, or one of those behind it
+-- a block is the first of these, or one of those after it
 pub among_first : (key : BlockId) (later : List BlockId) → is_among (key ∷ later) key ≡ true
 among_first key later = or_left (same_id key key) (is_among later key) (ids_equivalence.refl key)
 

@@ -154,7 +154,7 @@ module _ (s : Setting) (t : LoopTerminal) where
           kept = d.kept ∙ b.kept ∙ f.kept;
         }
 
-    -- turns whose body is refused behind their values are refused
+    -- turns whose body is refused after their values are refused
     pub turns_refused_body :
         Refused s.hir (Spells (part_setting (Some t.fallthrough) (loop_frame (blocks_of t)) s) (FromBlock t.body))
         second.marks.used
@@ -166,7 +166,7 @@ module _ (s : Setting) (t : LoopTerminal) where
         (w ∙ ap (λ z. z ++ (middle ++ back)) (one_test td built.tested.spelled).1) built.tested.marking.used)
         (ap (λ z. z ++ back) (one_before bd built.begun.spelled).1) built.begun.marking.used)
 
-  -- so are turns whose value before the test is refused behind it
+  -- so are turns whose value before the test is refused once the test is built
   pub turns_refused_before : {test : ReactiveValue} {old first : Progress}
       → BuiltPart value_of (SpellsLoopTest s t) s.hir (t.test ∷ []) test old first
       → Refused s.hir (SpellsLoopBefore s t) first.marks.used

@@ -251,7 +251,7 @@ module _ (s : Setting) (t : LoopTerminal) where
       (refused_front s.hir used (p.init_used ++ p.turns_used) p.rest_used sound p.whole) refl)
 
   module _ {init : Option ReactiveValue} {old mid : Progress} (i : InitBuilt s t init old mid) where
-    -- and one whose turns are refused behind it
+    -- and one whose turns are refused after its init
     pub loop_refused : Refused s.hir (SpellsTurnsOf s t) mid.marks.used
         → Refused s.hir (Spells s (FromTerminal (terminal_of t))) old.marks.used
     loop_refused none all blocks d sound =
@@ -272,7 +272,7 @@ module _ (s : Setting) (t : LoopTerminal) where
       pub tree_there : IsSome (built_tree t init built)
       tree_there = ap is_some tree_is
 
-      -- the statement stands where it is to stand
+      -- once its statement is appended, the loop is built
       pub loop_built : {made : ReactiveTerminal} {statement : ReactiveStatement} {whole : List ReactiveStatement}
           → built_tree t init built ≡ Some made
           → statement ≡ terminal_statement made (label_at (Some t.fallthrough))

@@ -82,7 +82,7 @@ front_sound hir xs ys h = record {
       (subst (IsDistinct same_id) (filter_map-append (scope_at hir) xs ys) h.scopes_once);
 }
 
--- how often a block stands in two lists
+-- how often a block occurs in two lists
 pub times_append : (key : BlockId) (xs ys : List BlockId) → times key (xs ++ ys) ≡ times key xs + times key ys
 times_append key [] ys = omega arith
 times_append key (x ∷ xs) ys = let h = times_append key xs ys in omega arith
@@ -241,7 +241,7 @@ pub referenced_fewer : (hir : HirFunction) (used few many : List BlockId)
 referenced_fewer hir used few many f h key =
     omega (arith, h key, f key, times_append key few used, times_append key many used)
 
--- a block stands once in a list of it alone
+-- a block occurs once in a list of it alone
 times_alone : (key : BlockId) → times key (key ∷ []) ≡ 1
 times_alone key = ap (λ b. (if b then 1 else 0) + 0) (ids_equivalence.refl key)
 

@@ -153,7 +153,7 @@ module _ (hir : HirFunction) (env : Environment) where
   all_checked (suc before) (key ∷ used) checked =
       all_checked before used (λ i other from below at. checked (suc i) other (omega (arith, from)) (omega (arith, below)) at)
 
-  -- a block behind the place is one of them
+  -- a block from the place on is one of them
   pub checked_at : (before : ℕ) (used : List BlockId) → AreArmBlocks hir env (drop before used) → (i : ℕ)
       (key : BlockId) → before ≤ i → slice_get used i ≡ Some key → IsArmBlock hir env key
   checked_at before [] all i key from at = let bad : ⊥ = cc in absurd bad

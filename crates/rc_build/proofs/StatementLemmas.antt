@@ -66,7 +66,7 @@ label_at-opened is_open fallthrough is = subst (λ z. label_at z ≡ label_of (i
     go true = refl
     go false = refl
 
--- a block that a jump can name is framed apart from the block where the walk stands
+-- a block that a jump can name is framed apart from the block where the walk is
 pub target_apart : {hir : HirFunction} {marks : Marks} {handler : Option BlockId} {frames : List Frame}
     {key target : BlockId}
     {terminal : Terminal} → CanBuildTerminal hir marks handler frames key terminal → is_jump_target frames target ≡ true

@@ -1,4 +1,4 @@
--- How a value goes on behind a block, by the block's terminal.
+-- How a value goes on after a block, by the block's terminal.
 use Rattle.std.proofs.Common.{◌≡◌, Bool, true, false, Option, Some, None, refl, sym, ap, ◌∙◌}
 use Rattle.std.specs.Prelude.{option_and_then, option_map, if◌then◌else◌}
 use Rattle.rc_names.specs.Numbers.{BlockId}
@@ -41,7 +41,7 @@ terminal_same (terminals.Optional optional test fallthrough id span) found e =
 terminal_same terminal found e = let bad : ⊥ = cc in absurd bad
 
 module _ (hir : HirFunction) where
-  -- a value goes on behind a value terminal where there is one
+  -- where a value goes on after a value terminal, it is the one that was found
   some_nested : (found : Option ValueTerminal) (terminal : ValueTerminal)
       → option_map steps.Nested found ≡ Some (steps.Nested terminal) → found ≡ Some terminal
   some_nested None terminal e = let bad : ⊥ = cc in absurd bad
@@ -80,7 +80,7 @@ module _ (hir : HirFunction) where
           (ap Some same, ap (λ (z : MayThrow). is_empty_goto (block_at hir z.continuation)) (sym same) ∙ q)
   throws_step terminal throw e = absurd (no_nested (value_terminal terminal) throw e)
 
-  -- the block under a key, of which that was found
+  -- where a value goes on after the block under a key, there is such a block
   pub step_there : (key : BlockId) (step : Step) → step_at hir key ≡ Some step
       → BlockIs hir key (λ block. step_behind hir block.terminal ≡ Some step)
   step_there key step e = go (basic_block hir key) refl e
@@ -92,7 +92,7 @@ module _ (hir : HirFunction) where
       go (Some block) p h = record { block = block; found = p; holds = h }
 
 module _ {hir : HirFunction} {marks : Marks} {key : BlockId} where
-  -- a row can be built behind which the value goes on
+  -- where the value goes on after a value terminal, its row can be built
   pub row_can : {step : Step} (terminal : ValueTerminal) → step ≡ steps.Nested terminal → CanBuildStep hir marks key step
       → CanBuildRow hir marks key terminal
   row_can terminal is can = record {

@@ -33,7 +33,7 @@ use Rattle.rc_names.proofs.NumbersLemmas.{ids_equivalence}
 use Rattle.rc_build.proofs.MarksLemmas.{among_alone, among_back, among_front}
 use Rattle.rc_build.proofs.CanBuildCasesLemmas.{times_push, cases_can}
 
--- the frames of later cases stand inside those of the switch
+-- the frames of later cases are inside those of the switch
 pub frames_behind : (later : List Case) (context : ListContext)
     → drop (length later) (case_context later context).frames ≡ context.frames
 frames_behind [] context = refl

@@ -218,7 +218,7 @@ module _ {s : Setting} {test : Place} {cases : List Case} {fallthrough : BlockId
         (subst (λ y. (list_any is_default y || falls_to p fallthrough s.context.next) ≡ true) same z) in
         let bad : ⊥ = cc in bad
 
-    -- the statement stands where it is to stand
+    -- once its cases are built and its statement is appended, the switch is built
     pub switch_built : {list : List ReactiveSwitchCase} {statement : ReactiveStatement} {old last : Progress}
         {whole : List ReactiveStatement} → has_one_default cases ≡ true → tests_past fallthrough cases ≡ false
         → (list_any is_default kept || falls_to (is_some at) fallthrough s.context.next) ≡ true

@@ -97,7 +97,7 @@ all_at : {K : Type 0} (P : K → Type 0) (xs : List K) (x : K) (ys : List K) →
 all_at P [] x ys h = h.0
 all_at P (z ∷ xs) x ys h = all_at P xs x ys h.1
 
--- an element that stands in front already
+-- a distinct list doesn't repeat an element
 repeated : {K : Type 0} {eq : K → K → Bool} (laws : IsEquivalence eq) (xs : List K) (x : K) (ys : List K)
     → list_any (eq x) xs ≡ true → IsDistinct eq (xs ++ x ∷ ys) → ⊥
 unfolding IsDistinct

@@ -51,7 +51,7 @@ module _ {hir : HirFunction} {env : Environment} where
 
   module _ {test : BlockId} {span : Option Span} {handler : Option BlockId} {is_test : Bool} {arms : TestArms} {tested : BuiltValue}
       {old mid : Progress} (b : ConditionBuilt hir env test span handler is_test arms tested old mid) where
-    -- both arms stay pending behind a condition
+    -- both arms stay pending after a condition
     pub condition_marking :
         MarksBlocks hir (test ∷ []) (arms.consequent ∷ arms.alternate ∷ []) old.marks mid.marks b.newly
     condition_marking = subst (λ t. MarksBlocks hir (test ∷ []) (referenced_blocks t) old.marks mid.marks b.newly)
@@ -119,7 +119,7 @@ module _ {hir : HirFunction} {env : Environment} where
         referenced = valued_arm arms.consequent (among_first arms.consequent (arms.alternate ∷ []));
       }
 
-      -- the blocks that are used behind it can be looked at
+      -- after it, the used blocks can be looked at
       pub silent_can : {first : BuiltValue} {new : Progress}
           → ArmBuilt hir env arms.consequent fallthrough span handler first mid new
           → CanCheckSilent hir new.marks arms.consequent
@@ -132,7 +132,7 @@ module _ {hir : HirFunction} {env : Environment} where
             there = usable_there hir arms.consequent at.whole at.usable;
           }
 
-      -- and the second one behind it
+      -- and the second one can be built after it
       pub second_can : {first : BuiltValue} {new : Progress}
           → ArmBuilt hir env arms.consequent fallthrough span handler first mid new → CanBuildValue hir new.marks arms.alternate
       second_can {new = new} f = record {

@@ -29,7 +29,7 @@ use Rattle.rc_build.proofs.TestPartLemmas.{silent_can, test_refused, tested_part
 
 module _ {old mid : Builder} {there : Site} {test : BlockId} {around : Around} {is_test : Bool} {condition : Condition}
     (tested : BuildsCondition old mid there test (value_at around is_test) (Ok condition)) where
-  -- the first arm behind a condition can be built
+  -- the first arm after a condition can be built
   pub first_arm_can : (fallthrough : BlockId) → AreReferenced old.hir.now old.marks.used (test ∷ fallthrough ∷ [])
       → CanBuildValue mid.hir.now mid.marks condition.arms.consequent
   first_arm_can fallthrough pending = subst (λ (z : Setting). CanBuildValue z.hir mid.marks condition.arms.consequent)

@@ -114,7 +114,7 @@ module _ {continuation : BlockId} {handler : Option BlockId} {id : EvaluationOrd
       builds_end {old = old} {site = site} (terminals.MaybeThrow continuation handler id span) Nil can.marked
       (sym (append-nil old.out)) (may_throw_last current next)
 
-  -- behind any other one the list goes on at its continuation
+  -- after any other one the list goes on at its continuation
   pub throw_goes_on : {old : Builder} {site : Site} {other : EvaluationOrder} {around : Option Span}
       → CanBuildTerminal old.hir.now old.marks site.handler old.frames site.block
       (terminals.MaybeThrow continuation handler other around)

@@ -1,4 +1,4 @@
--- A block of a value that may throw, and behind which the value goes on: when it is refused, and its row.
+-- A block of a value that may throw, and after which the value goes on: when it is refused, and its row.
 use Rattle.std.proofs.Common.{◌≡◌, true, false, List, [], ◌∷◌, Option, Some, None, refl, sym, ap, ◌∙◌, subst, arith}
 use Rattle.std.proofs.Common.{not, ◌&&◌, Err}
 use Rattle.rc_names.specs.Numbers.{BlockId, same_id, is_among}

@@ -143,7 +143,7 @@ module _ {s : Setting} {at : Option BlockId} {block handler fallthrough : BlockI
         parts = w ∙ ap (λ z. z ++ back) q;
       }
 
-  -- a try is spelled where its parts are, and the statement stands where it is to stand
+  -- once its parts are built and its statement is appended, the try is built
   pub try_built : {list handling : List ReactiveStatement} {statement : ReactiveStatement} {old mid last : Progress}
       {whole : List ReactiveStatement} → BuiltList (guarded at handler fallthrough s) block list old mid
       → BuiltList (inner at fallthrough s) handler handling mid last
@@ -182,7 +182,7 @@ module _ {s : Setting} {at : Option BlockId} {block handler fallthrough : BlockI
       none p.part p.part_used p.part_spelled (refused_front s.hir used p.part_used p.other_used
       (refused_front s.hir used (p.part_used ++ p.other_used) p.rest_used sound p.parts) refl)
 
-  -- so is one whose handler is refused behind it
+  -- so is one whose handler is refused after its block
   pub try_refused_later : {list : List ReactiveStatement} {old mid : Progress}
       → BuiltList (guarded at handler fallthrough s) block list old mid
       → Refused s.hir (Spells (inner at fallthrough s) (FromBlock handler)) mid.marks.used

@@ -1,4 +1,4 @@
--- The ends of values: where they lead, and values as they stand behind a row or in a loop.
+-- The ends of values: where they lead, and values as they are after a row or in a loop.
 use Rattle.std.proofs.Common.{◌≡◌, Bool, true, false, List, [], ◌∷◌, Option, Some, None, refl, sym, ap, ◌∙◌, subst}
 use Rattle.std.proofs.Common.{arith, inl, eq-eqb, ◌&&◌}
 use Rattle.rc_names.specs.Numbers.{BlockId, same_id}

@@ -103,7 +103,7 @@ module _ {old : Builder} {key : BlockId} {around : Around} where
         ends = none;
       }
 
-    -- a value that is refused behind the rows is refused
+    -- a value that is refused after the rows is refused
     pub rows_refused : {rows : List ValueRow} {at : BlockId} {is_test : Bool} (site : Site)
         → RowsSoFar old now key around rows at
         → HasNoValue now.hir.now now.env.now at (value_at around is_test) any_end now.marks.used

@@ -1,4 +1,4 @@
--- The rows of a value's blocks: how they lead from block to block, and what stands behind them.
+-- The rows of a value's blocks: how they lead from block to block, and what comes after them.
 use Rattle.std.proofs.Common.{◌≡◌, ◌+◌, Bool, true, false, List, [], ◌∷◌, ◌++◌, Option, Some, None, refl, sym, ap, ◌∙◌}
 use Rattle.std.proofs.Common.{append_assoc, arith, subst}
 use Rattle.std.specs.Prelude.{if◌then◌else◌}
@@ -31,7 +31,7 @@ use Rattle.rc_build.proofs.MarksLemmas.{times_append}
 use Rattle.rc_build.proofs.MayThrowLemmas.{nested_stays}
 use Rattle.rc_build.proofs.ValueRowsLemmas.{behind_block, behind_row}
 
--- what a row asks of the value behind it
+-- what a row asks of the value after it
 pub record Behind (hir : HirFunction) (env : Environment) (around : Around) (is_test : Bool) (row : ValueRow)
     (used blocks : List BlockId) : Type 0 where
   pub value : Value
@@ -94,7 +94,7 @@ joined newly used value arm rest blocks whole e f = e ∙ ap (λ z. newly ++ (z 
     ∙ ap (λ z. newly ++ z) (append_assoc used (value ++ arm) rest ∙ ap (λ z. used ++ z) (append_assoc value arm rest))
     ∙ sym (append_assoc newly used (value ++ (arm ++ rest)))
 
--- where there is no short arm, what the value behind leaves open is left
+-- where there is no short arm, what the value after the row leaves open is left
 no_arm_left : {hir : HirFunction} {env : Environment} {handler : Option BlockId} {next : BlockId} {answers : Bool} {short behind left : Option BlockId} {used : List BlockId}
     → SpellsShortArm hir env handler next answers short behind left used → short ≡ None
     → (left ≡ behind) × (used ≡ [])
@@ -118,7 +118,7 @@ module _ {hir : HirFunction} {env : Environment} {around : Around} where
       let other = nested_stays is.spelled in
       let bad : ⊥ = cc in bad
 
-  -- a value from the block of a value terminal goes on behind it
+  -- a value from the block of a value terminal goes on after it
   row_only : {is_test : Bool} {key : BlockId} {row : ValueRow} {used : List BlockId} {value : Value} {end : ValueEnd}
       {blocks : List BlockId} → (is : IsRow hir env around key row used)
       → SpellsValue hir env key (value_at around is_test) value end blocks
@@ -212,7 +212,7 @@ module _ {hir : HirFunction} {env : Environment} {around : Around} where
   step_starts (nested_row is) = (is.nested_used, is.used_is)
   step_starts (throwing_row is) = ([], is.used_is)
 
-  -- a row, the value behind it, and its short arm are a value
+  -- a row, the value after it, and its short arm are a value
   pub step_value : {is_test : Bool} {key : BlockId} {row : ValueRow} {used : List BlockId} {value : Value}
       {end : ValueEnd} {left : Option BlockId} {value_used arm_used : List BlockId}
       → (is : IsStep hir env around key row used)

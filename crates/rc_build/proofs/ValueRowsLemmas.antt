@@ -105,7 +105,7 @@ pub sequence_is : (rows : List ReactiveInstruction) (id : EvaluationOrder) (valu
 sequence_is [] id value some = absurd (some refl)
 sequence_is (row ∷ rows) id value some = refl
 
--- rows, and a value behind them, of the graph
+-- a value after rows, whether they are of the program's tree, of a plain tree or of the graph
 pub behind_instructions : (rows : Rows) (id : EvaluationOrder) (value : Value)
     → behind_rows (instructions_of rows) id (value_of value) ≡ value_of (value_behind rows id value)
 behind_instructions NoRows id value = refl

@@ -109,7 +109,7 @@ pub record SameEnds (terminal : ValueTerminal) (nested : Nested) : Type 0 where
   pub id : nested.id ≡ terminal.id
   pub span : nested.span ≡ terminal.span
 
--- the parts of a value terminal in a list, and the blocks that are used behind it
+-- the parts of a value terminal in a list, and the blocks that are used after it
 record ValuePart (hir : HirFunction) (env : Environment) (terminal : Terminal) (context : ListContext)
     (used : List BlockId) : Type 0 where
   pub nested : Nested

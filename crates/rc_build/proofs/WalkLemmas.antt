@@ -97,7 +97,7 @@ module _ (hir : HirFunction) where
       before other (inl h) = w other h
       before other (inr h) = a.used_before other h
 
-  -- a part that stands in the place of the list itself
+  -- a part in the context of the list itself
   pub at_arm : {old new : Marks} {handler : Option BlockId} {frames : List Frame} {key part : BlockId}
       {terminal : Terminal}
       {after blocks : List BlockId} → CanBuildTerminal hir old handler frames key terminal
