@@ -39,7 +39,7 @@ arms_of (terminals.Branch test consequent alternate id span) =
     Some (record { test = test; consequent = consequent; alternate = alternate; span = span })
 arms_of _ = None
 
--- a value can be built from the block on: a block refers to it as to a value, and nothing is around it
+-- a value can be built from the block on: a block refers to it as to a value, and no frame is around it
 pub record CanBuildValue (hir : HirFunction) (marks : Marks) (key : BlockId) : Type 0 where
   pub can : CanBuildList hir marks None [] key
   pub referenced : IsValueReferenced hir key
