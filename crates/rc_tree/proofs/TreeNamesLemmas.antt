@@ -1,13 +1,17 @@
 -- The numbers of a tree are kept if they are kept part by part.
-use Rattle.std.proofs.Common.{◌≡◌, ◌∙◌, Ok, subst, sym}
+use Rattle.std.proofs.Common.{◌≡◌, ◌∙◌, All, Ok, ap, subst, sym}
+use Rattle.std.specs.List.{flat_map}
 use Rattle.std.specs.Prelude.{IfOk}
+use Rattle.rc_hir.specs.Model.{Environment}
+use Rattle.rc_hir.specs.Names.{IsInTable, lengths}
+use Rattle.rc_hir.specs.PartNames.{parameter_names}
 use Rattle.rc_names.specs.Numbers.{EvaluationOrder}
 use Rattle.rc_tree.proofs.Measures.{Measure, Compositional, block, one}
-use Rattle.rc_tree.specs.Model.{ReactiveBlock, ReactiveScopeBlock}
+use Rattle.rc_tree.specs.Model.{ReactiveBlock, ReactiveFunction, ReactiveScopeBlock}
 use Rattle.rc_tree.specs.Pruned.{as_pruned}
 use Rattle.rc_tree.specs.Rebuilt.{Rules, rebuilt_block}
 use Rattle.rc_tree.specs.declared.statement.ReactiveStatement.TheVariants as reactive
-use Rattle.rc_tree.specs.TreeNames.{Names, names_in, names_of_parts}
+use Rattle.rc_tree.specs.TreeNames.{Names, TreeInTables, names_in, names_of_parts}
 use Rattle.rc_tree.proofs.CollectedKeeps.{collected_laws, collected_measure, same_alone, same_block}
 use Rattle.rc_tree.proofs.CollectedLemmas.{collected-PrunedScope, collected-Scope}
 use Rattle.rc_tree.proofs.JoiningLemmas.{lists_monoid}
