@@ -1,5 +1,7 @@
 -- Names of members in byte order.
 use Rattle.std.specs.Prelude.{ℕ, Bool, true, List, [], ◌∷◌, ◌&&◌}
+use Rattle.std.specs.Cmp.Lexicographic.{slice_cmp}
+use Rattle.std.specs.Ordering.{is_lt, nat_cmp}
 
 -- the name is below the first of these, in byte order
 abbrev pub is_below : List ℕ → List (List ℕ) → Bool
