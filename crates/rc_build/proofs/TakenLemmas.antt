@@ -2,7 +2,7 @@
 use Rattle.std.proofs.Common.{◌≡◌, Bool, true, false, List, [], ◌∷◌, ◌++◌, Option, Some, None, ◌||◌, refl, sym, ap}
 use Rattle.std.proofs.Common.{◌∙◌, subst, inl, inr, true≢false}
 use Rattle.std.specs.Cmp.{IsEquivalence}
-use Rattle.std.specs.Prelude.{IsSome, is_some, if◌then◌else◌, option_and_then, option_map, ◌⊎◌}
+use Rattle.std.specs.Prelude.{IsSome, is_some, option_and_then, option_map, ◌⊎◌}
 use Rattle.std.specs.List.{IsDistinct, list_any, filter_map, cons_option, AllByRecursion}
 use Rattle.std.proofs.lemmas.Bool.{not-false, not-true, or_right}
 use Rattle.std.proofs.lemmas.List.{append-nil}
@@ -259,8 +259,3 @@ shared_scope hir marks key block m n e f =
           also =
               opened_at hir o.owner scope o.opens;
         }
-
--- the keys after one that isn't among them is put in
-pub insert_fresh : (used : List BlockId) (key : BlockId) → is_among used key ≡ false
-    → (if is_among used key then used else used ++ key ∷ []) ≡ used ++ key ∷ []
-insert_fresh used key e = ap (λ b. if b then used else used ++ key ∷ []) e

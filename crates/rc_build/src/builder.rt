@@ -8,6 +8,7 @@ ghost use Rattle.rc_build.specs.inside.Task as tasks;
 
 use crate::frames::FrameStack;
 use crate::unreachable::ends_unreachable;
+use crate::used_blocks::UsedBlocks;
 use rc_hir::{Environment, Fault, HirFunction, Rule};
 use rc_names::{BlockId, Boxed, KeySet, List, ScopeId};
 use rc_runs::Frame;
@@ -17,7 +18,7 @@ use std::alloc::{AllocError, Global};
 /// The used blocks and the scopes that they open, in the order in which they were marked.
 #[derive(Drop)]
 pub struct Marks {
-    pub used: KeySet<BlockId>,
+    pub used: UsedBlocks,
     pub scopes: KeySet<ScopeId>,
 }
 
@@ -96,7 +97,7 @@ impl<'g> Builder<'g> {
             hir,
             env,
             marks: Marks {
-                used: KeySet::new(alloc),
+                used: UsedBlocks::new(alloc),
                 scopes: KeySet::new(alloc),
             },
             frames: FrameStack::new(alloc),

@@ -26,6 +26,7 @@ mod short_arms;
 mod switches;
 mod tries;
 mod unreachable;
+mod used_blocks;
 mod value_ends;
 mod value_rows;
 mod value_statements;

@@ -356,7 +356,7 @@ build_logical-returns-in_err-check_silent_since t c = λ site.
     (fails_at c.build_arm.new.self.hir.now c.from_residual-in_err-check_silent_since.ensures.1
     (same_graph (same_behind tested first)) checked.facts
     (λ named rule e nested blocks d sound. let p = logical_parts d in checked.refused named rule (ap Err e)
-    (silent_since tested first c.len-before.ensures.value p.0 (arm_silent p.1))))
+    (silent_since tested first c.len-before.ensures p.0 (arm_silent p.1))))
 
 pub build_logical-build_arm-requires-2 : goal.build_logical-build_arm-requires-2
 build_logical-build_arm-requires-2 t c =
@@ -383,7 +383,7 @@ build_logical-returns t c = λ site.
     (c.in_ok-left.ensures c.args.self.now.hir.now _ _ _ _ tested.ok.is arm.is
     ∙ ap (λ (z : Around). value_of (Sequence (Row tested.ok.end.id (Some tested.ok.end.answer) tested.ok.value z.span
     NoRows) arm.end.id arm.value)) (sym c.around-around.ensures))
-    (first_silent tested first c.len-before.ensures.value c.in_ok-check_silent_since.ensures.ok)
+    (first_silent tested first c.len-before.ensures c.in_ok-check_silent_since.ensures.ok)
     c.in_ok-logical.ensures)
     (second.frames ∙ same))
 

@@ -20,4 +20,4 @@ returns-in_err-check_arm_block-clause-refused c = λ named rule e all.
 pub returns-clause-ok : goal.returns-clause-ok
 returns-clause-ok c = all_checked c.args.self.now.hir.now c.args.self.now.env.now c.args.before
     c.args.self.now.marks.used (λ i key from below at. c.loop-place.invariant i key from
-    (omega (arith, below, c.loop-place-test.false, c.len-place-end.ensures.value)) at)
+    (omega (arith, below, c.loop-place-test.false, c.len-place-end.ensures)) at)

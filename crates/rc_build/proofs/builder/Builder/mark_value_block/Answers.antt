@@ -3,7 +3,7 @@ use Rattle.std.proofs.lemmas.Bool.{not-false, not-true}
 use Rattle.rc_names.specs.Numbers.{is_among}
 use Rattle.rc_hir.specs.declared.fault.Rule.TheVariants as rules
 use Rattle.rc_build.proofs.BuildsLemmas.{breaks_rule, is_built}
-use Rattle.rc_build.proofs.TakenLemmas.{insert_fresh, twice_used, unusable_unreachable, unusable_used}
+use Rattle.rc_build.proofs.TakenLemmas.{twice_used, unusable_unreachable, unusable_used}
 use Rattle.rc_build.proofs.ValueBuiltLemmas.{marks_block}
 use Rattle.rc_build.proofs.builder.Builder.mark_value_block.Goals as goal
 
@@ -32,6 +32,6 @@ returns c = λ site.
     is_built _ (record {
       marking = marks_block c.requires fresh
           (c.has_unreachable_successor.ensures.no c.if-has_unreachable_successor.false)
-          (c.in_ok-insert.ensures.keys ∙ insert_fresh builder.marks.used c.args.key fresh) refl;
+          (c.in_ok-insert.ensures.put c.if-not-branch.false) refl;
       kept = refl;
     }) refl

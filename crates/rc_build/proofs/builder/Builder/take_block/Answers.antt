@@ -14,7 +14,7 @@ use Rattle.rc_build.proofs.ListLemmas.{used_longer}
 use Rattle.rc_build.proofs.MarksLemmas.{referenced_once}
 use Rattle.rc_build.proofs.UsableLemmas.{usable_made, usable_ids}
 use Rattle.rc_build.proofs.TakenLemmas.{marked_push, marking_push, unusable_used, unusable_unreachable, unusable_scope}
-use Rattle.rc_build.proofs.TakenLemmas.{twice_target, twice_used, shared_scope, insert_fresh}
+use Rattle.rc_build.proofs.TakenLemmas.{twice_target, twice_used, shared_scope}
 use Rattle.rc_build.proofs.WalkLemmas.{at_terminal}
 use Rattle.rc_build.proofs.builder.Builder.take_block.Goals as goal
 
@@ -101,7 +101,7 @@ returns c =
     let rows = c.in_ok-put_rows.ensures.ok in
     let new : Marks = record { used = c.insert.new.self; scopes = c.mark_scope.new.scopes } in
     let fresh : is_among old.used key ≡ false = not-true _ (sym c.in_ok-insert.ensures.added ∙ c.if-not-branch.false) in
-    let used : new.used ≡ old.used ++ key ∷ [] = c.in_ok-insert.ensures.keys ∙ insert_fresh old.used key fresh in
+    let used : new.used ≡ old.used ++ key ∷ [] = c.in_ok-insert.ensures.put c.if-not-branch.false in
     let added : c.in_ok-mark_scope.field-0 ≡ true = c.if-not-branch-2.false in
     let scopes : new.scopes ≡ old.scopes ++ option_to_list (scope_named block.terminal) =
     c.in_ok-mark_scope.ensures.scopes added ∙ ap (λ z. old.scopes ++ option_to_list z) c.scope_named.ensures in
