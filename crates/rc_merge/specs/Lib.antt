@@ -1,0 +1,12 @@
+pub mod Inputs
+pub mod LastUses
+pub mod Places
+pub mod Joining
+pub mod Groups
+pub mod MergedList
+pub mod Merged
+pub mod Writes
+pub mod Renders
+pub mod Freshness
+pub mod Nested
+pub mod inside

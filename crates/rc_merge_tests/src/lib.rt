@@ -1,0 +1,5 @@
+//! Tests of the comparison of dependencies.
+#![tactic(auto)]
+
+#[cfg(test)]
+mod tests;
