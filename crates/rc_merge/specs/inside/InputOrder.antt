@@ -63,3 +63,6 @@ input_ties a b = both_tied _ _ (nat_cmp a.declaration.0 b.declaration.0) (slice_
 
 pub same_input_equivalence : IsEquivalence same_input
 same_input_equivalence = subst IsEquivalence (λ i a b. sym (input_ties a b) i) (eq_by_cmp_equiv input_order_total)
+
+pub same_step_equivalence : IsEquivalence same_step
+same_step_equivalence = subst IsEquivalence (λ i a b. sym (step_ties a b) i) (eq_by_cmp_equiv step_order_total)
