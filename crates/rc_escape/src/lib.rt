@@ -7,7 +7,6 @@
 //! After oxc's prune_non_escaping_scopes.
 #![tactic(auto)]
 
-mod fixed_list;
 mod memo_walk;
 mod memoized_names;
 mod missing_scopes;

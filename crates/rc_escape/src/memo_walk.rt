@@ -18,11 +18,10 @@ ghost use Rattle.rc_escape.specs.declared.walk_state.NodeMark.TheVariants as mar
 ghost use Rattle.rc_escape.specs.declared.walk_state.VisitFrame.TheVariants as frames;
 
 use crate::MemoizationLevel;
-use crate::fixed_list::FixedList;
 use crate::row_users::row_users;
 use crate::walk_state::{NodeMark, VisitFrame, WalkState};
 use rc_memo::{RowNode, RowRecord};
-use rc_names::{DeclarationId, KeySet, List, Name, ScopeId};
+use rc_names::{DeclarationId, FixedList, KeySet, List, Name, ScopeId};
 use std::alloc::{AllocError, Global};
 
 /// Returns the node of a name with its position, and `None` if the name has no node.

@@ -1,7 +1,6 @@
 //! What a walk over a record keeps.
 
-use crate::fixed_list::FixedList;
-use rc_names::List;
+use rc_names::{FixedList, List};
 
 /// What a walk has made of a node so far. A node is seen before it is memoized.
 #[derive(Clone, Copy, Debug, PartialEq, Eq)]

@@ -1,2 +1,3 @@
 pub mod NumbersLemmas
 pub mod KeyedLemmas
+pub mod BitRowLemmas

@@ -1,3 +1,4 @@
+pub mod BitRows
 pub mod Numbers
 pub mod Lends
 pub mod formers

@@ -4,8 +4,10 @@
 //! `Boxed`. No contract above this crate speaks of a pointer or of a capacity.
 #![tactic(auto)]
 
+mod bit_row;
 mod boxed;
 mod clone_in;
+mod fixed_list;
 mod key_set;
 mod keyed;
 mod list;
@@ -16,8 +18,10 @@ mod span;
 mod table;
 mod text;
 
+pub use bit_row::BitRow;
 pub use boxed::Boxed;
 pub use clone_in::CloneIn;
+pub use fixed_list::FixedList;
 pub use key_set::KeySet;
 pub use keyed::Keyed;
 pub use list::List;

@@ -1,7 +1,7 @@
 //! Each call once, with enough memory: no clause says that a call finds memory.
 
 use rc_names::{
-    BlockId, Boxed, CloneIn, EvaluationOrder, KeySet, Keyed, List, Name, Seed, Table, Text,
+    BitRow, BlockId, Boxed, CloneIn, EvaluationOrder, KeySet, Keyed, List, Name, Seed, Table, Text,
 };
 use std::alloc::{AllocError, Global};
 use std::test::Fail;
@@ -423,5 +423,20 @@ fn a_box_gives_its_value_back(rt: HostRuntime) -> Result<(), Fail> {
     let boxed = boxed(rt.alloc(), 7)?;
     assert_eq!(rt; *boxed.get(), 8);
     assert_eq!(rt; boxed.into_inner(), 8);
+    Ok(())
+}
+
+/// The truth values at three places of a row of nine, in which the last one is set.
+fn last_of_nine(alloc: Global) -> Result<[Option<bool>; 3], AllocError> {
+    let mut row = BitRow::new(alloc, 9)?;
+    if row.len() == 9 {
+        row.set(8, true);
+    }
+    Ok([row.get(8), row.get(0), row.get(9)])
+}
+
+#[test]
+fn a_truth_value_is_set_alone(rt: HostRuntime) -> Result<(), Fail> {
+    assert_eq!(rt; last_of_nine(rt.alloc())?, [Some(true), Some(false), None]);
     Ok(())
 }

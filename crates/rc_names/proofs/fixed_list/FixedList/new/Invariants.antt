@@ -1,5 +1,5 @@
 use Rattle.std.proofs.Common.{◌≡◌, ◌≤◌, ◌-◌, length, replicate}
-use Rattle.rc_escape.proofs.fixed_list.FixedList.new.Given as goal
+use Rattle.rc_names.proofs.fixed_list.FixedList.new.Given as goal
 
 abbrev pub invariant-loop-value : goal.invariant-loop-value
 invariant-loop-value g l = record {
