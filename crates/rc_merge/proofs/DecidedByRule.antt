@@ -1,5 +1,5 @@
 -- Merging decides by its rule.
-use Rattle.std.proofs.Common.{◌≡◌, Contains, List, [], ◌∷◌, map, arith, get_or}
+use Rattle.std.proofs.Common.{Contains, List, [], ◌∷◌, map, arith, get_or}
 use Rattle.std.proofs.Common.{subst}
 use Rattle.std.specs.Prelude.{⊤}
 use Rattle.std.proofs.lemmas.List.Elements.{Contains-get_or}

@@ -24,6 +24,7 @@ pub mod LaterLemmas
 pub mod UsesLemmas
 pub mod UseFaults
 pub mod MetUsesLemmas
+pub mod CurrentLemmas
 pub mod DeclaredLemmas
 pub mod RowsLemmas
 pub mod WholeLists
@@ -32,6 +33,11 @@ pub mod RulesAgree
 pub mod WentLemmas
 pub mod WentKeeps
 pub mod WentKnown
+pub mod MergeLemmas
+pub mod MergedClauses
+pub mod ListWalk
+pub mod UnmergedLists
+pub mod EmptyLists
 mod Examples
 mod NameSetLemmas
 mod UseWalk

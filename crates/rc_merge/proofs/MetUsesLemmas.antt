@@ -1,5 +1,8 @@
 -- Uses of places and of contexts, in any order.
-use Rattle.std.proofs.Common.{◌≡◌, ◌∙◌, ℕ, Bool, true, false, List, [], ◌∷◌, Option, None, Some, Ok, refl, sym, ap, subst, max, arith}
+use Rattle.std.proofs.Common.{◌≡◌, ◌∙◌, ◌+◌, ◌<◌, ℕ, Bool, true, false, List, [], ◌∷◌, Option, None, Some, Ok, refl, sym, ap}
+use Rattle.std.proofs.Common.{subst, max, arith, drop, get_or, length, slice_get}
+use Rattle.std.proofs.lemmas.List.{at_drop_more}
+use Rattle.std.proofs.lemmas.Option.{get_or_from_slice_get, slice_get-get_or}
 use Rattle.std.proofs.lemmas.Bool.Decides.{nat_tests}
 use Rattle.std.specs.Prelude.{if◌then◌else◌, nat_lt, not}
 use Rattle.std.specs.Map.{lookup}
@@ -8,7 +11,7 @@ use Rattle.rc_hir.specs.Model.{Environment, Place}
 use Rattle.rc_hir.specs.Environment.{declaration_of}
 use Rattle.rc_names.proofs.KeyedLemmas.{lookup-insert_other, lookup-insert_there}
 use Rattle.rc_names.proofs.NumbersLemmas.{ids_equivalence, same_id-eq}
-use Rattle.rc_names.specs.Numbers.{DeclarationId, EvaluationOrder, FunctionId, same_id}
+use Rattle.rc_names.specs.Numbers.{DeclarationId, EvaluationOrder, FunctionId, same_id, to_id}
 use Rattle.rc_tree.specs.Step.{each}
 use Rattle.rc_merge.proofs.LaterLemmas.{later_absorbed, later_is, later_swap, same_numbers}
 use Rattle.rc_merge.specs.LastUses.{LastUses, later_of}
@@ -73,6 +76,12 @@ pub put_use : (env : Environment) (id : EvaluationOrder) (place : Place)
     → uses_of new ≡ with_use env id place (uses_of old)
 put_use env id place old new e =
     ap uses_of e ∙ (λ i name. put_found (declaration_of env place.identifier) id old name i)
+
+-- there is a context at an index below the length
+pub is_inside : (contexts : List (FunctionId × EvaluationOrder)) (i : ℕ) → i < length contexts
+    → None ≡ slice_get contexts i → ⊥
+is_inside contexts i below e =
+    let found = slice_get-get_or contexts i (to_id 0, to_id 0) below in let bad : ⊥ = cc in bad
 
 module _ (env : Environment) where
   use_swap : (a b : EvaluationOrder) (p q : Place) (u : LastUses)
@@ -190,6 +199,28 @@ module _ (env : Environment) where
       → each ((use_steps env).visit_place id) ps u ≡ Ok (tt, with_places env id ps u)
   each_place id [] u = refl
   each_place id (p ∷ ps) u = each_place id ps (with_use env id p u)
+
+  -- the next one of some places
+  pub next_place : (id : EvaluationOrder) (places : List Place) (i : ℕ) (d : Place) (key : DeclarationId)
+      (old new : List (DeclarationId × EvaluationOrder)) (all : LastUses) → i < length places
+      → key ≡ declaration_of env (get_or places i d).identifier → new ≡ put_later same_id key id old
+      → all ≡ with_places env id (drop i places) (uses_of old)
+      → all ≡ with_places env id (drop (i + 1) places) (uses_of new)
+  next_place id places i d key old new all below named put so_far =
+      so_far ∙ ap (λ f. f (uses_of old)) (at_drop_more (with_places env id) places i d below)
+      ∙ ap (with_places env id (drop (i + 1) places))
+      (sym (put_use env id (get_or places i d) old new (put ∙ ap (λ k. put_later same_id k id old) named)))
+
+  -- the next one of some contexts
+  pub next_context : (contexts : List (FunctionId × EvaluationOrder)) (i : ℕ) (context : FunctionId × EvaluationOrder)
+      (old new all : LastUses) → i < length contexts → slice_get contexts i ≡ Some context
+      → new ≡ with_places env context.1 (context_of env context.0) old
+      → all ≡ with_contexts env (drop i contexts) old → all ≡ with_contexts env (drop (i + 1) contexts) new
+  next_context contexts i context old new all below found added so_far =
+      so_far ∙ ap (λ f. f old) (at_drop_more (with_contexts env) contexts i context below)
+      ∙ ap (λ (c : FunctionId × EvaluationOrder). with_contexts env (drop (i + 1) contexts)
+      (with_places env c.1 (context_of env c.0) old)) (get_or_from_slice_get contexts i context context found)
+      ∙ ap (with_contexts env (drop (i + 1) contexts)) (sym added)
 
 module _ (env : Environment) (old_uses new_uses : List (DeclarationId × EvaluationOrder))
     (old_contexts new_contexts : List (FunctionId × EvaluationOrder)) where

@@ -1,5 +1,6 @@
 -- The walk that finds last uses, as its hooks and its end see it.
-use Rattle.std.proofs.Common.{◌≡◌, ◌∙◌, ◌⊎◌, List, [], Option, None, Some, Result, Ok, Err, inl, inr, refl, sym, ap, subst, slice_get}
+use Rattle.std.proofs.Common.{◌≡◌, ◌∙◌, ◌⊎◌, List, [], Option, None, Some, Result, Ok, Err, inl, inr, sym, ap, subst, slice_get}
+use Rattle.std.proofs.lemmas.Result.{IfErr-weaker}
 use Rattle.std.specs.Prelude.{IfErr}
 use Rattle.std.specs.Option.{option_map_or}
 use Rattle.rc_hir.specs.Model.{Environment, Fault, HirFunction, Place}
@@ -38,19 +39,25 @@ pub finds : (env : Environment) (body : ReactiveBlock) (start left : LastUses) �
 finds env body start left begins is = walk_finds env body left
     (subst (λ s. IsStep (read_block (use_steps env) env.functions body s) (Ok tt) left) begins is)
 
--- its fault
-pub fault_named : (env : Environment) (func : ReactiveFunction) (start left : LastUses) (result : Result (Unit {0}) Fault)
-    (fault : Fault) → result ≡ Err fault → IsStep (read_block (use_steps env) env.functions func.body start) result left
-    → (fault ≡ NoMemory) ⊎ TreeNamesOutside func env fault
-fault_named env func start left result fault is step =
-    by (subst (λ r. IsStep (read_block (use_steps env) env.functions func.body start) r left) is step)
-  where
-    by : (fault ≡ NoMemory) ⊎ (read_block (use_steps env) env.functions func.body start ≡ Err fault)
-        → (fault ≡ NoMemory) ⊎ TreeNamesOutside func env fault
-    by (inl e) = inl e
-    by (inr e) = inr (subst (λ r. IfErr r (λ fault. TreeNamesOutside func env fault)) e (uses_named env func start))
+-- a fault of a call names a number outside its table, unless it is `NoMemory`
+module _ (env : Environment) (func : ReactiveFunction) where
+  abbrev Named : {B : Type 0} → Result B Fault → Type 0
+  Named result = IfErr result (λ fault. (fault ≡ NoMemory) ⊎ TreeNamesOutside func env fault)
 
-pub fault_sound : (env : Environment) (func : ReactiveFunction) (fault : Fault) → TreeInTables func env
-    → (fault ≡ NoMemory) ⊎ TreeNamesOutside func env fault → fault ≡ NoMemory
-fault_sound env func fault known (inl e) = e
-fault_sound env func fault known (inr named) = absurd (no_name_outside func env fault known named)
+  pub fault_named : {B : Type 0} (start : LastUses) (result : Result B Fault) (fault : Fault) → result ≡ Err fault
+      → (fault ≡ NoMemory) ⊎ (read_block (use_steps env) env.functions func.body start ≡ Err fault) → Named result
+  fault_named start result fault is cause = subst Named (sym is) (by cause)
+    where
+      by : (fault ≡ NoMemory) ⊎ (read_block (use_steps env) env.functions func.body start ≡ Err fault)
+          → (fault ≡ NoMemory) ⊎ TreeNamesOutside func env fault
+      by (inl memory) = inl memory
+      by (inr e) = inr (subst (λ r. IfErr r (λ fault. TreeNamesOutside func env fault)) e (uses_named env func start))
+
+  -- which alone is left where every number is in its table
+  pub fault_sound : {B : Type 0} (result : Result B Fault) → TreeInTables func env → Named result
+      → IfErr result (λ fault. fault ≡ NoMemory)
+  fault_sound result known = IfErr-weaker result _ _ (λ fault. by fault)
+    where
+      by : (fault : Fault) → (fault ≡ NoMemory) ⊎ TreeNamesOutside func env fault → fault ≡ NoMemory
+      by fault (inl memory) = memory
+      by fault (inr named) = absurd (no_name_outside func env fault known named)

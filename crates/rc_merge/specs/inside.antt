@@ -1,7 +1,11 @@
 pub mod InputOrder
 pub mod SortedInputs
 pub mod LastUsesMet
+pub mod MetUses
 pub mod Rows
 pub mod ListSteps
+pub mod OpenGroups
 pub mod WentRules
+pub mod MergeSteps
 pub mod Declarations
+pub mod Indexed

@@ -1,4 +1,4 @@
-//! Tests of the comparison of dependencies.
+//! Tests of merging, and of the comparison of dependencies.
 #![tactic(auto)]
 
 #[cfg(test)]

@@ -33,6 +33,11 @@ pub record Going : Type 0 where
 abbrev pub row_statements : List ReactiveInstruction → List ReactiveStatement
 row_statements rows = map (λ row. reactive.Instruction row) rows
 
+-- the statement is a scope block
+abbrev pub is_scope : UnrolledStatement → Bool
+is_scope (layer.Scope block) = true
+is_scope _ = false
+
 -- the block of a scope
 abbrev pub block_of : ScopeId → List ReactiveStatement → ReactiveScopeBlock
 block_of number inside = record { scope = number; instructions = record { statements = inside } }
