@@ -24,7 +24,7 @@ use Rattle.rc_runs.specs.Returning.{returning_break, returning_cases, returning_
 use Rattle.rc_runs.specs.BodyRun.{RunsList, IsBodyRun}
 
 -- a test without a position fails everywhere
-none_passes : {X : Type 0} (p : X → Bool) (xs : List X) → position p xs ≡ None → All (λ x. p x ≡ false) xs
+pub none_passes : {X : Type 0} (p : X → Bool) (xs : List X) → position p xs ≡ None → All (λ x. p x ≡ false) xs
 none_passes p xs none k d lt = elim (cases_lt (position_or_len p xs) (length xs)) [
   | inl inside ↦ absurd (let bad : ⊥ = cc (rw (lt-ltb (position_or_len p xs) (length xs) inside) at none) in bad)
   | inr past ↦ fails_before_first p xs k d (omega arith)

@@ -1,0 +1,9 @@
+pub mod GrowsLemmas
+pub mod VariableLemmas
+pub mod RoomLemmas
+pub mod StepsLemmas
+pub mod MadeLemmas
+pub mod FaultLemmas
+pub mod ScopesLemmas
+pub mod KeptRuns
+pub mod KnownLemmas

@@ -1,0 +1,5 @@
+pub mod NewBlocks
+pub mod Entries
+pub mod Statements
+pub mod EarlyReturned
+pub mod inside
