@@ -1,5 +1,5 @@
--- What the pass on dependencies leaves of the environment: no table gets shorter, and where no scope has an early return,
--- none has one.
+-- What the passes leave of the environment: no table gets shorter, and where no scope has an early return, none has one
+-- after the pass on dependencies.
 use Rattle.std.proofs.Common.{◌≡◌, ℕ, suc, ◌+◌, List, [], ◌∷◌, length, arith, refl, sym, ap, subst}
 use Rattle.std.specs.List.{position_or_len}
 use Rattle.rc_hir.specs.KeptNumbers.{KeepsNumbers}
@@ -39,7 +39,19 @@ keeps_own env = record {
   next_block = omega arith;
 }
 
--- and the pass keeps them too
+-- what keeps the numbers twice keeps them
+pub keeps_through : {first between last : Environment} → KeepsNumbers first between → KeepsNumbers between last
+    → KeepsNumbers first last
+keeps_through before after = record {
+  identifiers = omega (arith, before.identifiers, after.identifiers);
+  types = omega (arith, before.types, after.types);
+  scopes = omega (arith, before.scopes, after.scopes);
+  functions = omega (arith, before.functions, after.functions);
+  shapes = omega (arith, before.shapes, after.shapes);
+  next_block = omega (arith, before.next_block, after.next_block);
+}
+
+-- and the pass on dependencies keeps them
 pub dependencies_keep_numbers : (old new : Environment) {body : ReactiveBlock} → HasReactiveDependencies body old new
     → KeepsNumbers old new
 dependencies_keep_numbers old new parts =

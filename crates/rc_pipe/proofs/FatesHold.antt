@@ -1,5 +1,5 @@
 -- The fates that are listed by what the passes decided are those of the rules.
-use Rattle.std.proofs.Common.{◌≡◌, ◌∙◌, ◌↔◌, ◌⊎◌, inl, inr, true, false, List, All}
+use Rattle.std.proofs.Common.{◌≡◌, ◌∙◌, ◌↔◌, ◌⊎◌, inl, inr, List, All}
 use Rattle.std.proofs.Common.{Contains, get_or, arith, not, true≢false, sym, ap, subst}
 use Rattle.std.proofs.lemmas.List.Elements.{Contains-get_or}
 use Rattle.rc_names.specs.Numbers.{DeclarationId, ScopeId, times}

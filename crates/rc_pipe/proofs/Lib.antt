@@ -8,3 +8,9 @@ mod RunsElsewhere
 mod EventsStay
 mod PassesLemmas
 mod FatesHold
+mod FreshHolds
+mod ErasedBlocks
+mod LabelBlocks
+mod SpelledContents
+mod RoomHolds
+mod EarlyReturnsFit

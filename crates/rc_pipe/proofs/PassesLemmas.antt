@@ -1,9 +1,10 @@
 -- The clauses of the checks and passes, put together into those of the whole sequence.
 use Rattle.std.proofs.Common.{◌≡◌, ◌∙◌, ◌⊎◌, inl, inr, ◌≤◌, true, List, [], ◌++◌, ◌↔◌, All, map, arith, append-nil}
 use Rattle.std.proofs.Common.{refl, sym, ap, subst}
+use Rattle.std.specs.List.{IsDistinct}
 use Rattle.rc_hir.specs.Model.{Environment, Fault, HirFunction}
 use Rattle.rc_hir.specs.declared.fault.Fault.TheVariants as faults
-use Rattle.rc_names.specs.Numbers.{EvaluationOrder, ScopeId, times}
+use Rattle.rc_names.specs.Numbers.{EvaluationOrder, ScopeId, same_id, times}
 use Rattle.rc_tree.proofs.DistinctLemmas.{at_most_once, times-append}
 use Rattle.rc_tree.specs.Decided.{FateRule, IsDecidedBy, IsFateBy, decided as decided_scopes}
 use Rattle.rc_tree.specs.inside.DecisionLogs.{AreDecidedBy}
@@ -25,23 +26,42 @@ use Rattle.rc_tree.specs.Visits.{visits_of}
 use Rattle.rc_tree.specs.declared.fate.Fate.TheVariants.{NotEscaping}
 use Rattle.rc_tree.specs.declared.fate.ScopeFate.{ScopeFate}
 use Rattle.rc_pipe.specs.Headline.{IsAccepted, IsCause}
-use Rattle.rc_pipe.specs.Passes.{AfterLabels, AreInside, EndsOutside, IsPruned, PassState, state}
+use Rattle.rc_pipe.specs.Passes.{AfterEarlyReturns, AfterLabels, AreInside, EndsOutside, IsPruned, PassState, state}
 use Rattle.rc_pipe.specs.inside.PassFaults.{IsPassFault}
 use Rattle.rc_pipe.specs.Fates.{fate_rules}
 use Rattle.rc_pipe.specs.declared.passes.Decisions.{Decisions}
-use Rattle.rc_pipe.specs.inside.PrunedParts.{HasOthersPruned, IsChecked, IsPrunedWith}
+use Rattle.rc_pipe.specs.inside.PrunedParts.{HasOthersPruned, HasScopesPruned, IsChecked, IsPrunedWith}
 use Rattle.rc_escape.proofs.NotEscaping.Decided.{not_escaping_decided}
 use Rattle.rc_escape.specs.NotEscaping.{not_escaping_rule}
 use Rattle.rc_escape.specs.Outputs.{is_dissolved}
 use Rattle.rc_escape.specs.WholeRecord.{IsEscapeFault}
 use Rattle.rc_flow.proofs.AlwaysInvalidating.DecidedScopes.{invalidating_decided}
 use Rattle.rc_memo.specs.TreeEvents.{events_in}
+use Rattle.rc_merge.specs.Merged.{merging_rule}
 use Rattle.rc_pipe.proofs.EventsStay.{events_stay, same_node, same_scope}
+use Rattle.rc_merge.proofs.DecidedByRule.{gives_own, merging_decided}
+use Rattle.rc_merge.proofs.EarlyReturnsStay.{still_none as merged_none}
 use Rattle.rc_pipe.proofs.EnvironmentStays.{still_none}
 use Rattle.rc_pipe.proofs.RunsElsewhere.{runs_with_scopes}
 
--- runs that are kept up to a function are kept where its scopes are pruned, with the environment that this leaves, where
--- no scope has an early return
+-- the passes on other scopes change only the scopes of the environment, and set no early return
+module _ {before after : PassState} {log : List ScopeFate} (parts : HasOthersPruned before after log) where
+  pub only_scopes : after.env ≡ record before.env { scopes = parts.merged.env.scopes }
+  only_scopes =
+      let with_scopes : Environment → Environment = λ env. record env { scopes = parts.merged.env.scopes } in
+      parts.invalidating.kept_environment ∙ parts.merges.scopes.environment
+      ∙ ap with_scopes (parts.scopes.kept_environment ∙ parts.dependencies.scopes.others)
+
+  pub none_set : NoEarlyReturnSet before.env → NoEarlyReturnSet after.env
+  none_set none =
+      let used : NoEarlyReturnSet parts.used.env = subst NoEarlyReturnSet (sym parts.scopes.kept_environment)
+      (still_none before.env parts.reactive.env parts.dependencies.scopes none) in
+      subst NoEarlyReturnSet (sym parts.invalidating.kept_environment)
+      (merged_none parts.used.func.body parts.used.env parts.merged.func.body parts.merged.env parts.joined
+      parts.merges.scopes used)
+
+-- runs that are kept up to a function are kept where its scopes are pruned, with the environment that this leaves,
+-- where no scope has an early return
 pub runs_through : (old new : Environment) (first labeled escaping last : ReactiveFunction) (log : List ScopeFate)
     → ((events : List Event) (end : End) → IsBodyRun first old events end ↔ IsBodyRun labeled old events end)
     → erased escaping ≡ erased labeled → erased last ≡ erased escaping
@@ -50,16 +70,55 @@ pub runs_through : (old new : Environment) (first labeled escaping last : Reacti
 runs_through old new first labeled escaping last log same one other parts none events end =
     let here = same events end in
     let there = same_erased_same_runs old none events end last labeled (other ∙ one) in
-    let scopes = parts.reactive.env.scopes in
-    let left : new ≡ record old { scopes = scopes } =
-    parts.invalidating.kept_environment ∙ parts.scopes.kept_environment ∙ parts.dependencies.scopes.others
-    in
-    let still : NoEarlyReturnSet (record old { scopes = scopes }) =
-    still_none old parts.reactive.env parts.dependencies.scopes none in
+    let scopes = parts.merged.env.scopes in
+    let left = only_scopes parts in
+    let still = subst NoEarlyReturnSet left (none_set parts none) in
     let elsewhere = runs_with_scopes old scopes none still last events end in (
       λ run. subst (λ env. IsBodyRun last env events end) (sym left) (elsewhere.0 (there.1 (here.0 run))),
       λ run. here.1 (there.0 (elsewhere.1 (subst (λ env. IsBodyRun last env events end) left run))),
     )
+
+-- runs that are kept by the passes before early returns are kept by those
+pub runs_after : (first between last : ReactiveFunction) (old middle new : Environment)
+    → ((events : List Event) (end : End) → IsBodyRun first old events end ↔ IsBodyRun between middle events end)
+    → ((events : List Event) (end : End) → IsBodyRun between middle events end ↔ IsBodyRun last new events end)
+    → (events : List Event) (end : End) → IsBodyRun first old events end ↔ IsBodyRun last new events end
+runs_after first between last old middle new one other events end =
+    let here = one events end in
+    let there = other events end in
+    (λ run. there.0 (here.0 run), λ run. here.1 (there.1 run))
+
+-- the passes before early returns, and those
+pub all_passes : {spelled between pruned : PassState} {decisions : Decisions}
+    → HasScopesPruned spelled between decisions → AfterEarlyReturns between pruned
+    → IsPrunedWith spelled pruned decisions
+all_passes {spelled} {between} {pruned} {decisions} parts returns =
+    let others = parts.others in
+    record {
+      passes = record {
+        labeled = parts.labeled;
+        labels = parts.checked.labels;
+        inside = parts.checked.inside;
+        escaping = parts.escaping;
+        not_escaping = parts.not_escaping;
+        escapes = parts.escapes;
+        reactive = others.reactive;
+        dependencies = others.dependencies;
+        used = others.used;
+        unused = others.unused;
+        scopes = others.scopes;
+        merged = others.merged;
+        joined = others.joined;
+        merges = others.merges;
+        invalidated = between;
+        always_invalidating = others.always_invalidating;
+        invalidating = others.invalidating;
+        early_returns = returns;
+      };
+      listed = parts.listed;
+      told = parts.told ∙ ap (λ (log : List ScopeFate). parts.not_escaping ++ log) others.told;
+      needed = parts.needed;
+    }
 
 -- each pass may run out of memory
 pub memory_fault : (spelled : PassState) (fault : Fault) → fault ≡ faults.NoMemory → IsPassFault spelled fault
@@ -159,6 +218,11 @@ pub labels_keep_scopes : {spelled labeled : PassState} → AfterLabels spelled l
 labels_keep_scopes {spelled} {labeled} labels = same_scopes labeled.func.body
     ∙ ap (map (λ (block : ScopeBlock). block.scope)) labels.kept_scope_blocks ∙ sym (same_scopes spelled.func.body)
 
+-- so each has one block there if it has one in the spelled function
+pub labels_keep_once : {spelled labeled : PassState} → AfterLabels spelled labeled → HasScopesOnce spelled.func.body
+    → HasScopesOnce labeled.func.body
+labels_keep_once labels once = subst (IsDistinct same_id) (sym (labels_keep_scopes labels)) once
+
 -- a pass that received the same scope blocks decided the same of them
 received : (rule : FateRule) (before other after : ReactiveBlock) (log : List ScopeFate)
     → scopes_in before ≡ scopes_in other → IsDecidedBy rule before after log → IsDecidedBy rule other after log
@@ -194,13 +258,20 @@ module _ {spelled pruned : PassState} (passes : IsPruned spelled pruned) where
       (unused_decided passes.reactive.env passes.reactive.func.body passes.used.func.body passes.unused
       passes.scopes.scopes)
 
+  by_merging : IsDecidedBy (merging_rule passes.used.env passes.used.func.body) passes.used.func.body
+      passes.merged.func.body passes.joined
+  by_merging = merging_decided passes.used.func.body passes.used.env passes.merged.func.body passes.merged.env
+      passes.joined passes.merges.scopes
+
   -- the fate of the escape pass comes by its rule alone
   pub not_escaping_first : (scope : ScopeId) → IsFateBy (fate_rules passes) scope NotEscaping
       → is_dissolved passes.labeled.env passes.escapes.scopes.without.set scope ≡ true
   not_escaping_first scope (inl rule) = rule.1
   not_escaping_first scope (inr (none, inl rule)) = absurd (let no : ⊥ = cc in no)
-  not_escaping_first scope (inr (none, inr (used, inl rule))) = absurd (let no : ⊥ = cc in no)
-  not_escaping_first scope (inr (none, inr (used, inr (stays, kept)))) = absurd (let no : ⊥ = cc in no)
+  not_escaping_first scope (inr (none, inr (used, inl rule))) =
+      absurd (gives_own passes.used.env passes.used.func.body scope NotEscaping rule)
+  not_escaping_first scope (inr (none, inr (used, inr (apart, inl rule)))) = absurd (let no : ⊥ = cc in no)
+  not_escaping_first scope (inr (none, inr (used, inr (apart, inr (stays, kept))))) = absurd (let no : ⊥ = cc in no)
 
   module _ (once : HasScopesOnce spelled.func.body) where
     used_once : (scope : ScopeId) → times scope (scopes_in passes.used.func.body) ≤ 1
@@ -208,28 +279,38 @@ module _ {spelled pruned : PassState} (passes : IsPruned spelled pruned) where
         (no_more _ spelled.func.body passes.escaping.func.body passes.not_escaping by_escape
         (at_most_once (scopes_in spelled.func.body) once))
 
+    merged_once : (scope : ScopeId) → times scope (scopes_in passes.merged.func.body) ≤ 1
+    merged_once = no_more _ passes.used.func.body passes.merged.func.body passes.joined by_merging used_once
+
     decided_by_all : AreDecidedBy (fate_rules passes) spelled.func.body pruned.func.body
-        (passes.not_escaping ++ (passes.unused ++ passes.always_invalidating))
+        (passes.not_escaping ++ (passes.unused ++ (passes.joined ++ passes.always_invalidating)))
     decided_by_all = (
       passes.escaping.func.body,
       passes.not_escaping,
-      passes.unused ++ passes.always_invalidating,
+      passes.unused ++ (passes.joined ++ passes.always_invalidating),
       refl,
       by_escape,
       (
         passes.used.func.body,
         passes.unused,
-        passes.always_invalidating,
+        passes.joined ++ passes.always_invalidating,
         refl,
         by_use,
         (
-          pruned.func.body,
+          passes.merged.func.body,
+          passes.joined,
           passes.always_invalidating,
-          [],
-          sym (append-nil passes.always_invalidating),
-          invalidating_decided passes.used.env passes.used.func.body pruned.func.body passes.always_invalidating
-              passes.invalidating.scopes used_once,
-          (refl, refl),
+          refl,
+          by_merging,
+          (
+            passes.invalidated.func.body,
+            passes.always_invalidating,
+            [],
+            sym (append-nil passes.always_invalidating),
+            invalidating_decided passes.merged.env passes.merged.func.body passes.invalidated.func.body
+                passes.always_invalidating passes.invalidating.scopes merged_once,
+            (sym passes.early_returns.kept_scopes, refl),
+          ),
         ),
       ),
     )
@@ -256,9 +337,11 @@ pub graph_header : {hir : HirFunction} {env : Environment} {func : ReactiveFunct
     → Spells hir env func → IsPruned (state func env) pruned → IsHeaded hir pruned.func
 graph_header {hir} {env} {func} {pruned} spelled passes =
     let headed : ReactiveFunction → ReactiveFunction = λ f. with_header hir f.body in
-    still_headed hir passes.used.func pruned.func passes.invalidating.header
+    still_headed hir passes.invalidated.func pruned.func passes.early_returns.header
+    (still_headed hir passes.merged.func passes.invalidated.func passes.invalidating.header
+    (still_headed hir passes.used.func passes.merged.func passes.merges.header
     (still_headed hir passes.reactive.func passes.used.func passes.scopes.header
     (subst (IsHeaded hir) (sym passes.dependencies.kept_function)
     (still_headed hir passes.labeled.func passes.escaping.func passes.escapes.header
     (still_headed hir func passes.labeled.func passes.labels.header
-    (spelled.whole ∙ ap headed (sym spelled.whole))))))
+    (spelled.whole ∙ ap headed (sym spelled.whole))))))))

@@ -12,6 +12,7 @@ use Rattle.rc_tree.specs.declared.fate.ScopeFate.{ScopeFate}
 use Rattle.rc_checks.specs.UnusedScopes.{unused_rule}
 use Rattle.rc_escape.specs.NotEscaping.{not_escaping_rule}
 use Rattle.rc_flow.specs.AlwaysInvalidating.{invalidating_rule}
+use Rattle.rc_merge.specs.Merged.{merging_rule}
 use Rattle.rc_pipe.specs.Passes.{PassState, IsPruned}
 
 -- the listed scopes, in the order of the list
@@ -24,7 +25,8 @@ module _ {spelled pruned : PassState} (passes : IsPruned spelled pruned) where
   fate_rules =
       Then (not_escaping_rule passes.labeled.env passes.escapes.scopes.without.set)
       (Then (unused_rule passes.reactive.env passes.reactive.func.body)
-      (Then (invalidating_rule passes.used.env passes.used.func.body) NoMore))
+      (Then (merging_rule passes.used.env passes.used.func.body)
+      (Then (invalidating_rule passes.merged.env passes.merged.func.body) NoMore)))
 
   -- each scope of the spelled tree is listed once, in ascending order, with its fate
   pub record AreFates (fates : List ScopeFate) : Type 0 where

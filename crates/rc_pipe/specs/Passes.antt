@@ -1,7 +1,6 @@
 -- The sequence of passes over a spelled function and its environment, and the faults with which they refuse one.
 use Rattle.std.specs.Prelude.{◌≡◌, All, List}
 use Rattle.rc_hir.specs.Model.{Environment}
-use Rattle.rc_hir.specs.declared.fault.Fault.TheVariants as faults
 use Rattle.rc_names.specs.Numbers.{EvaluationOrder, ScopeId}
 use Rattle.rc_tree.specs.Model.{ReactiveFunction, ReactiveBlock}
 use Rattle.rc_tree.specs.ScopesIn.{scopes_in}
@@ -11,9 +10,11 @@ use Rattle.rc_checks.specs.Labels.{IsWithoutUnusedLabels}
 use Rattle.rc_checks.specs.Membership.{IsInside, IsLastOutside}
 use Rattle.rc_checks.specs.ScopeBlocks.{scope_blocks}
 use Rattle.rc_checks.specs.UnusedScopes.{LosesUnusedScopes}
+use Rattle.rc_early.specs.EarlyReturned.{HasEarlyReturns}
 use Rattle.rc_escape.specs.NotEscaping.{HasDecidedNotEscaping}
 use Rattle.rc_flow.specs.AlwaysInvalidating.{PrunesInvalidating}
 use Rattle.rc_flow.specs.ReactiveDependencies.{HasReactiveDependencies}
+use Rattle.rc_merge.specs.Merged.{Merges}
 
 -- a function with its environment, between two passes
 pub record PassState : Type 0 where
@@ -48,12 +49,25 @@ pub record AfterUnusedScopes (before after : PassState) (decided : List ScopeFat
   pub header : after.func ≡ record before.func { body = after.func.body }
   pub kept_environment : after.env ≡ before.env
 
+-- merging: scope blocks that invalidate together became one, which the pass decided, and the environment has the scopes
+-- as merged
+pub record AfterMerging (before after : PassState) (decided : List ScopeFate) : Type 0 where
+  pub scopes : Merges before.func.body before.env after.func.body after.env decided
+  pub header : after.func ≡ record before.func { body = after.func.body }
+
 -- pruning of what always invalidates: the function lost the blocks that depend on an unmemoized value, which the pass
 -- decided, and the environment stays
 pub record AfterInvalidating (before after : PassState) (decided : List ScopeFate) : Type 0 where
   pub scopes : PrunesInvalidating before.env before.func.body after.func.body decided
   pub header : after.func ≡ record before.func { body = after.func.body }
   pub kept_environment : after.env ≡ before.env
+
+-- early returns: each `Return` in a scope block became a store and a jump out of the outermost scope block around it,
+-- and the environment has what these name; the scope blocks stay
+pub record AfterEarlyReturns (before after : PassState) : Type 0 where
+  pub returns : HasEarlyReturns before.func.body before.env after.func.body after.env
+  pub header : after.func ≡ record before.func { body = after.func.body }
+  pub kept_scopes : scopes_in after.func.body ≡ scopes_in before.func.body
 
 -- no operand of the body is outside the blocks of its scope
 abbrev pub AreInside : Environment → ReactiveBlock → Type 0
@@ -77,5 +91,10 @@ pub record IsPruned (spelled pruned : PassState) : Type 0 where
   pub used : PassState
   pub unused : List ScopeFate
   pub scopes : AfterUnusedScopes reactive used unused
+  pub merged : PassState
+  pub joined : List ScopeFate
+  pub merges : AfterMerging used merged joined
+  pub invalidated : PassState
   pub always_invalidating : List ScopeFate
-  pub invalidating : AfterInvalidating used pruned always_invalidating
+  pub invalidating : AfterInvalidating merged invalidated always_invalidating
+  pub early_returns : AfterEarlyReturns invalidated pruned

@@ -6,25 +6,28 @@ ghost use Rattle.rc_hir.specs.KeptNumbers.{KeepsNumbers};
 ghost use Rattle.rc_hir.specs.Names.{NamesInTables};
 ghost use Rattle.rc_hir.specs.declared.fault.Fault.TheVariants as faults;
 ghost use Rattle.rc_names.specs.Numbers.{EvaluationOrder as Order, ScopeId as Scope};
-ghost use Rattle.rc_tree.specs.ScopesIn.{scopes_in};
+ghost use Rattle.rc_tree.specs.ScopesIn.{HasScopesOnce, scopes_in};
 ghost use Rattle.rc_tree.specs.TreeNames.{TreeInTables};
 ghost use Rattle.rc_runs.specs.BodyRun.{IsBodyRun};
 ghost use Rattle.rc_runs.specs.EarlyReturns.{NoEarlyReturnSet};
 ghost use Rattle.rc_runs.specs.Erase.{erased};
 ghost use Rattle.rc_runs.specs.Event.{Event, End};
 ghost use Rattle.rc_runs.specs.Spelled.{Spells};
+ghost use Rattle.rc_pipe.specs.Causes.{HasRoom};
 ghost use Rattle.rc_pipe.specs.Passes.{AreInside, EndsOutside, state};
 ghost use Rattle.rc_pipe.specs.inside.PassFaults.{IsPassFault};
-ghost use Rattle.rc_pipe.specs.inside.PrunedParts.{HasOthersPruned, IsChecked, IsPrunedWith};
+ghost use Rattle.rc_pipe.specs.inside.PrunedParts.{HasOthersPruned, HasScopesPruned, IsChecked, IsPrunedWith};
 
 use crate::spelled_scopes::spelled_scopes;
 use rc_checks::{
     assert_known_instructions_within_scopes, assert_well_formed_break_targets,
     decide_unused_scopes, prune_unused_labels,
 };
+use rc_early::propagate_early_returns;
 use rc_escape::decide_non_escaping_scopes;
 use rc_flow::{decide_always_invalidating_scopes, prune_non_reactive_dependencies};
 use rc_hir::{Environment, Fault, HirFunction};
+use rc_merge::decide_merged_scopes;
 use rc_names::{List, ScopeId};
 use rc_tree::{ReactiveFunction, ScopeFate};
 use std::alloc::Global;
@@ -37,11 +40,12 @@ pub(crate) struct Decisions {
 }
 
 /// Checks a function and prunes it: break targets, unused labels, the operands of scopes, scopes that don't escape,
-/// dependencies that aren't reactive, unused scopes, scopes that always invalidate. Returns what the passes decided.
+/// dependencies that aren't reactive, unused scopes, scopes that invalidate together, which are merged, and scopes that
+/// always invalidate; and replaces the returns in scope blocks. Returns what the passes decided.
 ///
-/// The function's numbers are in their tables, and the graph spells it, so the only faults are `ScopeCompleted`,
-/// `Uninitialised`, `NoScopeNode` and `NoMemory`. The environment is written after all that may give one of the first
-/// three.
+/// The function's numbers are in their tables, the graph spells it, and enough numbers are left for an early return in
+/// each scope block, so the only faults are `ScopeCompleted`, `Uninitialised`, `NoScopeNode` and `NoMemory`. The
+/// environment is written after all that may give one of the first three.
 pub(crate) fn prune(
     alloc: Global,
     hir: &HirFunction,
@@ -50,7 +54,31 @@ pub(crate) fn prune(
 ) -> Result<Decisions, Fault>
     requires known { TreeInTables func.old env.old }
     requires spelled { Spells hir.now env.old func.old }
+    requires room { HasRoom hir.now env.old }
     ensures ok { IfOk result (IsPrunedWith (state func.old env.old) (state func.new env.new)) }
+    ensures still_known { IfOk result (λ told. TreeInTables func.new env.new) }
+    ensures kept_runs { NoEarlyReturnSet env.old → IfOk result (λ told. (events : Items Event) (end : End) →
+        IsBodyRun func.old env.old events end ↔ IsBodyRun func.new env.new events end) }
+    ensures refused { IfErr result (IsPassFault (state func.old env.old)) }
+    ensures kept_environment { IfErr result (λ fault. (fault ≡ faults.NoMemory) ⊎ (env.new ≡ env.old)) }
+    ensures kept_numbers { KeepsNumbers env.old env.new }
+    ensures known_names { NamesInTables hir.now env.old → NamesInTables hir.now env.new }
+{
+    let decisions = prune_scopes(alloc, hir, func, env)?;
+    propagate_early_returns(alloc, func, env)?;
+    Ok(decisions)
+}
+
+/// Checks a function and prunes it, up to early returns. Returns what the passes decided.
+fn prune_scopes(
+    alloc: Global,
+    hir: &HirFunction,
+    func: &mut ReactiveFunction,
+    env: &mut Environment,
+) -> Result<Decisions, Fault>
+    requires known { TreeInTables func.old env.old }
+    requires spelled { Spells hir.now env.old func.old }
+    ensures ok { IfOk result (HasScopesPruned (state func.old env.old) (state func.new env.new)) }
     ensures still_known { IfOk result (λ told. TreeInTables func.new env.new) }
     ensures kept_runs { NoEarlyReturnSet env.old → IfOk result (λ told. (events : Items Event) (end : End) →
         IsBodyRun func.old env.old events end ↔ IsBodyRun func.new env.new events end) }
@@ -113,21 +141,27 @@ fn check_operands(
     assert_known_instructions_within_scopes(alloc, func, env)
 }
 
-/// Prunes dependencies that aren't reactive, unused scopes, and scopes that always invalidate. Returns what was decided.
+/// Prunes dependencies that aren't reactive and unused scopes, merges scopes that invalidate together, and prunes those
+/// that always invalidate. Returns what was decided.
+#[tactic(auto, using(crate::proofs::EnvironmentStays::dependencies_keep_numbers, crate::proofs::EnvironmentStays::keeps_through))]
 fn decide_others(
     alloc: Global,
     func: &mut ReactiveFunction,
     env: &mut Environment,
 ) -> Result<List<ScopeFate>, Fault>
+    requires known { TreeInTables func.old env.old }
+    requires once { HasScopesOnce func.old.body }
     ensures ok { IfOk result (HasOthersPruned (state func.old env.old) (state func.new env.new)) }
     ensures kept_erased { IfOk result (λ log. erased func.new ≡ erased func.old) }
-    ensures known { IfOk result (λ log. TreeInTables func.old env.old → TreeInTables func.new env.new) }
-    ensures refused { TreeInTables func.old env.old → IfErr result (λ fault. fault ≡ faults.NoMemory) }
+    ensures still_known { IfOk result (λ log. TreeInTables func.new env.new) }
+    ensures refused { IfErr result (λ fault. fault ≡ faults.NoMemory) }
     ensures kept_numbers { KeepsNumbers env.old env.new }
     ensures known_names { (graph : Graph) → NamesInTables graph env.old → NamesInTables graph env.new }
 {
     prune_non_reactive_dependencies(alloc, func, env)?;
     let mut log = decide_unused_scopes(alloc, func, env)?;
+    let merged = decide_merged_scopes(alloc, func, env)?;
+    log.append(merged)?;
     let invalidating = decide_always_invalidating_scopes(alloc, func, env)?;
     log.append(invalidating)?;
     Ok(log)

@@ -26,8 +26,10 @@ pub struct Pruned {
 }
 
 /// Builds the one tree that a graph spells and prunes it: its unused labels, its scopes that don't escape, the
-/// dependencies of scopes that aren't reactive, its unused scopes, and those that always invalidate. Returns it with the
-/// fate of each scope of the spelled tree. The environment gets the dependencies that stay.
+/// dependencies of scopes that aren't reactive, and its unused scopes; merges its scopes that invalidate together;
+/// prunes those that always invalidate; and makes each `Return` in a scope block a store and a jump out of the
+/// outermost scope block around it. Returns it with the fate of each scope of the spelled tree. The environment gets the
+/// dependencies that stay, the merged scopes, and the early returns with their variables and labels.
 ///
 /// Returns the first of these faults that has its cause:
 ///

@@ -1,90 +1,77 @@
--- The clauses of the parts of the passes, put together.
-use Rattle.std.proofs.Common.{◌≡◌, ◌∙◌, ◌++◌, List, ap, inl, map, refl}
+-- The clauses of the pass on early returns, after those of the other passes.
+use Rattle.std.proofs.Common.{Err, ap, inl}
 use Rattle.std.proofs.lemmas.Result.{err_from_is_err_and}
-use Rattle.rc_tree.specs.declared.fate.ScopeFate.{ScopeFate}
 use Rattle.rc_pipe.specs.Passes.{state}
-use Rattle.rc_pipe.proofs.EnvironmentStays.{keeps_own}
-use Rattle.rc_pipe.proofs.PassesLemmas.{escape_fault, labels_keep_scopes, memory_fault, runs_through}
+use Rattle.rc_pipe.proofs.EarlyReturnsFit.{new_blocks, only_memory_left, still_room}
+use Rattle.rc_pipe.proofs.EnvironmentStays.{keeps_through}
+use Rattle.rc_pipe.proofs.PassesLemmas.{all_passes, memory_fault, runs_after}
 use Rattle.rc_pipe.proofs.passes.prune.Goals as goal
 
 pub returns-clause-ok : goal.returns-clause-ok
 returns-clause-ok c =
-    let checked = c.in_ok-spelled.ensures.ok in
-    let escape = c.in_ok-log.ensures in
-    let others = c.in_ok-others.ensures.ok in
-    record {
-      passes = record {
-        labeled = state c.check.new.func c.args.env.now;
-        labels = checked.labels;
-        inside = checked.inside;
-        escaping = state c.decide_non_escaping_scopes.new.func c.args.env.now;
-        not_escaping = c.in_ok-log.log;
-        escapes = record { scopes = escape.ok; header = escape.header; kept_environment = refl };
-        reactive = others.reactive;
-        dependencies = others.dependencies;
-        used = others.used;
-        unused = others.unused;
-        scopes = others.scopes;
-        always_invalidating = others.always_invalidating;
-        invalidating = others.invalidating;
-      };
-      listed = c.in_ok-spelled.ensures.listed ∙ labels_keep_scopes checked.labels;
-      told = c.in_ok-append.ensures.ok ∙ ap (λ (log : List ScopeFate). c.in_ok-log.log ++ log) others.told;
-      needed = escape.needed;
-    }
+    let returns = c.in_ok-propagate_early_returns.ensures in
+    all_passes c.in_ok-decisions.ensures.ok
+    (record { returns = returns.ok; header = returns.header; kept_scopes = returns.kept_scopes })
 
 pub returns-clause-still_known : goal.returns-clause-still_known
-returns-clause-still_known c =
-    c.in_ok-others.ensures.known (c.in_ok-log.ensures.known c.in_ok-spelled.ensures.still_known)
+returns-clause-still_known c = c.in_ok-propagate_early_returns.ensures.known c.in_ok-decisions.ensures.still_known
 
+-- the tree before early returns has its numbers in their tables, and a new block is none of its own
 pub returns-clause-kept_runs : goal.returns-clause-kept_runs
 returns-clause-kept_runs c = λ none.
-    runs_through c.args.env.now c.decide_others.new.env c.args.func.now c.check.new.func
-    c.decide_non_escaping_scopes.new.func c.decide_others.new.func c.in_ok-others.others
-    (c.in_ok-spelled.ensures.kept_runs none) c.in_ok-log.ensures.kept_erased c.in_ok-others.ensures.kept_erased
-    c.in_ok-others.ensures.ok none
+    runs_after c.args.func.now c.prune_scopes.new.func c.propagate_early_returns.new.func c.args.env.now
+    c.prune_scopes.new.env c.propagate_early_returns.new.env (c.in_ok-decisions.ensures.kept_runs none)
+    (c.in_ok-propagate_early_returns.ensures.kept_runs c.in_ok-decisions.ensures.still_known
+    (new_blocks c.in_ok-decisions.ensures.ok c.args.hir.now c.requires.spelled c.requires.room none))
 
--- a refusal of the checks is one of the passes
-pub returns-in_err-spelled-clause-refused : goal.returns-in_err-spelled-clause-refused
-returns-in_err-spelled-clause-refused c =
+-- a refusal of the passes before is one of the passes
+pub returns-in_err-decisions-clause-refused : goal.returns-in_err-decisions-clause-refused
+returns-in_err-decisions-clause-refused c =
     let p = err_from_is_err_and c.from_residual.result c.from_residual.ensures.1 in
-    rw (p.1, p.2) (c.in_err-spelled.ensures.refused)
+    rw (p.1, p.2) (c.in_err-decisions.ensures.refused)
 
--- and so is one of the escape pass
-pub returns-in_err-log-clause-refused : goal.returns-in_err-log-clause-refused
-returns-in_err-log-clause-refused c =
-    let exit = c.from_residual-in_err-log in
+pub returns-in_err-decisions-clause-kept_environment : goal.returns-in_err-decisions-clause-kept_environment
+returns-in_err-decisions-clause-kept_environment c =
+    let p = err_from_is_err_and c.from_residual.result c.from_residual.ensures.1 in
+    rw (p.1, p.2) (c.in_err-decisions.ensures.kept_environment)
+
+-- early returns fail only when out of memory, since enough numbers are left
+pub returns-in_err-propagate_early_returns-clause-refused : goal.returns-in_err-propagate_early_returns-clause-refused
+returns-in_err-propagate_early_returns-clause-refused c =
+    let exit = c.from_residual-in_err-propagate_early_returns in
     let p = err_from_is_err_and exit.result exit.ensures.1 in
-    rw (p.1, p.2) (escape_fault c.args.env.now c.args.func.now c.check.new.func c.in_ok-spelled.ensures.ok
-    c.in_err-log.field-0.0 c.in_err-log.ensures.refused)
+    let fault = c.in_err-propagate_early_returns.field-0.0 in
+    let returns = c.in_err-propagate_early_returns.ensures in
+    rw (p.1, p.2) (memory_fault (state c.args.func.now c.args.env.now) fault (only_memory_left fault
+    (λ none. returns.has_ids (still_room c.in_ok-decisions.ensures.ok c.args.hir.now c.requires.spelled
+    c.requires.room) (ap Err none)) (returns.sound c.in_ok-decisions.ensures.still_known)))
 
--- pruning of other scopes refuses nothing that a graph spells, unless memory runs out
-pub returns-in_err-others-clause-refused : goal.returns-in_err-others-clause-refused
-returns-in_err-others-clause-refused c =
-    let exit = c.from_residual-in_err-others in
+pub returns-in_err-propagate_early_returns-clause-kept_environment :
+    goal.returns-in_err-propagate_early_returns-clause-kept_environment
+returns-in_err-propagate_early_returns-clause-kept_environment c =
+    let exit = c.from_residual-in_err-propagate_early_returns in
     let p = err_from_is_err_and exit.result exit.ensures.1 in
-    rw (p.1, p.2) (memory_fault (state c.args.func.now c.args.env.now) c.in_err-others.field-0.0
-    (c.in_err-others.ensures.refused (c.in_ok-log.ensures.known c.in_ok-spelled.ensures.still_known)))
+    let fault = c.in_err-propagate_early_returns.field-0.0 in
+    let returns = c.in_err-propagate_early_returns.ensures in
+    rw (p.1, p.2) (inl (only_memory_left fault
+    (λ none. returns.has_ids (still_room c.in_ok-decisions.ensures.ok c.args.hir.now c.requires.spelled
+    c.requires.room) (ap Err none)) (returns.sound c.in_ok-decisions.ensures.still_known)))
 
-pub returns-in_err-others-clause-kept_environment : goal.returns-in_err-others-clause-kept_environment
-returns-in_err-others-clause-kept_environment c =
-    let exit = c.from_residual-in_err-others in
-    let p = err_from_is_err_and exit.result exit.ensures.1 in
-    rw (p.1, p.2) (inl (c.in_err-others.ensures.refused
-    (c.in_ok-log.ensures.known c.in_ok-spelled.ensures.still_known)))
+-- numbers stay in their tables through all passes
+pub returns-clause-kept_numbers : goal.returns-clause-kept_numbers
+returns-clause-kept_numbers c =
+    keeps_through c.prune_scopes.ensures.kept_numbers c.propagate_early_returns.ensures.kept_numbers
 
--- whatever the passes give, numbers stay in their tables
+pub returns-in_err-propagate_early_returns-clause-kept_numbers :
+    goal.returns-in_err-propagate_early_returns-clause-kept_numbers
+returns-in_err-propagate_early_returns-clause-kept_numbers c =
+    keeps_through c.prune_scopes.ensures.kept_numbers c.propagate_early_returns.ensures.kept_numbers
+
 pub returns-clause-known_names : goal.returns-clause-known_names
-returns-clause-known_names c = c.decide_others.ensures.known_names c.args.hir.now
+returns-clause-known_names c = λ names.
+    c.propagate_early_returns.ensures.known_names c.args.hir.now (c.prune_scopes.ensures.known_names names)
 
-pub returns-in_err-append-clause-known_names : goal.returns-in_err-append-clause-known_names
-returns-in_err-append-clause-known_names c = c.decide_others.ensures.known_names c.args.hir.now
-
-pub returns-in_err-others-clause-known_names : goal.returns-in_err-others-clause-known_names
-returns-in_err-others-clause-known_names c = c.decide_others.ensures.known_names c.args.hir.now
-
-pub returns-in_err-spelled-clause-kept_numbers : goal.returns-in_err-spelled-clause-kept_numbers
-returns-in_err-spelled-clause-kept_numbers c = keeps_own c.args.env.now
-
-pub returns-in_err-log-clause-kept_numbers : goal.returns-in_err-log-clause-kept_numbers
-returns-in_err-log-clause-kept_numbers c = keeps_own c.args.env.now
+pub returns-in_err-propagate_early_returns-clause-known_names :
+    goal.returns-in_err-propagate_early_returns-clause-known_names
+returns-in_err-propagate_early_returns-clause-known_names c = λ names.
+    c.propagate_early_returns.ensures.known_names c.args.hir.now (c.prune_scopes.ensures.known_names names)

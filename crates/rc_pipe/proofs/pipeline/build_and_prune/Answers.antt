@@ -8,6 +8,7 @@ use Rattle.rc_pipe.specs.Fates.{listed_scopes}
 use Rattle.rc_pipe.proofs.CausesLemmas.{build_cause, only_memory}
 use Rattle.rc_pipe.proofs.EnvironmentStays.{keeps_own}
 use Rattle.rc_pipe.proofs.FatesHold.{among, fates_told, kept_exactly, none_needed, whole_record}
+use Rattle.rc_pipe.proofs.FreshHolds.{fates_dissolve_fresh, fates_join_fresh, fates_parts_fresh}
 use Rattle.rc_pipe.proofs.PassesLemmas.{graph_header, pass_cause}
 use Rattle.rc_pipe.proofs.pipeline.build_and_prune.Goals as goal
 
@@ -23,6 +24,7 @@ returns-clause-ok c =
     c.as_slice.ensures c.in_ok-fates.ensures.listed in
     let told = subst (λ log. All (λ entry. entry.fate ≡ fate_by log entry.scope) fates) c.as_slice-2.ensures
     c.in_ok-fates.ensures.told in
+    let by_rules = fates_told parts once fates listed told in
     record {
       accepted = c.in_ok-accept.ensures.ok;
       spelled = c.in_ok-func.func;
@@ -35,11 +37,14 @@ returns-clause-ok c =
       fates = record {
         rising = c.in_ok-fates.ensures.rising;
         listed = among parts once fates listed told;
-        told = fates_told parts once fates listed told;
+        told = by_rules;
       };
       kept = kept_exactly parts once fates listed told;
       recorded = whole_record parts once;
       needed = none_needed parts once fates listed told;
+      joins_fresh = fates_join_fresh parts.passes fates by_rules;
+      parts_fresh = fates_parts_fresh parts.passes fates by_rules;
+      dissolves_fresh = fates_dissolve_fresh parts.passes fates by_rules;
       known = c.in_ok-decided.ensures.still_known;
     }
 
