@@ -5,7 +5,7 @@
 //! row: each of these names goes on where the one before it has stopped.
 
 ghost use Rattle.std.specs.Prelude.{◌≡◌, ◌<◌, ◌≤◌, ◌+◌, ◌||◌, nat_eq, None, Some, length, reverse, slice_get};
-ghost use Rattle.std.specs.Prelude.{ℕ, false, slice_set, IfOk, MatchOption, OnOk};
+ghost use Rattle.std.specs.Prelude.{ℕ, false, true, slice_set, IfOk, MatchOption, OnOk};
 ghost use Rattle.std.specs.List.{list_any};
 ghost use Rattle.rc_memo.specs.RowRecord.{operands_at, record_of_rows};
 ghost use Rattle.rc_escape.specs.MemoWalk.{dependencies_of, memoizes, node_of, nothing_met};
@@ -21,7 +21,7 @@ use crate::MemoizationLevel;
 use crate::row_users::row_users;
 use crate::walk_state::{NodeMark, VisitFrame, WalkState};
 use rc_memo::{RowNode, RowRecord};
-use rc_names::{DeclarationId, FixedList, KeySet, List, Name, ScopeId};
+use rc_names::{BitRow, DeclarationId, FixedList, KeySet, List, Name, ScopeId};
 use std::alloc::{AllocError, Global};
 
 /// Returns the node of a name with its position, and `None` if the name has no node.
@@ -56,7 +56,7 @@ fn find_scope(rows: &RowRecord, scope: ScopeId) -> Option<(usize, &List<Declarat
 
 /// Returns whether a truth value is true at a place.
 #[tactic(auto, unfolding(crate::specs::inside::WalkPlaces::is_set))]
-fn is_true(bits: &FixedList<bool>, place: usize) -> bool
+fn is_true(bits: &BitRow, place: usize) -> bool
     ensures { result ≡ is_set bits.now place }
 {
     match bits.get(place) {
@@ -97,14 +97,23 @@ fn entry_at<T: Copy>(entries: &List<T>, place: usize) -> Option<(T, usize)>
     }
 }
 
+/// Sets the truth value at a place, and changes nothing past the end.
+fn set_bit(bits: &mut BitRow, place: usize)
+    ensures { bits.new ≡ slice_set bits.old place true }
+{
+    if place < bits.len() {
+        bits.set(place, true);
+    }
+}
+
 /// Sets the truth values at places, as far as there are any.
-fn set_all(bits: &mut FixedList<bool>, places: &[usize])
+fn set_all(bits: &mut BitRow, places: &[usize])
     ensures lengths { length bits.new ≡ length bits.old }
     ensures values { (place : ℕ) → place < length bits.old
         → is_set bits.new place ≡ (list_any (nat_eq place) places.now || is_set bits.old place) }
 {
     for place in places {
-        bits.set(*place, true);
+        set_bit(bits, *place);
     }
 }
 
@@ -132,9 +141,9 @@ impl WalkState {
         let operands = rows.operands.len();
         Ok(WalkState {
             marks: FixedList::new(alloc, NodeMark::Unseen, nodes)?,
-            taken: FixedList::new(alloc, false, rows.scopes.len())?,
+            taken: BitRow::new(alloc, rows.scopes.len())?,
             passed: FixedList::new(alloc, 0, operands)?,
-            answered: FixedList::new(alloc, false, operands)?,
+            answered: BitRow::new(alloc, operands)?,
             users: row_users(alloc, rows)?,
         })
     }
@@ -313,7 +322,7 @@ impl WalkState {
             scope (reverse stack.old) (progress rows.now self.old)) }
         ensures less { OnOk result (work rows.now self.new stack.new ≤ work rows.now self.old stack.old) }
     {
-        self.taken.set(place, true);
+        set_bit(&mut self.taken, place);
         stack.push(VisitFrame::ScopeDependencies {
             scope: place,
             next: 0,

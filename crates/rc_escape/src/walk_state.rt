@@ -1,6 +1,6 @@
 //! What a walk over a record keeps.
 
-use rc_names::{FixedList, List};
+use rc_names::{BitRow, FixedList, List};
 
 /// What a walk has made of a node so far. A node is seen before it is memoized.
 #[derive(Clone, Copy, Debug, PartialEq, Eq)]
@@ -19,12 +19,12 @@ pub(crate) struct WalkState {
     /// What the walk has made of each node.
     pub marks: FixedList<NodeMark>,
     /// The scopes that the walk has taken.
-    pub taken: FixedList<bool>,
+    pub taken: BitRow,
     /// How many operands of each row the walk has visited through the row. All names that depend on the row share this,
     /// so an operand is visited once through its row.
     pub passed: FixedList<usize>,
     /// The rows that have a memoized operand.
-    pub answered: FixedList<bool>,
+    pub answered: BitRow,
     /// For each node, the rows that its name is an operand of.
     pub users: List<List<usize>>,
 }

@@ -100,11 +100,61 @@ fn the_lowest_scope_without_a_record_is_named(rt: HostRuntime) -> Result<(), Fai
     Ok(())
 }
 
+/// The last name of a chain, whose first one is 0.
+const LAST: u32 = 99_999;
+
+/// Each name of a chain but the last is conditional and needs the next one; the last is memoized, and name 0 escapes.
+fn a_chain(alloc: Global) -> Result<MemoRecord, AllocError> {
+    let mut record = empty(alloc);
+    for name in 0..LAST {
+        put_link(alloc, &mut record, name)?;
+    }
+    put(
+        alloc,
+        &mut record,
+        LAST,
+        MemoizationLevel::Memoized,
+        &[],
+        &[],
+    )?;
+    escape(&mut record, 0)?;
+    Ok(record)
+}
+
+/// Puts a conditional name into the record that needs the next one.
+fn put_link(alloc: Global, record: &mut MemoRecord, name: u32) -> Result<(), AllocError> {
+    let next = name.saturating_add(1);
+    put(
+        alloc,
+        record,
+        name,
+        MemoizationLevel::Conditional,
+        &[next],
+        &[],
+    )
+}
+
+#[test]
+fn each_name_of_a_long_chain_is_memoized(rt: HostRuntime) -> Result<(), Fail> {
+    let alloc = rt.alloc();
+    let record = a_chain(alloc)?;
+    assert_eq!(rt; memoized_count(alloc, &record), Some(100_000));
+    Ok(())
+}
+
 /// Whether these names are memoized and no others.
 fn memoizes(alloc: Global, record: &MemoRecord, names: &[u32]) -> bool {
     match memoized(alloc, record) {
         Ok(set) => has_names(&set, names),
         Err(_) => false,
+    }
+}
+
+/// The number of names that are memoized, if the record gives no fault.
+fn memoized_count(alloc: Global, record: &MemoRecord) -> Option<usize> {
+    match memoized(alloc, record) {
+        Ok(set) => Some(set.len()),
+        Err(_) => None,
     }
 }
 

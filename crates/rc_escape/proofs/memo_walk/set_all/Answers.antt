@@ -11,8 +11,8 @@ loop-place-preserved c =
     let i = c.loop-place.place-index in
     let place = get_or places i 0 in
     let before = c.loop-place.invariant in record {
-      lengths = ap length c.set.ensures ∙ length-set now place true ∙ before.lengths;
-      values = λ other lt. ap (λ w. is_set w other) c.set.ensures
+      lengths = ap length c.set_bit.ensures ∙ length-set now place true ∙ before.lengths;
+      values = λ other lt. ap (λ w. is_set w other) c.set_bit.ensures
           ∙ set_more c.args.bits.now now places i place other (entry_there places i 0 c.loop-place-test.true)
           (omega (arith, lt, before.lengths)) (before.values other lt);
     }
