@@ -1,5 +1,5 @@
 -- The whole builder: from where it starts to the function, or to none.
-use Rattle.std.proofs.Common.{◌≡◌, List, None, [], ◌∷◌, ◌++◌, refl, sym, ap, ◌∙◌, subst, arith}
+use Rattle.std.proofs.Common.{◌≡◌, List, None, [], ◌∷◌, ◌++◌, refl, sym, ap, ◌∙◌, subst, length, arith}
 use Rattle.std.specs.List.{IsDistinct}
 use Rattle.rc_hir.specs.Model.{HirFunction, Environment}
 use Rattle.rc_tree.specs.Model.{ReactiveFunction, ReactiveStatement}
@@ -11,12 +11,10 @@ use Rattle.rc_runs.specs.ListContext.{outermost}
 use Rattle.rc_runs.specs.Spelled.{AreSound, Spells as SpellsFunction, with_header}
 use Rattle.rc_build.specs.inside.CanBuild.{AreMarked, CanBuildList, AreReferenced}
 use Rattle.rc_build.specs.inside.Setting.{Setting, setting_of}
-use Rattle.rc_build.specs.inside.Task.{FromBlock, Nothing, Progress, Spells, no_progress}
+use Rattle.rc_build.specs.inside.Task.{FromBlock, Nothing, Progress, Spells, no_marks, no_progress}
 use Rattle.rc_build.specs.inside.Built.{BuiltPrefix, Refused}
+use Rattle.rc_build.proofs.BitsLemmas.{none_told}
 use Rattle.rc_build.proofs.BuiltLemmas.{whole_list}
-
-abbrev no_marks : Marks
-no_marks = record { used = []; scopes = [] }
 
 -- nothing is around the entry's list
 pub at_outermost : (builder : Builder) (block : BlockId) {hir : HirFunction} {env : Environment}
@@ -25,11 +23,12 @@ pub at_outermost : (builder : Builder) (block : BlockId) {hir : HirFunction} {en
     ≡ record { hir = hir; env = env; context = outermost }
 at_outermost builder block h e f = cc
 
-nothing_marked : (hir : HirFunction) → AreMarked hir no_marks
+nothing_marked : (hir : HirFunction) → AreMarked hir (no_marks (length hir.body.blocks))
 unfolding IsDistinct
 nothing_marked hir = record {
   sound = record { distinct = tt; alive = λ key c. absurd (omega arith); scopes_once = tt };
   known = λ key h. absurd (let bad : ⊥ = cc in bad);
+  told = none_told hir;
   scopes = refl;
 }
 
@@ -37,11 +36,11 @@ entry_referenced : (hir : HirFunction) → AreReferenced hir [] (hir.body.entry 
 entry_referenced hir key = omega arith
 
 -- nothing is used yet, and the entry is referred to
-pub at_entry : (hir : HirFunction) (marks : Marks) (frames : List Frame) → marks ≡ no_marks → frames ≡ []
-    → CanBuildList hir marks None frames hir.body.entry
+pub at_entry : (hir : HirFunction) (marks : Marks) (frames : List Frame) → marks ≡ no_marks (length hir.body.blocks)
+    → frames ≡ [] → CanBuildList hir marks None frames hir.body.entry
 at_entry hir marks frames m f =
     subst (λ z. CanBuildList hir z None frames hir.body.entry) (sym m)
-    (subst (λ z. CanBuildList hir no_marks None z hir.body.entry) (sym f) (record {
+    (subst (λ z. CanBuildList hir (no_marks (length hir.body.blocks)) None z hir.body.entry) (sym f) (record {
       marked = nothing_marked hir;
       handled = tt;
       referenced = entry_referenced hir;
@@ -52,7 +51,7 @@ at_entry hir marks frames m f =
 -- the entry's list, built to its end from nothing, is the body of the function
 pub function_built : {hir : HirFunction} {env : Environment} {s : Setting} {old new : Progress}
     {func : ReactiveFunction} {list : List ReactiveStatement} →
-    s ≡ record { hir = hir; env = env; context = outermost } → old ≡ no_progress → list ≡ new.out →
+    s ≡ record { hir = hir; env = env; context = outermost } → old ≡ no_progress hir → list ≡ new.out →
     BuiltPrefix s (FromBlock hir.body.entry) Nothing old new
     → func ≡ with_header hir (record { statements = list }) → SpellsFunction hir env func
 function_built {hir} {env} {s} {old} {new} {func} {list} is none l p e =
@@ -72,7 +71,7 @@ function_built {hir} {env} {s} {old} {new} {func} {list} is none l p e =
 
 -- where the entry's list is refused, no function is spelled
 pub none_spelled : {hir : HirFunction} {env : Environment} {s : Setting} {marks : Marks} →
-    s ≡ record { hir = hir; env = env; context = outermost } → marks ≡ no_marks →
+    s ≡ record { hir = hir; env = env; context = outermost } → marks ≡ no_marks (length hir.body.blocks) →
     Refused s.hir (Spells s (FromBlock hir.body.entry)) marks.used → (func : ReactiveFunction) → SpellsFunction hir env func → ⊥
 none_spelled {hir} {env} {s} {marks} is none refused func f =
     subst (λ (z : Setting). Refused z.hir (Spells z (FromBlock hir.body.entry)) marks.used) is refused

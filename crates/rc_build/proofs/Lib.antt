@@ -1,3 +1,4 @@
+mod PositionLemmas
 mod DepthsLemmas
 mod StackLemmas
 mod SuccessorsLemmas
@@ -25,6 +26,7 @@ mod ValueStatementLemmas
 mod FlattenLemmas
 mod RowBuiltLemmas
 mod MarksLemmas
+mod BitsLemmas
 mod UsableLemmas
 mod OwnersLemmas
 mod TakenLemmas

@@ -1,8 +1,8 @@
 -- One more used block: the marks stay sound, or no tree may use it.
-use Rattle.std.proofs.Common.{◌≡◌, Bool, true, false, List, [], ◌∷◌, ◌++◌, Option, Some, None, ◌||◌, refl, sym, ap}
+use Rattle.std.proofs.Common.{◌≡◌, ℕ, Bool, true, false, List, [], ◌∷◌, ◌++◌, Option, Some, None, ◌||◌, refl, sym, ap}
 use Rattle.std.proofs.Common.{◌∙◌, subst, inl, inr, true≢false}
 use Rattle.std.specs.Cmp.{IsEquivalence}
-use Rattle.std.specs.Prelude.{IsSome, is_some, option_and_then, option_map, ◌⊎◌}
+use Rattle.std.specs.Prelude.{IsSome, is_some, option_and_then, option_map, slice_set, ◌⊎◌}
 use Rattle.std.specs.List.{IsDistinct, list_any, filter_map, cons_option, AllByRecursion}
 use Rattle.std.proofs.lemmas.Bool.{not-false, not-true, or_right}
 use Rattle.std.proofs.lemmas.List.{append-nil}
@@ -21,10 +21,12 @@ use Rattle.rc_runs.specs.Spelled.{scope_named, scope_at}
 use Rattle.rc_build.specs.References.{referenced_blocks}
 use Rattle.rc_build.specs.BlockFacts.{BlockIs}
 use Rattle.rc_build.specs.RuleFacts.{HasUnreachableSuccessor, SharesScope, RuleFact}
-use Rattle.rc_build.specs.inside.CanBuild.{AreMarked, AreReferenced, CanBuildList, pending_blocks, used_blocks}
+use Rattle.rc_build.specs.inside.CanBuild.{AreMarked, AreReferenced, CanBuildList, TellUsed, pending_blocks, place_of}
+use Rattle.rc_build.specs.inside.CanBuild.{used_blocks}
 use Rattle.std.specs.Option.{option_to_list}
 use Rattle.rc_build.specs.inside.Marks.{IsUnusable, MarksBlocks, is_fresh_scope}
 use Rattle.rc_names.proofs.NumbersLemmas.{ids_equivalence, same_id-eq}
+use Rattle.rc_build.proofs.BitsLemmas.{one_more_told}
 use Rattle.rc_build.proofs.MarksLemmas.{times_among, referenced_twice, one_more, among_push, among_front, among_back}
 use Rattle.rc_build.proofs.MarksLemmas.{referenced_push}
 use Rattle.rc_build.proofs.OwnersLemmas.{pending_or_used}
@@ -54,12 +56,12 @@ distinct_scopes scopes (Some scope) d f =
 
 -- a block more is used
 pub marked_push : (hir : HirFunction) (old new : Marks) (key : BlockId) (block : BasicBlock) (rows : List Instruction)
-    → AreMarked hir old → is_among old.used key ≡ false →
+    (place : ℕ) → AreMarked hir old → is_among old.used key ≡ false → place_of hir key ≡ Some place →
     basic_block hir key ≡ Some block → rows_of hir.instructions block.instructions ≡ Some rows
     → HasNoUnreachableSuccessor hir block.terminal → is_fresh_scope old.scopes (scope_named block.terminal) ≡ true →
-    new.used ≡ old.used ++ key ∷ [] → new.scopes ≡ old.scopes ++ option_to_list (scope_named block.terminal)
-    → AreMarked hir new
-marked_push hir old new key block rows m n e f alive fresh u s =
+    new.used ≡ old.used ++ key ∷ [] → new.bits ≡ slice_set old.bits place true
+    → new.scopes ≡ old.scopes ++ option_to_list (scope_named block.terminal) → AreMarked hir new
+marked_push hir old new key block rows place m n at e f alive fresh u b s =
     let scopes = scopes_push hir old.used key (scope_named block.terminal) (scope_of hir key block rows e f) in
     let Alive : BlockId → Type 0 = λ q. (z : Block) → block_at hir q ≡ Some z
     → HasNoUnreachableSuccessor hir z.terminal in
@@ -79,6 +81,9 @@ marked_push hir old new key block rows m n e f alive fresh u s =
       };
       known = λ q h. one_more (λ k. IsSome (basic_block hir k)) old.used key m.known (ap is_some e) q
           (subst (λ us. is_among us q ≡ true) u h);
+      told = subst (λ bits. TellUsed hir bits new.used) (sym b)
+          (subst (TellUsed hir (slice_set old.bits place true)) (sym u)
+          (one_more_told hir old.bits old.used key place m.told at));
       scopes = s ∙ ap (λ z. z ++ option_to_list (scope_named block.terminal)) m.scopes
           ∙ sym (ap (filter_map (scope_at hir)) u ∙ scopes);
     }

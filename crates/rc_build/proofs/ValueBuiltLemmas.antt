@@ -1,5 +1,5 @@
 -- What the builder ensures of a block of a value that it marks, and of the last one.
-use Rattle.std.proofs.Common.{◌≡◌, false, true, List, [], ◌∷◌, ◌++◌, Some, None, refl, sym, ap, ◌∙◌, subst}
+use Rattle.std.proofs.Common.{◌≡◌, ℕ, false, true, List, [], ◌∷◌, ◌++◌, Some, None, refl, sym, ap, ◌∙◌, subst}
 use Rattle.std.proofs.Common.{option_and_then}
 use Rattle.std.specs.Option.{option_to_list}
 use Rattle.std.proofs.lemmas.List.{append-nil}
@@ -14,8 +14,8 @@ use Rattle.rc_runs.specs.Spelled.{scope_named}
 use Rattle.rc_build.specs.declared.builder.Marks.{Marks}
 use Rattle.rc_build.specs.declared.values.BuiltValue.{BuiltValue}
 use Rattle.rc_build.specs.References.{referenced_blocks}
-use Rattle.rc_build.specs.inside.CanBuild.{CanBuildList}
-use Rattle.rc_build.specs.inside.Marks.{MarksBlocks, is_fresh_scope}
+use Rattle.rc_build.specs.inside.CanBuild.{CanBuildList, place_of}
+use Rattle.rc_build.specs.inside.Marks.{MarksBlocks, is_fresh_scope, with_used}
 use Rattle.rc_build.specs.inside.Task.{Progress}
 use Rattle.rc_build.specs.inside.Throws.{may_throw, throw_at}
 use Rattle.rc_build.specs.inside.ValueKinds.{terminal_at, value_terminal}
@@ -32,14 +32,16 @@ ends_value-unscoped (terminals.Goto block variant id span) ends = refl
 ends_value-unscoped terminal ends = let bad : ⊥ = cc in absurd bad
 
 -- the block of a value is marked
-pub marks_block : {hir : HirFunction} {old new : Marks} {key : BlockId} {block : BasicBlock}
-    → CanMark hir old key block → is_among old.used key ≡ false → HasNoUnreachableSuccessor hir block.terminal
-    → new.used ≡ old.used ++ key ∷ [] → new.scopes ≡ old.scopes
+pub marks_block : {hir : HirFunction} {old new : Marks} {key : BlockId} {block : BasicBlock} {place : ℕ}
+    → CanMark hir old key block → is_among old.used key ≡ false → place_of hir key ≡ Some place
+    → HasNoUnreachableSuccessor hir block.terminal → new ≡ with_used key place old
     → MarksBlocks hir (key ∷ []) (referenced_blocks block.terminal) old new (key ∷ [])
-marks_block {hir} {old} {new} {key} {block} can fresh alive used scopes =
-    let marked = marked_push hir old new key block can.ids.rows can.can.marked fresh can.found can.ids.filled alive
-    (ap (is_fresh_scope old.scopes) can.unscoped) used
-    (scopes ∙ sym (ap (λ z. old.scopes ++ option_to_list z) can.unscoped ∙ append-nil old.scopes)) in
+marks_block {hir} {old} {new} {key} {block} {place} can fresh at alive put =
+    let used = ap (λ (z : Marks). z.used) put in
+    let scopes = ap (λ (z : Marks). z.scopes) put
+    ∙ sym (ap (λ z. old.scopes ++ option_to_list z) can.unscoped ∙ append-nil old.scopes) in
+    let marked = marked_push hir old new key block can.ids.rows place can.can.marked fresh at can.found can.ids.filled
+    alive (ap (is_fresh_scope old.scopes) can.unscoped) used (ap (λ (z : Marks). z.bits) put) scopes in
     marking_push hir old new key block fresh can.found marked used
 
 nowhere : ValueContext

@@ -1,6 +1,5 @@
 -- What the builder's own functions say of each other; no public clause speaks of it.
 pub mod Depths
-pub mod UsedBlocks
 pub mod Rows
 pub mod Marks
 pub mod CanBuild

@@ -10,7 +10,7 @@ ghost use Rattle.rc_runs.specs.Spelled as spelled;
 ghost use Rattle.rc_build.specs.BlockFacts.{times_referenced};
 ghost use Rattle.rc_build.specs.RuleFacts.{FaultFact};
 ghost use Rattle.rc_build.specs.inside.Marks.{is_fresh_scope};
-ghost use Rattle.rc_build.specs.inside.CanBuild.{CanBuildList};
+ghost use Rattle.rc_build.specs.inside.CanBuild.{CanBuildList, place_of};
 ghost use Rattle.rc_build.specs.inside.Setting.{setting_of};
 ghost use Rattle.rc_build.specs.inside.Task.{FromBlock, Spells};
 ghost use Rattle.rc_build.specs.inside.Built.{Builds, Refused, TakesBlock};
@@ -38,7 +38,8 @@ impl<'g> Builder<'g> {
             self.old.marks.used) result }
     {
         let hir = self.hir;
-        let block = find_block(hir, site.block)?;
+        let found = find_block(hir, site.block)?;
+        let block = found.block;
         if self.frames.is_jump_target(site.block) {
             return Err(malformed(site.block, Rule::Twice));
         }
@@ -46,7 +47,7 @@ impl<'g> Builder<'g> {
         if has_unreachable_successor(hir, &block.terminal) {
             return Err(malformed(site.block, Rule::Dead));
         }
-        if !self.marks.used.insert(site.block)? {
+        if !self.marks.put_used(site.block, found.place)? {
             return Err(malformed(site.block, Rule::Twice));
         }
         if !mark_scope(&mut self.marks.scopes, scope_named(&block.terminal))? {
@@ -56,37 +57,47 @@ impl<'g> Builder<'g> {
     }
 }
 
+/// A block of a graph, and its position there.
+#[derive(Clone, Copy)]
+pub struct FoundBlock<'g> {
+    pub place: usize,
+    pub block: &'g BasicBlock,
+}
+
 /// The block under a key: `NoBlock` where there is none, `KeyDiffers` where it has another number.
-pub fn find_block(hir: &HirFunction, key: BlockId) -> Result<&BasicBlock, Fault>
+pub fn find_block(hir: &HirFunction, key: BlockId) -> Result<FoundBlock<'_>, Fault>
     requires { 1 ≤ times_referenced hir.now key }
-    ensures found { IfOk result (λ block. basic_block hir.now key ≡ Some block.now) }
-    ensures own { IfOk result (λ block. same_id block.now.id key ≡ true) }
+    ensures placed { IfOk result (λ found. place_of hir.now key ≡ Some found.place) }
+    ensures found { IfOk result (λ found. basic_block hir.now key ≡ Some found.block.now) }
+    ensures own { IfOk result (λ found. same_id found.block.now.id key ≡ true) }
     ensures refused { IfErr result (λ _. usable_block hir.now key ≡ None) }
     ensures facts { IfErr result (FaultFact hir.now) }
 {
-    let Some(block) = hir.body.blocks.get(key) else {
+    let Some(place) = hir.body.blocks.position(key) else {
         return Err(malformed(key, Rule::NoBlock));
     };
+    let block = &hir.body.blocks.values()[place];
     if block.id != key {
         return Err(malformed(key, Rule::KeyDiffers));
     }
-    Ok(block)
+    Ok(FoundBlock { place, block })
 }
 
 /// The block under a key whose terminal has an id: `UnsetId` where it has none, and otherwise as for `find_block`.
-pub fn block_with_id(hir: &HirFunction, key: BlockId) -> Result<&BasicBlock, Fault>
+pub fn block_with_id(hir: &HirFunction, key: BlockId) -> Result<FoundBlock<'_>, Fault>
     requires { 1 ≤ times_referenced hir.now key }
-    ensures found { IfOk result (λ block. basic_block hir.now key ≡ Some block.now) }
-    ensures own { IfOk result (λ block. same_id block.now.id key ≡ true) }
-    ensures set { IfOk result (λ block. is_unset (evaluation_order block.now.terminal) ≡ false) }
+    ensures placed { IfOk result (λ found. place_of hir.now key ≡ Some found.place) }
+    ensures found { IfOk result (λ found. basic_block hir.now key ≡ Some found.block.now) }
+    ensures own { IfOk result (λ found. same_id found.block.now.id key ≡ true) }
+    ensures set { IfOk result (λ found. is_unset (evaluation_order found.block.now.terminal) ≡ false) }
     ensures refused { IfErr result (λ _. usable_block hir.now key ≡ None) }
     ensures facts { IfErr result (FaultFact hir.now) }
 {
-    let block = find_block(hir, key)?;
-    if block.terminal.evaluation_order().0 == 0 {
+    let found = find_block(hir, key)?;
+    if found.block.terminal.evaluation_order().0 == 0 {
         return Err(malformed(key, Rule::UnsetId));
     }
-    Ok(block)
+    Ok(found)
 }
 
 /// Puts a scope among the used ones, and returns whether it is new, as where there is none.

@@ -1,16 +1,16 @@
 //! What the builder reads and keeps, and what the functions that build statements share.
 
-ghost use Rattle.std.specs.Prelude.{◌≡◌, ◌++◌, ◌∷◌, [], OnOk, is_some};
+ghost use Rattle.std.specs.Prelude.{◌≡◌, ◌<◌, ◌++◌, ◌∷◌, [], true, IfOk, OnOk, Some, is_some, length, not, slice_get};
 ghost use Rattle.rc_hir.specs.declared.fault.Fault.TheVariants as faults;
 ghost use Rattle.rc_runs.specs.Fallthrough as spec;
+ghost use Rattle.rc_build.specs.inside.Marks as marking;
 ghost use Rattle.rc_build.specs.inside.Setting as settings;
 ghost use Rattle.rc_build.specs.inside.Task as tasks;
 
 use crate::frames::FrameStack;
 use crate::unreachable::ends_unreachable;
-use crate::used_blocks::UsedBlocks;
 use rc_hir::{Environment, Fault, HirFunction, Rule};
-use rc_names::{BlockId, Boxed, KeySet, List, ScopeId};
+use rc_names::{BitRow, BlockId, Boxed, KeySet, List, ScopeId};
 use rc_runs::Frame;
 use rc_tree::{ReactiveLabel, ReactiveStatement, ReactiveTerminal, ReactiveTerminalStatement};
 use std::alloc::{AllocError, Global};
@@ -18,7 +18,10 @@ use std::alloc::{AllocError, Global};
 /// The used blocks and the scopes that they open, in the order in which they were marked.
 #[derive(Drop)]
 pub struct Marks {
-    pub used: UsedBlocks,
+    /// There is room for all blocks of the graph, so a mark takes no memory.
+    pub used: List<BlockId>,
+    /// Whether a block of the graph is used, by its position there.
+    pub bits: BitRow,
     pub scopes: KeySet<ScopeId>,
 }
 
@@ -40,9 +43,37 @@ pub struct Builder<'g> {
     pub hir: &'g HirFunction,
     pub env: &'g Environment,
     pub marks: Marks,
-    pub frames: FrameStack,
+    pub frames: FrameStack<'g>,
     /// The statements of the list that is built.
     pub out: List<ReactiveStatement>,
+}
+
+impl Marks {
+    /// Nothing is marked, of that many blocks. The only error is out of memory.
+    fn new(alloc: Global, blocks: usize) -> Result<Marks, AllocError>
+        ensures { IfOk result (λ marks. marks ≡ tasks.no_marks blocks) }
+    {
+        Ok(Marks {
+            used: List::with_capacity(alloc, blocks)?,
+            bits: BitRow::new(alloc, blocks)?,
+            scopes: KeySet::new(alloc),
+        })
+    }
+
+    /// Puts a block at a position of the graph after the used ones, unless it is one of them, and returns whether it is
+    /// new. The only error is out of memory.
+    pub fn put_used(&mut self, key: BlockId, place: usize) -> Result<bool, AllocError>
+        requires { place < length self.old.bits }
+        ensures added { IfOk result (λ added. slice_get self.old.bits place ≡ Some (not added)) }
+        ensures put { IfOk result (λ added. added ≡ true → self.new ≡ marking.with_used key place self.old) }
+    {
+        if self.bits.get(place).unwrap_or(false) {
+            return Ok(false);
+        }
+        self.used.push(key)?;
+        self.bits.set(place, true);
+        Ok(true)
+    }
 }
 
 impl Site {
@@ -85,24 +116,25 @@ impl Site {
 }
 
 impl<'g> Builder<'g> {
-    /// Nothing is used, no statement is built, and no frame is around the list. It takes no memory.
-    pub fn new(alloc: Global, hir: &'g HirFunction, env: &'g Environment) -> Builder<'g>
-        ensures hir { result.hir.now ≡ hir.now }
-        ensures env { result.env.now ≡ env.now }
-        ensures frames { result.frames ≡ [] }
-        ensures progress { tasks.progress_of result ≡ tasks.no_progress }
+    /// Nothing is used, no statement is built, and no frame is around the list. The only error is out of memory.
+    pub fn new(
+        alloc: Global,
+        hir: &'g HirFunction,
+        env: &'g Environment,
+    ) -> Result<Builder<'g>, AllocError>
+        ensures hir { IfOk result (λ builder. builder.hir.now ≡ hir.now) }
+        ensures env { IfOk result (λ builder. builder.env.now ≡ env.now) }
+        ensures frames { IfOk result (λ builder. builder.frames ≡ []) }
+        ensures progress { IfOk result (λ builder. tasks.progress_of builder ≡ tasks.no_progress hir.now) }
     {
-        Builder {
+        Ok(Builder {
             alloc,
             hir,
             env,
-            marks: Marks {
-                used: UsedBlocks::new(alloc),
-                scopes: KeySet::new(alloc),
-            },
-            frames: FrameStack::new(alloc),
+            marks: Marks::new(alloc, hir.body.blocks.len())?,
+            frames: FrameStack::new(alloc, &hir.body.blocks)?,
             out: List::new(alloc),
-        }
+        })
     }
 
     /// The fallthrough of a scope, where it is opened: no jump can name it already.

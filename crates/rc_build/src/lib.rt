@@ -26,7 +26,6 @@ mod short_arms;
 mod switches;
 mod tries;
 mod unreachable;
-mod used_blocks;
 mod value_ends;
 mod value_rows;
 mod value_statements;

@@ -90,7 +90,11 @@ pub fn build_known_function(
 /// - `Todo`: the graph spells none, and the fault names a block that must give a value and ends in a `Label`.
 /// - `BadName`: a block names a row that isn't there.
 /// - `NoMemory`: out of memory.
-fn build(alloc: Global, hir: &HirFunction, env: &Environment) -> Result<ReactiveFunction, Fault>
+fn build<'g>(
+    alloc: Global,
+    hir: &'g HirFunction,
+    env: &'g Environment,
+) -> Result<ReactiveFunction, Fault>
     ensures ok { IfOk result (λ func. Spells hir.now env.now func) }
     ensures refused { IfRefused result ((func : ReactiveFunction) → Spells hir.now env.now func → ⊥) }
     ensures facts { IfErr result (FaultFact hir.now) }
@@ -100,7 +104,7 @@ fn build(alloc: Global, hir: &HirFunction, env: &Environment) -> Result<Reactive
         next: None,
         handler: None,
     };
-    let mut builder = Builder::new(alloc, hir, env);
+    let mut builder = Builder::new(alloc, hir, env)?;
     builder.build_list(entry)?;
     let statements = builder.out.take();
     Ok(with_header(alloc, hir, ReactiveBlock { statements })?)

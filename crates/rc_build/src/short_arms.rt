@@ -99,19 +99,19 @@ impl<'g> Builder<'g> {
             (HasNoArm self.old.hir.now self.old.env.now handler next key self.old.marks.used) result }
     {
         let hir = self.hir;
-        let block = block_with_id(hir, key)?;
-        self.check_silent_rows(arm, key, block.instructions.as_slice())?;
-        if let Some(throw) = may_throw(&block.terminal) {
+        let found = block_with_id(hir, key)?;
+        self.check_silent_rows(arm, key, found.block.instructions.as_slice())?;
+        if let Some(throw) = may_throw(&found.block.terminal) {
             if !is_current(throw.handler, handler) {
                 return Err(malformed(key, Rule::Handler));
             }
-            self.mark_value_block(key, block)?;
+            self.mark_value_block(key, found)?;
             return Ok(Some(throw.continuation));
         }
-        if !goes_to(&block.terminal, next) {
+        if !goes_to(&found.block.terminal, next) {
             return Err(malformed(arm, Rule::LoudArm));
         }
-        self.mark_value_block(key, block)?;
+        self.mark_value_block(key, found)?;
         Ok(None)
     }
 
@@ -125,7 +125,7 @@ impl<'g> Builder<'g> {
         ensures facts { IfErr result (FaultFact self.now.hir.now) }
     {
         for place in before..self.marks.used.len() {
-            if let Some(key) = self.marks.used.at(place) {
+            if let Some(key) = self.marks.used.get(place).copied() {
                 self.check_arm_block(arm, key)?;
             }
         }
@@ -140,9 +140,9 @@ impl<'g> Builder<'g> {
         ensures refused { IfRefused result (IsArmBlock self.now.hir.now self.now.env.now key → ⊥) }
         ensures facts { IfErr result (FaultFact self.now.hir.now) }
     {
-        let block = block_with_id(self.hir, key)?;
-        self.check_silent_rows(arm, key, block.instructions.as_slice())?;
-        if value_terminal(&block.terminal).is_some() {
+        let found = block_with_id(self.hir, key)?;
+        self.check_silent_rows(arm, key, found.block.instructions.as_slice())?;
+        if value_terminal(&found.block.terminal).is_some() {
             return Err(malformed(arm, Rule::LoudArm));
         }
         Ok(())

@@ -57,16 +57,22 @@ impl<'g> Builder<'g> {
             BuildsValue self.old self.new site key context any_end result }
     {
         let hir = self.hir;
-        let block = block_with_id(hir, key)?;
+        let found = block_with_id(hir, key)?;
         if !is_current(throw.handler, handler) {
             return Err(malformed(key, Rule::Handler));
         }
         let behind = block_with_id(hir, throw.continuation)?;
-        let Some((last, front)) = block.instructions.as_slice().split_last() else {
+        let Some((last, front)) = found.block.instructions.as_slice().split_last() else {
             return Err(malformed(key, Rule::EmptyValue));
         };
-        let built = self.value_of_rows(key, front, *last, throw.continuation, &behind.terminal)?;
-        self.mark_value_block(key, block)?;
+        let built = self.value_of_rows(
+            key,
+            front,
+            *last,
+            throw.continuation,
+            &behind.block.terminal,
+        )?;
+        self.mark_value_block(key, found)?;
         self.mark_value_block(throw.continuation, behind)?;
         Ok(built)
     }
@@ -93,10 +99,10 @@ impl<'g> Builder<'g> {
             BuildsValue self.old self.new site key context any_end result }
     {
         let hir = self.hir;
-        let block = find_block(hir, key)?;
-        check_end(key, &block.terminal)?;
-        let built = self.end_value(key, block)?;
-        self.mark_value_block(key, block)?;
+        let found = find_block(hir, key)?;
+        check_end(key, &found.block.terminal)?;
+        let built = self.end_value(key, found.block)?;
+        self.mark_value_block(key, found)?;
         Ok(built)
     }
 

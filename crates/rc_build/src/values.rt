@@ -5,7 +5,7 @@
 //!
 //! After the value blocks of oxc's build_reactive_function.
 
-ghost use Rattle.std.specs.Prelude.{◌≡◌, ◌++◌, ◌∷◌, [], ◌&&◌, Bool, false, IfOk, OnOk};
+ghost use Rattle.std.specs.Prelude.{◌≡◌, ◌++◌, ◌∷◌, [], ◌&&◌, Bool, Some, false, IfOk, OnOk};
 ghost use Rattle.rc_names.specs.Numbers.{BlockId, same_id};
 ghost use Rattle.rc_hir.specs.Model.{HirFunction};
 ghost use Rattle.rc_hir.specs.declared.fault.Fault.TheVariants as faults;
@@ -17,6 +17,7 @@ ghost use Rattle.rc_runs.specs.LoopValues.{SpellsGoing, SpellsTest};
 ghost use Rattle.rc_runs.specs.LoopValues as loop_values;
 ghost use Rattle.rc_build.specs.declared.builder.Site.{Site};
 ghost use Rattle.rc_build.specs.inside.Built.{Builds};
+ghost use Rattle.rc_build.specs.inside.CanBuild.{place_of};
 ghost use Rattle.rc_build.specs.inside.Marks.{IsUnusable};
 ghost use Rattle.rc_build.specs.inside.Setting.{setting_of};
 ghost use Rattle.rc_build.specs.inside.Task.{progress_of};
@@ -29,7 +30,7 @@ ghost use Rattle.rc_build.specs.inside.ValueRows.{behind_rows};
 ghost use Rattle.rc_build.specs.inside.Values as spec;
 
 use crate::answered_test::{answers_test, same_declaration};
-use crate::blocks::{block_with_id, find_block};
+use crate::blocks::{FoundBlock, block_with_id, find_block};
 use crate::builder::{Builder, Site, malformed};
 use crate::flatten::flattened;
 use crate::handlers::{MayThrow, is_current, is_empty_goto, may_throw};
@@ -37,7 +38,7 @@ use crate::short_arms::ShortArm;
 use crate::unreachable::has_unreachable_successor;
 use crate::value_rows::{after_rows, sequence_rows};
 use crate::value_terminals::{NestedValue, ValueTerminal, value_terminal};
-use rc_hir::{BasicBlock, Environment, Fault, HirFunction, Place, Rule, Terminal};
+use rc_hir::{Environment, Fault, HirFunction, Place, Rule, Terminal};
 use rc_names::{BlockId, Boxed, EvaluationOrder, List, Span};
 use rc_tree::{ReactiveInstruction, ReactiveValue};
 use std::alloc::{AllocError, Global};
@@ -290,12 +291,12 @@ impl<'g> Builder<'g> {
             self.old.marks.used) result }
     {
         let hir = self.hir;
-        let block = find_block(hir, key)?;
-        let mut rows = sequence_rows(self.alloc, hir, key, block.instructions.as_slice())?;
+        let found = find_block(hir, key)?;
+        let mut rows = sequence_rows(self.alloc, hir, key, found.block.instructions.as_slice())?;
         if terminal.id.0 == 0 {
             return Err(malformed(key, Rule::UnsetId));
         }
-        self.mark_value_block(key, block)?;
+        self.mark_value_block(key, found)?;
         let NestedValue {
             value,
             answer,
@@ -327,12 +328,12 @@ impl<'g> Builder<'g> {
             (spec.HasNoValue self.old.hir.now self.old.env.now key context spec.any_end self.old.marks.used) result }
     {
         let hir = self.hir;
-        let block = block_with_id(hir, key)?;
-        let rows = sequence_rows(self.alloc, hir, key, block.instructions.as_slice())?;
+        let found = block_with_id(hir, key)?;
+        let rows = sequence_rows(self.alloc, hir, key, found.block.instructions.as_slice())?;
         if !is_current(throw.handler, handler) {
             return Err(malformed(key, Rule::Handler));
         }
-        self.mark_value_block(key, block)?;
+        self.mark_value_block(key, found)?;
         Ok(ValueRow {
             rows,
             next: throw.continuation,
@@ -381,16 +382,18 @@ impl<'g> Builder<'g> {
     ///
     /// - `Malformed` with `Dead`: it leads to a block that ends in `Unreachable`.
     /// - `Malformed` with `Twice`: it is used already.
-    pub fn mark_value_block(&mut self, key: BlockId, block: &BasicBlock) -> Result<(), Fault>
-        requires { spec.CanMark self.old.hir.now self.old.marks key block.now }
+    pub fn mark_value_block(&mut self, key: BlockId, found: FoundBlock<'_>) -> Result<(), Fault>
+        requires can { spec.CanMark self.old.hir.now self.old.marks key found.block.now }
+        requires placed { place_of self.old.hir.now key ≡ Some found.place }
         ensures { (site : Site) → Builds self.old self.new site
-            (λ _. spec.Marked self.old.hir.now key block.now.terminal (progress_of self.old) (progress_of self.new))
+            (λ _. spec.Marked self.old.hir.now key found.entry.block.now.terminal (progress_of self.old)
+            (progress_of self.new))
             (IsUnusable self.old.hir.now [] key self.old.marks) result }
     {
-        if has_unreachable_successor(self.hir, &block.terminal) {
+        if has_unreachable_successor(self.hir, &found.block.terminal) {
             return Err(malformed(key, Rule::Dead));
         }
-        if !self.marks.used.insert(key)? {
+        if !self.marks.put_used(key, found.place)? {
             return Err(malformed(key, Rule::Twice));
         }
         Ok(())

@@ -1,6 +1,8 @@
 -- What the builder's functions start from: which blocks are used, which are pending, and the frames around.
-use Rattle.std.specs.Prelude.{◌≡◌, ◌≤◌, true, false, List, [], ◌∷◌, ◌++◌, Option, Some, None, IsSome, if◌then◌else◌}
+use Rattle.std.specs.Prelude.{◌≡◌, ◌≤◌, ℕ, Bool, true, false, List, [], ◌∷◌, ◌++◌, Option, Some, None, IsSome}
+use Rattle.std.specs.Prelude.{if◌then◌else◌, position, slice_get}
 use Rattle.std.specs.List.{filter_map, flat_map}
+use Rattle.std.specs.Map.{keys_of}
 use Rattle.rc_names.specs.Numbers.{BlockId, same_id, is_among, times}
 use Rattle.rc_hir.specs.Successors.{case_blocks}
 use Rattle.rc_hir.specs.Model.{Terminal, HirFunction}
@@ -14,10 +16,20 @@ use Rattle.rc_build.specs.TerminalForms.{Jumps}
 use Rattle.rc_build.specs.BlockFacts.{BlockIs, HasTry}
 use Rattle.rc_build.specs.RuleFacts.{IsLostJump}
 
--- the used blocks are sound and blocks of the graph, and the used scopes are theirs
+-- the position of a block in the graph
+abbrev pub place_of : HirFunction → BlockId → Option ℕ
+place_of hir key = position (same_id key) (keys_of hir.body.blocks)
+
+-- there is a bit for each block of the graph, at its position, which is set where the block is one of these
+abbrev pub TellUsed : HirFunction → List Bool → List BlockId → Type 0
+TellUsed hir bits used = (key : BlockId) (place : ℕ) → place_of hir key ≡ Some place →
+    slice_get bits place ≡ Some (is_among used key)
+
+-- the used blocks are sound and blocks of the graph, which the bits tell, and the used scopes are theirs
 pub record AreMarked (hir : HirFunction) (marks : Marks) : Type 0 where
   pub sound : AreSound hir marks.used
   pub known : (key : BlockId) → is_among marks.used key ≡ true → IsSome (basic_block hir key)
+  pub told : TellUsed hir marks.bits marks.used
   pub scopes : marks.scopes ≡ filter_map (scope_at hir) marks.used
 
 -- the references of the graph's entry and of these blocks

@@ -1,5 +1,5 @@
 -- The marks: the used blocks, the scopes that they open, and the blocks that are pending.
-use Rattle.std.specs.Prelude.{◌≡◌, Bool, true, false, List, [], ◌∷◌, ◌++◌, Option, Some, None, not}
+use Rattle.std.specs.Prelude.{◌≡◌, ℕ, Bool, true, false, List, [], ◌∷◌, ◌++◌, Option, Some, None, not, slice_set}
 use Rattle.std.specs.List.{list_any}
 use Rattle.rc_names.specs.Numbers.{BlockId, ScopeId, same_id}
 use Rattle.rc_hir.specs.Model.{HirFunction}
@@ -9,6 +9,14 @@ use Rattle.rc_runs.specs.Graph.{Block, usable_block}
 use Rattle.rc_runs.specs.Spelled.{AreSound}
 use Rattle.rc_build.specs.declared.builder.Marks.{Marks}
 use Rattle.rc_build.specs.inside.CanBuild.{AreMarked, AreReferenced}
+
+-- the marks with one more used block, which is at that position of the graph
+abbrev pub with_used : BlockId → ℕ → Marks → Marks
+with_used key place marks = record {
+  used = marks.used ++ key ∷ [];
+  bits = slice_set marks.bits place true;
+  scopes = marks.scopes;
+}
 
 -- these blocks are marked; of the references that were pending `before`, those `after` are left
 pub record MarksBlocks (hir : HirFunction) (before after : List BlockId) (old new : Marks)

@@ -1,7 +1,7 @@
 -- What the builder is asked for, and how far it has come.
-use Rattle.std.specs.Prelude.{◌≡◌, ◌⊎◌, true, false, List, [], ◌∷◌, Option, Some, None}
+use Rattle.std.specs.Prelude.{◌≡◌, ◌⊎◌, ℕ, true, false, List, [], ◌∷◌, Option, Some, None, length, replicate}
 use Rattle.rc_names.specs.Numbers.{BlockId, EvaluationOrder, same_id}
-use Rattle.rc_hir.specs.Model.{Terminal}
+use Rattle.rc_hir.specs.Model.{HirFunction, Terminal}
 use Rattle.rc_tree.specs.Model.{ReactiveStatement}
 use Rattle.rc_build.specs.declared.builder.Builder.{Builder}
 use Rattle.rc_build.specs.declared.builder.Marks.{Marks}
@@ -21,9 +21,13 @@ pub record Progress : Type 0 where
 abbrev pub progress_of : Builder → Progress
 progress_of builder = record { marks = builder.marks; out = builder.out }
 
+-- nothing is marked, of that many blocks
+abbrev pub no_marks : ℕ → Marks
+no_marks blocks = record { used = []; bits = replicate blocks false; scopes = [] }
+
 -- nothing is marked, and no statement is built
-abbrev pub no_progress : Progress
-no_progress = record { marks = record { used = []; scopes = [] }; out = [] }
+abbrev pub no_progress : HirFunction → Progress
+no_progress hir = record { marks = no_marks (length hir.body.blocks); out = [] }
 
 -- these statements, and then those
 abbrev pub join : Statements → Statements → Statements

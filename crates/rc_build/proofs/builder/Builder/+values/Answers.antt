@@ -175,27 +175,27 @@ build_row-find_block-requires t c =
 
 pub build_row-returns-in_err-rows : goal.build_row-returns-in_err-rows
 build_row-returns-in_err-rows t c = λ site is_test.
-    let block = c.in_ok-block.block.now in
+    let block = c.in_ok-found.found.block.now in
     fails c.from_residual-in_err-rows.ensures.1 c.in_err-rows.ensures.facts
     (λ named rule e value end blocks d asked sound.
-    let has = value_has_rows c.args.key block c.in_ok-block.ensures.found d in
+    let has = value_has_rows c.args.key block c.in_ok-found.ensures.found d in
     c.in_err-rows.ensures.refused named rule (ap Err e) has.0
     (subst (λ z. HasRows c.args.self.now.hir.now z has.0) (sym c.as_slice.ensures) has.1))
 
 pub build_row-returns-then-terminal-eq0 : goal.build_row-returns-then-terminal-eq0
 build_row-returns-then-terminal-eq0 t c = λ site is_test.
-    let block = c.in_ok-block.block.now in
-    let found = c.in_ok-block.ensures.found in
+    let block = c.in_ok-found.found.block.now in
+    let found = c.in_ok-found.ensures.found in
     let unset : is_unset c.args.terminal.id ≡ true = eq-eqb c.args.terminal.id.0 0 c.if-terminal-eq0.true in
     breaks_rule c.args.key rules.UnsetId c.malformed.ensures
     (row_unset_refused c.args.key c.args.terminal block found c.requires c.args.self.now.env.now c.args.around is_test
     unset)
     (row_unset c.args.key c.args.terminal block found c.requires unset)
 
-pub build_row-mark_value_block-requires : goal.build_row-mark_value_block-requires
-build_row-mark_value_block-requires t c =
-    let block = c.in_ok-block.block.now in
-    row_can_mark c.args.key c.args.terminal block c.in_ok-block.ensures.found c.requires c.in_ok-rows.rows
+pub build_row-mark_value_block-requires-clause-can : goal.build_row-mark_value_block-requires-clause-can
+build_row-mark_value_block-requires-clause-can t c =
+    let block = c.in_ok-found.found.block.now in
+    row_can_mark c.args.key c.args.terminal block c.in_ok-found.ensures.found c.requires c.in_ok-rows.rows
     (subst (λ z. HasRows c.args.self.now.hir.now z c.in_ok-rows.rows) c.as_slice.ensures c.in_ok-rows.ensures.ok)
     (ne_eqb c.args.terminal.id.0 0 c.if-terminal-eq0.false)
 
@@ -210,10 +210,10 @@ build_row-build_nested-requires t c =
     let mid = c.mark_value_block.new.self in
     let site = any_site c.args.key in
     let marked = c.in_ok-mark_value_block.ensures site in
-    let block = c.in_ok-block.block.now in (
+    let block = c.in_ok-found.found.block.now in (
       omega (arith, fewer_left marked marked.ok.marking.marked (omega (arith, used_longer marked.ok.marking))),
       subst (λ (z : Setting). CanBuildNested z.hir mid.marks c.args.terminal) (sym marked.frames)
-          (row_nested_can c.args.key c.args.terminal block c.in_ok-block.ensures.found c.requires refl marked.ok),
+          (row_nested_can c.args.key c.args.terminal block c.in_ok-found.ensures.found c.requires refl marked.ok),
     )
 
 pub build_row-returns-in_err-value : goal.build_row-returns-in_err-value
@@ -221,10 +221,10 @@ build_row-returns-in_err-value t c = λ site is_test.
     let old = c.args.self.now in
     let mid = c.mark_value_block.new.self in
     let marked = c.in_ok-mark_value_block.ensures site in
-    let block = c.in_ok-block.block.now in
+    let block = c.in_ok-found.found.block.now in
     passes_on c.from_residual-in_err-value.ensures.1 (same_graph marked.frames)
     (c.in_err-value.ensures site)
-    (λ none. row_refused c.args.key c.args.terminal block c.in_ok-block.ensures.found c.requires refl marked.ok
+    (λ none. row_refused c.args.key c.args.terminal block c.in_ok-found.ensures.found c.requires refl marked.ok
     old.env.now c.args.around is_test (refused_in (λ z. SpellsNested z.hir z.env c.args.around.handler
     (terminal_of c.args.terminal)) mid.marks.used marked.frames none))
 
@@ -234,10 +234,10 @@ build_row-returns t c = λ site is_test.
     let late = c.build_nested.new.self in
     let marked = c.in_ok-mark_value_block.ensures site in
     let nested = c.in_ok-value.ensures site in
-    let block = c.in_ok-block.block.now in
+    let block = c.in_ok-found.found.block.now in
     let made = c.in_ok-rows.rows in
-    is_built _ (row_built c.args.key c.args.terminal block c.in_ok-block.ensures.found c.requires refl marked.ok
-    c.in_ok-block.ensures.own
+    is_built _ (row_built c.args.key c.args.terminal block c.in_ok-found.ensures.found c.requires refl marked.ok
+    c.in_ok-found.ensures.own
     (subst (λ z. HasRows c.args.self.now.hir.now z made) c.as_slice.ensures c.in_ok-rows.ensures.ok)
     (ne_eqb c.args.terminal.id.0 0 c.if-terminal-eq0.false)
     (subst (λ (z : Setting). NestedBuilt z.hir z.env c.args.around.handler c.args.terminal c.in_ok-value.field-0

@@ -12,16 +12,16 @@ find_block-requires c = referenced_once c.args.self.now.hir.now c.args.self.now.
 
 pub check_end-requires : goal.check_end-requires
 check_end-requires c = (
-  no_terminal c.args.self.now.hir.now c.args.key c.in_ok-block.ensures.found c.requires.ends,
-  no_throw_at c.args.self.now.hir.now c.args.key c.in_ok-block.ensures.found c.requires.stays,
+  no_terminal c.args.self.now.hir.now c.args.key c.in_ok-found.ensures.found c.requires.ends,
+  no_throw_at c.args.self.now.hir.now c.args.key c.in_ok-found.ensures.found c.requires.stays,
 )
 
 pub returns-in_err-check_end : goal.returns-in_err-check_end
 returns-in_err-check_end c = λ site context.
     let hir = c.args.self.now.hir.now in
     let key = c.args.key in
-    let block = c.in_ok-block.block.now in
-    let found = c.in_ok-block.ensures.found in
+    let block = c.in_ok-found.found.block.now in
+    let found = c.in_ok-found.ensures.found in
     fails c.from_residual-in_err-check_end.ensures.1
     (end_fact hir key block.terminal _ (record { block = block; found = found; holds = refl }) c.requires.can.referenced
     c.in_err-check_end.ensures.facts) (λ named rule e value end blocks d asked sound.
@@ -30,9 +30,9 @@ returns-in_err-check_end c = λ site context.
 
 pub end_value-requires : goal.end_value-requires
 end_value-requires c = record {
-  block = c.in_ok-block.block.now;
-  found = c.in_ok-block.ensures.found;
-  own = c.in_ok-block.ensures.own;
+  block = c.in_ok-found.found.block.now;
+  found = c.in_ok-found.ensures.found;
+  own = c.in_ok-found.ensures.own;
   is = refl;
   lists = refl;
   ends = c.in_ok-check_end.ensures.ok;
@@ -43,8 +43,9 @@ pub returns-in_err-built : goal.returns-in_err-built
 returns-in_err-built c = λ site context. fails c.from_residual-in_err-built.ensures.1 c.in_err-built.ensures.facts
     (λ named rule e. none_there c.args.self.now.marks.used context (c.in_err-built.ensures.refused named rule (ap Err e)))
 
-pub mark_value_block-requires : goal.mark_value_block-requires
-mark_value_block-requires c = end_can c.args.self.now.hir.now c.args.key c.in_ok-block.ensures.found c.requires.can.can
+pub mark_value_block-requires-clause-can : goal.mark_value_block-requires-clause-can
+mark_value_block-requires-clause-can c =
+    end_can c.args.self.now.hir.now c.args.key c.in_ok-found.ensures.found c.requires.can.can
     c.in_ok-check_end.ensures.ok c.in_ok-built.ensures.ok
 
 pub returns-in_err-mark_value_block : goal.returns-in_err-mark_value_block

@@ -1,6 +1,7 @@
-use Rattle.std.proofs.Common.{[], Err, refl, sym, ap, ◌∙◌, subst, length}
+use Rattle.std.proofs.Common.{◌≡◌, [], Err, Some, refl, sym, ap, ◌∙◌, subst, length}
 use Rattle.rc_hir.specs.declared.fault.Rule.TheVariants as rules
 use Rattle.rc_runs.specs.ListContext.{is_current}
+use Rattle.rc_build.specs.inside.CanBuild.{place_of}
 use Rattle.rc_build.specs.inside.Marks.{IsUnusable}
 use Rattle.rc_build.specs.inside.Setting.{Setting}
 use Rattle.rc_build.specs.inside.Task.{progress_of}
@@ -20,22 +21,22 @@ block_with_id-requires c =
 
 pub returns-then-not-is_current : goal.returns-then-not-is_current
 returns-then-not-is_current c = λ site context same.
-    other_handler c.in_ok-block.ensures.found c.requires.here same (sym c.is_current.ensures ∙ c.if-not-is_current.true)
+    other_handler c.in_ok-found.ensures.found c.requires.here same (sym c.is_current.ensures ∙ c.if-not-is_current.true)
     c.malformed.ensures
 
 pub block_with_id-requires-2 : goal.block_with_id-requires-2
-block_with_id-requires-2 c = last_referenced c.requires c.in_ok-block.ensures.found
+block_with_id-requires-2 c = last_referenced c.requires c.in_ok-found.ensures.found
 
 pub returns-in_err-behind : goal.returns-in_err-behind
 returns-in_err-behind c = λ site context same.
     fails c.from_residual-in_err-behind.ensures.1 c.in_err-behind.ensures.facts (λ named rule e.
-    last_missing c.requires c.in_ok-block.ensures.found c.args.self.now.env.now context c.args.self.now.marks.used
+    last_missing c.requires c.in_ok-found.ensures.found c.args.self.now.env.now context c.args.self.now.marks.used
     c.in_err-behind.ensures.refused)
 
 pub returns-in_default : goal.returns-in_default
 returns-in_default c = λ site context same.
-    let found = c.in_ok-block.ensures.found in
-    let none = none_listed c.in_ok-block.block.now.instructions
+    let found = c.in_ok-found.ensures.found in
+    let none = none_listed c.in_ok-found.found.block.now.instructions
     (ap (λ z. length z) (sym c.as_slice.ensures) ∙ c.in_default.ensures.cases) in
     breaks_rule c.args.key rules.EmptyValue c.malformed-in_default.ensures
     (last_empty c.requires found c.args.self.now.env.now context c.args.self.now.marks.used none)
@@ -43,29 +44,36 @@ returns-in_default c = λ site context same.
 
 pub returns-in_err-built : goal.returns-in_err-built
 returns-in_err-built c = λ site context same.
-    let block = c.in_ok-block.block.now in
+    let block = c.in_ok-found.found.block.now in
     fails c.from_residual-in_err-built.ensures.1 c.in_err-built.ensures.facts
     (λ named rule e value end blocks d asked sound.
-    let has = value_has_rows c.args.key block c.in_ok-block.ensures.found d in
+    let has = value_has_rows c.args.key block c.in_ok-found.ensures.found d in
     c.in_err-built.ensures.refused named rule (ap Err e) has.0
     (subst (λ z. HasRows c.args.self.now.hir.now z has.0) (sym c.as_slice.ensures ∙ c.in-Some.ensures.cases.0) has.1))
 
-pub mark_value_block-requires : goal.mark_value_block-requires
-mark_value_block-requires c = first_can_mark c.requires c.in_ok-block.ensures.found
-    (sym c.as_slice.ensures ∙ c.in-Some.ensures.cases.0) c.in_ok-built.ensures.ok c.in_ok-block.ensures.set
+pub mark_value_block-requires-clause-can : goal.mark_value_block-requires-clause-can
+mark_value_block-requires-clause-can c = first_can_mark c.requires c.in_ok-found.ensures.found
+    (sym c.as_slice.ensures ∙ c.in-Some.ensures.cases.0) c.in_ok-built.ensures.ok c.in_ok-found.ensures.set
 
 pub returns-in_err-mark_value_block : goal.returns-in_err-mark_value_block
 returns-in_err-mark_value_block c = λ site context same.
     passes_on c.from_residual-in_err-mark_value_block.ensures.1 refl (c.in_err-mark_value_block.ensures site)
     (spells_unusable c.args.key c.args.self.now.marks context any_end)
 
-pub mark_value_block-requires-2 : goal.mark_value_block-requires-2
-mark_value_block-requires-2 c =
+pub mark_value_block-requires-2-clause-can : goal.mark_value_block-requires-2-clause-can
+mark_value_block-requires-2-clause-can c =
     let mid = c.mark_value_block.new.self in
     let marked = c.in_ok-mark_value_block.ensures (any_site c.args.key) in
-    subst (λ (z : Setting). CanMark z.hir mid.marks c.args.throw.continuation c.in_ok-behind.behind.now)
-    (sym marked.frames) (last_can_mark c.requires c.in_ok-block.ensures.found c.in_ok-behind.ensures.found refl marked.ok
+    subst (λ (z : Setting). CanMark z.hir mid.marks c.args.throw.continuation c.in_ok-behind.behind.block.now)
+    (sym marked.frames)
+    (last_can_mark c.requires c.in_ok-found.ensures.found c.in_ok-behind.ensures.found refl marked.ok
     c.in_ok-behind.ensures.set)
+
+pub mark_value_block-requires-2-clause-placed : goal.mark_value_block-requires-2-clause-placed
+mark_value_block-requires-2-clause-placed c =
+    let marked = c.in_ok-mark_value_block.ensures (any_site c.args.key) in
+    subst (λ (z : Setting). place_of z.hir c.args.throw.continuation ≡ Some c.in_ok-behind.behind.place)
+    (sym marked.frames) c.in_ok-behind.ensures.placed
 
 pub returns-in_err-mark_value_block-2 : goal.returns-in_err-mark_value_block-2
 returns-in_err-mark_value_block-2 c = λ site context same.
@@ -73,7 +81,7 @@ returns-in_err-mark_value_block-2 c = λ site context same.
     let marked = c.in_ok-mark_value_block.ensures site in
     passes_on c.from_residual-in_err-mark_value_block-2.ensures.1 (same_graph marked.frames)
     (c.in_err-mark_value_block-2.ensures site) (λ none.
-    last_unusable c.requires c.in_ok-block.ensures.found c.args.self.now.env.now context c.args.self.now.marks.used
+    last_unusable c.requires c.in_ok-found.ensures.found c.args.self.now.env.now context c.args.self.now.marks.used
     mid.marks marked.ok.marking.used (subst (λ (z : Setting). IsUnusable z.hir [] c.args.throw.continuation mid.marks)
     marked.frames none))
 
@@ -81,12 +89,12 @@ pub returns : goal.returns
 returns c = λ site context same.
     let mid = c.mark_value_block.new.self in
     let late = c.mark_value_block-2.new.self in
-    let block = c.in_ok-block.ensures in
+    let block = c.in_ok-found.ensures in
     let behind = c.in_ok-behind.ensures in
     let marked = c.in_ok-mark_value_block.ensures site in
     let second = c.in_ok-mark_value_block-2.ensures site in
     is_built _ (last_throw_built c.requires block.found behind.found refl marked.ok block.own block.set
     (ap (is_current c.args.throw.handler) same ∙ sym c.is_current.ensures ∙ c.if-not-is_current.false)
     behind.own behind.set (sym c.as_slice.ensures ∙ c.in-Some.ensures.cases.0) c.in_ok-built.ensures.ok
-    (subst (λ (z : Setting). Marked z.hir c.args.throw.continuation c.in_ok-behind.behind.now.terminal (progress_of mid)
-    (progress_of late)) marked.frames second.ok)) (second.frames ∙ marked.frames)
+    (subst (λ (z : Setting). Marked z.hir c.args.throw.continuation c.in_ok-behind.behind.block.now.terminal
+    (progress_of mid) (progress_of late)) marked.frames second.ok)) (second.frames ∙ marked.frames)

@@ -13,26 +13,26 @@ block_with_id-requires c =
 
 pub returns-in_err-rows : goal.returns-in_err-rows
 returns-in_err-rows c = λ site context same.
-    let block = c.in_ok-block.block.now in
+    let block = c.in_ok-found.found.block.now in
     fails c.from_residual-in_err-rows.ensures.1 c.in_err-rows.ensures.facts
     (λ named rule e value end blocks d asked sound.
-    let has = value_has_rows c.args.key block c.in_ok-block.ensures.found d in
+    let has = value_has_rows c.args.key block c.in_ok-found.ensures.found d in
     c.in_err-rows.ensures.refused named rule (ap Err e) has.0
     (subst (λ z. HasRows c.args.self.now.hir.now z has.0) (sym c.as_slice.ensures) has.1))
 
 pub returns-then-not-is_current : goal.returns-then-not-is_current
 returns-then-not-is_current c = λ site context same.
-    other_handler c.in_ok-block.ensures.found c.requires.here same (sym c.is_current.ensures ∙ c.if-not-is_current.true)
+    other_handler c.in_ok-found.ensures.found c.requires.here same (sym c.is_current.ensures ∙ c.if-not-is_current.true)
     c.malformed.ensures
 
-pub mark_value_block-requires : goal.mark_value_block-requires
-mark_value_block-requires c =
-    let block = c.in_ok-block.block.now in
-    let found = c.in_ok-block.ensures.found in
+pub mark_value_block-requires-clause-can : goal.mark_value_block-requires-clause-can
+mark_value_block-requires-clause-can c =
+    let block = c.in_ok-found.found.block.now in
+    let found = c.in_ok-found.ensures.found in
     throwing_can_mark c.args.self.now.hir.now c.args.key block found c.args.throw (block_throws found c.requires.here)
     c.in_ok-rows.rows c.requires.can.can
     (subst (λ z. HasRows c.args.self.now.hir.now z c.in_ok-rows.rows) c.as_slice.ensures c.in_ok-rows.ensures.ok)
-    c.in_ok-block.ensures.set
+    c.in_ok-found.ensures.set
 
 pub returns-in_err-mark_value_block : goal.returns-in_err-mark_value_block
 returns-in_err-mark_value_block c = λ site context same.
@@ -41,11 +41,11 @@ returns-in_err-mark_value_block c = λ site context same.
 
 pub returns : goal.returns
 returns c = λ site context same.
-    let block = c.in_ok-block.block.now in
-    let found = c.in_ok-block.ensures.found in
+    let block = c.in_ok-found.found.block.now in
+    let found = c.in_ok-found.ensures.found in
     let marked = c.in_ok-mark_value_block.ensures site in
     is_built _ (throwing_built c.args.self.now.hir.now c.args.key block found c.args.throw
-    (block_throws found c.requires.here) c.in_ok-block.ensures.own
+    (block_throws found c.requires.here) c.in_ok-found.ensures.own
     (subst (λ z. HasRows c.args.self.now.hir.now z c.in_ok-rows.rows) c.as_slice.ensures c.in_ok-rows.ensures.ok)
-    c.in_ok-block.ensures.set (sym c.is_current.ensures ∙ c.if-not-is_current.false) c.requires.goes_on marked.ok)
+    c.in_ok-found.ensures.set (sym c.is_current.ensures ∙ c.if-not-is_current.false) c.requires.goes_on marked.ok)
     marked.frames

@@ -10,17 +10,17 @@ returns-in_err-check_silent_rows-clause-refused c = λ named rule e is.
     c.in_err-check_silent_rows.ensures.refused named rule
     (passed_on c.from_residual-in_err-check_silent_rows.ensures.1 e)
     (subst (HasSilentRows c.args.self.now.hir.now c.args.self.now.env.now) (sym c.as_slice.ensures)
-    (arm_block_rows c.in_ok-block.ensures.found is))
+    (arm_block_rows c.in_ok-found.ensures.found is))
 
 pub returns-then-is_some-clause-refused : goal.returns-then-is_some-clause-refused
 returns-then-is_some-clause-refused c = λ named rule e is.
-    let none = ap is_some (c.value_terminal.ensures ∙ arm_block_plain c.in_ok-block.ensures.found is) in
+    let none = ap is_some (c.value_terminal.ensures ∙ arm_block_plain c.in_ok-found.ensures.found is) in
     let some = sym c.is_some.ensures ∙ c.if-is_some.true in
     let bad : ⊥ = cc in bad
 
 pub returns-clause-ok : goal.returns-clause-ok
 returns-clause-ok c =
-    let block = c.in_ok-block.ensures in
+    let block = c.in_ok-found.ensures in
     arm_block_made block.found block.own
     (subst (HasSilentRows c.args.self.now.hir.now c.args.self.now.env.now) c.as_slice.ensures
     c.in_ok-check_silent_rows.ensures.ok) block.set

@@ -1,0 +1,31 @@
+-- Positions of blocks in a graph: at each there is one block.
+use Rattle.std.proofs.Common.{◌≡◌, ◌≢◌, ◌<◌, ℕ, Bool, true, false, List, Some, length, refl, sym, ap, ◌∙◌}
+use Rattle.std.proofs.Common.{subst, get_or, position}
+use Rattle.std.specs.Map.{keys_of}
+use Rattle.std.proofs.lemmas.List.Quantifiers.{position-Some}
+use Rattle.std.proofs.lemmas.Map.Entries.{length-keys_of}
+use Rattle.rc_names.specs.Numbers.{BlockId, same_id}
+use Rattle.rc_names.proofs.NumbersLemmas.{same_id-eq}
+
+-- a position is below the number of blocks
+pub position_within : {X : Type 0} (blocks : List (BlockId × X)) (key : BlockId) (place : ℕ)
+    → position (same_id key) (keys_of blocks) ≡ Some place → place < length blocks
+position_within blocks key place at =
+    subst (λ n. place < n) (length-keys_of blocks) (position-Some (same_id key) (keys_of blocks) place key at).0
+
+module _ (keys : List BlockId) (key other : BlockId) where
+  -- two blocks at one position are the same
+  pub one_block : (place : ℕ) → position (same_id key) keys ≡ Some place → position (same_id other) keys ≡ Some place
+      → other ≡ key
+  one_block place at also =
+      let here = get_or keys place key in
+      same_id-eq other here (position-Some (same_id other) keys place key also).1
+      ∙ sym (same_id-eq key here (position-Some (same_id key) keys place key at).1)
+
+  -- two blocks with different positions, or of which one alone has a position, are different
+  pub other_block : position (same_id other) keys ≢ position (same_id key) keys → same_id other key ≡ false
+  other_block apart = by (same_id other key) refl
+    where
+      by : (b : Bool) → same_id other key ≡ b → b ≡ false
+      by true same = absurd (apart (ap (λ k. position (same_id k) keys) (same_id-eq other key same)))
+      by false same = refl
