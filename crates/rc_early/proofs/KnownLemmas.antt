@@ -4,13 +4,15 @@ use Rattle.std.proofs.Common.{◌≡◌, ◌∙◌, ◌+◌, ◌*◌, ◌≤◌,
 use Rattle.std.proofs.Common.{Some, All}
 use Rattle.std.proofs.Common.{Result, Ok, Err, OnOk, refl, sym, ap, subst, length, slice_get, arith, append-nil}
 use Rattle.std.proofs.Common.{length-append}
-use Rattle.std.specs.Prelude.{IfOk, if◌then◌else◌}
+use Rattle.std.specs.List.{list_all}
+use Rattle.std.specs.Prelude.{IfOk, if◌then◌else◌, nat_lt}
+use Rattle.std.proofs.lemmas.Bool.{and_parts, ltb-true}
 use Rattle.std.proofs.lemmas.List.Elements.{All-append, All-cons, All-nil, All-weaker}
 use Rattle.rc_early.proofs.GrowsLemmas.{tree_known}
 use Rattle.rc_early.proofs.KeptRuns.ProgressHolds.{after_body}
 use Rattle.rc_early.proofs.MadeLemmas.{IsNext, pending, taken}
 use Rattle.rc_early.proofs.RoomLemmas.{five_identifiers}
-use Rattle.rc_early.proofs.ScopesLemmas.{inside_stays, open_leaf, out_leaf}
+use Rattle.rc_early.proofs.ScopesLemmas.{held_by_six, inside_stays, open_leaf, out_leaf}
 use Rattle.rc_early.specs.EarlyReturned.{MakesEarlyReturns, Progress, early_return_rules, ended, nothing_met}
 use Rattle.rc_early.specs.EarlyReturned.{return_within}
 use Rattle.rc_early.specs.EarlyReturned.{scope_at, terminal_at, with_sentinel}
@@ -70,14 +72,11 @@ added_names span target value =
     collected-Instruction names_of_parts row ∙ collected-row names_of_values row
     ∙ ap (λ held. names_if place_names target ++ held) (collected-Base names_of_values value unset)
 
-six : (a b c d e f : ReactiveStatement) {k l m n o p : Names} → names_at a ≡ k → names_at b ≡ l → names_at c ≡ m
-    → names_at d ≡ n → names_at e ≡ o → names_at f ≡ p
-    → collected_list names_of_parts (a ∷ b ∷ c ∷ d ∷ e ∷ f ∷ []) ≡ k ++ (l ++ (m ++ (n ++ (o ++ (p ++ [])))))
-six a b c d e f q r s t u v = λ i. q i ++ (r i ++ (s i ++ (t i ++ (u i ++ (v i ++ [])))))
-
--- one more number of an identifier
-abbrev with_id : ℕ → Names → Names
-with_id k xs = (table.Identifiers, k) ∷ xs
+-- the numbers of temporaries, by how far each is from that of the variable, and others after them
+abbrev with_temporaries : ℕ → List ℕ → Names → Names
+with_temporaries variable [] others = others
+with_temporaries variable (step ∷ steps) others =
+    (table.Identifiers, variable + step) ∷ with_temporaries variable steps others
 
 module _ (env : Environment) where
   -- the tables that have the entries of that many early returns
@@ -112,9 +111,15 @@ module _ (env : Environment) where
   first n xs all = more 0 n (omega arith) xs (All-weaker (IsInTable (lengths env 0)) (In 0)
       (λ name h. omega (arith, h, at_first name.0)) xs all)
 
-  id_in : (n k : ℕ) (xs : Names) → k < length env.identifiers + 5 * n → All (In n) xs
-      → All (In n) (with_id k xs)
-  id_in n k xs below all = All-cons (In n) (table.Identifiers, k) xs below all
+  -- the numbers of the four temporaries are in the table
+  temporaries_in : (n variable : ℕ) (steps : List ℕ) (others : Names) → variable + 4 < length env.identifiers + 5 * n
+      → list_all (λ step. nat_lt step 5) steps ≡ true → All (In n) others
+      → All (In n) (with_temporaries variable steps others)
+  temporaries_in n variable [] others below few all = all
+  temporaries_in n variable (step ∷ steps) others below few all =
+      let near = and_parts (nat_lt step 5) (list_all (λ step. nat_lt step 5) steps) few in
+      All-cons (In n) (table.Identifiers, variable + step) (with_temporaries variable steps others)
+      (omega (arith, below, ltb-true step 5 near.0)) (temporaries_in n variable steps others below near.1 all)
 
   stored_known : (n : ℕ) (entry : ReactiveScopeEarlyReturn) (place : Place)
       → entry.value.0 < length env.identifiers + 5 * n → All (In n) (place_names place)
@@ -126,39 +131,28 @@ module _ (env : Environment) where
       subst (All (In n)) (sym (ap (λ xs. xs ++ (names_at (reactive.Terminal jump) ++ [])) (added_names _ _ _)
       ∙ ap (λ xs. ((table.Identifiers, entry.value.0) ∷ place_names place) ++ (xs ++ [])) none
       ∙ append-nil ((table.Identifiers, entry.value.0) ∷ place_names place)))
-      (id_in n entry.value.0 (place_names place) below all)
+      (All-cons (In n) (table.Identifiers, entry.value.0) (place_names place) below all)
 
   sentinel_known : (n : ℕ) (entry : ReactiveScopeEarlyReturn) (block : ReactiveBlock)
       → entry.value.0 + 4 < length env.identifiers + 5 * n → All (In n) (names_in block)
       → All (In n) (names_in (record { statements = after_sentinel entry block }))
   sentinel_known n entry block below all =
-      let v = entry.value.0 in
       let under : ReactiveTerminalStatement = record {
         terminal = tree.Label block unset;
         label = Some (record { id = entry.label; implicit = false });
       } in
       let own : names_at (labeled entry block) ≡ names_in block =
       collected-Terminal names_of_parts under ∙ collected-Label names_of_parts block unset in
-      let r0 : Names = names_in block ++ [] in
-      let r1 = with_id (v + 1) r0 in
-      let r2 = with_id v r1 in
-      let r3 = with_id (v + 4) r2 in
-      let r4 = with_id (v + 3) r3 in
-      let r5 = with_id (v + 2) r4 in
-      let r6 = with_id (v + 1) r5 in
-      let r7 = with_id (v + 4) r6 in
-      let r8 = with_id (v + 2) r7 in
-      let r9 = with_id (v + 3) r8 in
+      let variable = entry.value.0 in
+      let stored : Names = with_temporaries variable (1 ∷ []) (names_in block ++ []) in
       subst (All (In n)) (sym (collected-block names_of_parts (record { statements = after_sentinel entry block })
-      ∙ six (load_symbol entry) (load_for entry) (load_argument entry) (call entry)
+      ∙ held_by_six names_of_parts (load_symbol entry) (load_for entry) (load_argument entry) (call entry)
       (store Let ConditionallyMutate entry.value entry.span (temporary entry.value 1)) (labeled entry block)
       (added_names _ _ _) (added_names _ _ _) (added_names _ _ _) (added_names _ _ _) (added_names _ _ _) own))
-      (id_in n (v + 2) r9 (omega (arith, below)) (id_in n (v + 3) r8 (omega (arith, below))
-      (id_in n (v + 2) r7 (omega (arith, below)) (id_in n (v + 4) r6 (omega (arith, below))
-      (id_in n (v + 1) r5 (omega (arith, below)) (id_in n (v + 2) r4 (omega (arith, below))
-      (id_in n (v + 3) r3 (omega (arith, below)) (id_in n (v + 4) r2 (omega (arith, below))
-      (id_in n v r1 (omega (arith, below)) (id_in n (v + 1) r0 (omega (arith, below))
-      (All-append (In n) (names_in block) [] all (All-nil (In n)))))))))))))
+      (temporaries_in n variable (2 ∷ 3 ∷ 2 ∷ 4 ∷ 1 ∷ 2 ∷ 3 ∷ 4 ∷ []) ((table.Identifiers, variable) ∷ stored) below
+      refl (All-cons (In n) (table.Identifiers, variable) stored (omega (arith, below))
+      (temporaries_in n variable (1 ∷ []) (names_in block ++ []) below refl
+      (All-append (In n) (names_in block) [] all (All-nil (In n))))))
 
   unfoldable Known : Names → Progress → Result (Progress × Names) Fault → Type 0
   Known x s (Err fault) = Unit {0}

@@ -1,17 +1,12 @@
 -- Room for early returns, and the environments to which they are added one after the other.
-use Rattle.std.proofs.Common.{◌≡◌, ◌∙◌, ◌+◌, ◌-◌, ◌<◌, ◌++◌, ◌&&◌, ℕ, Bool, true, false, List, [], ◌∷◌, IsTrue, refl}
+use Rattle.std.proofs.Common.{◌≡◌, ◌∙◌, ◌+◌, ◌-◌, ◌<◌, ◌++◌, ℕ, List, [], ◌∷◌, IsTrue, refl}
 use Rattle.std.proofs.Common.{sym, ap, subst}
 use Rattle.std.proofs.Common.{length, get_or, drop, drop-cons, add-one, arith}
-use Rattle.std.proofs.lemmas.Bool.{and_from, ltb-true, lt-ltb}
+use Rattle.std.proofs.lemmas.Bool.{and_from, and_parts, ltb-true, lt-ltb}
 use Rattle.rc_early.specs.Entries.{has_room, with_early_return, with_early_returns}
 use Rattle.rc_early.specs.declared.early_return.EarlyReturn.{EarlyReturn}
 use Rattle.rc_early.specs.inside.Growing.{AreNumbered, Fits}
 use Rattle.rc_hir.specs.Model.{Environment}
-
-and_parts : (x y : Bool) → (x && y) ≡ true → (x ≡ true) × (y ≡ true)
-and_parts true true is = (refl, refl)
-and_parts true false is = let no : ⊥ = cc in absurd no
-and_parts false y is = let no : ⊥ = cc in absurd no
 
 pub room_fits : (env : Environment) (count : ℕ) → IsTrue (has_room env count) → Fits env count
 room_fits env count room =

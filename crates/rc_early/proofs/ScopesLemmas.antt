@@ -24,7 +24,8 @@ use Rattle.rc_tree.proofs.JoiningLemmas.{lists_monoid}
 use Rattle.rc_tree.proofs.RebuiltHolds.{HoldsOfRules, and_then, having, rebuilt_holds}
 use Rattle.rc_tree.proofs.TerminalShapes.{Leaf, Break, Continue, Return, Throw, collected-leaf, has_inside, leaf}
 use Rattle.rc_tree.proofs.TerminalShapes.{of_leaf}
-use Rattle.rc_tree.specs.Collected.{collected_list, collected_statement, collected_terminal}
+use Rattle.rc_tree.specs.Collected.{Contributions, collected_list, collected_statement, collected_terminal}
+use Rattle.rc_tree.specs.Joining.{all_of}
 use Rattle.rc_tree.specs.Rebuilt.{Rebuilds}
 use Rattle.rc_tree.specs.ScopesIn.{scope_parts, scopes_in}
 use Rattle.rc_tree.specs.Step.{bind}
@@ -37,6 +38,15 @@ use Rattle.rc_tree.specs.declared.statement.ReactiveStatement.TheOpen as layer
 use Rattle.rc_tree.specs.declared.statement.ReactiveStatement.TheVariants as reactive
 use Rattle.rc_tree.specs.declared.terminal.ReactiveTerminal.{out-ReactiveTerminal}
 use Rattle.rc_tree.specs.declared.terminal.ReactiveTerminal.TheVariants as tree
+
+-- what six statements hold, from what each of them does
+pub held_by_six : {A : Type 0} (adds : Contributions A) (a b c d e f : ReactiveStatement)
+    {of_a of_b of_c of_d of_e of_f : A} → collected_statement adds a ≡ of_a → collected_statement adds b ≡ of_b
+    → collected_statement adds c ≡ of_c → collected_statement adds d ≡ of_d → collected_statement adds e ≡ of_e
+    → collected_statement adds f ≡ of_f → collected_list adds (a ∷ b ∷ c ∷ d ∷ e ∷ f ∷ [])
+    ≡ all_of adds.joining (of_a ∷ of_b ∷ of_c ∷ of_d ∷ of_e ∷ of_f ∷ [])
+held_by_six adds a b c d e f is_a is_b is_c is_d is_e is_f = λ i.
+    all_of adds.joining (is_a i ∷ is_b i ∷ is_c i ∷ is_d i ∷ is_e i ∷ is_f i ∷ [])
 
 -- the scopes of one statement
 abbrev scopes_of : ReactiveStatement → List ScopeId
@@ -54,11 +64,6 @@ stored_none entry place =
     collected-Terminal scope_parts jump ∙ collected-Break scope_parts entry.label Labeled unset in
     ap (λ xs. xs ++ (scopes_of (reactive.Terminal jump) ++ [])) (row_none _) ∙ ap (λ xs. xs ++ []) one
 
-six : (a b c d e f : ReactiveStatement) → scopes_of a ≡ [] → scopes_of b ≡ [] → scopes_of c ≡ [] → scopes_of d ≡ []
-    → scopes_of e ≡ [] → collected_list scope_parts (a ∷ b ∷ c ∷ d ∷ e ∷ f ∷ []) ≡ scopes_of f
-six a b c d e f p q r s t =
-    (λ i. p i ++ (q i ++ (r i ++ (s i ++ (t i ++ (scopes_of f ++ [])))))) ∙ append-nil (scopes_of f)
-
 sentinel_same : (entry : ReactiveScopeEarlyReturn) (block : ReactiveBlock)
     → scopes_in (record { statements = after_sentinel entry block }) ≡ scopes_in block
 sentinel_same entry block =
@@ -66,11 +71,13 @@ sentinel_same entry block =
       terminal = tree.Label block unset;
       label = Some (record { id = entry.label; implicit = false });
     } in
+    let own : scopes_of (labeled entry block) ≡ scopes_in block =
+    collected-Terminal scope_parts under ∙ collected-Label scope_parts block unset in
     collected-block scope_parts (record { statements = after_sentinel entry block })
-    ∙ six (load_symbol entry) (load_for entry) (load_argument entry) (call entry)
+    ∙ held_by_six scope_parts (load_symbol entry) (load_for entry) (load_argument entry) (call entry)
     (store Let ConditionallyMutate entry.value entry.span (temporary entry.value 1)) (labeled entry block)
-    (row_none _) (row_none _) (row_none _) (row_none _) (row_none _)
-    ∙ (collected-Terminal scope_parts under ∙ collected-Label scope_parts block unset)
+    (row_none _) (row_none _) (row_none _) (row_none _) (row_none _) own
+    ∙ append-nil (scopes_in block)
 
 -- a leaf, unrolled
 unfoldable pub open_leaf : Leaf → UnrolledTerminal

@@ -1,25 +1,30 @@
 -- The pass on early returns follows its rules: where each scope block around is, is set aside and found again.
 use Rattle.std.proofs.Common.{◌≡◌, ◌∙◌, ◌↔◌, ◌⊎◌, Bool, true, false, List, [], ◌∷◌, ◌++◌, Option, None, Some}
 use Rattle.std.proofs.Common.{Result, Ok, Err, IsNone, IfSome, IfNone, IfErr, OnOk, refl, sym, ap, subst, length}
-use Rattle.std.proofs.Common.{slice_get, take, unwrap_or, arith, ◌+◌}
+use Rattle.std.proofs.Common.{slice_get, take, unwrap_or, arith, ◌+◌, ◌||◌}
 use Rattle.std.proofs.lemmas.List.{length-append}
+use Rattle.std.proofs.lemmas.List.Folds.{list_any-append}
+use Rattle.std.proofs.Math.Bool.{or_assoc, or-false}
 use Rattle.std.proofs.Math.Seq.{take-append_seam}
 use Rattle.std.proofs.lemmas.Result.{on_ok_weaker}
 use Rattle.std.specs.List.{last_or}
 use Rattle.std.specs.Prelude.{if◌then◌else◌}
+use Rattle.indexmap.specs.IndexSet.{insert_key}
 use Rattle.rc_early.specs.EarlyReturned.{EndsAtFault, MakesEarlyReturns, Progress, early_return_rules, ended}
-use Rattle.rc_early.specs.EarlyReturned.{nothing_met}
-use Rattle.rc_early.specs.EarlyReturned.{return_within, scope_at, terminal_at}
+use Rattle.rc_early.specs.EarlyReturned.{had_early_return, is_made, nothing_met, return_within, scope_at, terminal_at}
 use Rattle.rc_early.specs.Entries.{has_room, next_entry}
 use Rattle.rc_early.specs.Statements.{stored_return}
 use Rattle.rc_early.specs.inside.EarlyReturnSteps.{at, beside, early_return_steps, end_step, ended_entry, entry_at}
-use Rattle.rc_early.specs.inside.EarlyReturnSteps.{last_where, left_at, outside_scope, return_step, scope_step}
-use Rattle.rc_early.specs.inside.EarlyReturnSteps.{terminal_step, without_last}
+use Rattle.rc_early.specs.inside.EarlyReturnSteps.{inside_scope, last_where, left_at, outside_scope, return_step}
+use Rattle.rc_early.specs.inside.EarlyReturnSteps.{scope_step, terminal_step, with_scopes, without_last}
+use Rattle.rc_early.specs.declared.early_return.EarlyReturn.{EarlyReturn}
 use Rattle.rc_early.specs.declared.early_return.Where.{Where}
 use Rattle.rc_early.specs.declared.early_return.Where.TheVariants.{Outside, Within, PassedOver}
 use Rattle.rc_early.specs.declared.replacing.Replacing.{Replacing}
 use Rattle.rc_hir.specs.Model.{Environment, Fault, HirFunction, Place, ReactiveScope, ReactiveScopeEarlyReturn}
 use Rattle.rc_hir.specs.declared.fault.Fault.TheVariants.{NoIds, NoMemory}
+use Rattle.rc_names.proofs.NumbersLemmas.{ids_equivalence, same_id-eq}
+use Rattle.rc_names.specs.Numbers.{ScopeId, is_among, same_id}
 use Rattle.rc_tree.proofs.StatementsRefineLemmas.{statements_rebuilt}
 use Rattle.rc_tree.proofs.StatementsNoDeeper.{over_statements_no_deeper}
 use Rattle.rc_tree.specs.inside.Refines.{StepAgrees, RebuildsTo}
@@ -66,6 +71,41 @@ module _ (old new : List Where) (last : Option Where) (none : IsNone last ↔ (o
       by None none some left = rw (none.0 refl) left
       by (Some w) none some left = sym (ap without_last some ∙ without_last-append new w)
 
+-- a scope is among some and one more exactly where it is among them or is that one
+among_more : (scopes : List ScopeId) (more scope : ScopeId)
+    → is_among (insert_key same_id scopes more) scope ≡ (is_among scopes scope || same_id more scope)
+among_more scopes more scope = by (is_among scopes more) refl
+  where
+    again : is_among scopes more ≡ true → (same : Bool) → same_id more scope ≡ same
+        → is_among scopes scope ≡ (is_among scopes scope || same)
+    again there true e =
+        let known = subst (λ n. is_among scopes n ≡ true) (same_id-eq more scope e) there in
+        known ∙ sym (ap (λ b. b || true) known)
+    again there false e = sym (or-false (is_among scopes scope))
+
+    by : (there : Bool) → is_among scopes more ≡ there
+        → is_among (if there then scopes else scopes ++ more ∷ []) scope
+        ≡ (is_among scopes scope || same_id more scope)
+    by true e = again e (same_id more scope) refl
+    by false e = list_any-append (same_id scope) scopes (more ∷ [])
+        ∙ ap (λ b. is_among scopes scope || b) (or-false (same_id scope more) ∙ ids_equivalence.symm scope more)
+
+-- a scope is among those of early returns exactly where one was made for it
+among_made : (made : List EarlyReturn) (scopes : List ScopeId) (scope : ScopeId)
+    → is_among (with_scopes scopes made) scope ≡ (is_among scopes scope || is_made made scope)
+among_made [] scopes scope = sym (or-false (is_among scopes scope))
+among_made (early ∷ made) scopes scope =
+    among_made made (insert_key same_id scopes early.scope) scope
+    ∙ ap (λ b. b || is_made made scope) (among_more scopes early.scope scope)
+    ∙ or_assoc (is_among scopes scope) (same_id early.scope scope) (is_made made scope)
+
+-- the scopes with that of one more early return
+with_scopes-append : (made : List EarlyReturn) (scopes : List ScopeId) (early : EarlyReturn)
+    → with_scopes scopes (made ++ early ∷ []) ≡ insert_key same_id (with_scopes scopes made) early.scope
+with_scopes-append [] scopes early = refl
+with_scopes-append (other ∷ made) scopes early =
+    with_scopes-append made (insert_key same_id scopes other.scope) early
+
 -- the places around the inside of a scope block
 abbrev pub around_inside : List Where → Progress → List Where
 around_inside around s = around ++ s.at ∷ []
@@ -107,20 +147,26 @@ module _ (env : Environment) (around : List Where) where
 
   -- the state after a scope block that was there
   abbrev left : Where → Progress → Replacing
-  left w s = record { at = w; met = left_at w s.met; made = s.made; around = around }
+  left w s = record { at = w; met = left_at w s.met; made = s.made; scopes = with_scopes [] s.made; around = around }
 
   end_agrees : (found : Option ReactiveScope) (entry : ReactiveScopeEarlyReturn) (s : Progress)
       (block : ReactiveScopeBlock)
       → StepAgrees (at around) reactive.Scope (ended found entry block s)
       (bind (end_step found entry (left Outside s) block) (λ r. Ok (Keep, r.1)))
   end_agrees None entry s block = refl
-  end_agrees (Some scope) entry s block = (refl, refl)
+  end_agrees (Some scope) entry s block =
+      let early : EarlyReturn = record { scope = block.scope; entry = entry } in (
+        (λ i. record (left Outside s) {
+          made = s.made ++ early ∷ [];
+          scopes = sym (with_scopes-append s.made [] early) i;
+        }),
+        refl,
+      )
 
   left_agrees : (w : Where) (met : Option ReactiveScopeEarlyReturn) (s : Progress) (block : ReactiveScopeBlock)
       → s.met ≡ met → StepAgrees (at around) reactive.Scope (scope_at env w met block s)
       (scope_step env (entry_at w met) (left w s) block)
-  left_agrees Outside None s block is =
-      ((λ i. record { at = Outside; met = sym is i; made = s.made; around = around }), refl)
+  left_agrees Outside None s block is = ((λ i. record (left Outside s) { met = sym is i }), refl)
   left_agrees Outside (Some entry) s block is = end_agrees (slice_get env.scopes block.scope.0) entry s block
   left_agrees Within met s block is = (refl, refl)
   left_agrees PassedOver met s block is = (refl, refl)
@@ -141,6 +187,7 @@ module _ (env : Environment) (around : List Where) where
             at = last_where-append around met.at i;
             met = left_at (last_where-append around met.at i) s.met;
             made = s.made;
+            scopes = with_scopes [] s.made;
             around = without_last-append around met.at i;
           }) block
 
@@ -149,7 +196,9 @@ steps_follow : (env : Environment) → StatementsRefine (early_return_rules env)
 steps_follow env = record {
   row = λ s row. refl;
   pruned_scope = λ s block. refl;
-  enter_scope = λ around s block. refl;
+  enter_scope = λ around s block. ap
+      (λ made. Ok (tt, inside_scope (had_early_return env block.scope || made) (at around s)))
+      (among_made s.made [] block.scope);
   terminal = λ around s x. terminal_agrees env around s.at (out-ReactiveTerminal x.terminal) s x;
   scope = λ around met s block. scope_agrees env around met s block;
   block = λ around s block. (refl, refl);

@@ -10,7 +10,7 @@ use crate::early_return::{EarlyReturn, Sentinel, Where};
 use crate::numbers::{has_room_after, next_sentinel};
 use crate::statements::{after_sentinel, stored_return};
 use rc_hir::{Environment, Fault, Place, TableName};
-use rc_names::{List, ScopeId};
+use rc_names::{KeySet, List, ScopeId};
 use rc_tree::{
     ReactiveBlock, ReactiveFunction, ReactiveScopeBlock, ReactiveStatement, ReactiveTerminal,
     ReactiveTerminalStatement, Transformed,
@@ -35,6 +35,7 @@ pub(crate) fn replace_returns(
         at: Where::Outside,
         met: None,
         made: List::new(alloc),
+        scopes: KeySet::new(alloc),
         around: List::new(alloc),
     };
     match walk(alloc, func, env, &mut state) {
@@ -76,7 +77,7 @@ impl<'a> StatementTransform for Transform<'a> {
     ghost steps = { λ pass. steps.early_return_steps pass.env.now };
 
     fn enter_scope(&self, scope: &ReactiveScopeBlock, state: &mut Replacing) -> Result<(), Fault> {
-        let passed_over = is_set(self.env, &state.made, scope.scope);
+        let passed_over = is_set(self.env, &state.scopes, scope.scope);
         state.begin_scope(passed_over)?;
         Ok(())
     }
@@ -112,12 +113,14 @@ impl<'a> StatementTransform for Transform<'a> {
 }
 
 /// How far the pass has come: where the next statement is, the early return of the outermost scope block around, if a
-/// `Return` was met in it, those of the blocks that have ended, and where each scope block around is, from the outside in.
+/// `Return` was met in it, those of the blocks that have ended, with the scopes of these, and where each scope block
+/// around is, from the outside in.
 #[derive(Drop)]
 pub(crate) struct Replacing {
     at: Where,
     met: Option<Sentinel>,
     made: List<EarlyReturn>,
+    scopes: KeySet<ScopeId>,
     around: List<Where>,
 }
 
@@ -174,11 +177,11 @@ fn entered(passed_over: bool, at: Where) -> Where
     }
 }
 
-/// Whether the scope has an early return already.
-fn is_set(env: &Environment, made: &List<EarlyReturn>, scope: ScopeId) -> bool
-    ensures { result ≡ spec.is_set env.now made.now scope }
+/// Whether the scope has an early return already, where one was made for these scopes.
+fn is_set(env: &Environment, made: &KeySet<ScopeId>, scope: ScopeId) -> bool
+    ensures { result ≡ steps.is_set_by env.now made.now scope }
 {
-    had_early_return(env, scope) || is_made(made, scope)
+    had_early_return(env, scope) || made.contains(scope)
 }
 
 /// Whether the scope had an early return before the pass.
@@ -189,14 +192,6 @@ fn had_early_return(env: &Environment, scope: ScopeId) -> bool
         Some(known) => known.early_return_value.is_some(),
         None => false,
     }
-}
-
-/// Whether an early return was made for the scope.
-fn is_made(made: &List<EarlyReturn>, scope: ScopeId) -> bool
-    ensures { result ≡ spec.is_made made.now scope }
-{
-    let mut made = made.as_slice().iter();
-    made.any(|early| early.scope == scope)
 }
 
 /// The statements in the place of a `Return` in a scope block. The first one makes the entry of the early return.
@@ -245,6 +240,7 @@ fn end_outermost(
     let entry = sentinel.entry();
     put_sentinel(alloc, scope, &sentinel)?;
     state.made.push(EarlyReturn { scope: id, entry })?;
+    state.scopes.insert(id)?;
     Ok(())
 }
 

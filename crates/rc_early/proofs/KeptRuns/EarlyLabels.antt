@@ -6,6 +6,7 @@ use Rattle.std.proofs.Common.{append_assoc, arith, length, slice_get, slice_set,
 use Rattle.std.specs.Prelude.{◌||◌, is_some, option_map}
 use Rattle.std.specs.Option.{option_map_or}
 use Rattle.std.proofs.lemmas.List.{append-nil}
+use Rattle.std.proofs.Math.Bool.{or_assoc}
 use Rattle.std.specs.List.{list_any}
 use Rattle.rc_names.specs.Numbers.{BlockId, same_id}
 use Rattle.rc_hir.specs.Environment.{with_identifier}
@@ -67,14 +68,6 @@ or_comm true false = refl
 or_comm false true = refl
 or_comm false false = refl
 
-pub or_assoc : (a b c : Bool) → (a || (b || c)) ≡ ((a || b) || c)
-or_assoc true b c = refl
-or_assoc false b c = refl
-
-pub or_false : (b : Bool) → (b || false) ≡ b
-or_false true = refl
-or_false false = refl
-
 -- whether some element passes a test, after one that fails it was replaced
 any_set : {X : Type 0} (p : X → Bool) (xs : List X) (i : ℕ) (x y : X) → slice_get xs i ≡ Some x → p x ≡ false
     → list_any p (slice_set xs i y) ≡ (list_any p xs || p y)
@@ -83,7 +76,7 @@ any_set p (z ∷ zs) zero x y e none =
     let fails : p z ≡ false = ap p (let same : z ≡ x = cc in same) ∙ none in
     or_comm (p y) (list_any p zs) ∙ ap (λ b. (b || list_any p zs) || p y) (sym fails)
 any_set p (z ∷ zs) (suc i) x y e none =
-    ap (λ b. p z || b) (any_set p zs i x y e none) ∙ or_assoc (p z) (list_any p zs) (p y)
+    ap (λ b. p z || b) (any_set p zs i x y e none) ∙ sym (or_assoc (p z) (list_any p zs) (p y))
 
 -- an element at another index stays
 get_other : {X : Type 0} (xs : List X) (i j : ℕ) (y : X) → ¬ (j ≡ i) → slice_get (slice_set xs i y) j ≡ slice_get xs j

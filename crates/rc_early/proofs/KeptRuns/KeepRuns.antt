@@ -3,6 +3,7 @@ use Rattle.std.proofs.Common.{◌≡◌, ◌∙◌, ◌↔◌, ◌<◌, ◌≤�
 use Rattle.std.proofs.Common.{OnOk, Result, Ok, Err, subst}
 use Rattle.std.specs.Prelude.{All, IfSome, ◌||◌, slice_index_or}
 use Rattle.std.proofs.lemmas.List.Folds.{list_any_at, list_any_none}
+use Rattle.std.proofs.Math.Bool.{or-false}
 use Rattle.rc_names.specs.Numbers.{BlockId, same_id}
 use Rattle.rc_names.proofs.NumbersLemmas.{ids_equivalence, same_id-eq}
 use Rattle.rc_hir.specs.Names.{IsInTable, lengths}
@@ -24,7 +25,7 @@ use Rattle.rc_early.specs.EarlyReturned.{early_return_rules as rules, nothing_me
 use Rattle.rc_early.specs.Entries.{with_early_returns}
 use Rattle.rc_early.specs.NewBlocks.{HasNewBlocks, block_parts, blocks_in}
 use Rattle.rc_early.specs.declared.early_return.EarlyReturn.{EarlyReturn}
-use Rattle.rc_early.proofs.KeptRuns.EarlyLabels.{or_false, same_identifiers}
+use Rattle.rc_early.proofs.KeptRuns.EarlyLabels.{same_identifiers}
 use Rattle.rc_early.proofs.KeptRuns.HeldParts.{Gives, all_held}
 use Rattle.rc_early.proofs.KeptRuns.KeptLeaves.{old_blocks}
 use Rattle.rc_early.proofs.KeptRuns.KeptParts.{BodyAlike, Fits, Kept, Suits, kept_body}
@@ -82,7 +83,7 @@ module _ (before after : ReactiveBlock) (old : Environment) (made : List EarlyRe
   same_labels block below = moved.sound.labels block ∙ ap (λ made. is_early_label old block || made)
       (list_any_none (λ (early : EarlyReturn). same_id early.entry.label block) made
       (λ k d lt. apart old (slice_index_or made k d).entry.label block (moved.sound.new k d lt) below))
-      ∙ or_false (is_early_label old block)
+      ∙ or-false (is_early_label old block)
 
   -- each label of an early return that was made is an early return label of the environment
   made_labels : All (λ (early : EarlyReturn). Fits old all early.entry) made

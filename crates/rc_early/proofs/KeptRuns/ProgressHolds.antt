@@ -6,6 +6,7 @@ use Rattle.std.specs.Prelude.{All, IfOk, IfSome, ◌||◌, if◌then◌else◌}
 use Rattle.std.specs.List.{list_any}
 use Rattle.std.specs.Option.{option_map_or}
 use Rattle.std.proofs.lemmas.Bool.{or_parts}
+use Rattle.std.proofs.Math.Bool.{or_assoc, or-false}
 use Rattle.std.proofs.lemmas.List.Elements.{All-nil, All-push}
 use Rattle.std.proofs.lemmas.List.Folds.{list_any-append}
 use Rattle.rc_names.specs.Numbers.{BlockId, ScopeId, same_id}
@@ -24,7 +25,7 @@ use Rattle.rc_early.specs.EarlyReturned.{nothing_met, return_within, scope_at, t
 use Rattle.rc_early.specs.declared.early_return.EarlyReturn.{EarlyReturn}
 use Rattle.rc_early.specs.declared.early_return.Where.{Where}
 use Rattle.rc_early.specs.declared.early_return.Where.TheVariants.{Outside, Within, PassedOver}
-use Rattle.rc_early.proofs.KeptRuns.EarlyLabels.{label_added, one_more, or_assoc, or_false, others_stay}
+use Rattle.rc_early.proofs.KeptRuns.EarlyLabels.{label_added, one_more, others_stay}
 use Rattle.rc_early.proofs.KeptRuns.RulesMove.{RulesMove, block_moves}
 
 -- some early return has that label
@@ -139,14 +140,14 @@ module _ (old : Environment) where
 
     made_more : (block : BlockId) → has_label Made block ≡ (has_label s.made block || same_id early.entry.label block)
     made_more block = list_any-append (λ (other : EarlyReturn). same_id other.entry.label block) s.made (early ∷ [])
-        ∙ ap (λ b. has_label s.made block || b) (or_false (same_id early.entry.label block))
+        ∙ ap (λ b. has_label s.made block || b) (or-false (same_id early.entry.label block))
 
     labels_more : (block : BlockId)
         → is_early_label (after Made) block ≡ (is_early_label old block || has_label Made block)
     labels_more block = ap (λ env. is_early_label env block) after_more
         ∙ label_added early (after s.made).scopes scope there_now block unset
         ∙ ap (λ b. b || same_id early.entry.label block) (sound.labels block)
-        ∙ sym (or_assoc (is_early_label old block) (has_label s.made block) (same_id early.entry.label block))
+        ∙ or_assoc (is_early_label old block) (has_label s.made block) (same_id early.entry.label block)
         ∙ ap (λ b. is_early_label old block || b) (sym (made_more block))
 
     apart_from : (n : ScopeId) → same_id early.scope n ≡ false → ¬ (n.0 ≡ early.scope.0)
@@ -160,7 +161,7 @@ module _ (old : Environment) where
         (sym (list_any-append (λ (other : EarlyReturn). same_id other.scope n) s.made (early ∷ [])) ∙ none) in
         ap (λ env. slice_get env.scopes n.0) after_more
         ∙ others_stay early (after s.made).scopes scope there_now n.0
-        (apart_from n (sym (or_false (same_id early.scope n)) ∙ split.1))
+        (apart_from n (sym (or-false (same_id early.scope n)) ∙ split.1))
         ∙ sound.scopes n split.0
 
     sound_more : Sound (record { at = Outside; met = None; made = Made })
@@ -263,7 +264,7 @@ module _ (old : Environment) where
   begins : Sound nothing_met
   begins = record {
     scopes = λ n none. refl;
-    labels = λ block. sym (or_false (is_early_label old block));
+    labels = λ block. sym (or-false (is_early_label old block));
     new = All-nil (λ (early : EarlyReturn). IsNew early.entry);
     met = tt;
     outside = λ e. refl;

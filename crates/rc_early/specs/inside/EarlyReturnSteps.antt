@@ -1,16 +1,19 @@
 -- The steps of the pass on early returns, as a pass over statements.
 use Rattle.std.specs.Prelude.{◌+◌, ◌-◌, Bool, List, [], ◌∷◌, ◌++◌, Option, None, Some, Result, Ok, Err, length, take}
-use Rattle.std.specs.Prelude.{if◌then◌else◌, slice_get, unwrap_or}
+use Rattle.std.specs.Prelude.{◌||◌, if◌then◌else◌, map, slice_get, unwrap_or}
 use Rattle.std.specs.List.{last_or}
-use Rattle.rc_early.specs.EarlyReturned.{Progress, entered, is_set, with_sentinel}
+use Rattle.indexmap.specs.IndexSet.{insert_all, insert_key}
+use Rattle.rc_early.specs.EarlyReturned.{Progress, entered, had_early_return, with_sentinel}
 use Rattle.rc_early.specs.Entries.{has_room, next_entry}
 use Rattle.rc_early.specs.Statements.{stored_return}
+use Rattle.rc_early.specs.declared.early_return.EarlyReturn.{EarlyReturn}
 use Rattle.rc_early.specs.declared.early_return.Where.{Where}
 use Rattle.rc_early.specs.declared.early_return.Where.TheVariants.{Outside, Within}
 use Rattle.rc_early.specs.declared.replacing.Replacing.{Replacing}
 use Rattle.rc_hir.specs.Model.{Environment, Fault, Place, ReactiveScope, ReactiveScopeEarlyReturn}
 use Rattle.rc_hir.specs.declared.fault.Fault.TheVariants.{BadName, NoIds}
 use Rattle.rc_hir.specs.declared.fault.TableName.TheVariants.{Scopes}
+use Rattle.rc_names.specs.Numbers.{ScopeId, is_among, same_id}
 use Rattle.rc_tree.specs.StatementSteps.{StatementSteps}
 use Rattle.rc_tree.specs.Step.{bind}
 use Rattle.rc_tree.specs.Unrolled.{UnrolledTerminal}
@@ -19,9 +22,13 @@ use Rattle.rc_tree.specs.declared.hooks.Transformed.TheVariants.{Keep, ReplaceMa
 use Rattle.rc_tree.specs.declared.statement.ReactiveStatement.TheOpen as layer
 use Rattle.rc_tree.specs.declared.terminal.ReactiveTerminal.{out-ReactiveTerminal}
 
+-- the scopes of early returns, each once, after others
+abbrev pub with_scopes : List ScopeId → List EarlyReturn → List ScopeId
+with_scopes scopes made = insert_all same_id scopes (map (λ (early : EarlyReturn). early.scope) made)
+
 -- the state of the walk that represents a state of the rules, by where each scope block around is
 abbrev pub at : List Where → Progress → Replacing
-at around s = record { at = s.at; met = s.met; made = s.made; around = around }
+at around s = record { at = s.at; met = s.met; made = s.made; scopes = with_scopes [] s.made; around = around }
 
 -- the state at the beginning of a scope block, which is passed over or isn't
 abbrev pub inside_scope : Bool → Replacing → Replacing
@@ -66,10 +73,20 @@ abbrev pub end_step : Option ReactiveScope → ReactiveScopeEarlyReturn → Repl
 end_step None entry s block = Err (BadName Scopes block.scope.0)
 end_step (Some scope) entry s block = Ok (
   tt,
-  (record s { made = s.made ++ record { scope = block.scope; entry = entry } ∷ [] }, with_sentinel entry block),
+  (
+    record s {
+      made = s.made ++ record { scope = block.scope; entry = entry } ∷ [];
+      scopes = insert_key same_id s.scopes block.scope;
+    },
+    with_sentinel entry block,
+  ),
 )
 
 module _ (env : Environment) where
+  -- the scope has an early return already, where one was made for these scopes
+  abbrev pub is_set_by : List ScopeId → ScopeId → Bool
+  is_set_by made scope = had_early_return env scope || is_among made scope
+
   -- the statements in the place of a `Return` in a scope block
   abbrev pub return_step : Option ReactiveScopeEarlyReturn → Place → Replacing
       → Result (List ReactiveStatement × Replacing) Fault
@@ -96,7 +113,7 @@ module _ (env : Environment) where
 
   abbrev pub early_return_steps : StatementSteps Replacing
   early_return_steps = record {
-    enter_scope = λ block s. Ok (tt, inside_scope (is_set env s.made block.scope) s);
+    enter_scope = λ block s. Ok (tt, inside_scope (is_set_by s.scopes block.scope) s);
     transform_terminal = λ s x. beside x (terminal_step s.at (out-ReactiveTerminal x.terminal) s);
     transform_scope = λ s block. scope_step (ended_entry s) (outside_scope s) block;
     leave_block = λ s block. Ok (tt, (s, block));

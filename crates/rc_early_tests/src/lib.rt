@@ -1,0 +1,5 @@
+//! Tests of early returns.
+#![tactic(auto)]
+
+#[cfg(test)]
+mod tests;

@@ -1,0 +1,5 @@
+//! The pass on small trees.
+
+mod faults;
+mod returns;
+mod trees;
