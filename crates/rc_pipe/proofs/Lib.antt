@@ -7,6 +7,9 @@ mod EnvironmentStays
 mod RunsElsewhere
 mod EventsStay
 mod PassesLemmas
+mod ScopelessRules
+mod ScopelessPasses
+mod NoScopes
 mod FatesHold
 mod FreshHolds
 mod ErasedBlocks

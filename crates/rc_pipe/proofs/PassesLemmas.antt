@@ -16,11 +16,10 @@ use Rattle.rc_runs.specs.Event.{Event, End}
 use Rattle.rc_runs.specs.Spelled.{Spells, with_header}
 use Rattle.rc_runs.proofs.ErasedRuns.{same_erased_same_runs}
 use Rattle.rc_checks.proofs.UnusedScopes.Decided.{unused_decided}
-use Rattle.rc_checks.specs.Labels.{IsWithoutUnusedLabels}
 use Rattle.rc_checks.specs.UnusedScopes.{unused_rule}
 use Rattle.rc_checks.specs.Membership.{IsInside, IsLastOutside}
 use Rattle.rc_checks.proofs.ScopeBlocks.ContentsLemmas.{same_scopes}
-use Rattle.rc_checks.specs.ScopeBlocks.{ScopeBlock, scope_blocks}
+use Rattle.rc_checks.specs.ScopeBlocks.{ScopeBlock}
 use Rattle.rc_tree.specs.ScopesIn.{HasScopesOnce, scopes_in}
 use Rattle.rc_tree.specs.Visits.{visits_of}
 use Rattle.rc_tree.specs.declared.fate.Fate.TheVariants.{NotEscaping}
@@ -151,10 +150,18 @@ escape_fault env spelled labeled checked = by
     by (faults.BadTarget target) never = absurd never
     by (faults.FunctionCycle function) never = absurd never
 
+-- the scope blocks of a function without its unused labels are those of the spelled one
+pub labels_keep_scopes : {spelled labeled : PassState} → AfterLabels spelled labeled
+    → scopes_in labeled.func.body ≡ scopes_in spelled.func.body
+labels_keep_scopes {spelled} {labeled} labels = same_scopes labeled.func.body
+    ∙ ap (map (λ (block : ScopeBlock). block.scope)) labels.kept_scope_blocks ∙ sym (same_scopes spelled.func.body)
+
 module _ (env : Environment) (spelled labeled : ReactiveFunction)
-    (kept_visits : visits_of env.functions labeled.body ≡ visits_of env.functions spelled.body)
-    (kept_scope_blocks : scope_blocks labeled.body ≡ scope_blocks spelled.body)
-    (kept_scopes : scopes_in labeled.body ≡ scopes_in spelled.body) where
+    (labels : AfterLabels (state spelled env) (state labeled env))
+    (kept_visits : visits_of env.functions labeled.body ≡ visits_of env.functions spelled.body) where
+  kept_scopes : scopes_in labeled.body ≡ scopes_in spelled.body
+  kept_scopes = labels_keep_scopes labels
+
   -- operands inside the scopes of the function without its unused labels are inside those of the spelled one
   inside_spelled : AreInside env labeled.body → AreInside env spelled.body
   inside_spelled inside =
@@ -169,17 +176,8 @@ module _ (env : Environment) (spelled labeled : ReactiveFunction)
       (subst (λ scopes. IsLastOutside env scopes (visits_of env.functions labeled.body) id scope) kept_scopes last)
 
   -- a function that lost its unused labels, and whose operands are inside, is checked
-  pub checked : IsWithoutUnusedLabels spelled.body labeled.body → labeled ≡ record spelled { body = labeled.body }
-      → AreInside env labeled.body → IsChecked (state spelled env) (state labeled env)
-  checked labels header inside = record {
-    labels = record {
-      labels = labels;
-      header = header;
-      kept_scope_blocks = kept_scope_blocks;
-      kept_environment = refl;
-    };
-    inside = inside_spelled inside;
-  }
+  pub checked : AreInside env labeled.body → IsChecked (state spelled env) (state labeled env)
+  checked inside = record { labels = labels; inside = inside_spelled inside }
 
   -- a refusal of the check of operands, after unused labels are pruned, is a fault of the passes
   pub outside_fault : (fault : Fault)
@@ -212,13 +210,7 @@ pass_cause hir env accepted func spelled faults.NoIds fault = absurd fault
 pass_cause hir env accepted func spelled (faults.BadTarget target) fault = absurd fault
 pass_cause hir env accepted func spelled (faults.FunctionCycle function) fault = absurd fault
 
--- the scope blocks of a function without its unused labels are those of the spelled one
-pub labels_keep_scopes : {spelled labeled : PassState} → AfterLabels spelled labeled
-    → scopes_in labeled.func.body ≡ scopes_in spelled.func.body
-labels_keep_scopes {spelled} {labeled} labels = same_scopes labeled.func.body
-    ∙ ap (map (λ (block : ScopeBlock). block.scope)) labels.kept_scope_blocks ∙ sym (same_scopes spelled.func.body)
-
--- so each has one block there if it has one in the spelled function
+-- so each scope has one block there if it has one in the spelled function
 pub labels_keep_once : {spelled labeled : PassState} → AfterLabels spelled labeled → HasScopesOnce spelled.func.body
     → HasScopesOnce labeled.func.body
 labels_keep_once labels once = subst (IsDistinct same_id) (sym (labels_keep_scopes labels)) once

@@ -1,22 +1,22 @@
 //! The checks and passes over a spelled function, in their order.
 
-ghost use Rattle.std.specs.Prelude.{◌≡◌, ◌↔◌, ◌⊎◌, Err, List as Items, IfErr, IfOk, OnOk};
+ghost use Rattle.std.specs.Prelude.{◌≡◌, ◌↔◌, ◌⊎◌, [], List as Items, IfErr, IfOk, OnOk};
 ghost use Rattle.rc_hir.specs.Model.{HirFunction as Graph};
 ghost use Rattle.rc_hir.specs.KeptNumbers.{KeepsNumbers};
 ghost use Rattle.rc_hir.specs.Names.{NamesInTables};
 ghost use Rattle.rc_hir.specs.declared.fault.Fault.TheVariants as faults;
-ghost use Rattle.rc_names.specs.Numbers.{EvaluationOrder as Order, ScopeId as Scope};
 ghost use Rattle.rc_tree.specs.ScopesIn.{HasScopesOnce, scopes_in};
 ghost use Rattle.rc_tree.specs.TreeNames.{TreeInTables};
+ghost use Rattle.rc_tree.specs.Visits.{visits_of};
 ghost use Rattle.rc_runs.specs.BodyRun.{IsBodyRun};
 ghost use Rattle.rc_runs.specs.EarlyReturns.{NoEarlyReturnSet};
 ghost use Rattle.rc_runs.specs.Erase.{erased};
 ghost use Rattle.rc_runs.specs.Event.{Event, End};
 ghost use Rattle.rc_runs.specs.Spelled.{Spells};
 ghost use Rattle.rc_pipe.specs.Causes.{HasRoom};
-ghost use Rattle.rc_pipe.specs.Passes.{AreInside, EndsOutside, state};
+ghost use Rattle.rc_pipe.specs.Passes.{AfterDependencies, AfterLabels, state};
 ghost use Rattle.rc_pipe.specs.inside.PassFaults.{IsPassFault};
-ghost use Rattle.rc_pipe.specs.inside.PrunedParts.{HasOthersPruned, HasScopesPruned, IsChecked, IsPrunedWith};
+ghost use Rattle.rc_pipe.specs.inside.PrunedParts.{HasOthersPruned, HasScopesPruned, IsPrunedWith};
 
 use crate::spelled_scopes::spelled_scopes;
 use rc_checks::{
@@ -88,14 +88,41 @@ fn prune_scopes(
     ensures known_names { NamesInTables hir.now env.old → NamesInTables hir.now env.new }
 {
     let spelled = check(alloc, hir, func, env)?;
+    if spelled.is_empty() {
+        // No operand is outside a scope block, and no pass on scope blocks finds one. The record may lack something.
+        let log = decide_non_escaping_scopes(alloc, func, env)?;
+        prune_dependencies(alloc, func, env)?;
+        return Ok(Decisions { spelled, log });
+    }
+    assert_known_instructions_within_scopes(alloc, func, env)?;
     let mut log = decide_non_escaping_scopes(alloc, func, env)?;
     let others = decide_others(alloc, func, env)?;
     log.append(others)?;
     Ok(Decisions { spelled, log })
 }
 
-/// Checks break targets, prunes unused labels, and checks the operands of scopes. Returns the scopes that have a block,
-/// which are the same with those labels and without them.
+/// Prunes dependencies that aren't reactive from a function without scope blocks. Where there is no scope, none has one.
+fn prune_dependencies(
+    alloc: Global,
+    func: &mut ReactiveFunction,
+    env: &mut Environment,
+) -> Result<(), Fault>
+    requires known { TreeInTables func.old env.old }
+    requires none { scopes_in func.old.body ≡ [] }
+    ensures ok { OnOk result (AfterDependencies (state func.old env.old) (state func.new env.new)) }
+    ensures still_known { OnOk result (TreeInTables func.new env.new) }
+    ensures refused { IfErr result (λ fault. fault ≡ faults.NoMemory) }
+    ensures kept_numbers { KeepsNumbers env.old env.new }
+    ensures known_names { (graph : Graph) → NamesInTables graph env.old → NamesInTables graph env.new }
+{
+    if env.scopes.as_slice().is_empty() {
+        return Ok(());
+    }
+    prune_non_reactive_dependencies(alloc, func, env)
+}
+
+/// Checks break targets and prunes unused labels. Returns the scopes that have a block, which are the same with those
+/// labels and without them.
 fn check(
     alloc: Global,
     hir: &HirFunction,
@@ -104,41 +131,19 @@ fn check(
 ) -> Result<List<ScopeId>, Fault>
     requires known { TreeInTables func.old env.now }
     requires spelled { Spells hir.now env.now func.old }
-    ensures ok { IfOk result (λ spelled. IsChecked (state func.old env.now) (state func.new env.now)) }
+    ensures ok { IfOk result (λ spelled. AfterLabels (state func.old env.now) (state func.new env.now)) }
+    ensures kept_visits { IfOk result (λ spelled.
+        visits_of env.now.functions func.new.body ≡ visits_of env.now.functions func.old.body) }
     ensures listed { IfOk result (λ spelled. spelled ≡ scopes_in func.new.body) }
-    ensures inside { IfOk result (λ spelled. AreInside env.now func.new.body) }
     ensures still_known { IfOk result (λ spelled. TreeInTables func.new env.now) }
     ensures kept_runs { NoEarlyReturnSet env.now → IfOk result (λ spelled. (events : Items Event) (end : End) →
         IsBodyRun func.old env.now events end ↔ IsBodyRun func.new env.now events end) }
-    ensures refused { IfErr result (IsPassFault (state func.old env.now)) }
+    ensures refused { IfErr result (λ fault. fault ≡ faults.NoMemory) }
 {
     assert_well_formed_break_targets(alloc, func, env)?;
     prune_unused_labels(alloc, func, env)?;
     let spelled = spelled_scopes(alloc, hir, &func.body)?;
-    check_operands(alloc, func, env, &spelled)?;
     Ok(spelled)
-}
-
-/// Checks the operands of scopes, those with a block. Where there is none, no operand is outside of one, and none is
-/// visited.
-fn check_operands(
-    alloc: Global,
-    func: &ReactiveFunction,
-    env: &Environment,
-    scopes: &List<ScopeId>,
-) -> Result<(), Fault>
-    requires known { TreeInTables func.now env.now }
-    requires scopes { scopes.now ≡ scopes_in func.now.body }
-    ensures ok { OnOk result (AreInside env.now func.now.body) }
-    ensures scope_completed { (id : Order) (scope : Scope) → result ≡ Err (faults.ScopeCompleted id scope) →
-        EndsOutside env.now func.now.body id scope }
-    ensures only { IfErr result (λ fault. (fault ≡ faults.NoMemory)
-        ⊎ ((id : Order) × (scope : Scope) × (fault ≡ faults.ScopeCompleted id scope))) }
-{
-    if scopes.is_empty() {
-        return Ok(());
-    }
-    assert_known_instructions_within_scopes(alloc, func, env)
 }
 
 /// Prunes dependencies that aren't reactive and unused scopes, merges scopes that invalidate together, and prunes those

@@ -1,0 +1,136 @@
+-- Each pass on scope blocks after the one on dependencies leaves a tree without any as it is, with its environment, and
+-- decides nothing.
+use Rattle.std.proofs.Common.{◌≡◌, ◌∙◌, ◌||◌, ◌+◌, ℕ, false, List, [], ◌∷◌, Ok, refl, sym, ap, subst}
+use Rattle.std.specs.List.{IsDistinct, list_any}
+use Rattle.rc_hir.specs.Model.{Environment}
+use Rattle.rc_checks.specs.UnusedScopes as unused
+use Rattle.rc_checks.specs.UnusedScopes.{LosesUnusedScopes, unused_scope_rules}
+use Rattle.rc_flow.proofs.AlwaysInvalidating.EndedScopes.{ended, same_ends}
+use Rattle.rc_flow.specs.AlwaysInvalidating.{PrunesInvalidating, always_invalidating, dropped_scopes, dropping_rules}
+use Rattle.rc_flow.specs.Unmemoized.{AreAnswers, no_more, makes, copies}
+use Rattle.rc_flow.specs.ValueSteps.{value_steps_in}
+use Rattle.rc_flow.specs.declared.value_step.ValueStep.{ValueStep}
+use Rattle.rc_flow.specs.declared.value_step.ValueStep.TheVariants.{Makes, Copies, Ends}
+use Rattle.rc_merge.proofs.UnmergedLists.{unmerged}
+use Rattle.rc_merge.proofs.WentLemmas.{merges_by_went}
+use Rattle.rc_merge.specs.LastUses.{last_uses_in}
+use Rattle.rc_merge.specs.Merged.{Merges}
+use Rattle.rc_merge.specs.inside.ListSteps.{is_scope}
+use Rattle.rc_merge.specs.inside.WentRules.{Met, met_after, none_met, went_rules}
+use Rattle.rc_names.specs.Numbers.{same_id}
+use Rattle.rc_pipe.proofs.ScopelessRules.{LeavesRules, leaves_all, left_none, not_none, right_none}
+use Rattle.rc_pipe.specs.Passes.{AfterDependencies, PassState}
+use Rattle.rc_pipe.specs.inside.PrunedParts.{HasOthersPruned}
+use Rattle.rc_tree.proofs.CollectedLemmas.{collected-Scope}
+use Rattle.rc_tree.specs.Collected.{collected_list, collected_statement}
+use Rattle.rc_tree.specs.Model.{ReactiveBlock, ReactiveFunction, ReactiveStatement}
+use Rattle.rc_tree.specs.ScopesIn.{HasScopesOnce, scope_parts, scopes_in}
+use Rattle.rc_tree.specs.Unrolled.{UnrolledStatement}
+use Rattle.rc_tree.specs.declared.statement.ReactiveStatement.{out-ReactiveStatement, roll-ReactiveStatement}
+use Rattle.rc_tree.specs.declared.statement.ReactiveStatement.{roll-out-ReactiveStatement}
+use Rattle.rc_tree.specs.declared.statement.ReactiveStatement.TheOpen as layer
+use Rattle.rc_tree.specs.declared.statement.ReactiveStatement.TheVariants as reactive
+
+-- a list without scope blocks has none of its own
+no_scope_here : (u : UnrolledStatement) → collected_statement scope_parts (roll-ReactiveStatement u) ≡ []
+    → is_scope u ≡ false
+no_scope_here (layer.Scope block) none = absurd (not_none (scopes_in block.instructions) block.scope
+    (sym (collected-Scope scope_parts block) ∙ ap (collected_statement scope_parts) (sym (reactive.rolls-Scope block))
+    ∙ none))
+no_scope_here _ none = refl
+
+no_scope : (xs : List ReactiveStatement) → collected_list scope_parts xs ≡ []
+    → list_any (λ x. is_scope (out-ReactiveStatement x)) xs ≡ false
+no_scope [] none = refl
+no_scope (x ∷ xs) none =
+    let here = no_scope_here (out-ReactiveStatement x)
+    (ap (collected_statement scope_parts) (roll-out-ReactiveStatement x) ∙ left_none _ _ none) in
+    λ i. here i || no_scope xs (right_none (collected_statement scope_parts x) _ none) i
+
+once : (body : ReactiveBlock) → scopes_in body ≡ [] → HasScopesOnce body
+unfolding IsDistinct
+once body none = subst (IsDistinct same_id) (sym none) tt
+
+module _ (env : Environment) (body : ReactiveBlock) (none : scopes_in body ≡ []) where
+  -- no scope is unused
+  pub no_unused : LosesUnusedScopes env body body []
+  no_unused =
+      let left = leaves_all _ _ rules body none unused.nothing_met refl in
+      record {
+        returns = left.0.returns;
+        rebuilt = left.1 ∙ ap (λ log. Ok (record { returns = left.0.returns; log = log }, body)) left.2;
+      }
+    where
+      rules : LeavesRules (λ (met : unused.Progress). met.log ≡ []) (unused_scope_rules env)
+      rules = record {
+        row = λ x met is. (met, refl, is);
+        terminal = λ x met is. (_, refl, is);
+        pruned_scope = λ x met is. (met, refl, is);
+        block = λ xs met is empty. (met, refl, is);
+      }
+
+  -- no scope merges
+  pub none_merged : Merges body env body env []
+  none_merged =
+      let left = leaves_all _ _ rules body none (none_met env.scopes) refl in
+      merges_by_went body body env env (none_met env.scopes) (once body none)
+      (left.1 ∙ ap (λ (met : Met). Ok (met, body)) left.2) refl
+    where
+      rules : LeavesRules (λ met. met ≡ none_met env.scopes) (went_rules env (last_uses_in env body))
+      rules = record {
+        row = λ x met is. (met, refl, is);
+        terminal = λ x met is. (met, refl, is);
+        pruned_scope = λ x met is. (met, refl, is);
+        block = λ xs met is empty.
+            let same = unmerged env (last_uses_in env body) met.scopes met.copies met.log xs (no_scope xs empty) in
+            (met, (λ i. Ok (met_after met.around (sym same i), (sym same i).done)), is);
+      }
+
+  -- no scope always invalidates
+  no_answers : (place : ℕ) (steps : List ValueStep) → ended steps ≡ []
+      → AreAnswers env (value_steps_in body) place steps []
+  no_answers place [] e = no_more
+  no_answers place (Makes name in_scope ∷ steps) e = makes (no_answers (place + 1) steps e)
+  no_answers place (Copies from to ∷ steps) e = copies (no_answers (place + 1) steps e)
+  no_answers place (Ends scope ∷ steps) e = absurd (let bad : ⊥ = cc in bad)
+
+  pub none_invalidating : PrunesInvalidating env body body []
+  none_invalidating =
+      let left = leaves_all _ _ rules body none [] refl in
+      record {
+        without = record {
+          answers = [];
+          right = no_answers 0 (value_steps_in body) (same_ends body ∙ none);
+          rebuilt = record { left = left.0; rebuilt = left.1 };
+        };
+        told = ap (λ scopes. always_invalidating (dropped_scopes scopes [])) (sym none);
+      }
+    where
+      rules : LeavesRules (λ answers. answers ≡ []) dropping_rules
+      rules = record {
+        row = λ x answers is. (answers, refl, is);
+        terminal = λ x answers is. (answers, refl, is);
+        pruned_scope = λ x answers is. (answers, refl, is);
+        block = λ xs answers is empty. (answers, refl, is);
+      }
+
+-- so nothing is left to do after the pass on dependencies
+pub others_pruned : {before after : PassState} → AfterDependencies before after → scopes_in before.func.body ≡ []
+    → HasOthersPruned before after []
+others_pruned {before} {after} dependencies none =
+    let still = ap (λ (func : ReactiveFunction). scopes_in func.body) dependencies.kept_function ∙ none in
+    let unused = no_unused after.env after.func.body still in
+    let invalidating = none_invalidating after.env after.func.body still in
+    record {
+      reactive = after;
+      dependencies = dependencies;
+      used = after;
+      unused = [];
+      scopes = record { scopes = unused; header = refl; kept_environment = refl };
+      merged = after;
+      joined = [];
+      merges = record { scopes = none_merged after.env after.func.body still; header = refl };
+      always_invalidating = [];
+      invalidating = record { scopes = invalidating; header = refl; kept_environment = refl };
+      told = refl;
+    }
