@@ -1,7 +1,8 @@
-//! `rc tree`: reads a document from standard input, and prints its tree or the reason why its graph is refused.
+//! `rc`: reads a document from standard input, or makes one, and prints the tree of its graph, the fates of its scopes or
+//! counts, or the reason why the graph is refused.
 //!
-//! It is the whole of this crate's public surface: the words `tree`, standard input, standard output, standard error
-//! and the exit status. What it calls is public in `rc_program`.
+//! It is the whole of this crate's public surface: the words, standard input, standard output, standard error and the
+//! exit status. What it calls is public in `rc_program`.
 #![tactic(auto)]
 
 use rc_program::{Note, Status, StdSink, StdSource, program, words};

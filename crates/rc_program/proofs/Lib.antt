@@ -1,5 +1,9 @@
 pub mod KnownBytes
-pub mod OneWord
+pub mod WordsLemmas
+pub mod NumberLemmas
+pub mod StatementCount
 pub mod StatusLemmas
+mod AnswerLemmas
 mod BlankLemmas
 mod RefusalLemmas
+mod WrittenLines

@@ -1,18 +1,23 @@
--- Each list of bytes has one due status. So the facts that a status gives of a source with known bytes determine when
--- the status comes.
-use Rattle.std.proofs.Common.{◌≡◌, ℕ, ◌⊎◌, inl, inr, List, [], length, length-append, Option, Some, None, refl, ap}
-use Rattle.std.proofs.Common.{subst, arith, rules}
+-- Each document has one due status, and so has each list of bytes. So the facts that a status gives of a document that is
+-- made, or of a source with known bytes, determine when the status comes.
+use Rattle.std.proofs.Common.{◌≡◌, ◌↔◌, ℕ, ◌⊎◌, inl, inr, List, [], length, length-append, Option, Some, None, refl, ap}
+use Rattle.std.proofs.Common.{subst, sym, arith, rules, ◌∙◌}
 use Rattle.std.proofs.KnownBytes.{Consumes-all}
 use Rattle.serde_json.specs.Data.{Data}
 use Rattle.serde_json.specs.Read.{read}
 use Rattle.rc_doc.specs.declared.document.Doc.{Doc}
 use Rattle.rc_doc.specs.Document.{doc_of}
+use Rattle.rc_program.specs.declared.command.Command.{Command}
 use Rattle.rc_program.specs.declared.status.Status.{Status}
 use Rattle.rc_program.specs.declared.status.Status.TheVariants.{Done, Usage, NotJson, NotDoc, Refused, ReadFault}
 use Rattle.rc_program.specs.declared.status.Status.TheVariants.{WriteFault, TooLarge, NoMemory}
 use Rattle.rc_program.specs.Device.{IsReadToEnd}
-use Rattle.rc_program.specs.DueStatus.{IsJson, IsNoJson, IsJsonOfDoc, IsJsonOfOther, IsAnswerable, IsDue, CanReplace}
-use Rattle.rc_program.specs.Status.{IsTree, HasTakenTooMany, HasReadDue, HasPrinted, IsOutcome}
+use Rattle.rc_program.specs.Command.{AreWords, IsCommand, Made, Origin, Read, origin_of}
+use Rattle.rc_program.specs.DueStatus.{CanFailToRead, CanReplace, IsAnswerable, IsDue, IsDueForDoc, IsDueFrom, IsJson}
+use Rattle.rc_program.specs.DueStatus.{IsJsonOfDoc, IsJsonOfOther, IsNoJson}
+use Rattle.rc_program.specs.Status.{HasDocument, HasLoaded, HasNoDocument, HasPrinted, HasReadDue, HasStoppedReading}
+use Rattle.rc_program.specs.Status.{HasTakenTooMany, IsOutcome, IsOutcomeOf, IsTextFor}
+use Rattle.rc_program.proofs.WordsLemmas.{one_command}
 
 module _ (bytes : List ℕ) where
   -- the bytes are JSON of one value
@@ -72,58 +77,150 @@ module _ (bytes : List ℕ) where
   due_of_read : (left' : Option (List ℕ)) (status : Status) → HasReadDue (Some bytes) left' status → IsDue bytes status
   due_of_read left' status reads = let whole = all_read reads.bytes left' reads.whole in rw whole at reads.due
 
-  -- if a text is written for a document with this status, the status is due
-  due_of_text : (left' : Option (List ℕ)) (status : Status) {Writes : List ℕ → Type 0}
-      → HasPrinted status Writes (Some bytes) left' → IsDue bytes status
-  due_of_text left' Done p =
-      let whole = all_read p.loaded.bytes left' p.loaded.whole in
-      let answer = p.answered.answer in
-      let it : IsAnswerable p.doc =
-      record {
-        accepted = answer.accepted;
-        func = answer.spelled;
-        answer = record {
-          spelled = answer.spells;
-          inside = answer.passes.inside;
-          recorded = answer.recorded;
-        };
-      } in
-      (rw whole at p.loaded.whole.size, (p.doc, rw whole at p.loaded.document, it))
-  due_of_text left' Refused p =
-      let whole = all_read p.loaded.bytes left' p.loaded.whole in
-      (rw whole at p.loaded.whole.size, (p.doc, rw whole at p.loaded.document, p.answered.no_answer))
-  due_of_text left' _ p = absurd p.answered
+-- a document is due one status, and so are the bytes of a source that tells them
+one_due : (origin : Origin) (left : Option (List ℕ)) (due due' : Status) → IsDueFrom origin left due
+    → IsDueFrom origin left due' → due ≡ due'
+one_due Read left due due' d d' =
+    let same : Some d.0 ≡ Some d'.0 = sym d.1 ∙ d'.1 in
+    let bytes : d'.0 ≡ d.0 = cc in
+    due_once d.0 due due' d.2 (rw bytes at d'.2)
+one_due (Made doc) left Done Done d d' = refl
+one_due (Made doc) left Refused Refused d d' = refl
+one_due (Made doc) left Done Refused d d' = absurd (d' d)
+one_due (Made doc) left Refused Done d d' = absurd (d d')
+one_due (Made doc) left Done due' d d' = absurd d'
+one_due (Made doc) left Refused due' d d' = absurd d'
+one_due (Made doc) left due due' d d' = absurd d
 
-  module _ (words : List (List ℕ)) (left' written written' : Option (List ℕ)) (due : Status)
-      (source_rose sink_rose : Type 0) where
+-- a document for which a text is written with this status is due it
+due_of_text : (command : Command) (doc : Doc) (status : Status) (text : List ℕ) → IsTextFor command doc status text
+    → IsDueForDoc doc status
+due_of_text command doc Done text it = record {
+  accepted = it.answer.accepted;
+  func = it.answer.spelled;
+  answer = record {
+    spelled = it.answer.spells;
+    inside = it.answer.passes.inside;
+    recorded = it.answer.recorded;
+  };
+}
+due_of_text command doc Refused text it = it.no_answer
+due_of_text command doc _ text it = absurd it
+
+module _ (left left' : Option (List ℕ)) (due : Status) where
+  -- a status that is due for the document that was had is due where that comes from
+  due_of_document : (origin : Origin) (doc : Doc) (status : Status) → IsDueFrom origin left due
+      → HasDocument origin left left' doc → IsDueForDoc doc status → IsDueFrom origin left status
+  due_of_document Read doc Done told had d =
+      let loaded : HasLoaded (Some told.0) left' doc = rw told.1 at had in
+      let whole = all_read told.0 loaded.bytes left' loaded.whole in
+      (told.0, told.1, (rw whole at loaded.whole.size, (doc, rw whole at loaded.document, d)))
+  due_of_document Read doc Refused told had d =
+      let loaded : HasLoaded (Some told.0) left' doc = rw told.1 at had in
+      let whole = all_read told.0 loaded.bytes left' loaded.whole in
+      (told.0, told.1, (rw whole at loaded.whole.size, (doc, rw whole at loaded.document, d)))
+  due_of_document Read doc _ told had d = absurd d
+  due_of_document (Made made) doc status told had d = subst (λ it. IsDueForDoc it status) had.0 d
+
+  -- a status that stops the reading is due for the bytes
+  due_of_stop : (origin : Origin) (status : Status) → IsDueFrom origin left due
+      → ((bytes : List ℕ) → HasStoppedReading (Some bytes) left' status → IsDue bytes status)
+      → HasNoDocument origin left left' status → IsDueFrom origin left status
+  due_of_stop Read status told gives stopped = (told.0, told.1, gives told.0 (rw told.1 at stopped))
+  due_of_stop (Made doc) status told gives stopped = absurd stopped
+
+  -- reading fails only where a document is read
+  read_failed : (origin : Origin) {rose : Type 0} → HasNoDocument origin left left' ReadFault → rose
+      → CanFailToRead origin rose
+  read_failed Read stopped rose = rose
+  read_failed (Made doc) stopped rose = absurd stopped
+
+  module _ (command : Command) (told : IsDueFrom (origin_of command) left due) where
+    -- a status with which a text is written is due
+    due_of_printed : (status : Status) {Writes : List ℕ → Type 0} → HasPrinted command status Writes left left'
+        → IsDueFrom (origin_of command) left status
+    due_of_printed status p =
+        due_of_document (origin_of command) p.doc status told p.document
+        (due_of_text command p.doc status p.text p.answered)
+
     -- a text that was written in part is excused by a fault of the sink
-    written_in_part : (status : Status) {Writes : List ℕ → Type 0} → HasPrinted status Writes (Some bytes) left'
-        → sink_rose
+    written_in_part : (status : Status) {Writes : List ℕ → Type 0} (source_rose sink_rose : Type 0)
+        → HasPrinted command status Writes left left' → sink_rose
         → CanReplace source_rose sink_rose status WriteFault
-    written_in_part Done p rose = rose
-    written_in_part Refused p rose = rose
-    written_in_part _ p rose = absurd p.answered
+    written_in_part Done source_rose sink_rose p rose = rose
+    written_in_part Refused source_rose sink_rose p rose = rose
+    written_in_part _ source_rose sink_rose p rose = absurd p.answered
+
+    is_due : (status : Status) → IsDueFrom (origin_of command) left status → status ≡ due
+    is_due status d = one_due (origin_of command) left status due d told
+
+    stop_is_due : (status : Status) → ((bytes : List ℕ) → HasStoppedReading (Some bytes) left' status → IsDue bytes status)
+        → HasNoDocument (origin_of command) left left' status → status ≡ due
+    stop_is_due status gives stopped = is_due status (due_of_stop (origin_of command) status told gives stopped)
 
     -- the status is the one that is due, or is excused
-    pub answers_due : (status : Status) → IsTree words → IsDue bytes due
-        → IsOutcome words (Some bytes) left' written written' status
+    answers_due : (written written' : Option (List ℕ)) (source_rose sink_rose : Type 0) (status : Status)
+        → IsOutcomeOf command left left' written written' status
         → (status ≡ ReadFault → source_rose) → (status ≡ WriteFault → sink_rose)
-        → (status ≡ due) ⊎ CanReplace source_rose sink_rose due status
-    answers_due Done tree d outcome read_fault write_fault =
-        inl (due_once Done due (due_of_text left' Done outcome.1) d)
-    answers_due Usage tree d outcome read_fault write_fault = absurd (outcome.0 tree)
-    answers_due NotJson tree d outcome read_fault write_fault =
-        inl (due_once NotJson due (due_of_read left' NotJson outcome.1) d)
-    answers_due NotDoc tree d outcome read_fault write_fault =
-        inl (due_once NotDoc due (due_of_read left' NotDoc outcome.1) d)
-    answers_due Refused tree d outcome read_fault write_fault =
-        inl (due_once Refused due (due_of_text left' Refused outcome.1) d)
-    answers_due TooLarge tree d outcome read_fault write_fault =
-        inl (due_once TooLarge due (due_of_many left' outcome.1) d)
-    answers_due ReadFault tree d outcome read_fault write_fault = inr (read_fault refl)
-    answers_due WriteFault tree d outcome read_fault write_fault =
-        let status = outcome.1.0 in
-        let same = due_once status due (due_of_text left' status outcome.1.1) d in
-        inr (subst (λ status. CanReplace source_rose sink_rose status WriteFault) same
-        (written_in_part status outcome.1.1 (write_fault refl)))
-    answers_due NoMemory tree d outcome read_fault write_fault = inr tt
+        → (status ≡ due) ⊎ CanReplace (CanFailToRead (origin_of command) source_rose) sink_rose due status
+    answers_due written written' source_rose sink_rose Done o read_fault write_fault =
+        inl (is_due Done (due_of_printed Done o))
+    answers_due written written' source_rose sink_rose Refused o read_fault write_fault =
+        inl (is_due Refused (due_of_printed Refused o))
+    answers_due written written' source_rose sink_rose Usage o read_fault write_fault = absurd o
+    answers_due written written' source_rose sink_rose NotJson o read_fault write_fault =
+        inl (stop_is_due NotJson (λ bytes stopped. due_of_read bytes left' NotJson stopped) o.0)
+    answers_due written written' source_rose sink_rose NotDoc o read_fault write_fault =
+        inl (stop_is_due NotDoc (λ bytes stopped. due_of_read bytes left' NotDoc stopped) o.0)
+    answers_due written written' source_rose sink_rose TooLarge o read_fault write_fault =
+        inl (stop_is_due TooLarge (λ bytes stopped. due_of_many bytes left' stopped) o.0)
+    answers_due written written' source_rose sink_rose ReadFault o read_fault write_fault =
+        inr (read_failed (origin_of command) o.0 (read_fault refl))
+    answers_due written written' source_rose sink_rose WriteFault o read_fault write_fault =
+        let same = is_due o.0 (due_of_printed o.0 o.1) in
+        inr (subst (λ status. CanReplace (CanFailToRead (origin_of command) source_rose) sink_rose status WriteFault) same
+        (written_in_part o.0 (CanFailToRead (origin_of command) source_rose) sink_rose o.1 (write_fault refl)))
+    answers_due written written' source_rose sink_rose NoMemory o read_fault write_fault = inr tt
+
+-- where nothing is excused but want of memory, the due text is written or memory ran out
+pub completes : {source_rose sink_rose : Type 0} (status : Status)
+    → (status ≡ Done) ⊎ CanReplace source_rose sink_rose Done status → ¬ source_rose → ¬ sink_rose
+    → (status ≡ Done) ⊎ (status ≡ NoMemory)
+completes status (inl done) source sink = inl done
+completes NoMemory (inr excused) source sink = inr refl
+completes ReadFault (inr excused) source sink = absurd (source excused)
+completes WriteFault (inr excused) source sink = absurd (sink excused)
+completes _ (inr excused) source sink = absurd excused
+
+module _ (words : List (List ℕ)) (left left' written written' : Option (List ℕ)) where
+  -- what a status says, it says of the one command of the words
+  outcome_of : (command : Command) (status : Status) → IsCommand words command
+      → IsOutcome words left left' written written' status
+      → IsOutcomeOf command left left' written written' status
+  outcome_of command Usage is o = absurd (o.0 (command, is))
+  outcome_of command status is o =
+      subst (λ it. IsOutcomeOf it left left' written written' status) (one_command words o.0 command o.1 is) o.2
+
+  -- the words of a command aren't refused
+  usage_of : (status : Status) → IsOutcome words left left' written written' status → ¬ AreWords words
+      → status ≡ Usage
+  usage_of Usage o none = refl
+  usage_of status o none = absurd (none (o.0, o.1))
+
+  -- `Usage` comes exactly where the words are those of no command
+  pub usage_exactly : (status : Status) → IsOutcome words left left' written written' status
+      → (status ≡ Usage) ↔ ¬ AreWords words
+  usage_exactly status o = (
+    λ same. (subst (λ it. IsOutcome words left left' written written' it) same o).0,
+    usage_of status o,
+  )
+
+  -- the status is the one that is due for the command of the words, or is excused
+  pub exactly : (command : Command) (due status : Status) (source_rose sink_rose : Type 0) → IsCommand words command
+      → IsOutcome words left left' written written' status
+      → (status ≡ ReadFault → source_rose) → (status ≡ WriteFault → sink_rose)
+      → IsDueFrom (origin_of command) left due
+      → (status ≡ due) ⊎ CanReplace (CanFailToRead (origin_of command) source_rose) sink_rose due status
+  exactly command due status source_rose sink_rose is o read_fault write_fault told =
+      answers_due left left' due command told written written' source_rose sink_rose status
+      (outcome_of command status is o) read_fault write_fault

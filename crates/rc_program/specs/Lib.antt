@@ -7,6 +7,8 @@ pub mod Lines
 pub mod FunctionLines
 pub mod FaultLine
 pub mod Code
+pub mod Counts
+pub mod Command
 pub mod DueStatus
 pub mod Status
 pub mod inside

@@ -1,21 +1,18 @@
 -- The facts that each status gives of the words, of the bytes taken and of the bytes written.
-use Rattle.std.specs.Prelude.{◌≡◌, ℕ, ◌+◌, ◌≤◌, ◌<◌, List, [], ◌∷◌, Option, codes, IsSome}
+use Rattle.std.specs.Prelude.{◌≡◌, ℕ, ◌+◌, ◌≤◌, ◌<◌, List, Option, IsSome}
 use Rattle.std.specs.Io.KnownBytes.{Appends}
 use Rattle.rc_hir.specs.Model.{Environment, Fault}
 use Rattle.rc_pipe.specs.declared.pipeline.Pruned.{Pruned}
 use Rattle.rc_pipe.specs.Headline.{IsAnswer, IsCause}
 use Rattle.rc_doc.specs.declared.document.Doc.{Doc}
+use Rattle.rc_program.specs.declared.command.Command.{Command}
 use Rattle.rc_program.specs.declared.status.Status.{Status}
 use Rattle.rc_program.specs.declared.status.Status.TheVariants.{Done, Usage, NotJson, NotDoc, Refused, ReadFault}
 use Rattle.rc_program.specs.declared.status.Status.TheVariants.{WriteFault, TooLarge, NoMemory}
-use Rattle.rc_program.specs.FunctionLines.{lines_of}
+use Rattle.rc_program.specs.Command.{AreWords, IsCommand, Made, Origin, Read, origin_of, text_of}
 use Rattle.rc_program.specs.FaultLine.{fault_line, fault_name}
 use Rattle.rc_program.specs.Device.{most_bytes, HasTaken, IsReadToEnd, HasAppendedPrefix}
 use Rattle.rc_program.specs.DueStatus.{IsJsonOfDoc, IsAnswerable, IsDue}
-
--- the words are the one word `tree`
-abbrev pub IsTree : List (List ℕ) → Type 0
-IsTree words = words ≡ codes "tree" ∷ []
 
 -- more bytes were taken than a document may have, by at most one buffer
 abbrev pub HasTakenTooMany : Option (List ℕ) → Option (List ℕ) → Type 0
@@ -37,13 +34,31 @@ pub record HasLoaded (left left' : Option (List ℕ)) (doc : Doc) : Type 0 where
   pub whole : IsReadToEnd left left' bytes
   pub document : IsJsonOfDoc bytes doc
 
--- the text has the lines of a function that is an answer for this document, by the headline
-pub record IsTreeText (doc : Doc) (text : List ℕ) : Type 0 where
+-- what each status says that comes while a document is read
+abbrev pub HasStoppedReading : Option (List ℕ) → Option (List ℕ) → Status → Type 0
+HasStoppedReading left left' NotJson = HasReadDue left left' NotJson
+HasStoppedReading left left' NotDoc = HasReadDue left left' NotDoc
+HasStoppedReading left left' ReadFault = HasTakenSome left left'
+HasStoppedReading left left' TooLarge = HasTakenTooMany left left'
+HasStoppedReading left left' _ = ⊥
+
+-- this document was read, or it was made and nothing was read
+abbrev pub HasDocument : Origin → Option (List ℕ) → Option (List ℕ) → Doc → Type 0
+HasDocument Read left left' doc = HasLoaded left left' doc
+HasDocument (Made made) left left' doc = (doc ≡ made) × (left' ≡ left)
+
+-- there is no document, for the reason of this status; one that is made is always there
+abbrev pub HasNoDocument : Origin → Option (List ℕ) → Option (List ℕ) → Status → Type 0
+HasNoDocument Read left left' status = HasStoppedReading left left' status
+HasNoDocument (Made made) left left' status = ⊥
+
+-- the text is that of the command for a function that is an answer for this document, by the headline
+pub record IsAnswerText (command : Command) (doc : Doc) (text : List ℕ) : Type 0 where
   pub pruned : Pruned
   -- the environment after the passes
   pub answered : Environment
   pub answer : IsAnswer doc.hir doc.env answered pruned
-  pub lines : text ≡ lines_of pruned.func pruned.fates
+  pub same : text ≡ text_of command doc.hir pruned
 
 -- the text is the line of a fault with which this document's graph is refused; the fault has a line
 pub record IsRefusalText (doc : Doc) (text : List ℕ) : Type 0 where
@@ -54,31 +69,36 @@ pub record IsRefusalText (doc : Doc) (text : List ℕ) : Type 0 where
   pub line : text ≡ fault_line fault
 
 -- the text that is written for this document if the program ends with that status
-abbrev pub IsTextFor : Doc → Status → List ℕ → Type 0
-IsTextFor doc Done text = IsTreeText doc text
-IsTextFor doc Refused text = IsRefusalText doc text
-IsTextFor doc _ text = ⊥
+abbrev pub IsTextFor : Command → Doc → Status → List ℕ → Type 0
+IsTextFor command doc Done text = IsAnswerText command doc text
+IsTextFor command doc Refused text = IsRefusalText doc text
+IsTextFor command doc _ text = ⊥
 
--- a document was read to its end, and the text for it with that status was written in this way
-pub record HasPrinted (status : Status) (Writes : List ℕ → Type 0) (left left' : Option (List ℕ)) : Type 0 where
+-- there was a document, and the text of the command for it with that status was written in this way
+pub record HasPrinted (command : Command) (status : Status) (Writes : List ℕ → Type 0) (left left' : Option (List ℕ))
+    : Type 0 where
   pub doc : Doc
   pub text : List ℕ
-  pub loaded : HasLoaded left left' doc
-  pub answered : IsTextFor doc status text
+  pub document : HasDocument (origin_of command) left left' doc
+  pub answered : IsTextFor command doc status text
   pub written : Writes text
 
--- The facts that each status gives of the words, of the bytes taken from the source and of those given to the sink.
+-- The facts that each status gives of the bytes taken from the source and of those given to the sink, for a command.
+abbrev pub IsOutcomeOf : Command → Option (List ℕ) → Option (List ℕ) → Option (List ℕ) → Option (List ℕ) → Status
+    → Type 0
+IsOutcomeOf command left left' written written' Done = HasPrinted command Done (Appends written written') left left'
+IsOutcomeOf command left left' written written' Refused =
+    HasPrinted command Refused (Appends written written') left left'
+IsOutcomeOf command left left' written written' WriteFault =
+    (status : Status) × HasPrinted command status (HasAppendedPrefix written written') left left'
+IsOutcomeOf command left left' written written' Usage = ⊥
+IsOutcomeOf command left left' written written' NoMemory = written' ≡ written
+IsOutcomeOf command left left' written written' status =
+    HasNoDocument (origin_of command) left left' status × (written' ≡ written)
+
+-- The same for words: `Usage` where they are those of no command, and the others where they are those of one.
 abbrev pub IsOutcome : List (List ℕ) → Option (List ℕ) → Option (List ℕ) → Option (List ℕ) → Option (List ℕ) → Status
     → Type 0
-IsOutcome words left left' written written' Done = IsTree words × HasPrinted Done (Appends written written') left left'
-IsOutcome words left left' written written' Refused = IsTree words
-    × HasPrinted Refused (Appends written written') left left'
-IsOutcome words left left' written written' Usage = ¬ IsTree words × (left' ≡ left) × (written' ≡ written)
-IsOutcome words left left' written written' NotJson = IsTree words × HasReadDue left left' NotJson
-    × (written' ≡ written)
-IsOutcome words left left' written written' NotDoc = IsTree words × HasReadDue left left' NotDoc × (written' ≡ written)
-IsOutcome words left left' written written' ReadFault = IsTree words × HasTakenSome left left' × (written' ≡ written)
-IsOutcome words left left' written written' WriteFault =
-    IsTree words × ((status : Status) × HasPrinted status (HasAppendedPrefix written written') left left')
-IsOutcome words left left' written written' TooLarge = IsTree words × HasTakenTooMany left left' × (written' ≡ written)
-IsOutcome words left left' written written' NoMemory = IsTree words × (written' ≡ written)
+IsOutcome words left left' written written' Usage = ¬ AreWords words × (left' ≡ left) × (written' ≡ written)
+IsOutcome words left left' written written' status =
+    (command : Command) × IsCommand words command × IsOutcomeOf command left left' written written' status

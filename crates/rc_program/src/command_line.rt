@@ -1,9 +1,8 @@
 //! The words of the command line.
 
-ghost use Rattle.std.specs.Prelude.{◌≡◌, ◌↔◌, ◌⊎◌, Err, IfErr, IfOk, IsErr, IsTrue, MatchResult, drop, map};
+ghost use Rattle.std.specs.Prelude.{◌≡◌, ◌⊎◌, Err, IfErr, IfOk, IsErr, MatchResult, drop, map};
 ghost use Rattle.std.specs.Prelude.{string_bytes};
 ghost use Rattle.std.specs.Vec.Iter.{into_iter_items};
-ghost use Rattle.rc_program.specs.Status.{IsTree};
 
 use crate::status::Status;
 use rc_names::{List, Text};
@@ -42,22 +41,4 @@ fn words_after_name(alloc: Global, args: Args) -> Result<Words, AllocError>
         words.push(Text::from(word))?;
     }
     Ok(words)
-}
-
-/// Returns whether the words are the one word `tree`.
-#[tactic(auto, using(crate::proofs::OneWord::one_word))]
-pub fn is_tree(words: &Words) -> bool
-    ensures { IsTrue result ↔ IsTree words.now }
-{
-    match words.as_slice() {
-        [word] => is_word(word, "tree"),
-        _ => false,
-    }
-}
-
-/// Whether a word is that one.
-fn is_word(word: &Text, name: &str) -> bool
-    ensures { IsTrue result ↔ (word.now ≡ name.now) }
-{
-    word.as_str() == name
 }

@@ -1,7 +1,8 @@
-//! The program `rc tree` over any source and sink: devices, printed lines, statuses.
+//! The program over any source and sink: devices, printed lines, statuses.
 #![tactic(auto)]
 
 mod answer;
+mod command;
 mod command_line;
 mod device;
 mod load;

@@ -1,15 +1,19 @@
-//! Loading a document: the bytes are read to their end, then parsed, then read as a document.
+//! The document of a command: it is loaded, for which the bytes are read to their end, then parsed, then read as a
+//! document, or it is made.
 
-ghost use Rattle.std.specs.Prelude.{◌≤◌, IsErrOf, MatchResult, length};
+ghost use Rattle.std.specs.Prelude.{◌≡◌, ◌≤◌, IsErrOf, MatchResult, length};
 ghost use Rattle.serde_json.specs.View.{view};
+ghost use Rattle.rc_program.specs.Command.{IsInRange, IsMade, Read, origin_of};
 ghost use Rattle.rc_program.specs.Device.{HasRisen, most_bytes};
 ghost use Rattle.rc_program.specs.DueStatus.{IsJson, IsJsonOfDoc};
-ghost use Rattle.rc_program.specs.inside.Stop.{IsLoadOrStop, IsReadOrStop, IsStopFor};
+ghost use Rattle.rc_program.specs.inside.Stop.{IsDocumentOrStop, IsReadOrStop, IsStopFor};
 
+use crate::command::Command;
 use crate::device::Source;
 use crate::note::{Note, note_no_doc, note_no_json};
 use crate::stop::Stop;
 use rc_doc::{Doc, read_doc};
+use rc_gen::generate;
 use serde_json::Value;
 use std::alloc::Global;
 use std::mem::forget;
@@ -24,11 +28,31 @@ const BUFFER_BYTES: usize = 4096;
 /// whole run; leaving that of a larger document would raise the most memory that any document needs.
 const LEFT_BYTES: usize = 4_194_304;
 
+/// Returns the document of a command: the one that the source gives, or one that is made without it. Stops as `load`
+/// does, or when out of memory.
+pub fn document_of<S: Source>(
+    alloc: Global,
+    command: Command,
+    source: &mut S,
+    note: &mut Note,
+) -> Result<Doc, Stop>
+    requires { IsInRange command }
+    ensures outcome { IsDocumentOrStop (origin_of command) (S.left source.old) (S.left source.new) result }
+    ensures later { S.faults source.old ≤ S.faults source.new }
+    ensures cause { IsErrOf result Stop.ReadFault → HasRisen (S.faults source.old) (S.faults source.new) }
+    ensures untouched { IsMade (origin_of command) → source.new ≡ source.old }
+{
+    match command {
+        Command::Tree | Command::Fates => load(alloc, source, note),
+        Command::Generate(units) => Ok(generate(alloc, units)?),
+    }
+}
+
 /// Returns the document that a source gives. Stops with `ReadFault` if a call of the source fails, `TooLarge` if there
 /// are too many bytes, `NotJson` or `NotDoc` if they are no JSON or no document, which it notes, and `NoMemory` when
 /// out of memory.
-pub fn load<S: Source>(alloc: Global, source: &mut S, note: &mut Note) -> Result<Doc, Stop>
-    ensures outcome { IsLoadOrStop (S.left source.old) (S.left source.new) result }
+fn load<S: Source>(alloc: Global, source: &mut S, note: &mut Note) -> Result<Doc, Stop>
+    ensures outcome { IsDocumentOrStop Read (S.left source.old) (S.left source.new) result }
     ensures later { S.faults source.old ≤ S.faults source.new }
     ensures cause { IsErrOf result Stop.ReadFault → HasRisen (S.faults source.old) (S.faults source.new) }
 {

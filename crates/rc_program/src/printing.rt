@@ -1,15 +1,19 @@
 //! The printed lines.
 
+mod counts;
 mod fates;
 mod fault;
 mod function;
 mod page;
 mod sentence;
 mod statement;
+mod statement_count;
 mod terminal;
 mod text;
 mod value;
 
+pub use counts::count_lines;
+pub use fates::fates_alone;
 pub use fault::fault_line;
 pub use function::lines;
 pub use sentence::fault_sentence;

@@ -4,15 +4,17 @@ ghost use Rattle.std.specs.Prelude.{◌≡◌, ◌↔◌, IsNone};
 ghost use Rattle.rc_program.specs.Code.{code_of};
 
 /// How the program is called.
-const USAGE: &str =
-    "usage: rc tree < DOCUMENT\nrc: the document is read from standard input; no word names it";
+const USAGE: &str = "usage: rc tree < DOCUMENT
+rc:        rc fates < DOCUMENT
+rc:        rc gen N
+rc: the document is read from standard input; no word names it. N is a number from 1 to 2000";
 
 /// The status with which the program ends.
 #[derive(Clone, Copy, Debug, PartialEq, Eq)]
 pub enum Status {
-    /// The whole text of the tree was written.
+    /// The whole text was written.
     Done,
-    /// The words aren't the one word `tree`.
+    /// The words name no command.
     Usage,
     /// The bytes are no JSON.
     NotJson,

@@ -11,7 +11,7 @@ use thiserror::Error;
 /// The reason why a step of the program stops it. Nothing prints these texts.
 #[derive(Clone, Copy, Debug, PartialEq, Eq, Error)]
 pub enum Stop {
-    #[error("the words are not the one word `tree`")]
+    #[error("the words name no command")]
     Usage,
     #[error("the bytes are no JSON")]
     NotJson,

@@ -1,24 +1,27 @@
 //! The top call: from words and bytes to bytes and a status.
 
-ghost use Rattle.std.specs.Prelude.{◌≡◌, ◌↔◌, ◌⊎◌, ℕ, List, Some};
+ghost use Rattle.std.specs.Prelude.{◌≡◌, ◌↔◌, ◌⊎◌};
+ghost use Rattle.rc_program.specs.declared.command.Command.{Command};
 ghost use Rattle.rc_program.specs.declared.status.Status.{Status};
+ghost use Rattle.rc_program.specs.Command.{AreWords, IsCommand, ReadNothing, origin_of};
 ghost use Rattle.rc_program.specs.Device.{HasRisen};
-ghost use Rattle.rc_program.specs.DueStatus.{IsDue, CanReplace};
-ghost use Rattle.rc_program.specs.Status.{IsTree, IsOutcome};
+ghost use Rattle.rc_program.specs.DueStatus.{CanFailToRead, CanReplace, IsDueFrom};
+ghost use Rattle.rc_program.specs.Status.{IsOutcome};
 ghost use Rattle.rc_program.specs.inside.Stop.{status_from};
 
 use crate::answer::answer_for;
-use crate::command_line::{Words, is_tree};
+use crate::command::command_of;
+use crate::command_line::Words;
 use crate::device::{Sink, Source};
-use crate::load::load;
+use crate::load::document_of;
 use crate::note::Note;
 use crate::status::Status;
 use crate::stop::{Stop, status_from};
 use crate::write::write_lines;
 use std::alloc::Global;
 
-/// Reads a document from the source, if the words are the one word `tree`. Writes the lines of its tree to the sink,
-/// or the line of the fault with which its graph is refused, and returns the status.
+/// Runs the command that the words name: reads a document from the source, or makes one, and writes the text of the
+/// command to the sink, or the line of the fault with which the document's graph is refused. Returns the status.
 ///
 /// The bytes are read to their end before they are parsed, and the text is made whole before any of it is written. With
 /// the statuses `NotJson`, `NotDoc` and `Refused` the note says why, where memory allows.
@@ -34,19 +37,22 @@ pub fn program<S: Source, K: Sink>(
         (K.written sink.old) (K.written sink.new) result }
     ensures read { result ≡ Status.ReadFault → HasRisen (S.faults source.old) (S.faults source.new) }
     ensures write { result ≡ Status.WriteFault → HasRisen (K.faults sink.old) (K.faults sink.new) }
+    ensures untouched { ReadNothing words.now → source.new ≡ source.old }
 
-    // Each status comes exactly in these cases: `Usage` by the words alone, and the others by the bytes, if the source
-    // tells them.
-    ensures usage { (result ≡ Status.Usage) ↔ ¬ IsTree words.now }
-    ensures exact { (bytes : List ℕ) (due : Status) → IsTree words.now → S.left source.old ≡ Some bytes
-        → IsDue bytes due
-        → (result ≡ due) ⊎ CanReplace (HasRisen (S.faults source.old) (S.faults source.new))
+    // Each status comes exactly in these cases: `Usage` by the words alone, and the others by the document, or by the
+    // bytes, if the source tells them.
+    ensures usage { (result ≡ Status.Usage) ↔ ¬ AreWords words.now }
+    ensures exact { (command : Command) (due : Status) → IsCommand words.now command
+        → IsDueFrom (origin_of command) (S.left source.old) due
+        → (result ≡ due) ⊎ CanReplace
+        (CanFailToRead (origin_of command) (HasRisen (S.faults source.old) (S.faults source.new)))
         (HasRisen (K.faults sink.old) (K.faults sink.new)) due result }
 
-    // A tree is written, unless memory runs out or a device fails.
-    ensures complete { (bytes : List ℕ) → IsTree words.now → S.left source.old ≡ Some bytes
-        → IsDue bytes Status.Done
-        → ¬ HasRisen (S.faults source.old) (S.faults source.new) → ¬ HasRisen (K.faults sink.old) (K.faults sink.new)
+    // The text is written, unless memory runs out or a device fails.
+    ensures complete { (command : Command) → IsCommand words.now command
+        → IsDueFrom (origin_of command) (S.left source.old) Status.Done
+        → ¬ CanFailToRead (origin_of command) (HasRisen (S.faults source.old) (S.faults source.new))
+        → ¬ HasRisen (K.faults sink.old) (K.faults sink.new)
         → (result ≡ Status.Done) ⊎ (result ≡ Status.NoMemory) }
 {
     status_from(run(alloc, words, source, sink, note))
@@ -64,12 +70,13 @@ fn run<S: Source, K: Sink>(
         (K.written sink.old) (K.written sink.new) (status_from result) }
     ensures read { status_from result ≡ Status.ReadFault → HasRisen (S.faults source.old) (S.faults source.new) }
     ensures write { status_from result ≡ Status.WriteFault → HasRisen (K.faults sink.old) (K.faults sink.new) }
+    ensures untouched { ReadNothing words.now → source.new ≡ source.old }
 {
-    if !is_tree(words) {
+    let Some(command) = command_of(words) else {
         return Err(Stop::Usage);
-    }
-    let doc = load(alloc, source, note)?;
-    let answer = answer_for(alloc, doc, note)?;
+    };
+    let doc = document_of(alloc, command, source, note)?;
+    let answer = answer_for(alloc, command, doc, note)?;
     match write_lines(sink, &answer.text) {
         Ok(()) => Ok(answer.status),
         Err(_) => Err(Stop::WriteFault),

@@ -1,6 +1,7 @@
 //! The program over memory devices, and the libraries below it.
 
 mod built_in_code;
+mod commands;
 mod devices;
 mod library;
 mod lines;

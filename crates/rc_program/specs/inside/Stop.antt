@@ -6,9 +6,10 @@ use Rattle.rc_program.specs.declared.stop.Stop.TheVariants as stops
 use Rattle.rc_program.specs.declared.status.Status.{Status}
 use Rattle.rc_program.specs.declared.status.Status.TheVariants.{Usage, NotJson, NotDoc, ReadFault, WriteFault}
 use Rattle.rc_program.specs.declared.status.Status.TheVariants.{TooLarge, NoMemory}
+use Rattle.rc_program.specs.Command.{Origin}
 use Rattle.rc_program.specs.Device.{IsReadToEnd}
 use Rattle.rc_program.specs.DueStatus.{IsDue}
-use Rattle.rc_program.specs.Status.{HasLoaded, HasReadDue, HasTakenSome, HasTakenTooMany}
+use Rattle.rc_program.specs.Status.{HasDocument, HasNoDocument, HasTakenSome, HasTakenTooMany}
 
 -- the status of a program that stopped
 abbrev pub status_of : Stop → Status
@@ -38,12 +39,8 @@ IsReadOrStop bytes_of left left' (Err stops.ReadFault) = HasTakenSome left left'
 IsReadOrStop bytes_of left left' (Err stops.NoMemory) = ⊤
 IsReadOrStop bytes_of left left' (Err _) = ⊥
 
--- This document was loaded, or loading stopped for this reason.
-abbrev pub IsLoadOrStop : Option (List ℕ) → Option (List ℕ) → Result Doc Stop → Type 0
-IsLoadOrStop left left' (Ok doc) = HasLoaded left left' doc
-IsLoadOrStop left left' (Err stops.NotJson) = HasReadDue left left' NotJson
-IsLoadOrStop left left' (Err stops.NotDoc) = HasReadDue left left' NotDoc
-IsLoadOrStop left left' (Err stops.TooLarge) = HasTakenTooMany left left'
-IsLoadOrStop left left' (Err stops.ReadFault) = HasTakenSome left left'
-IsLoadOrStop left left' (Err stops.NoMemory) = ⊤
-IsLoadOrStop left left' (Err _) = ⊥
+-- The document from there was had, or the program stopped for this reason.
+abbrev pub IsDocumentOrStop : Origin → Option (List ℕ) → Option (List ℕ) → Result Doc Stop → Type 0
+IsDocumentOrStop origin left left' (Ok doc) = HasDocument origin left left' doc
+IsDocumentOrStop origin left left' (Err stops.NoMemory) = ⊤
+IsDocumentOrStop origin left left' (Err stop) = HasNoDocument origin left left' (status_of stop)

@@ -1,12 +1,21 @@
 //! The fate of each scope, a line each.
 
-ghost use Rattle.std.specs.Prelude.{◌≡◌, ◌++◌, OnOk, decimal};
+ghost use Rattle.std.specs.Prelude.{◌≡◌, ◌++◌, IfOk, OnOk, decimal};
 ghost use Rattle.rc_program.specs.FunctionLines.{fate_text, scope_fate_text, fate_lines};
 
 use crate::printing::page::Page;
-use rc_names::ScopeId;
+use rc_names::{List, ScopeId, Text};
 use rc_tree::{Fate, ScopeFate};
-use std::alloc::AllocError;
+use std::alloc::{AllocError, Global};
+
+/// The lines of the fates alone. Fails only when out of memory.
+pub fn fates_alone(alloc: Global, fates: &List<ScopeFate>) -> Result<Text, AllocError>
+    ensures { IfOk result (λ text. text ≡ fate_lines fates.now 0) }
+{
+    let mut page = Page::new(alloc);
+    write_fates(&mut page, fates.as_slice(), 0)?;
+    Ok(page.finish())
+}
 
 /// A line for each scope, after so many spaces.
 pub fn write_fates(page: &mut Page, fates: &[ScopeFate], indent: usize) -> Result<(), AllocError>

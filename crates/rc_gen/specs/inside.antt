@@ -1,0 +1,2 @@
+-- How private functions say that block numbers rise.
+pub mod Keys
