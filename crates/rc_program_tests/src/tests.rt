@@ -5,6 +5,7 @@ mod commands;
 mod devices;
 mod library;
 mod lines;
+mod want_of_memory;
 
 /// A function that returns its one parameter.
 pub const DOCUMENT: &str = r#"{"hir":{"params":[{"k":"Place","v":0}],
