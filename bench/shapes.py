@@ -476,8 +476,71 @@ def scopes_in_one_function(count):
 
 
 def scopes_that_escape(count):
-    """So many scopes with arrays, of which the last array is returned and needs all others."""
+    """So many scopes with arrays, of which the last array is returned and needs all others. They merge, and of the arrays
+    before the last one none stays declared."""
     return scopes_with_arrays(count, count)
+
+
+def with_returned_names(whole, count, names):
+    """The graph of so many scopes with arrays, which returns an array of these names."""
+    last, end = count + 1, whole["hir"]["body"]["blocks"][-1]
+    end["instructions"] = [count]
+    whole["hir"]["instructions"].append({"id": end["terminal"]["id"], "lvalue": last, "value": array_of(names)})
+    whole["env"]["identifiers"].append({"declaration_id": last, "type_": 0})
+    end["terminal"] = {"k": "Return", "value": last, "id": end["terminal"]["id"] + 1}
+    return json.dumps(whole, separators=(",", ":")).encode()
+
+
+def scopes_that_merge(count):
+    """So many scopes with arrays, which merge; all arrays stay declared, since the one that is returned holds them."""
+    return with_returned_names(json.loads(scopes_with_arrays(count, count)), count, range(1, count + 1))
+
+
+def scopes_that_drop_and_keep(count):
+    """The same, where every other array is in no array but the next one, so that it is declared no more after that."""
+    return with_returned_names(json.loads(scopes_with_arrays(count, count)), count, range(2, count + 1, 2))
+
+
+def scopes_that_stay_apart(count):
+    """So many scopes with arrays, each of which may begin a group, and none of which has the dependencies of the next."""
+    whole = json.loads(scopes_with_arrays(count, count))
+    whole["hir"]["instructions"][0]["value"] = array_of(([0, "Read", True],))
+    whole["env"]["types"] = [{"k": "Object", "shape": "Array"}]
+    for name, it in enumerate(whole["env"]["scopes"]):
+        it["dependencies"] = [{"identifier": 0}] * (1 + name % 2)
+    return with_returned_names(whole, count, range(1, count + 1))
+
+
+def nested_scopes_that_dissolve(depth):
+    """So many scopes one in the other, each with an array behind the inner one, which holds that one's array."""
+    heads = [scope(head, head + 1, 2 * depth - head, head) for head in range(depth)]
+    ends = [{"id": depth + name, "instructions": [name],
+             "terminal": {"k": "Goto", "variant": "Break", "block": depth + name + 1, "id": depth + 2 * name + 2}}
+            for name in range(depth)]
+    last = {"id": 2 * depth, "terminal": {"k": "Return", "value": depth, "id": 3 * depth + 1}}
+    rows = [{"id": depth + 2 * name + 1, "lvalue": name + 1, "value": array_of((name,))} for name in range(depth)]
+    whole = json.loads(document([*heads, *ends, last], depth, rows))
+    for name in range(depth):
+        number = depth - 1 - name
+        whole["env"]["identifiers"].append({"declaration_id": name + 1, "type_": 0, "scope": number})
+        whole["env"]["scopes"][number] = {
+            "range": {"start": number + 1, "end": depth + 2 * name + 3},
+            "declarations": [{"key": name + 1, "value": {"identifier": name + 1, "scope": number}}],
+        }
+    return json.dumps(whole, separators=(",", ":")).encode()
+
+
+def scopes_with_long_lists(count):
+    """Two scopes with arrays, which depend on the same so many names; those of the second are in no order."""
+    whole, names = json.loads(scopes_with_arrays(2, 2)), range(4, count + 4)
+    whole["hir"]["instructions"][0]["value"] = array_of([[name, "Read", True] for name in names])
+    whole["env"]["types"] = [{"k": "Object", "shape": "Array"}]
+    mixed = random.Random(count).sample(names, count)
+    for it, dependencies in zip(whole["env"]["scopes"], (names, mixed)):
+        it["dependencies"] = [{"identifier": name} for name in dependencies]
+    whole["env"]["identifiers"].append({"declaration_id": 3, "type_": 0})
+    whole["env"]["identifiers"] += [{"declaration_id": name, "type_": 0} for name in names]
+    return json.dumps(whole, separators=(",", ":")).encode()
 
 
 def scopes_that_do_not_escape(count):
