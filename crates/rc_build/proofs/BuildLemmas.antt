@@ -13,7 +13,7 @@ use Rattle.rc_build.specs.inside.CanBuild.{AreMarked, CanBuildList, AreReference
 use Rattle.rc_build.specs.inside.Setting.{Setting, setting_of}
 use Rattle.rc_build.specs.inside.Task.{FromBlock, Nothing, Progress, Spells, no_marks, no_progress}
 use Rattle.rc_build.specs.inside.Built.{BuiltPrefix, Refused}
-use Rattle.rc_build.proofs.BitsLemmas.{none_told}
+use Rattle.rc_build.proofs.BitsLemmas.{none_set}
 use Rattle.rc_build.proofs.BuiltLemmas.{whole_list}
 
 -- nothing is around the entry's list
@@ -28,7 +28,7 @@ unfolding IsDistinct
 nothing_marked hir = record {
   sound = record { distinct = tt; alive = λ key c. absurd (omega arith); scopes_once = tt };
   known = λ key h. absurd (let bad : ⊥ = cc in bad);
-  told = none_told hir;
+  told = none_set hir.body.blocks;
   scopes = refl;
 }
 

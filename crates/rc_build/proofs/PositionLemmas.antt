@@ -1,11 +1,14 @@
 -- Positions of blocks in a graph: at each there is one block.
-use Rattle.std.proofs.Common.{◌≡◌, ◌≢◌, ◌<◌, ℕ, Bool, true, false, List, Some, length, refl, sym, ap, ◌∙◌}
-use Rattle.std.proofs.Common.{subst, get_or, position}
+use Rattle.std.proofs.Common.{◌≡◌, ◌≢◌, ◌<◌, ℕ, Bool, true, false, List, None, Some, length, refl, sym, ap, ◌∙◌}
+use Rattle.std.proofs.Common.{subst, get_or, position, cond, arith, lt-ltb, nat_lt}
+use Rattle.std.specs.List.{IsDistinct}
 use Rattle.std.specs.Map.{keys_of}
 use Rattle.std.proofs.lemmas.List.Quantifiers.{position-Some}
+use Rattle.std.proofs.lemmas.List.Sums.{position_or_len_is}
+use Rattle.std.proofs.lemmas.Map.Keys.{apart_from_distinct}
 use Rattle.std.proofs.lemmas.Map.Entries.{length-keys_of}
 use Rattle.rc_names.specs.Numbers.{BlockId, same_id}
-use Rattle.rc_names.proofs.NumbersLemmas.{same_id-eq}
+use Rattle.rc_names.proofs.NumbersLemmas.{ids_equivalence, same_id-eq}
 
 -- a position is below the number of blocks
 pub position_within : {X : Type 0} (blocks : List (BlockId × X)) (key : BlockId) (place : ℕ)
@@ -29,3 +32,16 @@ module _ (keys : List BlockId) (key other : BlockId) where
       by : (b : Bool) → same_id other key ≡ b → b ≡ false
       by true same = absurd (apart (ap (λ k. position (same_id k) keys) (same_id-eq other key same)))
       by false same = refl
+
+-- of distinct blocks, each is at its position
+pub position_is : (keys : List BlockId) (key : BlockId) (place : ℕ) → IsDistinct same_id keys → place < length keys
+    → get_or keys place key ≡ key → position (same_id key) keys ≡ Some place
+position_is keys key place distinct within here =
+    ap (λ n. cond (nat_lt n (length keys)) (Some n) None)
+    (position_or_len_is (same_id key) keys place key (omega (arith, within)) before
+    (λ w. ap (same_id key) here ∙ ids_equivalence.refl key))
+    ∙ ap (λ b. cond b (Some place) None) (lt-ltb place (length keys) within)
+  where
+    before : (k : ℕ) → k < place → same_id key (get_or keys k key) ≡ false
+    before k less = ids_equivalence.symm key (get_or keys k key) ∙ sym (ap (same_id (get_or keys k key)) here)
+        ∙ apart_from_distinct same_id keys k place key distinct less within

@@ -1,4 +1,5 @@
 -- What the builder's own functions say of each other; no public clause speaks of it.
+pub mod LiveBlocks
 pub mod Depths
 pub mod Rows
 pub mod Marks

@@ -40,7 +40,7 @@ impl<'g> Builder<'g> {
         let hir = self.hir;
         let found = find_block(hir, site.block)?;
         let block = found.block;
-        if self.frames.is_jump_target(site.block) {
+        if self.frames.is_jump_target_at(site.block, found.place) {
             return Err(malformed(site.block, Rule::Twice));
         }
         put_rows(self.alloc, hir, site.block, block, &mut self.out)?;

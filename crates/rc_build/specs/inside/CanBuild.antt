@@ -1,6 +1,6 @@
 -- What the builder's functions start from: which blocks are used, which are pending, and the frames around.
 use Rattle.std.specs.Prelude.{◌≡◌, ◌≤◌, ℕ, Bool, true, false, List, [], ◌∷◌, ◌++◌, Option, Some, None, IsSome}
-use Rattle.std.specs.Prelude.{if◌then◌else◌, position, slice_get}
+use Rattle.std.specs.Prelude.{if◌then◌else◌, position}
 use Rattle.std.specs.List.{filter_map, flat_map}
 use Rattle.std.specs.Map.{keys_of}
 use Rattle.rc_names.specs.Numbers.{BlockId, same_id, is_among, times}
@@ -15,6 +15,7 @@ use Rattle.rc_build.specs.References.{referenced_blocks, tested_blocks, fallthro
 use Rattle.rc_build.specs.TerminalForms.{Jumps}
 use Rattle.rc_build.specs.BlockFacts.{BlockIs, HasTry}
 use Rattle.rc_build.specs.RuleFacts.{IsLostJump}
+use Rattle.rc_build.specs.inside.LiveBlocks.{TellBlocks}
 
 -- the position of a block in the graph
 abbrev pub place_of : HirFunction → BlockId → Option ℕ
@@ -22,8 +23,7 @@ place_of hir key = position (same_id key) (keys_of hir.body.blocks)
 
 -- there is a bit for each block of the graph, at its position, which is set where the block is one of these
 abbrev pub TellUsed : HirFunction → List Bool → List BlockId → Type 0
-TellUsed hir bits used = (key : BlockId) (place : ℕ) → place_of hir key ≡ Some place →
-    slice_get bits place ≡ Some (is_among used key)
+TellUsed hir bits used = TellBlocks hir.body.blocks bits (is_among used)
 
 -- the used blocks are sound and blocks of the graph, which the bits tell, and the used scopes are theirs
 pub record AreMarked (hir : HirFunction) (marks : Marks) : Type 0 where

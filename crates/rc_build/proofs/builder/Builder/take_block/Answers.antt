@@ -29,11 +29,11 @@ returns-in_err-found c =
     block_refused {s = setting_of builder c.args.site} c.args.site.block builder.marks
     (λ whole u l s. let none = c.in_err-found.ensures.refused in let bad : ⊥ = cc in bad))
 
-pub returns-then-is_jump_target : goal.returns-then-is_jump_target
-returns-then-is_jump_target c =
+pub returns-then-is_jump_target_at : goal.returns-then-is_jump_target_at
+returns-then-is_jump_target_at c =
     let builder = c.args.self.now in
     let key = c.args.site.block in
-    let target = sym c.is_jump_target.ensures ∙ c.if-is_jump_target.true in
+    let target = sym c.is_jump_target_at.ensures ∙ c.if-is_jump_target_at.true in
     breaks_rule key rules.Twice c.malformed.ensures
     (block_refused {s = setting_of builder c.args.site} key builder.marks
     (λ whole u l s. let bad : ⊥ = cc in bad))
@@ -133,7 +133,7 @@ returns c =
       ok = record {
         rows = block_prefix {s = setting_of builder c.args.site} key block rows.rows
             (usable_made hir key block rows.rows found c.in_ok-found.ensures.own rows.filled rows.set)
-            (sym c.is_jump_target.ensures ∙ c.if-is_jump_target.false) rows.put marking;
+            (sym c.is_jump_target_at.ensures ∙ c.if-is_jump_target_at.false) rows.put marking;
         ready = at_terminal hir c.requires found fresh marking;
         more = let longer = used_longer marking in omega arith;
       };
