@@ -19,7 +19,7 @@ def answer(number):
 
 
 def document(blocks, scopes=0, rows=()):
-    """The bytes of a document of one parameter, of these blocks and rows, and of so many scopes."""
+    """The bytes of a document of one parameter, of these blocks and rows, and of that many scopes."""
     hir = {"params": [{"k": "Place", "v": 0}], "body": {"entry": 0, "blocks": blocks}, "instructions": [*rows]}
     env = {
         "identifiers": [{"declaration_id": 0, "type_": 0}],
@@ -31,23 +31,23 @@ def document(blocks, scopes=0, rows=()):
     return json.dumps({"hir": hir, "env": env}, separators=(",", ":")).encode()
 
 
-def branch(number, to, behind):
+def branch(number, to, after):
     """An `If` without an alternate."""
-    return block(number, "If", {"test": 0, "consequent": to, "alternate": behind, "fallthrough": behind})
+    return block(number, "If", {"test": 0, "consequent": to, "alternate": after, "fallthrough": after})
 
 
-def label(number, to, behind):
+def label(number, to, after):
     """A `Label` around a block."""
-    return block(number, "Label", {"block": to, "fallthrough": behind})
+    return block(number, "Label", {"block": to, "fallthrough": after})
 
 
-def scope(number, to, behind, name):
+def scope(number, to, after, name):
     """A scope around a block."""
-    return block(number, "Scope", {"fallthrough": behind, "block": to, "scope": name})
+    return block(number, "Scope", {"fallthrough": after, "block": to, "scope": name})
 
 
 def in_a_row(count):
-    """So many statements one after the other, an `If` and a `Label` in turn, each with an empty block."""
+    """That many statements one after the other, an `If` and a `Label` in turn, each with an empty block."""
     blocks = []
     for head in range(0, 2 * count, 2):
         kind = branch if head % 4 == 0 else label
@@ -63,8 +63,8 @@ def hashed(number):
 
 
 def colliding(count):
-    """So many numbers for which a look-up begins at one place in a hash table that has room for them; or at a few
-    places, where so many numbers take long to find."""
+    """That many numbers for which a look-up begins at one place in a hash table that has room for them; or at a few
+    places, where that many numbers take long to find."""
     places = 1
     while 9 * places < count and places < 2048:
         places *= 2
@@ -85,7 +85,7 @@ def chosen_in_a_row(count):
 
 
 def breaks_to_one_label(count):
-    """So many `If`s one after the other in a `Label`, each of which breaks to it."""
+    """That many `If`s one after the other in a `Label`, each of which breaks to it."""
     end = 2 * count + 2
     blocks = [label(0, 1, end)]
     for head in range(1, end - 1, 2):
@@ -94,7 +94,7 @@ def breaks_to_one_label(count):
 
 
 def scopes_in_a_row(count):
-    """So many scopes one after the other, each without statements."""
+    """That many scopes one after the other, each without statements."""
     blocks = []
     for name in range(count):
         head = 2 * name
@@ -103,24 +103,24 @@ def scopes_in_a_row(count):
 
 
 def nested(kind, depth, scopes=0):
-    """So many statements one in the other, each with a jump behind what it holds."""
+    """That many statements one in the other, each with a jump after what it holds."""
     heads = [kind(head, head + 1, 2 * depth - head) for head in range(depth)]
     jumps = [jump(number, number + 1) for number in range(depth, 2 * depth)]
     return document([*heads, *jumps, answer(2 * depth)], scopes)
 
 
 def nested_ifs(depth):
-    """So many `If`s one in the other."""
+    """That many `If`s one in the other."""
     return nested(branch, depth)
 
 
 def nested_labels(depth):
-    """So many `Label`s one in the other."""
+    """That many `Label`s one in the other."""
     return nested(label, depth)
 
 
-def nested_labels_behind_rows(depth):
-    """So many `Label`s one in the other, each behind a row."""
+def nested_labels_after_rows(depth):
+    """That many `Label`s one in the other, each after a row."""
     heads = [{**label(head, head + 1, 2 * depth - head), "instructions": [head]} for head in range(depth)]
     jumps = [jump(number, number + 1) for number in range(depth, 2 * depth)]
     rows = [{"id": 2 * depth + 2 + head, "lvalue": 0, "value": {"k": "Debugger"}} for head in range(depth)]
@@ -128,8 +128,8 @@ def nested_labels_behind_rows(depth):
 
 
 def nested_scopes(depth):
-    """So many scopes one in the other."""
-    return nested(lambda head, to, behind: scope(head, to, behind, head), depth, depth)
+    """That many scopes one in the other."""
+    return nested(lambda head, to, after: scope(head, to, after, head), depth, depth)
 
 
 def go_on(number, to):
@@ -137,56 +137,56 @@ def go_on(number, to):
     return block(number, "Goto", {"variant": "Continue", "block": to})
 
 
-def loop(number, test, body, behind):
+def loop(number, test, body, after):
     """A `While`."""
-    return block(number, "While", {"test": test, "loop_block": body, "fallthrough": behind})
+    return block(number, "While", {"test": test, "loop_block": body, "fallthrough": after})
 
 
-def tested(number, to, behind):
+def tested(number, to, after):
     """The test of a loop, or of a value."""
-    return block(number, "Branch", {"test": 0, "consequent": to, "alternate": behind})
+    return block(number, "Branch", {"test": 0, "consequent": to, "alternate": after})
 
 
 def loops_in_a_row(count):
-    """So many `While`s one after the other, each with an empty body."""
+    """That many `While`s one after the other, each with an empty body."""
     blocks = []
     for head in range(0, 3 * count, 3):
-        test, body, behind = head + 1, head + 2, head + 3
-        blocks += [loop(head, test, body, behind), tested(test, body, behind), go_on(body, test)]
+        test, body, after = head + 1, head + 2, head + 3
+        blocks += [loop(head, test, body, after), tested(test, body, after), go_on(body, test)]
     return document([*blocks, answer(3 * count)])
 
 
 def nested_loops(depth):
-    """So many `While`s one in the other: the body of each goes on with the next one, and ends with a continue."""
+    """That many `While`s one in the other: the body of each goes on with the next one, and ends with a continue."""
     blocks = []
     for level in range(depth):
-        head, test, behind = 2 * level, 2 * level + 1, 2 * depth + level + 1
-        blocks += [loop(head, test, head + 2, behind), tested(test, head + 2, behind)]
+        head, test, after = 2 * level, 2 * level + 1, 2 * depth + level + 1
+        blocks += [loop(head, test, head + 2, after), tested(test, head + 2, after)]
     blocks.append(go_on(2 * depth, 2 * depth - 1))
     for level in range(depth - 1, 0, -1):
         blocks.append(go_on(2 * depth + level + 1, 2 * level - 1))
     return document([*blocks, answer(2 * depth + 1)])
 
 
-def switch(number, firsts, behind):
+def switch(number, firsts, after):
     """A `Switch` with a case for each of these blocks."""
-    return block(number, "Switch", {"test": 0, "cases": [{"test": 0, "block": to} for to in firsts], "fallthrough": behind})
+    return block(number, "Switch", {"test": 0, "cases": [{"test": 0, "block": to} for to in firsts], "fallthrough": after})
 
 
 def falling_cases(count):
-    """A `Switch` of so many cases, each of which falls into the next one."""
+    """A `Switch` of that many cases, each of which falls into the next one."""
     cases = [jump(case, case + 1) for case in range(1, count + 1)]
     return document([switch(0, range(1, count + 1), count + 1), *cases, answer(count + 1)])
 
 
 def breaking_cases(count):
-    """A `Switch` of so many cases, each with a break out of it."""
+    """A `Switch` of that many cases, each with a break out of it."""
     cases = [jump(case, count + 1) for case in range(1, count + 1)]
     return document([switch(0, range(1, count + 1), count + 1), *cases, answer(count + 1)])
 
 
 def nested_switches(depth):
-    """A loop around so many `Switch`es one in the other, whose first cases all begin the next turn."""
+    """A loop around that many `Switch`es one in the other, whose first cases all begin the next turn."""
     end = 2 * depth + 3
     blocks = [loop(0, 1, 2, end), tested(1, 2, end)]
     for level in range(depth):
@@ -204,11 +204,11 @@ def arm(number, to):
     return {**jump(number, to), "instructions": [0]}
 
 
-def value(kind, number, test, behind):
+def value(kind, number, test, after):
     """A value terminal."""
     own = {"Logical": {"operator": "And"}, "Optional": {"optional": True}}.get(kind, {})
     first = "block" if kind == "Sequence" else "test"
-    return block(number, kind, {**own, first: test, "fallthrough": behind})
+    return block(number, kind, {**own, first: test, "fallthrough": after})
 
 
 def size(kind):
@@ -216,24 +216,24 @@ def size(kind):
     return 2 if kind == "Sequence" else 4
 
 
-def whole_value(kind, head, behind):
+def whole_value(kind, head, after):
     """A value of this kind with all of its blocks, of which the first has that number."""
     first = head + 1
     if kind == "Sequence":
-        return [value(kind, head, first, behind), arm(first, behind)]
-    arms = [arm(head + 2, behind), arm(head + 3, behind)]
-    return [value(kind, head, first, behind), tested(first, head + 2, head + 3), *arms]
+        return [value(kind, head, first, after), arm(first, after)]
+    arms = [arm(head + 2, after), arm(head + 3, after)]
+    return [value(kind, head, first, after), tested(first, head + 2, head + 3), *arms]
 
 
 def values_in_a_row(kind, count):
-    """So many values one after the other in a list."""
+    """That many values one after the other in a list."""
     end = size(kind) * count
     blocks = [part for head in range(0, end, size(kind)) for part in whole_value(kind, head, head + size(kind))]
     return document([*blocks, answer(end)], rows=[STORE])
 
 
 def chained_values(kind, count):
-    """As the test of a `While` so many values, each in the fallthrough of the one before."""
+    """As the test of a `While` that many values, each in the fallthrough of the one before."""
     end = size(kind) * count + 1
     blocks = [part for head in range(1, end, size(kind)) for part in whole_value(kind, head, head + size(kind))]
     ends = [tested(end, end + 1, end + 2), go_on(end + 1, 1), answer(end + 2)]
@@ -245,13 +245,13 @@ def may_throw(number, to, handler=None):
     return block(number, "MaybeThrow", {"continuation": to, "handler": handler})
 
 
-def attempt(number, to, handler, behind):
+def attempt(number, to, handler, after):
     """A `Try`."""
-    return block(number, "Try", {"block": to, "handler": handler, "fallthrough": behind})
+    return block(number, "Try", {"block": to, "handler": handler, "fallthrough": after})
 
 
 def tries_in_a_row(count):
-    """So many `Try`s one after the other, whose blocks may throw."""
+    """That many `Try`s one after the other, whose blocks may throw."""
     blocks = []
     for head in range(0, 4 * count, 4):
         blocks += [attempt(head, head + 1, head + 3, head + 4), may_throw(head + 1, head + 2, head + 3)]
@@ -260,41 +260,41 @@ def tries_in_a_row(count):
 
 
 def nested_tries(depth):
-    """So many `Try`s one in the block of the other, the innermost of which may throw."""
+    """That many `Try`s one in the block of the other, the innermost of which may throw."""
     end = 3 * depth + 1
     heads = [attempt(head, head + 1, depth + 1 + head, end - head) for head in range(depth)]
     handlers = [jump(depth + 1 + head, end - head) for head in range(depth)]
-    behind = [jump(number, number + 1) for number in range(2 * depth + 1, end)]
-    return document([*heads, may_throw(depth, 2 * depth + 1, 2 * depth), *handlers, *behind, answer(end)])
+    after = [jump(number, number + 1) for number in range(2 * depth + 1, end)]
+    return document([*heads, may_throw(depth, 2 * depth + 1, 2 * depth), *handlers, *after, answer(end)])
 
 
 def throws_in_a_row(count):
-    """So many blocks that may throw, one after the other in a list."""
+    """That many blocks that may throw, one after the other in a list."""
     return document([*[may_throw(number, number + 1) for number in range(count)], answer(count)])
 
 
 def throws_in_a_test(count):
-    """As the test of a `While` so many blocks that may throw, one after the other."""
+    """As the test of a `While` that many blocks that may throw, one after the other."""
     chain = [may_throw(number, number + 1) for number in range(1, count + 1)]
     return document([loop(0, 1, count + 2, count + 3), *chain, tested(count + 1, count + 2, count + 3), go_on(count + 2, 1),
                      answer(count + 3)])
 
 
 def throws_in_an_arm(count):
-    """So many blocks that may throw, one after the other, as the short arm of an `Optional`."""
+    """That many blocks that may throw, one after the other, as the short arm of an `Optional`."""
     chain = [may_throw(number, number + 1) for number in range(4, count + 4)]
     return document([value("Optional", 0, 1, 3), tested(1, 2, 4), arm(2, 3), answer(3), *chain, jump(count + 4, 3)], rows=[STORE])
 
 
 def nested_sequences(depth):
-    """So many `Sequence`s, each in the block of the one around it."""
+    """That many `Sequence`s, each in the block of the one around it."""
     heads = [value("Sequence", head, head + 1, 2 * depth - head) for head in range(depth)]
     arms = [arm(number, number + 1) for number in range(depth, 2 * depth)]
     return document([*heads, *arms, answer(2 * depth)], rows=[STORE])
 
 
 def nested_tests(kind, depth):
-    """So many values, each in the test of the one around it, with arms of their own."""
+    """That many values, each in the test of the one around it, with arms of their own."""
     end = 2 * depth
     blocks = [value(kind, head, head + 1, end - head) for head in range(depth)]
     for head in range(depth):
@@ -304,7 +304,7 @@ def nested_tests(kind, depth):
 
 
 def nested_optionals(depth):
-    """So many `Optional`s, each of which answers the test of the one around it; the short arm of all is one block."""
+    """That many `Optional`s, each of which answers the test of the one around it; the short arm of all is one block."""
     end = 2 * depth
     blocks = [value("Optional", head, head + 1, end - head) for head in range(depth)]
     for head in range(depth):
@@ -314,13 +314,13 @@ def nested_optionals(depth):
 
 
 def nested_alternates(depth):
-    """So many `Ternary`s, each in the alternate of the one around it."""
+    """That many `Ternary`s, each in the alternate of the one around it."""
     end = 4 * depth
     blocks = []
     for level in range(depth):
-        head, behind = 3 * level, end - level
-        blocks += [value("Ternary", head, head + 1, behind), tested(head + 1, head + 2, head + 3)]
-        blocks.append(arm(head + 2, behind))
+        head, after = 3 * level, end - level
+        blocks += [value("Ternary", head, head + 1, after), tested(head + 1, head + 2, head + 3)]
+        blocks.append(arm(head + 2, after))
     arms = [arm(number, number + 1) for number in range(3 * depth, end)]
     return document([*blocks, *arms, answer(end)], rows=[STORE])
 
@@ -328,7 +328,7 @@ def nested_alternates(depth):
 def names_document(values, answered, more=0, functions=()):
     """The bytes of a document with a row for each of these values, whose target is a name of its own, and which returns
     that name. Name 0 is the parameter, and row I has name I + 1 as its target. The last row stands in a scope, which
-    declares its target. There are so many names more."""
+    declares its target. There are that many names more."""
     count = len(values)
     rows = [{"id": number + 1, "lvalue": number + 1, "value": value} for number, value in enumerate(values)]
     rows[-1]["id"] = count + 1
@@ -355,24 +355,24 @@ def array_of(places):
 
 
 def names_in_a_chain(count):
-    """So many names, each of which needs the one before it; the last one is returned."""
+    """That many names, each of which needs the one before it; the last one is returned."""
     return names_document([{"k": "Await", "value": number} for number in range(count)], count)
 
 
 def names_in_a_star(count):
-    """So many names, all of which the last one needs, which is returned."""
+    """That many names, all of which the last one needs, which is returned."""
     others = [{"k": "Await", "value": 0} for _ in range(count - 1)]
     return names_document([*others, array_of(range(1, count))], count)
 
 
 def names_in_cycles(count):
-    """So many names, each of which needs the one before it and the one behind it; the last one is returned."""
+    """That many names, each of which needs the one before it and the one after it; the last one is returned."""
     others = [array_of((number, number + 2)) for number in range(count - 1)]
     return names_document([*others, {"k": "Await", "value": count - 1}], count)
 
 
 def names_that_change(count):
-    """So many names, all of which the last one holds and may change, so that each needs all others; it is returned."""
+    """That many names, all of which the last one holds and may change, so that each needs all others; it is returned."""
     others = [{"k": "Await", "value": 0} for _ in range(count - 1)]
     return names_document([*others, array_of([number, "Store", False] for number in range(1, count))], count)
 
@@ -383,7 +383,7 @@ def function_of(context):
 
 
 def names_of_one_function(count):
-    """So many names, but for the last each the target of a row that names one function, whose context has as many
+    """That many names, but for the last each the target of a row that names one function, whose context has as many
     places, which are names of their own. The last one holds the one before it, and is returned."""
     rows = [{"k": "FunctionExpression", "lowered_func": {"func": 0}} for _ in range(count - 1)]
     context = range(count + 1, 2 * count + 1)
@@ -414,7 +414,7 @@ def names_in_scopes_in_no_order(count):
 
 
 def names_that_are_loaded(count):
-    """So many rows that name one function, with a load in front of each into a place of the function's context, which has
+    """That many rows that name one function, with a load in front of each into a place of the function's context, which has
     as many places."""
     rows = [{"k": "LoadLocal", "place": 0}, {"k": "FunctionExpression", "lowered_func": {"func": 0}}]
     context = range(1, 2 * count, 2)
@@ -422,7 +422,7 @@ def names_that_are_loaded(count):
 
 
 def functions_in_values(count):
-    """So many `Ternary`s one after the other, both arms of which name one function, whose context has as many places."""
+    """That many `Ternary`s one after the other, both arms of which name one function, whose context has as many places."""
     whole = json.loads(values_in_a_row("Ternary", count))
     whole["hir"]["instructions"][0]["value"] = {"k": "FunctionExpression", "lowered_func": {"func": 0}}
     names = len(whole["env"]["identifiers"])
@@ -432,7 +432,7 @@ def functions_in_values(count):
 
 
 def scope_with_array(name, ids):
-    """The two blocks of a scope with an array, the row, the identifier of the array, and the scope; of so many ids for
+    """The two blocks of a scope with an array, the row, the identifier of the array, and the scope; of that many ids for
     each scope it takes the last three."""
     head, at = 2 * name, ids * (name + 1) - 2
     opens = {"k": "Scope", "fallthrough": head + 2, "block": head + 1, "scope": name, "id": at}
@@ -448,7 +448,7 @@ def scope_with_array(name, ids):
 
 
 def scopes_with_arrays(count, answered, ids=3):
-    """So many scopes one after the other, each with an array that holds that of the scope before, and the return of
+    """That many scopes one after the other, each with an array that holds that of the scope before, and the return of
     this name."""
     parts = [scope_with_array(name, ids) for name in range(count)]
     last = {"id": 2 * count, "terminal": {"k": "Return", "value": answered, "id": ids * count + 1}}
@@ -476,13 +476,13 @@ def scopes_in_one_function(count):
 
 
 def scopes_that_escape(count):
-    """So many scopes with arrays, of which the last array is returned and needs all others. They merge, and of the arrays
-    before the last one none stays declared."""
+    """That many scopes with arrays. The last array is returned and needs all others. They merge,
+    and no array before the last one stays declared."""
     return scopes_with_arrays(count, count)
 
 
 def with_returned_names(whole, count, names):
-    """The graph of so many scopes with arrays, which returns an array of these names."""
+    """The graph of that many scopes with arrays, which returns an array of these names."""
     last, end = count + 1, whole["hir"]["body"]["blocks"][-1]
     end["instructions"] = [count]
     whole["hir"]["instructions"].append({"id": end["terminal"]["id"], "lvalue": last, "value": array_of(names)})
@@ -492,7 +492,7 @@ def with_returned_names(whole, count, names):
 
 
 def scopes_that_merge(count):
-    """So many scopes with arrays, which merge; all arrays stay declared, since the one that is returned holds them."""
+    """That many scopes with arrays, which merge; all arrays stay declared, since the one that is returned holds them."""
     return with_returned_names(json.loads(scopes_with_arrays(count, count)), count, range(1, count + 1))
 
 
@@ -502,7 +502,7 @@ def scopes_that_drop_and_keep(count):
 
 
 def scopes_that_stay_apart(count):
-    """So many scopes with arrays, each of which may begin a group, and none of which has the dependencies of the next."""
+    """That many scopes with arrays. Each may begin a group, and none has the dependencies of the next."""
     whole = json.loads(scopes_with_arrays(count, count))
     whole["hir"]["instructions"][0]["value"] = array_of(([0, "Read", True],))
     whole["env"]["types"] = [{"k": "Object", "shape": "Array"}]
@@ -512,7 +512,7 @@ def scopes_that_stay_apart(count):
 
 
 def nested_scopes_that_dissolve(depth):
-    """So many scopes one in the other, each with an array behind the inner one, which holds that one's array."""
+    """That many scopes, one in the other, each with an array after the inner one, which holds that one's array."""
     heads = [scope(head, head + 1, 2 * depth - head, head) for head in range(depth)]
     ends = [{"id": depth + name, "instructions": [name],
              "terminal": {"k": "Goto", "variant": "Break", "block": depth + name + 1, "id": depth + 2 * name + 2}}
@@ -531,7 +531,7 @@ def nested_scopes_that_dissolve(depth):
 
 
 def scopes_with_long_lists(count):
-    """Two scopes with arrays, which depend on the same so many names; those of the second are in no order."""
+    """Two scopes with arrays, which depend on the same names, that many; those of the second are in no order."""
     whole, names = json.loads(scopes_with_arrays(2, 2)), range(4, count + 4)
     whole["hir"]["instructions"][0]["value"] = array_of([[name, "Read", True] for name in names])
     whole["env"]["types"] = [{"k": "Object", "shape": "Array"}]
@@ -544,5 +544,5 @@ def scopes_with_long_lists(count):
 
 
 def scopes_that_do_not_escape(count):
-    """So many scopes with arrays, none of which is returned."""
+    """That many scopes with arrays, none of which is returned."""
     return scopes_with_arrays(count, 0)

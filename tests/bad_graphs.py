@@ -1,4 +1,4 @@
-"""Documents of graphs that are refused, of which each line of the list `bad_graphs` writes one, and of a deep graph.
+"""Documents of graphs that are refused, one for each line of the list `bad_graphs`, and of a deep graph.
 
 A line has a graph, and after `|` the status and the line that are due. In `bb0: 2 $2 = LoadLocal($0); Return $2 #3` a
 block has its number, its rows with their ids and targets, and its terminal with its id. The fields of a terminal are in
@@ -69,7 +69,7 @@ class Graph:
             self.add(*re.fullmatch(r"bb(\d+)(?: with (id|row) (\d+))?: (?:(.*); )?(.*)", block).groups())
 
     def add(self, key, other, number, rows, end):
-        """Adds a block, of which the id or a row may be another than its own."""
+        """Adds a block, whose id or a row may be another than its own."""
         first = len(self.rows)
         self.rows += [row(text) for text in rows.split("; ")] if rows else []
         listed = list(range(first, len(self.rows))) + ([int(number)] if other == "row" else [])
@@ -97,7 +97,7 @@ def document_of(line):
 
 
 def nested(levels):
-    """The text of the document of `If`s in one another, each of which ends where the one around it goes on."""
+    """The text of the document of `If`s in one another; each ends where the one around it goes on."""
     last = 2 * levels
     blocks = [f"bb{it}: If($0, bb{it + 1}, else = bb{last - it}) #{it + 1}" for it in range(levels)]
     blocks += [f"bb{it}: Goto Break bb{it + 1} #{it + 1}" for it in range(levels, last)]
@@ -105,5 +105,5 @@ def nested(levels):
 
 
 def has_ifs(printed, count):
-    """Whether so many lines begin with `if` and end in `implicit`."""
+    """Whether that many lines begin with `if` and end in `implicit`."""
     return len(re.findall(rb"^ *if .*implicit$", printed, re.MULTILINE)) == count

@@ -1,11 +1,11 @@
-"""Documents of scopes side by side, of which each line of the list `neighbours` writes one.
+"""Documents of scopes side by side, one for each line of the list `neighbours`.
 
 A line has the statements of a list, with `;` between them, and after `:` the fate of each scope but the first. The scope
 `p q -> A b` depends on `p` and `q`; in its block each of them is read, and `A` and `b` are made, which it declares. So
 `p + c -> A` reads `c` besides, `p (q) -> A` doesn't read `q`, and `p -> A ~ q` reassigns `q`. A dependency may be on a
 part of a value, as `A.x`, `A?.x` and `A.0` are. A name with a capital letter is an array, which is new each time; the
 others have another type. `p` and `q` are the parameters. At the end an array is returned that holds all that the scopes
-declare, or the names behind `return`.
+declare, or the names after `return`.
 """
 import json, re
 
