@@ -95,10 +95,10 @@ abbrev pub if_rows : Kind → ℕ → ℕ → List Instruction
 if_rows Kept unit id = []
 if_rows kind unit id = row (id + 4) (other_name unit) (values.Debugger None) ∷ []
 
--- the block after the scope of a unit: that of its `If`, or where it has none, that of the next unit
-abbrev pub behind_scope : Kind → ℕ → ℕ
-behind_scope Kept unit = 4 * unit + 4
-behind_scope kind unit = 4 * unit + 2
+-- the fallthrough of the scope of a unit: the block of its `If`, or where it has none, that of the next unit
+abbrev pub fallthrough_of : Kind → ℕ → ℕ
+fallthrough_of Kept unit = 4 * unit + 4
+fallthrough_of kind unit = 4 * unit + 2
 
 -- a jump to a block
 abbrev pub jump : ℕ → ℕ → Terminal
@@ -107,7 +107,7 @@ jump block id = terminals.Goto (to_id block) Break (to_id id) None
 -- the terminals of a unit
 abbrev pub opening : ℕ → ℕ → Terminal
 opening unit id =
-    terminals.Scope (to_id (behind_scope (kind_of unit) unit)) (to_id (4 * unit + 1)) (to_id unit) (to_id id) None
+    terminals.Scope (to_id (fallthrough_of (kind_of unit) unit)) (to_id (4 * unit + 1)) (to_id unit) (to_id id) None
 
 abbrev pub branching : ℕ → ℕ → Terminal
 branching unit id =
@@ -124,7 +124,7 @@ opening_rows (suc unit) = []
 abbrev pub scope_blocks : ℕ → ℕ → ℕ → List (BlockId × BasicBlock)
 scope_blocks unit id number =
     block (4 * unit) (opening_rows unit) (opening unit id)
-    ∷ (block (4 * unit + 1) (number ∷ []) (jump (behind_scope (kind_of unit) unit) (id + 2)) ∷ [])
+    ∷ (block (4 * unit + 1) (number ∷ []) (jump (fallthrough_of (kind_of unit) unit) (id + 2)) ∷ [])
 
 abbrev pub if_blocks : Kind → ℕ → ℕ → ℕ → List (BlockId × BasicBlock)
 if_blocks Kept unit id number = []

@@ -55,18 +55,18 @@ fn add_scope_blocks(
     ensures ok { OnOk result (blocks.new ≡ blocks.old ++ spec.scope_blocks unit id number) }
     ensures after { OnOk result (AreKeysBelow (4 * unit + 2) blocks.new) }
 {
-    let behind = behind_scope(unit);
+    let fallthrough = fallthrough_of(unit);
     let opening = opening_rows(alloc, unit)?;
     let inside = one_row(alloc, number)?;
     let scope = Terminal::Scope {
-        fallthrough: BlockId::new(behind),
+        fallthrough: BlockId::new(fallthrough),
         block: BlockId::new(4 * unit + 1),
         scope: ScopeId::new(unit),
         id: EvaluationOrder::new(id),
         span: None,
     };
     add_block(blocks, 4 * unit, opening, scope)?;
-    add_block(blocks, 4 * unit + 1, inside, jump(behind, id + 2))
+    add_block(blocks, 4 * unit + 1, inside, jump(fallthrough, id + 2))
 }
 
 /// Adds the two blocks of a unit's `If`, where it has one.
@@ -127,10 +127,10 @@ fn add_block(
     Ok(())
 }
 
-/// The block after the scope of a unit.
-fn behind_scope(unit: u32) -> u32
+/// The fallthrough of the scope of a unit.
+fn fallthrough_of(unit: u32) -> u32
     requires { unit ≤ most_units }
-    ensures { result ≡ spec.behind_scope (spec.kind_of unit) unit }
+    ensures { result ≡ spec.fallthrough_of (spec.kind_of unit) unit }
 {
     match Kind::of(unit) {
         Kind::Kept => 4 * unit + 4,

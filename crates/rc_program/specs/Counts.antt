@@ -15,8 +15,8 @@ use Rattle.rc_program.specs.LineText.{◌&◌, line}
 abbrev pub sums : Joining ℕ
 sums = record { nothing = 0; both = λ first second. first + second }
 
--- Each statement counts once, whatever its depth: a row, a terminal, of which each has a place for a label, and a scope
--- block of either kind.
+-- Each statement counts once, whatever its depth: a row, a terminal, with a label or without one, and a scope block of
+-- either kind.
 abbrev pub statement_parts : Contributions ℕ
 statement_parts = record {
   joining = sums;

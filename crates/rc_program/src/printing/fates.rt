@@ -17,7 +17,7 @@ pub fn fates_alone(alloc: Global, fates: &List<ScopeFate>) -> Result<Text, Alloc
     Ok(page.finish())
 }
 
-/// A line for each scope, after so many spaces.
+/// A line for each scope, indented by that many spaces.
 pub fn write_fates(page: &mut Page, fates: &[ScopeFate], indent: usize) -> Result<(), AllocError>
     ensures { OnOk result (page.new ≡ page.old ++ fate_lines fates.now indent) }
 {
