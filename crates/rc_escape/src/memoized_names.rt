@@ -74,7 +74,7 @@ fn walk(alloc: Global, rows: &RowRecord) -> Result<WalkState, AllocError>
 fn memoized_names(alloc: Global, rows: &RowRecord, state: &WalkState) -> Result<DeclSet, AllocError>
     ensures { IfOk result (λ set. HasMemoized set (progress rows.now state.now)) }
 {
-    let mut set = KeySet::new(alloc);
+    let mut set = KeySet::with_capacity(alloc, rows.nodes.len())?;
     for place in 0..rows.nodes.len() {
         put_memoized(&mut set, rows, state, place)?;
     }

@@ -110,7 +110,7 @@ fn recording_of(
         (events_in env.now func.now.body) recording) }
 {
     let reader = RowReader { alloc, env };
-    let mut recording = reader.no_recording();
+    let mut recording = reader.no_recording()?;
     add_params(&reader, &mut recording, &func.params)?;
     add_body(&reader, &mut recording, &func.body)?;
     Ok(recording)

@@ -145,15 +145,15 @@ fn note_missing(missing: &mut Option<DeclarationId>, name: DeclarationId)
 
 /// The methods that return a `Result` fail only when out of memory.
 impl HeldNodes {
-    /// Holds no fact. This takes no memory.
-    pub fn new(alloc: Global) -> HeldNodes
-        ensures { HoldsFacts [] result }
+    /// Holds no fact, and has room for so many names and rows.
+    pub fn with_capacity(alloc: Global, n: usize) -> Result<HeldNodes, AllocError>
+        ensures { IfOk result (λ held. HoldsFacts [] held) }
     {
-        HeldNodes {
-            nodes: Keyed::new(alloc),
-            operands: List::new(alloc),
+        Ok(HeldNodes {
+            nodes: Keyed::with_capacity(alloc, n)?,
+            operands: List::with_capacity(alloc, n)?,
             missing: None,
-        }
+        })
     }
 
     /// Adds that a name is a target of a level; a name without a node gets one.

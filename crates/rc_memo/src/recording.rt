@@ -49,17 +49,18 @@ fn resolved(definitions: &Definitions, name: DeclarationId) -> DeclarationId
 
 /// The methods that return a `Result` fail only when out of memory.
 impl<'a> RowReader<'a> {
-    /// Records nothing. This takes no memory.
-    pub fn no_recording(&self) -> Recording
-        ensures { IsRecorded self.now.env.now [] [] result }
+    /// Records nothing, and has room for as many names and scopes as are in the tables.
+    pub fn no_recording(&self) -> Result<Recording, AllocError>
+        ensures { IfOk result (λ recording. IsRecorded self.now.env.now [] [] recording) }
     {
-        Recording {
-            held: HeldNodes::new(self.alloc),
-            scopes: Keyed::new(self.alloc),
-            definitions: Keyed::new(self.alloc),
+        let names = self.env.identifiers.len();
+        Ok(Recording {
+            held: HeldNodes::with_capacity(self.alloc, names)?,
+            scopes: Keyed::with_capacity(self.alloc, self.env.scopes.len())?,
+            definitions: Keyed::with_capacity(self.alloc, names)?,
             escaping: KeySet::new(self.alloc),
             known: Keyed::new(self.alloc),
-        }
+        })
     }
 
     /// Adds the active scope of an operand of a row of that id.

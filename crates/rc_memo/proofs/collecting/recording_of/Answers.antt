@@ -10,5 +10,5 @@ returns c =
     let func = c.args.func.now in
     all_recorded env (map (param_name env) func.params) (events_in env func.body) c.add_params.new.recording
     c.add_body.new.recording
-    (params_recorded env func.params c.no_recording-recording.result c.add_params.new.recording
-    c.no_recording-recording.ensures c.in_ok-add_params.ensures) c.in_ok-add_body.ensures
+    (params_recorded env func.params c.in_ok-recording.recording c.add_params.new.recording
+    c.in_ok-recording.ensures c.in_ok-add_params.ensures) c.in_ok-add_body.ensures
