@@ -1,5 +1,5 @@
 -- The two loops over the rows of a value: forward to its last block, and back.
-use Rattle.std.proofs.Common.{◌≡◌, Bool, List, [], ◌∷◌, ◌++◌, Option, Some, None, refl, sym, ap, ◌∙◌}
+use Rattle.std.proofs.Common.{◌≡◌, ℕ, Bool, List, [], ◌∷◌, ◌++◌, Option, Some, None, refl, sym, ap, ◌∙◌}
 use Rattle.std.proofs.Common.{append_assoc, arith, subst, IfSome}
 use Rattle.std.specs.Prelude.{◌↔◌, IsNone, is_some}
 use Rattle.rc_names.specs.Numbers.{BlockId, times}
@@ -72,6 +72,18 @@ module _ {old : Builder} {key : BlockId} {around : Around} where
     kept = refl;
     setting = λ site. refl;
   })
+
+  -- what is left of the stack is no part of how far it has come
+  pub any_stack : {now : Builder} {rows : List ValueRow} {at : BlockId} (stack : ℕ)
+      → RowsSoFar old now key around rows at → RowsSoFar old (record now { stack = stack }) key around rows at
+  any_stack stack s = record {
+    newly = s.newly;
+    lead = s.lead;
+    marking = s.marking;
+    valued = s.valued;
+    kept = s.kept;
+    setting = s.setting;
+  }
 
   module _ {now : Builder} where
     module _ {rows : List ValueRow} {at : BlockId} (s : RowsSoFar old now key around rows at)

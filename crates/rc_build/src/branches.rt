@@ -15,6 +15,7 @@ ghost use Rattle.rc_build.specs.inside.Built.{Builds, BuildsTask, BuiltAlternate
 ghost use Rattle.rc_build.specs.inside.Setting as settings;
 
 use crate::builder::{Builder, Site, falls_to, label_at, let_go, malformed, put_terminal};
+use crate::nesting::STATEMENT_LEVEL;
 use rc_hir::{Fault, Place, Rule};
 use rc_names::{BlockId, EvaluationOrder, List};
 use rc_runs::Frame;
@@ -85,7 +86,7 @@ impl<'g> Builder<'g> {
             return Err(malformed(site.block, Rule::BreakTarget));
         }
         let part = self.build_consequent(site, consequent, id)?;
-        let statements = self.build_apart(site.at(alternate))?;
+        let statements = self.build_apart(site.at(alternate), STATEMENT_LEVEL)?;
         let other = Some(ReactiveBlock { statements });
         put_if(self.alloc, &mut self.out, test, part, other, id, None)?;
         Ok(None)
@@ -113,7 +114,7 @@ impl<'g> Builder<'g> {
             self.put_break(site, consequent, id)?;
             return Ok(mem::replace(&mut self.out, outer));
         }
-        self.build_apart(site.at(consequent))
+        self.build_apart(site.at(consequent), STATEMENT_LEVEL)
     }
 
     /// Builds the list of an alternate; none where it is the fallthrough.

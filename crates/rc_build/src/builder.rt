@@ -46,6 +46,8 @@ pub struct Builder<'g> {
     pub frames: FrameStack<'g>,
     /// The statements of the list that is built.
     pub out: List<ReactiveStatement>,
+    /// How many bytes of stack nesting may still take. That only decides when to give up: no contract speaks of it.
+    pub stack: usize,
 }
 
 impl Marks {
@@ -116,11 +118,13 @@ impl Site {
 }
 
 impl<'g> Builder<'g> {
-    /// Nothing is used, no statement is built, and no frame is around the list. The only error is out of memory.
+    /// Nothing is used, no statement is built, no frame is around the list, and nesting may take that many bytes of
+    /// stack. The only error is out of memory.
     pub fn new(
         alloc: Global,
         hir: &'g HirFunction,
         env: &'g Environment,
+        stack: usize,
     ) -> Result<Builder<'g>, AllocError>
         ensures hir { IfOk result (λ builder. builder.hir.now ≡ hir.now) }
         ensures env { IfOk result (λ builder. builder.env.now ≡ env.now) }
@@ -134,6 +138,7 @@ impl<'g> Builder<'g> {
             marks: Marks::new(alloc, hir.body.blocks.len())?,
             frames: FrameStack::new(alloc, &hir.body.blocks)?,
             out: List::new(alloc),
+            stack,
         })
     }
 

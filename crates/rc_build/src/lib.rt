@@ -20,6 +20,7 @@ mod header;
 mod jumps;
 mod lists;
 mod loops;
+mod nesting;
 mod reactive_function;
 mod rows;
 mod short_arms;
@@ -33,4 +34,7 @@ mod value_terminals;
 mod values;
 
 pub use given_tree::{Broken, spells};
-pub use reactive_function::{build_known_function, build_reactive_function};
+pub use nesting::USUAL_STACK;
+pub use reactive_function::{
+    build_known_function, build_reactive_function, build_reactive_function_within,
+};

@@ -16,6 +16,7 @@ ghost use Rattle.rc_build.specs.RuleFacts.{FaultFact};
 
 use crate::builder::{Builder, Site};
 use crate::header::with_header;
+use crate::nesting::USUAL_STACK;
 use rc_hir::{Environment, Fault, HirFunction, check_names};
 use rc_tree::{ReactiveBlock, ReactiveFunction};
 use std::alloc::Global;
@@ -28,7 +29,8 @@ use std::alloc::Global;
 /// - if it spells no function: `Malformed`, with a rule whose fact holds of the named block, or `Todo`, which names a
 ///   block that must give a value and ends in a `Label`.
 ///
-/// `NoMemory` may come at any time.
+/// `NoMemory` may come at any time: stack is memory, and the builder and the calls that go down its tree take some for
+/// each level. This is for a stack of 8 MiB.
 pub fn build_reactive_function(
     alloc: Global,
     hir: &HirFunction,
@@ -53,8 +55,34 @@ pub fn build_reactive_function(
     ensures complete { (func : ReactiveFunction) → NamesInTables hir.now env.now → Spells hir.now env.now func
         → IsOk result ⊎ (result ≡ Err Fault.NoMemory) }
 {
+    build_reactive_function_within(alloc, hir, env, USUAL_STACK)
+}
+
+/// The same where nesting may take that many bytes of stack: a graph that nests deeper is refused with `NoMemory`.
+pub fn build_reactive_function_within(
+    alloc: Global,
+    hir: &HirFunction,
+    env: &Environment,
+    stack: usize,
+) -> Result<ReactiveFunction, Fault>
+    ensures ok { IfOk result (Spells hir.now env.now) }
+    ensures accepted { IfOk result (λ built. NamesInTables hir.now env.now) }
+    ensures one_tree { IfOk result (λ built.
+        (func : ReactiveFunction) → Spells hir.now env.now func → func ≡ built) }
+    ensures known { IfOk result (λ built. TreeInTables built env.now) }
+
+    // The runs are those that `build_reactive_function` keeps.
+    ensures graph_to_body { IfOk result (λ built. NoEarlyReturnSet env.now → (events : Items Event) (end : End)
+        → IsGraphRun hir.now env.now events end → IsBodyRun built env.now events end) }
+    ensures body_to_graph { IfOk result (λ built. NoEarlyReturnSet env.now → (events : Items Event) (end : End)
+        → has_throw events ≡ false → IsBodyRun built env.now events end → IsGraphRun hir.now env.now events end) }
+
+    ensures refused { IfErr result (IsBuildCause hir.now env.now) }
+    ensures complete { (func : ReactiveFunction) → NamesInTables hir.now env.now → Spells hir.now env.now func
+        → IsOk result ⊎ (result ≡ Err Fault.NoMemory) }
+{
     check_names(hir, env)?;
-    build_known_function(alloc, hir, env)
+    build_known_function(alloc, hir, env, stack)
 }
 
 /// The same for a graph whose numbers are in their tables; that isn't checked again, and `BadName` doesn't come.
@@ -62,6 +90,7 @@ pub fn build_known_function(
     alloc: Global,
     hir: &HirFunction,
     env: &Environment,
+    stack: usize,
 ) -> Result<ReactiveFunction, Fault>
     requires known { NamesInTables hir.now env.now }
     ensures ok { IfOk result (Spells hir.now env.now) }
@@ -80,7 +109,7 @@ pub fn build_known_function(
     ensures complete { (func : ReactiveFunction) → Spells hir.now env.now func
         → IsOk result ⊎ (result ≡ Err Fault.NoMemory) }
 {
-    let built = build(alloc, hir, env)?;
+    let built = build(alloc, hir, env, stack)?;
     Ok(built)
 }
 
@@ -89,11 +118,12 @@ pub fn build_known_function(
 /// - `Malformed`: the graph spells none, and the rule's fact holds of the named block.
 /// - `Todo`: the graph spells none, and the fault names a block that must give a value and ends in a `Label`.
 /// - `BadName`: a block names a row that isn't there.
-/// - `NoMemory`: out of memory.
+/// - `NoMemory`: out of memory, or of the stack that nesting may take.
 fn build<'g>(
     alloc: Global,
     hir: &'g HirFunction,
     env: &'g Environment,
+    stack: usize,
 ) -> Result<ReactiveFunction, Fault>
     ensures ok { IfOk result (λ func. Spells hir.now env.now func) }
     ensures refused { IfRefused result ((func : ReactiveFunction) → Spells hir.now env.now func → ⊥) }
@@ -104,7 +134,7 @@ fn build<'g>(
         next: None,
         handler: None,
     };
-    let mut builder = Builder::new(alloc, hir, env)?;
+    let mut builder = Builder::new(alloc, hir, env, stack)?;
     builder.build_list(entry)?;
     let statements = builder.out.take();
     Ok(with_header(alloc, hir, ReactiveBlock { statements })?)

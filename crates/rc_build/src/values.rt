@@ -34,6 +34,7 @@ use crate::blocks::{FoundBlock, block_with_id, find_block};
 use crate::builder::{Builder, Site, malformed};
 use crate::flatten::flattened;
 use crate::handlers::{MayThrow, is_current, is_empty_goto, may_throw};
+use crate::nesting::{ROW_LEVEL, VALUE_LEVEL, left_inside};
 use crate::short_arms::ShortArm;
 use crate::unreachable::has_unreachable_successor;
 use crate::value_rows::{after_rows, sequence_rows};
@@ -221,13 +222,16 @@ impl<'g> Builder<'g> {
         ensures { (site : Site) →
             spec.BuildsValue self.old self.new site key (steps.value_at around is_test) spec.any_end result }
     {
+        let stack = self.stack;
         let mut pending = List::new(self.alloc);
         let mut at = key;
         'rows: while let Some(step) = self.step_at(at) {
             let row = self.build_step(at, step, around)?;
+            self.stack = left_inside(self.stack, ROW_LEVEL)?;
             at = row.next;
             pending.push(row)?;
         }
+        self.stack = stack;
         self.build_back(pending, at, around, is_test)
     }
 
@@ -297,11 +301,14 @@ impl<'g> Builder<'g> {
             return Err(malformed(key, Rule::UnsetId));
         }
         self.mark_value_block(key, found)?;
+        let stack = self.stack;
+        self.stack = left_inside(stack, VALUE_LEVEL)?;
         let NestedValue {
             value,
             answer,
             short,
         } = self.build_nested(terminal, around.handler)?;
+        self.stack = stack;
         put_row(&mut rows, terminal.id, &answer, value, around.span)?;
         Ok(ValueRow {
             rows,

@@ -4,6 +4,7 @@ mod equality;
 mod graph;
 mod implicit_label;
 mod jumps;
+mod nesting;
 mod refusals;
 mod spelled;
 mod tree;

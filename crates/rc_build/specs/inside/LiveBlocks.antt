@@ -22,3 +22,7 @@ HasBits live = length live.bits ≡ length live.blocks.now
 -- where there is a block, that says whether the frames outside have it as a jump target
 abbrev pub IsLiveOutside : Option BlockId → Bool → List Frame → Type 0
 IsLiveOutside block live outer = (key : BlockId) → block ≡ Some key → live ≡ is_jump_target outer key
+
+-- the position of a block in the graph
+abbrev pub position_in : LiveBlocks → BlockId → Option ℕ
+position_in live key = position (same_id key) (keys_of live.blocks.now)

@@ -2,7 +2,7 @@
 
 use super::graph::{environment, graph};
 use super::tree::{CHANGES, Change, tree};
-use rc_build::{Broken, build_known_function, build_reactive_function, spells};
+use rc_build::{Broken, USUAL_STACK, build_known_function, build_reactive_function, spells};
 use rc_equality::Equals;
 use rc_hir::{Fault, Rule, check_names};
 use rc_names::BlockId;
@@ -49,7 +49,7 @@ fn is_built_of_known(alloc: Global) -> Result<bool, Fault> {
     let hir = graph(alloc)?;
     let env = environment(alloc)?;
     check_names(&hir, &env)?;
-    let built = build_known_function(alloc, &hir, &env)?;
+    let built = build_known_function(alloc, &hir, &env, USUAL_STACK)?;
     Ok(built.equals(&tree(alloc, Change::Nothing)?))
 }
 

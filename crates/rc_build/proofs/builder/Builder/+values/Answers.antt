@@ -35,7 +35,7 @@ use Rattle.rc_build.proofs.ValueEndLemmas.{arms_as, arms_none, arms_unlike, decl
 use Rattle.rc_build.proofs.ValueEndLemmas.{ends_not, goes_as, goes_not, tested_fact}
 use Rattle.rc_build.proofs.ValueKindLemmas.{nested_can}
 use Rattle.rc_build.proofs.ValueLemmas.{spells_unusable, value_has_rows}
-use Rattle.rc_build.proofs.ValueLoopLemmas.{further_can}
+use Rattle.rc_build.proofs.ValueLoopLemmas.{any_stack, further_can}
 use Rattle.rc_build.proofs.ValueLoopLemmas.{rows_further, rows_refused, rows_start}
 use Rattle.rc_build.proofs.ValueRowLemmas.{step_starts}
 use Rattle.rc_build.proofs.builder.Builder.+values.Goals as goal
@@ -120,9 +120,9 @@ pub build_value-rows-preserved : goal.build_value-rows-preserved
 build_value-rows-preserved t c =
     let site = any_site c.args.key in
     let row = c.in_ok-row.ensures in
-    subst (λ z. RowsSoFar c.args.self.now c.build_step.new.self c.args.key c.args.around z c.in_ok-row.row.next)
-    (sym c.in_ok-push.ensures.ok)
-    (rows_further site (λ site. (row site c.args.is_test).frames) c.rows.invariant (row site c.args.is_test).ok)
+    any_stack _ (subst (λ z. RowsSoFar c.args.self.now c.build_step.new.self c.args.key c.args.around z
+    c.in_ok-row.row.next) (sym c.in_ok-push.ensures.ok)
+    (rows_further site (λ site. (row site c.args.is_test).frames) c.rows.invariant (row site c.args.is_test).ok))
 
 pub build_value-rows-smaller : goal.build_value-rows-smaller
 build_value-rows-smaller t c =
@@ -138,7 +138,7 @@ build_value-build_back-requires t c = (
   c.args.self.now,
   c.args.key,
   record {
-    so_far = c.rows.invariant;
+    so_far = any_stack _ c.rows.invariant;
     can = c.requires;
     ends = sym c.step_at.ensures ∙ c.in_default.is;
   },
@@ -146,7 +146,7 @@ build_value-build_back-requires t c = (
 
 pub build_value-returns : goal.build_value-returns
 build_value-returns t c = c.build_back.ensures c.args.self.now c.args.key (record {
-  so_far = c.rows.invariant;
+  so_far = any_stack _ c.rows.invariant;
   can = c.requires;
   ends = sym c.step_at.ensures ∙ c.in_default.is;
 })

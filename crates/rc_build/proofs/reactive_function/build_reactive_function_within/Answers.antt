@@ -1,7 +1,7 @@
 -- The numbers are looked at, and the rest is built as of a graph whose numbers are known.
 use Rattle.std.proofs.lemmas.Result.{err_from_is_err_and}
 use Rattle.rc_runs.proofs.NamesOutsideLemmas.{no_name_outside}
-use Rattle.rc_build.proofs.reactive_function.build_reactive_function.Goals as goal
+use Rattle.rc_build.proofs.reactive_function.build_reactive_function_within.Goals as goal
 
 pub returns-in_err-check_names-clause-complete : goal.returns-in_err-check_names-clause-complete
 returns-in_err-check_names-clause-complete c =
