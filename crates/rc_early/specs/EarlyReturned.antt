@@ -112,7 +112,7 @@ pub record MakesEarlyReturns (env : Environment) (before after : ReactiveBlock) 
   pub met : Option ReactiveScopeEarlyReturn
   pub rebuilt : early_returned env before nothing_met ≡ Ok (record { at = at; met = met; made = made }, after)
 
--- the second body is the first one with its early returns, whose entries the second environment has besides
+-- the second body is the first one with its early returns, and the second environment has their entries too
 pub record HasEarlyReturns (before : ReactiveBlock) (old : Environment) (after : ReactiveBlock) (new : Environment) :
     Type 0 where
   pub made : List EarlyReturn

@@ -14,7 +14,7 @@ abbrev pub has_room : Environment → ℕ → Bool
 has_room env count = nat_lt (length env.identifiers + 5 * count) (2 ^ 32)
     && (nat_lt (length env.types + 5 * count) (2 ^ 32) && nat_lt (env.next_block + count) (2 ^ 32))
 
--- the entry of the early return that is made after that many: its variable and its label have the next numbers
+-- the entry of the next early return, after that many: its variable and its label have the next numbers
 abbrev pub next_entry : Environment → ℕ → Option Span → ReactiveScopeEarlyReturn
 next_entry env count span = record {
   value = to_id (length env.identifiers + 5 * count);

@@ -112,9 +112,9 @@ impl<'a> StatementTransform for Transform<'a> {
     }
 }
 
-/// How far the pass has come: where the next statement is, the early return of the outermost scope block around, if a
-/// `Return` was met in it, those of the blocks that have ended, with the scopes of these, and where each scope block
-/// around is, from the outside in.
+/// The state of the pass: the next statement's place; the early return of the outermost scope block around, if a
+/// `Return` was met in it; the early returns of ended blocks, with their scopes; and the places of the scope blocks
+/// around, outermost first.
 #[derive(Drop)]
 pub(crate) struct Replacing {
     at: Where,
@@ -155,7 +155,7 @@ impl Replacing {
     }
 }
 
-/// Takes the last place off. A walk finds one there; where there is none, it is outside scope blocks.
+/// Pops the last place; outside scope blocks if the list is empty, which no walk meets.
 #[tactic(auto, using(crate::proofs::StepsLemmas::popped_others))]
 fn pop_where(around: &mut List<Where>) -> Where
     ensures last { result ≡ steps.last_where around.old }

@@ -15,8 +15,7 @@ use rc_tree::{
 };
 use std::alloc::{AllocError, Global};
 
-/// How far the numbers of the temporaries are from that of the variable: the variable's first value, `Symbol`, its `for`,
-/// and the argument.
+/// Offsets of the temporaries' numbers from the variable's: its first value, `Symbol`, `Symbol.for`, and the argument.
 const SENTINEL: u32 = 1;
 
 const SYMBOL: u32 = 2;
@@ -49,8 +48,7 @@ pub(crate) fn stored_return(
     Ok(list)
 }
 
-/// The statements in the place of a block's own: the sentinel is stored to the variable, and the block's own follow under
-/// the label.
+/// The new statements of a block: a store of the sentinel into the variable, then the old statements under the label.
 pub(crate) fn after_sentinel(
     alloc: Global,
     sentinel: &Sentinel,

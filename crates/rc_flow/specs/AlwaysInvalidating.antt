@@ -1,5 +1,5 @@
--- A tree in which each scope block that depends on an unmemoized value is a pruned one, which scopes that was decided
--- of, and which keep a block.
+-- A tree whose scope blocks with an unmemoized dependency became pruned ones; the scopes for which that was decided;
+-- and those that keep a block.
 --
 -- Blocks are rebuilt by one answer for each scope block, in the order in which they end.
 use Rattle.std.specs.Prelude.{◌≡◌, ◌⊎◌, ℕ, Bool, false, List, [], ◌∷◌, Some, Ok, Contains, drop, map}

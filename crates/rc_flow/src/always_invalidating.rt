@@ -33,7 +33,7 @@ use rc_walk::rewrite::transform_reactive_function;
 use rc_walk::{OverStatements, StatementTransform};
 use std::alloc::{AllocError, Global};
 
-/// Makes each scope block a pruned one that depends on a value that is new in every render and that no scope keeps.
+/// Turns each scope block into a pruned one that depends on a value which is new in every render and kept by no scope.
 ///
 /// The numbers of the tree stay, and so does everything in it outside its scopes. The only fault is out of memory,
 /// after which the body has no stated content.
@@ -146,7 +146,7 @@ impl StatementTransform for Transform {
     }
 }
 
-/// Takes the last answer off. A walk finds one there; where there is none, it is false.
+/// Pops the last answer; false if there is none, which no walk meets.
 #[tactic(auto, using(crate::proofs::AlwaysInvalidating::RulesLemmas::popped_rest))]
 fn next_answer(answers: &mut List<bool>) -> bool
     ensures answer { result ≡ spec.last_answer answers.old }

@@ -17,7 +17,7 @@ use rc_tree::{
 use rc_walk::ReactiveFunctionVisitor;
 use std::alloc::{AllocError, Global};
 
-/// The hooks of the walk. Its state is what was told so far, and stands for the steps that this means.
+/// The hooks of the walk. Its state is the list of records so far, which represents the steps that they mean.
 #[derive(Clone, Copy)]
 pub struct CollectVisitor<'a> {
     pub alloc: Global,

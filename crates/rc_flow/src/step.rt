@@ -12,6 +12,6 @@ pub enum Step {
         from: List<IdentifierId>,
         to: List<IdentifierId>,
     },
-    /// A scope block ends: where one of its scope's dependencies is reactive, so are all its outputs.
+    /// The end of a scope block: if one of its scope's dependencies is reactive, all of its outputs become reactive.
     Ends(ScopeId),
 }

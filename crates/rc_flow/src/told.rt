@@ -3,7 +3,7 @@
 use crate::step::Step;
 use rc_names::FunctionId;
 
-/// What the walk tells at one place. The context of a nested function is told by the function's number, however many
+/// What the walk tells at one place. A nested function's context is recorded by the function's number, however many
 /// places it has.
 #[derive(Drop)]
 pub enum Told {

@@ -1,7 +1,7 @@
 -- The units of a generated document: the kind of each, its numbers, and the parts that it adds to graph and tables.
 --
--- A unit has a scope with one row, which makes an array. After it, but for a unit whose scope is kept, is an `If` that
--- parts this scope from the next one.
+-- A unit has a scope with one row, which makes an array. Unless the unit's scope is kept, an `If` follows, which keeps
+-- this scope from joining the next one.
 use Rattle.std.specs.Prelude.{◌+◌, ◌*◌, ◌%◌, ℕ, zero, suc, Bool, true, false, List, [], ◌∷◌, ◌++◌, Option, None, Some}
 use Rattle.std.specs.Prelude.{if◌then◌else◌, map, nat_eq}
 use Rattle.rc_hir.specs.Model.{ArrayElement, BasicBlock, DeclarationEntry, Identifier, Instruction, InstructionValue}
@@ -95,7 +95,7 @@ abbrev pub if_rows : Kind → ℕ → ℕ → List Instruction
 if_rows Kept unit id = []
 if_rows kind unit id = row (id + 4) (other_name unit) (values.Debugger None) ∷ []
 
--- the fallthrough of the scope of a unit: the block of its `If`, or where it has none, that of the next unit
+-- the fallthrough of the scope of a unit: the block of its `If`, or the next unit's block if it has none
 abbrev pub fallthrough_of : Kind → ℕ → ℕ
 fallthrough_of Kept unit = 4 * unit + 4
 fallthrough_of kind unit = 4 * unit + 2

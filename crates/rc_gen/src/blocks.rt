@@ -138,7 +138,7 @@ fn fallthrough_of(unit: u32) -> u32
     }
 }
 
-/// The numbers of the rows in front of a unit's scope: the row of the shared array is in the first unit's first block.
+/// The rows before a unit's scope: the shared array's row in the first unit, none in the others.
 fn opening_rows(alloc: Global, unit: u32) -> Result<List<InstructionId>, AllocError>
     ensures { IfOk result (λ rows. rows ≡ map to_id (spec.opening_rows unit)) }
 {

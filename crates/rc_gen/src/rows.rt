@@ -51,7 +51,7 @@ fn add_scope_row(
     rows.push(row(id + 1, 3 + 2 * unit, value))
 }
 
-/// Adds the row after the `If` of a unit, where it has one.
+/// Adds the row of a unit's `If`, if it has one.
 fn add_if_row(
     rows: &mut List<Instruction>,
     kind: Kind,

@@ -1,4 +1,4 @@
--- Merging is fresh: a scope that lost its block recomputes only where the scope recomputes that it is now a part of.
+-- Merging is fresh: a scope that lost its block recomputes only if the scope that it is now a part of does.
 --
 -- A scope recomputes by the dependencies that it had before merging, which changes none.
 use Rattle.std.specs.Prelude.{Contains, List}

@@ -1,5 +1,5 @@
 -- A merged list: each scope block that joins the head before it moves into that head's block, with the rows between
--- them. With it the scopes after that, and which scope joined which head.
+-- them. It comes with the table of scopes after merging, and with which scope joined which head.
 use Rattle.std.specs.Prelude.{Bool, true, false, List, [], ◌∷◌, ◌++◌, Option, None, Some, slice_set}
 use Rattle.std.specs.Option.{option_map_or}
 use Rattle.rc_hir.specs.Model.{Environment, ReactiveScope}

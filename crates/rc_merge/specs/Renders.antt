@@ -1,5 +1,5 @@
--- Renders: which scopes compute their values again, by what changed since the render before; and which renders are
--- legal for a tree.
+-- Renders: which scopes recompute, given the inputs that changed since the last render; and which renders are legal for
+-- a tree.
 use Rattle.std.specs.Prelude.{◌≡◌, ◌≤◌, ℕ, List, Contains, count_by}
 use Rattle.rc_hir.specs.Model.{DeclarationEntry, Environment}
 use Rattle.rc_names.specs.Numbers.{DeclarationId, ScopeId, is_among}
@@ -39,8 +39,8 @@ module _ (env : Environment) where
   abbrev pub writers : ReactiveBlock → DeclarationId → ℕ
   writers body name = count_by (λ (written : Written). is_among written name) (written_in env body)
 
-  -- a render that can be: a value that a scope declares changes only where each scope block that declares it
-  -- recomputes, and a copy that only one row writes changes only where what it copies does
+  -- a legal render: a value that a scope declares changes only if each scope block that declares it recomputes, and a
+  -- copy that only one row writes changes only where what it copies does
   pub record IsLegal (body : ReactiveBlock) (render : Render) : Type 0 where
     pub outputs : (scope : ScopeId) (entry : DeclarationEntry) → Contains (scopes_in body) scope
         → Contains (scope_at env.scopes scope).own.declarations entry

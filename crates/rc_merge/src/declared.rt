@@ -1,5 +1,5 @@
-//! What a head declares, with what finds a declaration. Declarations that are no longer used stay in the list until
-//! enough of them are there, so that each is dropped in constant time.
+//! A head's declarations, with an index. Unused ones stay in the list until it has doubled, so that dropping one takes
+//! amortised constant time.
 
 ghost use Rattle.std.specs.Prelude.{◌≡◌, ◌≤◌, ◌++◌, ◌∷◌, [], length, map, nat_eq, slice_set, None, Some, IfOk, OnOk};
 ghost use Rattle.std.specs.List.{filter, position};
@@ -122,8 +122,8 @@ impl Declared {
         Ok(declared)
     }
 
-    /// Adds a declaration under its key: it replaces the first one with that key, or comes last. Fails only when out of
-    /// memory.
+    /// Adds a declaration under its key: it takes the place of the first one with that key, or goes to the end. Fails
+    /// only when out of memory.
     fn put(self, known: &Known<'_>, entry: DeclarationEntry) -> Result<Declared, AllocError>
         requires { IsIndexed known.now.env.now (uses_of known.now.uses.now) self }
         ensures current { IfOk result (λ declared. current declared ≡ spec.put_declaration (current self) entry) }
@@ -149,7 +149,7 @@ impl Declared {
         }
     }
 
-    /// Puts a declaration in the place of one with its key, where no slot is gone. Fails only when out of memory.
+    /// Replaces the declaration with the same key, in a list without dropped slots. Fails only when out of memory.
     fn replace(
         self,
         known: &Known<'_>,
@@ -222,7 +222,7 @@ impl Declared {
         Ok(declared)
     }
 
-    /// Takes out the slots that are gone if they are so by a later id than this one. Fails only when out of memory.
+    /// Removes the dropped slots, if they were dropped by a later id than this one. Fails only when out of memory.
     fn compact_if_later(
         self,
         known: &Known<'_>,
@@ -239,7 +239,7 @@ impl Declared {
         self.compact(known)
     }
 
-    /// Takes out the slots that are gone if there are more than twice as many slots as after the last time. Fails only
+    /// Removes the dropped slots once there are more than twice as many slots as after the last removal. Fails only
     /// when out of memory.
     fn compact_if_long(self, known: &Known<'_>) -> Result<Declared, AllocError>
         requires { IsIndexed known.now.env.now (uses_of known.now.uses.now) self }
@@ -381,7 +381,7 @@ fn current_entries(
     Ok(entries)
 }
 
-/// Returns whether so many slots have a last use that isn't below an id. This stops at the first one too many.
+/// Returns whether exactly that number of slots have a last use at `id` or later. It stops at the first slot too many.
 fn are_as_many(end: EvaluationOrder, slots: &[Slot], count: usize) -> bool
     ensures { result ≡ nat_eq (length (filter (is_current end) slots.now)) count }
 {

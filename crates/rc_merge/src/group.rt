@@ -175,8 +175,7 @@ impl Group {
         Ok(group)
     }
 
-    /// Puts the group's block and the rows that passed at the end of a list, and returns the head. Fails only when out of
-    /// memory.
+    /// Appends the group's block and the passed rows to a list, and returns the head. Fails only when out of memory.
     pub fn close(self, done: &mut List<ReactiveStatement>) -> Result<ReactiveScope, AllocError>
         ensures done { OnOk result (done.new ≡ steps.closed (lists.Some (opened self)) done.old) }
         ensures head { IfOk result (λ head. head ≡ (opened self).head.own) }

@@ -99,7 +99,8 @@ impl<'a> Ord for InputRef<'a> {
     }
 }
 
-/// Returns the declaration of an identifier; a number outside its table stands for the declaration of its own number.
+/// Returns the declaration of an identifier; for a number outside the table, that is the declaration of the same
+/// number.
 pub(crate) fn declaration_of(env: &Environment, number: IdentifierId) -> DeclarationId
     ensures { result ≡ environment.declaration_of env.now number }
 {

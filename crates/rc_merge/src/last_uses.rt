@@ -28,8 +28,8 @@ pub(crate) struct MetUses {
 
 /// Returns the last use of each declaration that has one.
 ///
-/// `BadName` comes where a nested function is outside its table. `NoMemory` means out of memory, and is the only fault
-/// where every number is in its table.
+/// Fails with `BadName` if a nested function is outside its table, and with `NoMemory` when out of memory; if every
+/// number is in its table, with `NoMemory` alone.
 pub(crate) fn last_uses_in(
     alloc: Global,
     func: &ReactiveFunction,

@@ -160,7 +160,8 @@ impl MergedSoFar {
         }
     }
 
-    /// A scope block joins the group, or closes it and may begin another. Fails only when out of memory.
+    /// Lets a scope block join the group; if it can't, closes the group, and the block may begin another. Fails only
+    /// when out of memory.
     fn meet_scope(
         self,
         known: &Known<'_>,
@@ -198,7 +199,8 @@ fn is_scope(statement: &ReactiveStatement) -> bool
     }
 }
 
-/// The group's block and the rows after it are done, and its head is in its place. Fails only when out of memory.
+/// Moves the group's block and the rows after it to the finished statements, and the head back into the table. Fails
+/// only when out of memory.
 fn close_group(
     group: Group,
     done: List<ReactiveStatement>,
@@ -261,7 +263,7 @@ fn meet_group(
     begin_if(known, opens, block, closed, tables)
 }
 
-/// A scope block goes into the group, which stays open where the block could begin one. Fails only when out of memory.
+/// Adds a scope block to the group, which stays open if the block could begin one. Fails only when out of memory.
 fn take_in(
     known: &Known<'_>,
     opens: bool,

@@ -221,7 +221,7 @@ impl Merging {
     }
 }
 
-/// Takes the last entry off. A walk finds one there; where there is none, there is no scope block around.
+/// Pops the last entry; none if the list is empty, which no walk meets.
 fn pop_scope(outside: &mut List<Option<ScopeId>>) -> Option<ScopeId>
     ensures around { result ≡ steps.last_around outside.old }
     ensures rest { outside.new ≡ steps.without_last outside.old }

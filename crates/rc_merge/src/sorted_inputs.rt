@@ -69,8 +69,8 @@ impl<'a> SortedInputs<'a> {
 /// The length up to which lists are compared without sorting.
 const SHORT: usize = 8;
 
-/// Returns whether two lists of dependencies have the same inputs, in the time that sorting them takes where they are
-/// equally long, and else at once. Fails only when out of memory.
+/// Returns whether two lists of dependencies have the same inputs, by sorting both if they are equally long; lists of
+/// different lengths are told apart at once. Fails only when out of memory.
 pub(crate) fn have_equal_inputs(
     alloc: Global,
     a: &List<ReactiveScopeDependency>,

@@ -20,7 +20,7 @@ pub(crate) struct Tables {
 }
 
 impl Tables {
-    /// Takes a scope out of its place; a number outside the table stands for a scope without anything.
+    /// Takes a scope out of the table; for a number outside the table, that is an empty scope.
     pub fn take_scope(&mut self, alloc: Global, number: ScopeId) -> ReactiveScope
         ensures taken { result ≡ (spec.scope_at self.old.scopes number).own }
         ensures left { self.new ≡ record self.old {

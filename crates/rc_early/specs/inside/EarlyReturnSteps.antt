@@ -34,7 +34,7 @@ at around s = record { at = s.at; met = s.met; made = s.made; scopes = with_scop
 abbrev pub inside_scope : Bool → Replacing → Replacing
 inside_scope passed_over s = record s { at = entered passed_over s.at; around = s.around ++ s.at ∷ [] }
 
--- the last place; outside where there is none, which no walk comes to
+-- the last place, or outside if the list is empty, which no walk meets
 abbrev pub last_where : List Where → Where
 last_where around = unwrap_or (last_or None around) Outside
 

@@ -1,5 +1,5 @@
--- What writing the entries of early returns asks of an environment, and what it leaves of the environment's numbers,
--- whatever comes.
+-- What an environment needs before entries of early returns are written into it, and that its numbers stay in their
+-- tables, even after an error.
 use Rattle.std.specs.Prelude.{◌≡◌, ◌+◌, ◌*◌, ◌<◌, ◌^◌, ℕ, List, [], ◌∷◌, length}
 use Rattle.rc_early.specs.Entries.{with_early_return}
 use Rattle.rc_early.specs.declared.early_return.EarlyReturn.{EarlyReturn}
@@ -17,7 +17,7 @@ pub record Grows (before after : Environment) : Type 0 where
 abbrev pub HasPlaces : Environment → ℕ → Type 0
 HasPlaces env count = (length env.identifiers + count < 2 ^ 32) × (length env.types + count < 2 ^ 32)
 
--- the variable of each early return has the number that is next in the environment to which it is added
+-- each early return's variable has the next free number of the environment to which it is added
 abbrev pub AreNumbered : Environment → List EarlyReturn → Type 0
 AreNumbered env [] = Unit {0}
 AreNumbered env (early ∷ rest) =

@@ -79,7 +79,7 @@ after_steps env (step ∷ steps) s = after_steps env steps (after_step env step 
 abbrev pub spread_over : ReactiveBlock → Environment → Result Spread Fault
 spread_over body env = bind (recorded_steps env body) (λ steps. Ok (after_steps env steps nothing))
 
--- the name is among the first of the set, as many as that; without a number, it is so of itself
+-- the name is among the first `n` of the set; without a number, it holds of every name
 abbrev pub is_early : Names → IdentifierId → Option ℕ → Bool
 is_early set name None = true
 is_early set name (Some size) = is_among (take size set) name

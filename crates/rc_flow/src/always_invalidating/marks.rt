@@ -73,7 +73,7 @@ impl Marks {
         copy_mark(&mut self.unmemoized, from, to)
     }
 
-    /// A scope block ends; where it depends on a value that no scope keeps, nor are its own values kept.
+    /// The end of a scope block: if it depends on a value that no scope keeps, its own values aren't kept either.
     fn end(&mut self, env: &Environment, scope: ScopeId) -> Result<(), AllocError>
         ensures { OnOk result (self.new ≡ spec.after_end env.now scope self.old) }
     {

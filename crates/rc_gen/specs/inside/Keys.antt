@@ -1,4 +1,4 @@
--- Blocks stand by rising number, so the next number is a new key.
+-- Block numbers ascend, so the next number is a new key.
 use Rattle.std.specs.Prelude.{ℕ, ◌<◌, List, All}
 use Rattle.rc_hir.specs.Model.{BasicBlock}
 use Rattle.rc_names.specs.Numbers.{BlockId}

@@ -21,8 +21,8 @@ pub record Open : Type 0 where
   pub rows : List ReactiveInstruction
   pub names : List DeclarationId
 
--- how far a list has come: what is done of it, the open group, the scopes, where the head's place is empty, the copies,
--- and what was decided
+-- the state within a list: the finished statements, the open group, the scopes (without the head's), the copies, and
+-- the decisions
 pub record Going : Type 0 where
   pub done : List ReactiveStatement
   pub open_group : Option Open

@@ -6,7 +6,7 @@ use Rattle.rc_merge.specs.Inputs.{Input, same_input}
 use Rattle.rc_merge.specs.inside.InputOrder.{input_order}
 use Rattle.rc_merge.specs.declared.sorted_inputs.SortedInputs.{SortedInputs}
 
--- the sorted inputs count as many as the list has, and have the same ones, in their order and each once
+-- the sorted inputs: the length of the list, and its inputs in order without duplicates
 pub record HoldsInputs (sorted : SortedInputs) (inputs : List Input) : Type 0 where
   pub counted : sorted.count ≡ length inputs
   pub ascending : IsStrictlySortedBy input_order sorted.distinct.items

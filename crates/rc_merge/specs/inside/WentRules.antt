@@ -20,7 +20,7 @@ pub record Met : Type 0 where
   pub copies : CopyPairs
   pub log : List ScopeFate
 
--- what it stands for
+-- the state of the definition that it represents
 abbrev pub progress_of : Met → Progress
 progress_of met =
     record { around = met.around; scopes = met.scopes; copies = copies_of met.copies; log = met.log }
