@@ -17,3 +17,4 @@ mod LabelBlocks
 mod SpelledContents
 mod RoomHolds
 mod EarlyReturnsFit
+mod OneAnswer

@@ -1,10 +1,11 @@
--- Each pass on scope blocks after the one on dependencies leaves a tree without any as it is, with its environment, and
--- decides nothing.
+-- Each pass after the one on dependencies leaves a tree without scope blocks as it is, with its environment, and decides
+-- nothing.
 use Rattle.std.proofs.Common.{◌≡◌, ◌∙◌, ◌||◌, ◌+◌, ℕ, false, List, [], ◌∷◌, Ok, refl, sym, ap, subst}
 use Rattle.std.specs.List.{IsDistinct, list_any}
 use Rattle.rc_hir.specs.Model.{Environment}
 use Rattle.rc_checks.specs.UnusedScopes as unused
 use Rattle.rc_checks.specs.UnusedScopes.{LosesUnusedScopes, unused_scope_rules}
+use Rattle.rc_early.specs.EarlyReturned.{HasEarlyReturns, Progress, early_return_rules, nothing_met, terminal_at}
 use Rattle.rc_flow.proofs.AlwaysInvalidating.EndedScopes.{ended, same_ends}
 use Rattle.rc_flow.specs.AlwaysInvalidating.{PrunesInvalidating, always_invalidating, dropped_scopes, dropping_rules}
 use Rattle.rc_flow.specs.Unmemoized.{AreAnswers, no_more, makes, copies}
@@ -30,6 +31,7 @@ use Rattle.rc_tree.specs.declared.statement.ReactiveStatement.{out-ReactiveState
 use Rattle.rc_tree.specs.declared.statement.ReactiveStatement.{roll-out-ReactiveStatement}
 use Rattle.rc_tree.specs.declared.statement.ReactiveStatement.TheOpen as layer
 use Rattle.rc_tree.specs.declared.statement.ReactiveStatement.TheVariants as reactive
+use Rattle.rc_tree.specs.declared.terminal.ReactiveTerminal.{out-ReactiveTerminal}
 
 -- a list without scope blocks has none of its own
 no_scope_here : (u : UnrolledStatement) → collected_statement scope_parts (roll-ReactiveStatement u) ≡ []
@@ -112,6 +114,30 @@ module _ (env : Environment) (body : ReactiveBlock) (none : scopes_in body ≡ [
         terminal = λ x answers is. (answers, refl, is);
         pruned_scope = λ x answers is. (answers, refl, is);
         block = λ xs answers is empty. (answers, refl, is);
+      }
+
+  -- no return is in a scope block
+  pub none_returned : HasEarlyReturns body env body env
+  none_returned =
+      let left = leaves_all _ _ rules body none nothing_met refl in
+      record {
+        made = nothing_met.made;
+        makes = record {
+          at = nothing_met.at;
+          met = nothing_met.met;
+          rebuilt = left.1 ∙ ap (λ (met : Progress). Ok (met, body)) left.2;
+        };
+        entries = refl;
+      }
+    where
+      rules : LeavesRules (λ (met : Progress). met ≡ nothing_met) (early_return_rules env)
+      rules = record {
+        row = λ x met is. (met, refl, is);
+        terminal = λ x met is.
+            let terminal = out-ReactiveTerminal x.terminal in
+            (met, ap (λ (known : Progress). terminal_at env known.at terminal x met) is, is);
+        pruned_scope = λ x met is. (met, refl, is);
+        block = λ xs met is empty. (met, refl, is);
       }
 
 -- so nothing is left to do after the pass on dependencies

@@ -1,4 +1,4 @@
--- The headline: the relation of an answered function to its graph, and the causes of refusals.
+-- The headline: how a returned function relates to its graph, and the causes of refusals.
 use Rattle.std.specs.Prelude.{◌≡◌, false, All, List, Some, ⊤}
 use Rattle.rc_hir.specs.Model.{Fault, HirFunction, Environment}
 use Rattle.rc_hir.specs.declared.fault.Fault.TheVariants as faults

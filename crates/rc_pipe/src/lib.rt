@@ -7,5 +7,6 @@ mod passes;
 mod pipeline;
 mod spelled_scopes;
 
-pub use pipeline::{Pruned, build_and_prune};
+pub use pipeline::{Pruned, build_and_prune, build_and_prune_within};
+pub use rc_build::USUAL_STACK;
 pub use rc_tree::{Fate, ScopeFate};

@@ -65,6 +65,10 @@ pub(crate) fn prune(
     ensures known_names { NamesInTables hir.now env.old → NamesInTables hir.now env.new }
 {
     let decisions = prune_scopes(alloc, hir, func, env)?;
+    if decisions.spelled.is_empty() {
+        // No return is in a scope block.
+        return Ok(decisions);
+    }
     propagate_early_returns(alloc, func, env)?;
     Ok(decisions)
 }
@@ -79,6 +83,7 @@ fn prune_scopes(
     requires known { TreeInTables func.old env.old }
     requires spelled { Spells hir.now env.old func.old }
     ensures ok { IfOk result (HasScopesPruned (state func.old env.old) (state func.new env.new)) }
+    ensures still_none { IfOk result (λ told. told.spelled ≡ [] → scopes_in func.new.body ≡ []) }
     ensures still_known { IfOk result (λ told. TreeInTables func.new env.new) }
     ensures kept_runs { NoEarlyReturnSet env.old → IfOk result (λ told. (events : Items Event) (end : End) →
         IsBodyRun func.old env.old events end ↔ IsBodyRun func.new env.new events end) }
@@ -101,7 +106,8 @@ fn prune_scopes(
     Ok(Decisions { spelled, log })
 }
 
-/// Prunes dependencies that aren't reactive from a function without scope blocks. Where there is no scope, none has one.
+/// Prunes dependencies that aren't reactive from a function without scope blocks. If the table has no scope, there is
+/// nothing to prune.
 fn prune_dependencies(
     alloc: Global,
     func: &mut ReactiveFunction,

@@ -5,14 +5,16 @@
 
 ghost use Rattle.std.specs.Prelude.{◌≡◌, ◌≢◌, ◌⊎◌, IfOk, IfErr, OnOk, IsOk, Err};
 ghost use Rattle.rc_hir.specs.KeptNumbers.{KeepsNumbers};
+ghost use Rattle.rc_hir.specs.Model.{Environment};
 ghost use Rattle.rc_hir.specs.Names.{NamesInTables};
 ghost use Rattle.rc_tree.specs.Model.{ReactiveFunction};
 ghost use Rattle.rc_pipe.specs.Headline.{HasAnswer, IsAccepted, IsAnswer, IsCause};
+ghost use Rattle.rc_pipe.specs.declared.pipeline.Pruned.{Pruned as Answer};
 
 use crate::causes::{first_early_return, has_room};
 use crate::fates::fates_of;
 use crate::passes::prune;
-use rc_build::build_known_function;
+use rc_build::{USUAL_STACK, build_known_function};
 use rc_hir::{Environment, Fault, HirFunction, check_names};
 use rc_names::List;
 use rc_tree::{ReactiveFunction, ScopeFate};
@@ -42,7 +44,8 @@ pub struct Pruned {
 /// - `Uninitialised`: the memo record needs a node of a name that has none yet; the fault names the first such name;
 /// - `NoScopeNode`: a scope of a node of the memo record has no record; the fault names the lowest such scope.
 ///
-/// Returns `NoMemory` whenever it runs out of memory. After any other fault the environment is as before. Whatever it
+/// Returns `NoMemory` whenever it runs out of memory: stack is memory, and each level of nesting takes some. This is for
+/// a stack of 8 MiB. After any other fault the environment is as before. Whatever it
 /// returns, no table of the environment is shorter than before, so every number that was in its table still is.
 pub fn build_and_prune(
     alloc: Global,
@@ -50,6 +53,8 @@ pub fn build_and_prune(
     env: &mut Environment,
 ) -> Result<Pruned, Fault>
     ensures ok { IfOk result (IsAnswer hir.now env.old env.new) }
+    ensures one_answer { IfOk result (λ pruned. (answered : Environment) (other : Answer) →
+        IsAnswer hir.now env.old answered other → (answered ≡ env.new) × (other.func ≡ pruned.func)) }
     ensures refused { IfErr result (IsCause hir.now env.old) }
     ensures kept_environment { IfErr result (λ fault. (fault ≡ Fault.NoMemory) ⊎ (env.new ≡ env.old)) }
     ensures kept_numbers { KeepsNumbers env.old env.new }
@@ -59,8 +64,29 @@ pub fn build_and_prune(
     ensures complete { (func : ReactiveFunction) → IsAccepted hir.now env.old → HasAnswer hir.now env.old func
         → IsOk result ⊎ (result ≡ Err Fault.NoMemory) }
 {
+    build_and_prune_within(alloc, hir, env, USUAL_STACK)
+}
+
+/// The same where nesting may take that many bytes of stack. A graph that nests deeper is refused with `NoMemory` before
+/// any call goes down its tree.
+pub fn build_and_prune_within(
+    alloc: Global,
+    hir: &HirFunction,
+    env: &mut Environment,
+    stack: usize,
+) -> Result<Pruned, Fault>
+    ensures ok { IfOk result (IsAnswer hir.now env.old env.new) }
+    ensures one_answer { IfOk result (λ pruned. (answered : Environment) (other : Answer) →
+        IsAnswer hir.now env.old answered other → (answered ≡ env.new) × (other.func ≡ pruned.func)) }
+    ensures refused { IfErr result (IsCause hir.now env.old) }
+    ensures kept_environment { IfErr result (λ fault. (fault ≡ Fault.NoMemory) ⊎ (env.new ≡ env.old)) }
+    ensures kept_numbers { KeepsNumbers env.old env.new }
+    ensures known_names { NamesInTables hir.now env.old → NamesInTables hir.now env.new }
+    ensures complete { (func : ReactiveFunction) → IsAccepted hir.now env.old → HasAnswer hir.now env.old func
+        → IsOk result ⊎ (result ≡ Err Fault.NoMemory) }
+{
     accept(hir, env)?;
-    let mut func = build_known_function(alloc, hir, env)?;
+    let mut func = build_known_function(alloc, hir, env, stack)?;
     let decided = prune(alloc, hir, &mut func, env)?;
     let fates = fates_of(alloc, decided.spelled.as_slice(), decided.log.as_slice())?;
     Ok(Pruned { func, fates })

@@ -1,6 +1,6 @@
 //! The scopes that have a block in the tree that a graph spells.
 //!
-//! Where no block of the graph opens a scope, the tree has no scope block, and it isn't walked.
+//! If no block of the graph opens a scope, the tree has no scope block and isn't walked.
 
 ghost use Rattle.std.specs.Prelude.{◌≡◌, ◌↔◌, [], true, All, IfOk, IsTrue, is_none};
 ghost use Rattle.rc_pipe.specs.inside.OpenedScopes.{OpensNoScope};

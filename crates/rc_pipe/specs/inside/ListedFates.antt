@@ -10,7 +10,7 @@ use Rattle.rc_tree.specs.declared.fate.ScopeFate.{ScopeFate}
 abbrev pub scopes_of : List ℕ → List ScopeId
 scopes_of numbers = map to_id numbers
 
--- what was decided of a scope, or else that fate
+-- the fate that was decided for a scope, or the given one if none was
 abbrev pub decided_or : Option Fate → Fate → Fate
 decided_or None other = other
 decided_or (Some fate) other = fate

@@ -1,10 +1,11 @@
 -- The clauses of the pass on early returns, after those of the other passes.
-use Rattle.std.proofs.Common.{Err, ap, inl}
+use Rattle.std.proofs.Common.{◌≡◌, [], Err, ap, inl, refl, rules}
 use Rattle.std.proofs.lemmas.Result.{err_from_is_err_and}
 use Rattle.rc_pipe.specs.Passes.{state}
 use Rattle.rc_pipe.proofs.EarlyReturnsFit.{new_blocks, only_memory_left, still_room}
 use Rattle.rc_pipe.proofs.EnvironmentStays.{keeps_through}
 use Rattle.rc_pipe.proofs.PassesLemmas.{all_passes, memory_fault, runs_after}
+use Rattle.rc_pipe.proofs.ScopelessPasses.{none_returned}
 use Rattle.rc_pipe.proofs.passes.prune.Goals as goal
 
 pub returns-clause-ok : goal.returns-clause-ok
@@ -12,6 +13,17 @@ returns-clause-ok c =
     let returns = c.in_ok-propagate_early_returns.ensures in
     all_passes c.in_ok-decisions.ensures.ok
     (record { returns = returns.ok; header = returns.header; kept_scopes = returns.kept_scopes })
+
+-- where no scope has a block, early returns are left out
+pub returns-then-is_empty-clause-ok : goal.returns-then-is_empty-clause-ok
+returns-then-is_empty-clause-ok c =
+    let empty : c.in_ok-decisions.decisions.spelled ≡ [] = search rules in
+    let passed = c.in_ok-decisions.ensures in
+    all_passes passed.ok (record {
+      returns = none_returned c.prune_scopes.new.env c.prune_scopes.new.func.body (passed.still_none empty);
+      header = refl;
+      kept_scopes = refl;
+    })
 
 pub returns-clause-still_known : goal.returns-clause-still_known
 returns-clause-still_known c = c.in_ok-propagate_early_returns.ensures.known c.in_ok-decisions.ensures.still_known

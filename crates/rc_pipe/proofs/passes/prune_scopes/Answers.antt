@@ -5,6 +5,8 @@ use Rattle.rc_checks.proofs.MembershipCheck.WithoutBlocks.{inside_without_blocks
 use Rattle.rc_checks.proofs.ScopeBlocks.SpelledOnce.{spelled_once}
 use Rattle.rc_escape.specs.Outputs.{staying_scopes}
 use Rattle.rc_runs.specs.Erase.{erased}
+use Rattle.rc_tree.specs.Model.{ReactiveFunction}
+use Rattle.rc_tree.specs.ScopesIn.{scopes_in}
 use Rattle.rc_pipe.specs.Passes.{state}
 use Rattle.rc_pipe.proofs.EnvironmentStays.{keeps_own}
 use Rattle.rc_pipe.proofs.PassesLemmas.{checked, escape_fault, labels_keep_once, labels_keep_scopes, memory_fault}
@@ -55,6 +57,17 @@ returns-then-is_empty-clause-ok c =
       told = sym (append-nil c.in_ok-log.log);
       needed = escape.needed;
     }
+
+-- and the tree has no scope block after them
+pub returns-then-is_empty-clause-still_none : goal.returns-then-is_empty-clause-still_none
+returns-then-is_empty-clause-still_none c = λ empty.
+    let without = c.in_ok-log.ensures.ok.without in
+    ap (λ (func : ReactiveFunction). scopes_in func.body) c.in_ok-prune_dependencies.ensures.ok.kept_function
+    ∙ (without.left ∙ ap (staying_scopes c.args.env.now without.set) (sym c.in_ok-spelled.ensures.listed ∙ empty))
+
+pub returns-clause-still_none : goal.returns-clause-still_none
+returns-clause-still_none c = λ empty.
+    let filled : ¬ (c.in_ok-spelled.spelled ≡ []) = search rules in absurd (filled empty)
 
 pub prune_dependencies-requires-clause-known : goal.prune_dependencies-requires-clause-known
 prune_dependencies-requires-clause-known c = c.in_ok-log.ensures.known c.in_ok-spelled.ensures.still_known

@@ -9,8 +9,9 @@ use Rattle.rc_pipe.proofs.CausesLemmas.{build_cause, only_memory}
 use Rattle.rc_pipe.proofs.EnvironmentStays.{keeps_own}
 use Rattle.rc_pipe.proofs.FatesHold.{among, fates_told, kept_exactly, none_needed, whole_record}
 use Rattle.rc_pipe.proofs.FreshHolds.{fates_dissolve_fresh, fates_join_fresh, fates_parts_fresh}
+use Rattle.rc_pipe.proofs.OneAnswer.{one_answer}
 use Rattle.rc_pipe.proofs.PassesLemmas.{graph_header, pass_cause}
-use Rattle.rc_pipe.proofs.pipeline.build_and_prune.Goals as goal
+use Rattle.rc_pipe.proofs.pipeline.build_and_prune_within.Goals as goal
 
 pub returns-clause-ok : goal.returns-clause-ok
 returns-clause-ok c =
@@ -47,6 +48,12 @@ returns-clause-ok c =
       dissolves_fresh = fates_dissolve_fresh parts.passes fates by_rules;
       known = c.in_ok-decided.ensures.still_known;
     }
+
+-- an answer is the only one
+pub returns-clause-one_answer : goal.returns-clause-one_answer
+returns-clause-one_answer c = λ answered other is.
+    one_answer c.args.hir.now c.args.env.now answered c.prune.new.env other
+    (record { func = c.prune.new.func; fates = c.in_ok-fates.fates }) is (returns-clause-ok c)
 
 pub returns-in_err-accept-clause-complete : goal.returns-in_err-accept-clause-complete
 returns-in_err-accept-clause-complete c =
