@@ -42,11 +42,15 @@ def object_of(fields, tag=None):
     return {"type": "object", "properties": properties, "required": required, "additionalProperties": False}
 
 
+def is_variant(name):
+    """Whether a value is an object with this `k`."""
+    return {"type": "object", "properties": {"k": {"const": name}}, "required": ["k"]}
+
+
 def tagged(type_):
     """One of the variants with fields, by its `k`."""
     names = [it.name for it in type_.tagged()]
-    chosen = [{"if": {"properties": {"k": {"const": name}}, "required": ["k"]}, "then": ref(f"{type_.name}.{name}")}
-              for name in names]
+    chosen = [{"if": is_variant(name), "then": ref(f"{type_.name}.{name}")} for name in names]
     return {"type": "object", "properties": {"k": {"description": "The variant.", "enum": names}}, "required": ["k"],
             "allOf": chosen}
 
