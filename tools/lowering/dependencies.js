@@ -1,0 +1,90 @@
+'use strict';
+// What the scopes of a function depend on, declare and reassign.
+const { placesIn, operandsOf, operandsOfTerminal, targetsOf } = require('./operands.js');
+
+class Description {
+  constructor(graph, reactive) {
+    Object.assign(this, { graph, env: graph.env, reactive, first: new Map(), loads: new Map(), told: new Set() });
+    placesIn(graph.params).forEach(it => this.first.set(it.identifier, { id: 0, around: [] }));
+    for (const { rows, terminal } of graph.ordered) {
+      if (terminal.k === 'Scope' || terminal.k === 'PrunedScope') this.setRange(terminal);
+      rows.forEach(row => this.noteDefinition(row));
+    }
+  }
+
+  setRange(terminal) {
+    this.env.scopes[terminal.scope].range = { start: terminal.id, end: this.graph.blocks.get(terminal.fallthrough).first };
+  }
+
+  noteDefinition(row) {
+    for (const { identifier } of [row.lvalue, ...targetsOf(row.value)]) {
+      if (!this.first.has(identifier)) this.first.set(identifier, row);
+    }
+    if (['LoadLocal', 'PropertyLoad'].includes(row.value.k)) this.loads.set(row.lvalue.identifier, row.value);
+  }
+
+  // Whether something is told for the first time.
+  isNew(...parts) {
+    const key = parts.join(' ');
+    return !this.told.has(key) && this.told.add(key);
+  }
+
+  // A temporary as a name, and the properties that lead from it.
+  pathOf(identifier) {
+    const path = [];
+    let name = identifier;
+    for (let load; this.env.identifiers[name].name === null && (load = this.loads.get(name));) {
+      if (load.k === 'PropertyLoad') path.unshift({ property: load.property });
+      name = (load.place || load.object).identifier;
+    }
+    return { name, path };
+  }
+
+  // A use of a name: scopes that make it, and not the use, declare it; scopes around the use alone depend on it.
+  use({ identifier }, around) {
+    const made = this.first.get(identifier);
+    if (!made) return;
+    made.around.filter(it => !around.includes(it)).forEach(it => this.declare(it, identifier, made.around.at(-1)));
+    const { name, path } = this.pathOf(identifier);
+    const root = this.first.get(name);
+    if (!root || (root.value && ['LoadGlobal', 'Primitive'].includes(root.value.k))) return;
+    around.filter(it => !root.around.includes(it) && root.id < this.env.scopes[it].range.start).forEach(it => this.depend(it, name, path));
+  }
+
+  declare(scope, identifier, inner) {
+    if (this.isNew('declares', scope, identifier)) {
+      this.env.scopes[scope].declarations.push({ key: identifier, value: { identifier, scope: inner } });
+    }
+  }
+
+  depend(scope, identifier, path) {
+    const steps = path.map(it => it.property.v);
+    if (steps.some((_, index) => this.told.has(['depends', scope, identifier, ...steps.slice(0, index)].join(' ')))) return;
+    if (!this.isNew('depends', scope, identifier, ...steps)) return;
+    this.env.scopes[scope].dependencies.push({ identifier, reactive: this.reactive.has(identifier), path });
+  }
+
+  // A name that is declared outside of the innermost scope around a row that writes it.
+  reassign({ identifier }, around) {
+    const scope = around.at(-1);
+    const made = this.first.get(identifier);
+    if (scope === undefined || made.around.includes(scope) || !this.isNew('reassigns', scope, identifier)) return;
+    this.env.scopes[scope].reassignments.push(identifier);
+  }
+
+  tell() {
+    for (const { rows, terminal, around } of this.graph.ordered) {
+      for (const row of rows) {
+        operandsOf(this.env, row.value).forEach(it => this.use(it, around));
+        targetsOf(row.value).forEach(it => this.reassign(it, around));
+      }
+      operandsOfTerminal(terminal).forEach(it => this.use(it, around));
+    }
+  }
+}
+
+function describeScopes(graph, reactive) {
+  new Description(graph, reactive).tell();
+}
+
+module.exports = { describeScopes };

@@ -1,0 +1,58 @@
+'use strict';
+// Rows that read, write and delete properties.
+const { Type } = require('./environment.js');
+
+const isHook = name => /^use[A-Z0-9]/.test(name);
+// Objects of the platform whose methods give no alias of an argument.
+const NO_ALIAS = new Set(['Math', 'JSON', 'console', 'Number', 'Date', 'Reflect']);
+
+const isConstant = node => node.type === 'Literal' && ['string', 'number'].includes(typeof node.value);
+
+module.exports = {
+  // The name of a property that isn't computed, or null.
+  propertyName({ computed, property }) {
+    if (property.type === 'PrivateIdentifier') this.unsupported('a private name');
+    if (!computed) return { k: 'String', v: property.name };
+    if (!isConstant(property)) return null;
+    return typeof property.value === 'number' ? { k: 'Number', v: property.raw } : { k: 'String', v: property.value };
+  },
+
+  typeOfProperty({ object, computed, property }) {
+    if (computed) return Type.OTHER;
+    if (isHook(property.name)) return Type.HOOK;
+    if (object.type === 'Identifier' && !this.env.isLocal(object.binding) && NO_ALIAS.has(object.name)) return Type.NO_ALIAS;
+    return property.name === 'length' ? Type.PRIMITIVE : Type.OTHER;
+  },
+
+  objectOf(node) {
+    if (node.object.type === 'Super') this.unsupported('super');
+    return this.expression(node.object);
+  },
+
+  // Reads a property, of an object that may be known already. Returns the object too.
+  member(node, known = null) {
+    const object = known || this.objectOf(node);
+    const name = this.propertyName(node);
+    if (name) return { object, value: this.give({ k: 'PropertyLoad', object, property: name }, this.typeOfProperty(node)) };
+    const property = this.expression(node.property);
+    return { object, value: this.give({ k: 'ComputedLoad', object, property }) };
+  },
+
+  storeMember(node, known, value) {
+    const object = (known || this.objectOf(node)).as('Store');
+    const name = this.propertyName(node);
+    const stored = value.as('Capture');
+    const type = this.env.typeOf(value);
+    if (name) return this.give({ k: 'PropertyStore', object, property: name, value: stored }, type);
+    return this.give({ k: 'ComputedStore', object, property: this.expression(node.property), value: stored }, type);
+  },
+
+  // delete of a property.
+  remove(node) {
+    if (node.type !== 'MemberExpression') this.unsupported('delete of what is no property');
+    const object = this.objectOf(node).as('Mutate');
+    const name = this.propertyName(node);
+    if (name) return this.give({ k: 'PropertyDelete', object, property: name }, Type.PRIMITIVE);
+    return this.give({ k: 'ComputedDelete', object, property: this.expression(node.property) }, Type.PRIMITIVE);
+  },
+};
