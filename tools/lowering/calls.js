@@ -1,8 +1,7 @@
 'use strict';
 // Lowers calls and JSX elements.
-const { Type } = require('./environment.js');
+const { isHook, Type } = require('./environment.js');
 
-const isHook = name => /^use[A-Z0-9]/.test(name);
 // Methods that change their receiver.
 const MUTATING = new Set(['push', 'pop', 'shift', 'unshift', 'splice', 'sort', 'reverse', 'fill', 'set', 'add', 'delete', 'clear',
   'append', 'insert']);

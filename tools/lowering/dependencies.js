@@ -47,7 +47,7 @@ class Description {
     made.around.filter(it => !around.includes(it)).forEach(it => this.declare(it, identifier, made.around.at(-1)));
     const { name, path } = this.pathOf(identifier);
     const root = this.first.get(name);
-    if (!root || (root.value && ['LoadGlobal', 'Primitive'].includes(root.value.k))) return;
+    if (!root || (root.value && ['LoadGlobal', 'Primitive', 'JSXText'].includes(root.value.k))) return;
     around.filter(it => !root.around.includes(it) && root.id < this.env.scopes[it].range.start).forEach(it => this.depend(it, name, path));
   }
 
@@ -57,11 +57,14 @@ class Description {
     }
   }
 
-  depend(scope, identifier, path) {
-    const steps = path.map(it => it.property.v);
-    if (steps.some((_, index) => this.told.has(['depends', scope, identifier, ...steps.slice(0, index)].join(' ')))) return;
-    if (!this.isNew('depends', scope, identifier, ...steps)) return;
-    this.env.scopes[scope].dependencies.push({ identifier, reactive: this.reactive.has(identifier), path });
+  // Adds a path, unless one that it goes on from is listed; those that go on from it are dropped.
+  depend(index, identifier, path) {
+    const scope = this.env.scopes[index];
+    const goesOnFrom = (longer, shorter) => longer.identifier === shorter.identifier
+      && shorter.path.every((step, at) => longer.path[at] && longer.path[at].property.v === step.property.v);
+    const added = { identifier, reactive: this.reactive.has(identifier), path };
+    if (scope.dependencies.some(it => goesOnFrom(added, it))) return;
+    scope.dependencies = [...scope.dependencies.filter(it => !goesOnFrom(it, added)), added];
   }
 
   // A name that is declared outside of the innermost scope around a row that writes it.

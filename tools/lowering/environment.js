@@ -35,6 +35,8 @@ const Type = {
 const SHAPES = [{ hook: true }, { no_alias: true }];
 const STABLE = new Set([Type.REF, Type.SET_STATE, Type.DISPATCH]);
 
+const isHook = name => /^use[A-Z0-9]/.test(name);
+
 class Environment {
   constructor(root) {
     this.root = root;
@@ -100,4 +102,4 @@ function withoutNulls(object) {
   return Object.fromEntries(Object.entries(object).filter(([, value]) => value !== null && value !== undefined));
 }
 
-module.exports = { Environment, Place, STABLE, Type, Unsupported, withoutNulls };
+module.exports = { Environment, isHook, Place, STABLE, Type, Unsupported, withoutNulls };

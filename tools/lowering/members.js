@@ -1,8 +1,7 @@
 'use strict';
 // Rows that read, write and delete properties.
-const { Type } = require('./environment.js');
+const { isHook, Type } = require('./environment.js');
 
-const isHook = name => /^use[A-Z0-9]/.test(name);
 // Objects of the platform whose methods give no alias of an argument.
 const NO_ALIAS = new Set(['Math', 'JSON', 'console', 'Number', 'Date', 'Reflect']);
 

@@ -1,9 +1,8 @@
 'use strict';
 // Rows that read, declare and write names.
-const { Place, Type, Unsupported } = require('./environment.js');
+const { isHook, Place, Type, Unsupported } = require('./environment.js');
 const { idsOf } = require('./names.js');
 
-const isHook = name => /^use[A-Z0-9]/.test(name);
 // Functions of the platform whose result is no alias of an argument.
 const NO_ALIAS = new Set(['String', 'Number', 'Boolean', 'parseInt', 'parseFloat', 'isNaN', 'isFinite', 'Symbol', 'BigInt']);
 
