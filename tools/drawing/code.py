@@ -3,7 +3,7 @@ import json
 
 
 class Names:
-    """The names of a document's identifiers. A temporary is a dollar sign and its number."""
+    """The names of a document's identifiers. A temporary, and what a pass added, is a dollar sign and its number."""
 
     def __init__(self, env):
         self.identifiers = env["identifiers"]
@@ -14,7 +14,7 @@ class Names:
         return (identifier.get("name") or {}).get("v", "")
 
     def of(self, number):
-        text = self.text(self.identifiers[number])
+        text = self.text(self.identifiers[number]) if number < len(self.identifiers) else ""
         return f"{text}${number}" if not text or text in self.repeated else text
 
     def place(self, place):
