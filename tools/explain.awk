@@ -34,7 +34,9 @@ BEGIN {
     if (!is_name && word !~ /^[0-9]+$/)
         exit
     # A status, fault or rule in a sentence: its name in code, or its number after the word.
-    in_text = is_name ? "`" word "`" : "(^|[^0-9])(status|statuses|faults?|signal,?|with) ([0-9]+,? |and )*" word "([^0-9]|$)"
+    in_text = "`" word "`"
+    if (!is_name)
+        in_text = "(^|[^0-9])(status|statuses|faults?|with) ([0-9]+,? |and )*" word "([^0-9]|$)"
 }
 
 /^\|/ {

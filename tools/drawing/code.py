@@ -71,11 +71,16 @@ def primitive(names, it):
 
 def element(names, it):
     tag = it["tag"]["v"] if it["tag"]["k"] == "Builtin" else names.place(it["tag"]["v"])
-    props = [f" {p['name']}={{{names.place(p['place'])}}}" if p["k"] == "Attribute" else f" {{...{names.place(p['argument'])}}}"
-             for p in it["props"]]
+    props = "".join(attribute(names, part) for part in it["props"])
     if it.get("children") is None:
-        return f"<{tag}{''.join(props)} />"
-    return f"<{tag}{''.join(props)}>{children(names, it)}</{tag}>"
+        return f"<{tag}{props} />"
+    return f"<{tag}{props}>{children(names, it)}</{tag}>"
+
+
+def attribute(names, it):
+    if it["k"] == "SpreadAttribute":
+        return f" {{...{names.place(it['argument'])}}}"
+    return f" {it['name']}={{{names.place(it['place'])}}}"
 
 
 def children(names, it):

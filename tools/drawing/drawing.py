@@ -4,8 +4,8 @@ import html, json, re
 import answer, code
 
 # The fates of which a scope's block stays, and why the others have none.
-COLOURS = {"kept": "#c8e6c9", "not-escaping": "#ffe0b2", "unused": "#e0e0e0", "merged": "#bbdefb", "dissolved": "#bbdefb",
-           "always-invalidating": "#ffcdd2"}
+COLOURS = {"kept": "#c8e6c9", "not-escaping": "#ffe0b2", "unused": "#e0e0e0", "merged": "#bbdefb",
+           "dissolved": "#bbdefb", "always-invalidating": "#ffcdd2"}
 LINE, INDENT, MARGIN, COLUMN, MOST = 17, 14, 12, 7.3, 150
 
 
@@ -35,7 +35,8 @@ class Picture:
         scope = self.env["scopes"][number]
         depends = ", ".join(map(self.path, scope.get("dependencies") or [])) or "nothing"
         declares = ", ".join(self.names.of(it["key"]) for it in scope.get("declarations") or []) or "nothing"
-        return f"scope {number}, {self.answer.fates.get(number)}; the document has: depends on {depends}; declares {declares}"
+        fate = self.answer.fates.get(number)
+        return f"scope {number}, {fate}; in the document it depends on {depends}, and declares {declares}"
 
     def statement(self, text):
         """A printed line as code."""
@@ -76,8 +77,8 @@ class Picture:
         gone = self.gone()
         height = top + LINE * (len(self.lines) + len(gone) + 2)
         parts = [f'<svg xmlns="http://www.w3.org/2000/svg" width="{width}" height="{height}" '
-                 'font-family="monospace" font-size="12">',
-                 '<rect width="100%" height="100%" fill="white"/>', text(MARGIN, LINE, self.head(), ' font-weight="bold"')]
+                 'font-family="monospace" font-size="12">', '<rect width="100%" height="100%" fill="white"/>',
+                 text(MARGIN, LINE, self.head(), ' font-weight="bold"')]
         for index, line in enumerate(self.lines):
             parts += self.drawn(line, top + LINE * index, width)
         for index, (number, fate) in enumerate(gone):
@@ -87,8 +88,10 @@ class Picture:
         return "\n".join([*parts, "</svg>", ""])
 
     def drawn(self, line, y, width):
-        fates = [self.answer.fates.get(it, "") for it in line.scopes]
-        boxes = [box(MARGIN + INDENT * at, y, width - 2 * (MARGIN + INDENT * at), colour(fate)) for at, fate in enumerate(fates)]
+        boxes = []
+        for level, scope in enumerate(line.scopes):
+            x = MARGIN + INDENT * level
+            boxes.append(box(x, y, width - 2 * x, colour(self.answer.fates.get(scope, ""))))
         return [*boxes, text(MARGIN + 4 + INDENT * line.depth, y + 12, line.text)]
 
 

@@ -75,8 +75,8 @@ def defs(types):
     found = {
         "Span": {"description": "Start and end in the source.", **SPAN},
         "Place": {
-            "description": "A use of an identifier: its number alone, which means effect Read, not reactive, no span; or "
-                           "an array of identifier, effect, whether it is reactive, and perhaps a span.",
+            "description": "A use of an identifier: its number alone, which means effect Read, not reactive and no "
+                           "span; or an array of identifier, effect, whether it is reactive, and perhaps a span.",
             "type": ["integer", "array"], "minimum": 0, "maximum": 4294967295,
             "prefixItems": [ref("IdentifierId"), ref("Effect"), {"type": "boolean"}, ref("Span")],
             "minItems": 3, "maxItems": 4,
@@ -86,8 +86,9 @@ def defs(types):
         form = {"number": lambda it: NUMBER, "struct": lambda it: object_of(it.fields), "enum": enum}[type_.kind](type_)
         found[type_.name] = {"description": meaning(type_), **form}
         for variant in type_.tagged():
-            found[f"{type_.name}.{variant.name}"] = {
-                "title": variant.name, "description": sentence(variant.means), **object_of(variant.fields, variant.name)}
+            form = object_of(variant.fields, variant.name)
+            said = {"title": variant.name, "description": sentence(variant.means)}
+            found[f"{type_.name}.{variant.name}"] = {**said, **form}
     return found
 
 

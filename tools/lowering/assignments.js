@@ -19,7 +19,7 @@ module.exports = {
   orDefault(value, node) {
     const isUndefined = () => {
       const right = this.undefined();
-      return this.give({ k: 'BinaryExpression', operator: '===', left: value, right }, Type.PRIMITIVE);
+      return this.binary('===', value, right);
     };
     return this.ternary(isUndefined, () => this.expression(node), () => value);
   },
@@ -53,8 +53,10 @@ module.exports = {
 
   objectPattern(target, slot) {
     const keys = target.properties.map(it => (it.type === 'RestElement' ? null : this.key(it)));
-    const properties = target.properties.map((it, index) => (it.type === 'RestElement'
-      ? { k: 'Spread', v: { place: slot(it.argument) } } : { k: 'Property', v: { key: keys[index], place: slot(it.value) } }));
+    const properties = target.properties.map((it, index) => {
+      if (it.type === 'RestElement') return { k: 'Spread', v: { place: slot(it.argument) } };
+      return { k: 'Property', v: { key: keys[index], place: slot(it.value) } };
+    });
     return { k: 'Object', properties };
   },
 
@@ -64,7 +66,7 @@ module.exports = {
     if (['&&=', '||=', '??='].includes(operator)) return this.logicalAssignment(node);
     const known = this.read(left);
     const right = this.expression(node.right);
-    const value = this.give({ k: 'BinaryExpression', operator: operator.slice(0, -1), left: known.value, right }, Type.PRIMITIVE);
+    const value = this.binary(operator.slice(0, -1), known.value, right);
     this.writeBack(left, known, value);
     return value;
   },
@@ -104,7 +106,7 @@ module.exports = {
     }
     const known = this.read(argument);
     const right = this.give({ k: 'Primitive', value: { k: 'Number', v: '1' } }, Type.PRIMITIVE);
-    const value = this.give({ k: 'BinaryExpression', operator: operator[0], left: known.value, right }, Type.PRIMITIVE);
+    const value = this.binary(operator[0], known.value, right);
     this.writeBack(argument, known, value);
     return prefix ? value : known.value;
   },

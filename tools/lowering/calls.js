@@ -3,11 +3,13 @@
 const { isHook, Type } = require('./environment.js');
 
 // Methods that change their receiver.
-const MUTATING = new Set(['push', 'pop', 'shift', 'unshift', 'splice', 'sort', 'reverse', 'fill', 'set', 'add', 'delete', 'clear',
-  'append', 'insert']);
+const MUTATING = new Set([
+  'push', 'pop', 'shift', 'unshift', 'splice', 'sort', 'reverse', 'fill', 'set', 'add', 'delete', 'clear', 'append', 'insert',
+]);
 const RESULTS = {
   useRef: Type.REF, map: Type.ARRAY, filter: Type.ARRAY, slice: Type.ARRAY, split: Type.ARRAY, join: Type.PRIMITIVE,
-  indexOf: Type.PRIMITIVE, includes: Type.PRIMITIVE, toString: Type.PRIMITIVE, test: Type.PRIMITIVE, trim: Type.PRIMITIVE,
+  indexOf: Type.PRIMITIVE, includes: Type.PRIMITIVE, test: Type.PRIMITIVE, trim: Type.PRIMITIVE,
+  toString: Type.PRIMITIVE,
 };
 
 function nameOf(callee) {
@@ -60,8 +62,9 @@ module.exports = {
   },
 
   attribute(node) {
-    if (node.type === 'JSXSpreadAttribute') return { k: 'SpreadAttribute', argument: this.expression(node.argument).as('Freeze') };
-    return { k: 'Attribute', name: node.name, place: this.expression(node.value).as('Freeze') };
+    const place = this.expression(node.argument || node.value).as('Freeze');
+    if (node.type === 'JSXSpreadAttribute') return { k: 'SpreadAttribute', argument: place };
+    return { k: 'Attribute', name: node.name, place };
   },
 
   // A JSX element, or a fragment where it has no name.

@@ -1,7 +1,8 @@
 'use strict';
 // Lowers optional chains. All steps of a chain share the arm that gives undefined.
 
-const inner = node => (node.type === 'ChainExpression' || node.type === 'ParenthesizedExpression' ? inner(node.expression) : node);
+// A node without the brackets around it.
+const inner = node => (['ChainExpression', 'ParenthesizedExpression'].includes(node.type) ? inner(node.expression) : node);
 
 // Whether there is a ?. in a chain, at its end or before.
 function isOptional(node) {
@@ -21,17 +22,19 @@ module.exports = {
     const [test, consequent, next] = [this.newBlock(), this.newBlock(), this.newBlock()];
     const place = this.env.newPlace();
     const short = shared === null ? this.arm(place, next, () => this.undefined()) : shared;
+    const isMember = node.type === 'MemberExpression';
     let known;
     this.within(test, () => {
-      known = node.type === 'MemberExpression' ? { value: this.part(node.object, short) } : this.callee(node.callee, short);
+      known = isMember ? { value: this.part(node.object, short) } : this.callee(node.callee, short);
       return this.branch(known.value, consequent.id, short);
     });
     this.within(consequent, () => {
       this.answer(place, this.rest(node, known));
       return this.jump(next);
     });
-    this.valueOf({ k: 'Optional', optional: Boolean(node.optional), test: test.id, fallthrough: next.id, isShared: shared !== null }, next, place);
-    return { value: place, object: node.type === 'MemberExpression' ? known.value : null };
+    const terminal = { k: 'Optional', optional: Boolean(node.optional), test: test.id, fallthrough: next.id };
+    this.valueOf({ ...terminal, isShared: shared !== null }, next, place);
+    return { value: place, object: isMember ? known.value : null };
   },
 
   // The object of a step, which may be a step itself.

@@ -13,7 +13,8 @@ class Description {
   }
 
   setRange(terminal) {
-    this.env.scopes[terminal.scope].range = { start: terminal.id, end: this.graph.blocks.get(terminal.fallthrough).first };
+    const end = this.graph.blocks.get(terminal.fallthrough).first;
+    this.env.scopes[terminal.scope].range = { start: terminal.id, end };
   }
 
   noteDefinition(row) {
@@ -48,7 +49,8 @@ class Description {
     const { name, path } = this.pathOf(identifier);
     const root = this.first.get(name);
     if (!root || (root.value && ['LoadGlobal', 'Primitive', 'JSXText'].includes(root.value.k))) return;
-    around.filter(it => !root.around.includes(it) && root.id < this.env.scopes[it].range.start).forEach(it => this.depend(it, name, path));
+    const isBefore = scope => !root.around.includes(scope) && root.id < this.env.scopes[scope].range.start;
+    around.filter(isBefore).forEach(it => this.depend(it, name, path));
   }
 
   declare(scope, identifier, inner) {

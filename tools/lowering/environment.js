@@ -26,11 +26,12 @@ class Place {
 const TYPES = [
   'Other', 'Primitive', { k: 'Object', shape: 'Array' }, { k: 'Object', shape: 'Object' },
   { k: 'Function', shape: 'Function' }, { k: 'Object', shape: 'Jsx' }, { k: 'Object', shape: 'UseRef' },
-  { k: 'Function', shape: 'SetState' }, { k: 'Function', shape: 'Dispatch' }, { k: 'Function', shape: { k: 'Row', v: 0 } },
-  { k: 'Function', shape: { k: 'Row', v: 1 } },
+  { k: 'Function', shape: 'SetState' }, { k: 'Function', shape: 'Dispatch' },
+  { k: 'Function', shape: { k: 'Row', v: 0 } }, { k: 'Function', shape: { k: 'Row', v: 1 } },
 ];
 const Type = {
-  OTHER: 0, PRIMITIVE: 1, ARRAY: 2, OBJECT: 3, FUNCTION: 4, JSX: 5, REF: 6, SET_STATE: 7, DISPATCH: 8, HOOK: 9, NO_ALIAS: 10,
+  OTHER: 0, PRIMITIVE: 1, ARRAY: 2, OBJECT: 3, FUNCTION: 4, JSX: 5, REF: 6, SET_STATE: 7, DISPATCH: 8, HOOK: 9,
+  NO_ALIAS: 10,
 };
 const SHAPES = [{ hook: true }, { no_alias: true }];
 const STABLE = new Set([Type.REF, Type.SET_STATE, Type.DISPATCH]);

@@ -33,7 +33,8 @@ const SHORT = {
   AssignmentExpression(node) { return this.assignment(node); },
   MetaProperty(node) { return this.give({ k: 'MetaProperty', meta: node.meta.name, property: node.property.name }); },
   ConditionalExpression(node) {
-    return this.ternary(() => this.expression(node.test), () => this.expression(node.consequent), () => this.expression(node.alternate));
+    const [test, consequent, alternate] = [node.test, node.consequent, node.alternate].map(it => () => this.expression(it));
+    return this.ternary(test, consequent, alternate);
   },
   LogicalExpression(node) {
     return this.logical(node.operator, () => this.expression(node.left), () => this.expression(node.right));
@@ -41,7 +42,7 @@ const SHORT = {
   BinaryExpression(node) {
     if (node.left.type === 'PrivateIdentifier') this.unsupported('a private name');
     const left = this.expression(node.left);
-    return this.give({ k: 'BinaryExpression', operator: node.operator, left, right: this.expression(node.right) }, Type.PRIMITIVE);
+    return this.binary(node.operator, left, this.expression(node.right));
   },
   NewExpression(node) {
     const callee = this.expression(node.callee);
@@ -49,11 +50,13 @@ const SHORT = {
   },
   TemplateLiteral(node) {
     const subexprs = node.expressions.map(it => this.expression(it));
-    return this.give({ k: 'TemplateLiteral', subexprs, quasis: node.quasis.map(it => wellFormed(it.value.raw)) }, Type.PRIMITIVE);
+    const quasis = node.quasis.map(it => wellFormed(it.value.raw));
+    return this.give({ k: 'TemplateLiteral', subexprs, quasis }, Type.PRIMITIVE);
   },
   TaggedTemplateExpression(node) {
     if (node.quasi.expressions.length) this.unsupported('a tagged template with expressions');
-    return this.give({ k: 'TaggedTemplateExpression', tag: this.expression(node.tag), quasi: wellFormed(node.quasi.quasis[0].value.raw) });
+    const tag = this.expression(node.tag);
+    return this.give({ k: 'TaggedTemplateExpression', tag, quasi: wellFormed(node.quasi.quasis[0].value.raw) });
   },
 };
 
@@ -61,6 +64,10 @@ module.exports = {
   expression(node) {
     const lower = SHORT[node.type] || this[node.type];
     return lower ? lower.call(this, node) : this.unsupported(`${node.type}`);
+  },
+
+  binary(operator, left, right) {
+    return this.give({ k: 'BinaryExpression', operator, left, right }, Type.PRIMITIVE);
   },
 
   ArrayExpression(node) {
@@ -104,7 +111,8 @@ module.exports = {
 
   UnaryExpression(node) {
     if (node.operator === 'delete') return this.remove(node.argument);
-    return this.give({ k: 'UnaryExpression', operator: node.operator, value: this.expression(node.argument) }, Type.PRIMITIVE);
+    const value = this.expression(node.argument);
+    return this.give({ k: 'UnaryExpression', operator: node.operator, value }, Type.PRIMITIVE);
   },
 
   // Goes on after a terminal that is a value, which gives that place.

@@ -18,7 +18,8 @@ function say(...lines) {
 
 // The document of each function that can be lowered, and what can't be said of the others.
 function lowerAll(file) {
-  const functions = functionsOf(parse(fs.readFileSync(file, 'utf8'), file.endsWith('.mjs'))).filter(it => !it.parentFunction);
+  const program = parse(fs.readFileSync(file, 'utf8'), file.endsWith('.mjs'));
+  const functions = functionsOf(program).filter(it => !it.parentFunction);
   const found = new Map();
   functions.forEach((node, index) => {
     const name = (node.id && node.id.name) || node.givenName || `function${index}`;

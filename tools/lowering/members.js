@@ -19,8 +19,9 @@ module.exports = {
   typeOfProperty({ object, computed, property }) {
     if (computed) return Type.OTHER;
     if (isHook(property.name)) return Type.HOOK;
-    if (object.type === 'Identifier' && !this.env.isLocal(object.binding) && NO_ALIAS.has(object.name)) return Type.NO_ALIAS;
-    return property.name === 'length' ? Type.PRIMITIVE : Type.OTHER;
+    if (property.name === 'length') return Type.PRIMITIVE;
+    const isGlobal = object.type === 'Identifier' && !this.env.isLocal(object.binding);
+    return isGlobal && NO_ALIAS.has(object.name) ? Type.NO_ALIAS : Type.OTHER;
   },
 
   objectOf(node) {
@@ -32,9 +33,10 @@ module.exports = {
   member(node, known = null) {
     const object = known || this.objectOf(node);
     const name = this.propertyName(node);
-    if (name) return { object, value: this.give({ k: 'PropertyLoad', object, property: name }, this.typeOfProperty(node)) };
-    const property = this.expression(node.property);
-    return { object, value: this.give({ k: 'ComputedLoad', object, property }) };
+    const value = name
+      ? this.give({ k: 'PropertyLoad', object, property: name }, this.typeOfProperty(node))
+      : this.give({ k: 'ComputedLoad', object, property: this.expression(node.property) });
+    return { object, value };
   },
 
   storeMember(node, known, value) {

@@ -104,8 +104,9 @@ class Linker {
   }
 
   declareImport(specifier, statement, scope) {
-    const imported = specifier.imported ? specifier.imported.name || specifier.imported.value : specifier.local.name;
-    scope.declare(specifier.local, 'import').module = { name: String(imported), module: String(statement.source.value) };
+    const { name, value } = specifier.imported || specifier.local;
+    const binding = scope.declare(specifier.local, 'import');
+    binding.module = { name: String(name || value), module: String(statement.source.value) };
   }
 
   use(id, scope, owner, isWritten) {
@@ -181,9 +182,11 @@ class Linker {
     const inner = new Scope(scope, owner);
     const first = node.init || node.left;
     if (first) this.declareStatement(first, inner);
-    if (node.type === 'ForStatement') return this.visitAll([node.init, node.test, node.update, node.body], inner, owner);
+    if (node.type === 'ForStatement') {
+      return this.visitAll([node.init, node.test, node.update, node.body], inner, owner);
+    }
     this.visit(node.right, inner, owner);
-    if (first.type === 'VariableDeclaration') first.declarations.forEach(it => this.pattern(it.id, inner, owner, false));
+    if (first.type === 'VariableDeclaration') this.pattern(first.declarations[0].id, inner, owner, false);
     else this.pattern(first, inner, owner, true);
     return this.visit(node.body, inner, owner);
   }

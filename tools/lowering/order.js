@@ -5,12 +5,12 @@
 function successors(terminal) {
   switch (terminal.k) {
     case 'If': case 'Branch': return [terminal.consequent, terminal.alternate];
-    case 'Switch': return [...terminal.cases.map(it => it.block), ...(terminal.cases.some(it => !it.test) ? [] : [terminal.fallthrough])];
+    case 'Switch': return terminal.cases.map(it => it.block);
     case 'DoWhile': return [terminal.loop_block];
     case 'While': case 'Logical': case 'Ternary': case 'Optional': return [terminal.test];
     case 'For': case 'ForOf': case 'ForIn': return [terminal.init];
     case 'Sequence': case 'Label': case 'Scope': case 'PrunedScope': case 'Try': case 'Goto': return [terminal.block];
-    case 'MaybeThrow': return terminal.handler === null ? [terminal.continuation] : [terminal.continuation, terminal.handler];
+    case 'MaybeThrow': return [terminal.continuation, terminal.handler].filter(it => it !== null);
     default: return [];
   }
 }
@@ -21,15 +21,19 @@ function reached(graph) {
   return found;
 }
 
+function labeled(block, { fallthrough }) {
+  return { k: 'Label', block, fallthrough };
+}
+
 // A terminal without the parts that are never reached.
 function pruned(terminal, found) {
   switch (terminal.k) {
     case 'For':
       return found.has(terminal.update) ? terminal : { ...terminal, update: null };
     case 'DoWhile':
-      return found.has(terminal.test) ? terminal : { k: 'Label', block: terminal.loop_block, fallthrough: terminal.fallthrough };
+      return found.has(terminal.test) ? terminal : labeled(terminal.loop_block, terminal);
     case 'Try':
-      return found.has(terminal.handler) ? terminal : { k: 'Label', block: terminal.block, fallthrough: terminal.fallthrough };
+      return found.has(terminal.handler) ? terminal : labeled(terminal.block, terminal);
     default: return terminal;
   }
 }

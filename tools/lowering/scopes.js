@@ -4,8 +4,10 @@
 const { Type } = require('./environment.js');
 const { isHookCall } = require('./reactive.js');
 
-const MAKING = new Set(['ArrayExpression', 'ObjectExpression', 'FunctionExpression', 'NewExpression', 'JsxExpression', 'JsxFragment',
-  'RegExpLiteral', 'TaggedTemplateExpression']);
+const MAKING = new Set([
+  'ArrayExpression', 'ObjectExpression', 'FunctionExpression', 'NewExpression', 'JsxExpression', 'JsxFragment', 'RegExpLiteral',
+  'TaggedTemplateExpression',
+]);
 const VALUES = new Set(['Logical', 'Ternary', 'Optional', 'Sequence']);
 const LOOPS = new Set(['DoWhile', 'While', 'For', 'ForOf', 'ForIn']);
 const STORES = new Set(['PropertyStore', 'ComputedStore', 'PropertyDelete', 'ComputedDelete']);
@@ -21,14 +23,14 @@ class Guess {
   note({ id, lvalue, value }) {
     this.rows.set(id, { lvalue, value });
     if (['LoadLocal', 'LoadContext'].includes(value.k)) this.sources.set(lvalue.identifier, value.place.identifier);
-    const changed = STORES.has(value.k) ? value.object : value.k === 'MethodCall' && value.receiver.effect === 'Store' && value.receiver;
-    if (!changed) return;
+    const changed = STORES.has(value.k) ? value.object : value.receiver;
+    if (!changed || changed.effect === 'ConditionallyMutate') return;
     let name = changed.identifier;
     while (this.sources.has(name)) name = this.sources.get(name);
     this.changes.set(name, [...(this.changes.get(name) || []), id]);
   }
 
-  // The items of a list, each a row or a statement or value with blocks of its own, and the terminal that ends the list.
+  // The items of a list, and the terminal that ends it. An item is a row, or a statement or value with its own blocks.
   list(first) {
     const items = [];
     for (let id = first; ;) {
@@ -103,7 +105,9 @@ class Guess {
     }
     const statements = list.items.filter(it => it.terminal && !VALUES.has(it.terminal.k)).map(it => it.terminal);
     rewrite(this.graph, list, scopes);
-    for (const terminal of statements) listsIn(terminal).forEach(it => this.addTo(it, isInLoop || LOOPS.has(terminal.k)));
+    for (const terminal of statements) {
+      listsIn(terminal).forEach(it => this.addTo(it, isInLoop || LOOPS.has(terminal.k)));
+    }
   }
 }
 
@@ -126,7 +130,8 @@ function rewrite(graph, { first, items, end }, scopes) {
       const [inside, after] = [graph.newBlock(), graph.newBlock()];
       [inside, after].forEach(it => graph.blocks.set(it.id, it));
       open.push({ ...scope, after });
-      goOn({ k: scope.isPruned ? 'PrunedScope' : 'Scope', fallthrough: after.id, block: inside.id, scope: scope.index }, inside.id);
+      const k = scope.isPruned ? 'PrunedScope' : 'Scope';
+      goOn({ k, fallthrough: after.id, block: inside.id, scope: scope.index }, inside.id);
     }
     if (row) block.rows.push(row);
     if (thrown) goOn(thrown, thrown.continuation);

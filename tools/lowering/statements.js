@@ -47,7 +47,8 @@ module.exports = {
     }
     const value = this.expression(init);
     this.assign(kind === 'const' ? 'Const' : 'Let', id, value);
-    const hook = init.type === 'CallExpression' && (init.callee.name || (init.callee.property && init.callee.property.name));
+    const { callee } = init;
+    const hook = callee && (callee.name || (callee.property && callee.property.name));
     const setter = id.type === 'ArrayPattern' && id.elements[1];
     if (Object.hasOwn(SETTERS, hook) && setter && this.isDirect(setter)) {
       this.env.identifiers[this.env.variable(setter.binding).identifier].type_ = SETTERS[hook];

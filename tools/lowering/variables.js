@@ -4,11 +4,25 @@ const { isHook, Place, Type, Unsupported } = require('./environment.js');
 const { idsOf } = require('./names.js');
 
 // Functions of the platform whose result is no alias of an argument.
-const NO_ALIAS = new Set(['String', 'Number', 'Boolean', 'parseInt', 'parseFloat', 'isNaN', 'isFinite', 'Symbol', 'BigInt']);
+const NO_ALIAS = new Set([
+  'String', 'Number', 'Boolean', 'parseInt', 'parseFloat', 'isNaN', 'isFinite', 'Symbol', 'BigInt',
+]);
 
 function globalType(name) {
   if (isHook(name)) return Type.HOOK;
   return NO_ALIAS.has(name) ? Type.NO_ALIAS : Type.OTHER;
+}
+
+// The names that a statement binds.
+function boundBy(statement) {
+  if (statement.type === 'FunctionDeclaration') return [statement.id];
+  return statement.type === 'VariableDeclaration' ? statement.declarations.flatMap(it => idsOf(it.id)) : [];
+}
+
+// Where a name is used in a list before the statement that binds it ends: by a nested function, or where it is one itself.
+function earlyUses({ uses, owner, kind }, from, to) {
+  const isEarly = it => it.start >= from && it.start < to && (it.usedIn !== owner || kind === 'function');
+  return uses.filter(isEarly).map(it => it.start);
 }
 
 module.exports = {
@@ -77,22 +91,19 @@ module.exports = {
 
   // The names of a list that are used before the statement that binds them, each with the index of the first such use.
   hoistedOf(list) {
-    return list.flatMap((statement, index) => {
-      const ids = statement.type === 'FunctionDeclaration' ? [statement.id]
-        : statement.type === 'VariableDeclaration' ? statement.declarations.flatMap(it => idsOf(it.id)) : [];
-      return ids.filter(it => it && it.binding && it.binding.declared[0] === it && this.env.isLocal(it.binding)).flatMap(id => {
-        const early = id.binding.uses.filter(it => it.start >= list[0].start && it.start < statement.end
-          && (it.usedIn !== id.binding.owner || id.binding.kind === 'function')).map(it => it.start);
-        if (!early.length) return [];
-        return [{ id, index: Math.min(index, list.findIndex(it => it.end > Math.min(...early))) }];
-      });
-    });
+    const isFirst = ({ binding, start }) => binding && binding.declared[0].start === start && this.env.isLocal(binding);
+    return list.flatMap((statement, index) => boundBy(statement).filter(isFirst).flatMap(id => {
+      const early = earlyUses(id.binding, list[0].start, statement.end);
+      if (!early.length) return [];
+      id.binding.isHoisted = true;
+      return [{ id, index: Math.min(index, list.findIndex(it => it.end > Math.min(...early))) }];
+    }));
   },
 
   declareHoisted(id) {
     if (this.env.variable(id.binding).isDeclared) return;
-    const kinds = { function: 'HoistedFunction', const: 'HoistedConst' };
-    this.give({ k: 'DeclareContext', lvalue: { kind: kinds[id.binding.kind] || 'HoistedLet', place: this.target(id.binding) } });
+    const kind = { function: 'HoistedFunction', const: 'HoistedConst' }[id.binding.kind] || 'HoistedLet';
+    this.give({ k: 'DeclareContext', lvalue: { kind, place: this.target(id.binding) } });
   },
 
   unsupported(what) {
