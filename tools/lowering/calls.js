@@ -4,7 +4,8 @@ const { isHook, Type } = require('./environment.js');
 
 // Methods that change their receiver.
 const MUTATING = new Set([
-  'push', 'pop', 'shift', 'unshift', 'splice', 'sort', 'reverse', 'fill', 'set', 'add', 'delete', 'clear', 'append', 'insert',
+  'push', 'pop', 'shift', 'unshift', 'splice', 'sort', 'reverse', 'fill', 'set', 'add', 'delete', 'clear', 'append',
+  'insert',
 ]);
 const RESULTS = {
   useRef: Type.REF, map: Type.ARRAY, filter: Type.ARRAY, slice: Type.ARRAY, split: Type.ARRAY, join: Type.PRIMITIVE,

@@ -2,7 +2,9 @@
 // Lowers optional chains. All steps of a chain share the arm that gives undefined.
 
 // A node without the brackets around it.
-const inner = node => (['ChainExpression', 'ParenthesizedExpression'].includes(node.type) ? inner(node.expression) : node);
+function inner(node) {
+  return ['ChainExpression', 'ParenthesizedExpression'].includes(node.type) ? inner(node.expression) : node;
+}
 
 // Whether there is a ?. in a chain, at its end or before.
 function isOptional(node) {

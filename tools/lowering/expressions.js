@@ -33,8 +33,8 @@ const SHORT = {
   AssignmentExpression(node) { return this.assignment(node); },
   MetaProperty(node) { return this.give({ k: 'MetaProperty', meta: node.meta.name, property: node.property.name }); },
   ConditionalExpression(node) {
-    const [test, consequent, alternate] = [node.test, node.consequent, node.alternate].map(it => () => this.expression(it));
-    return this.ternary(test, consequent, alternate);
+    const parts = [node.test, node.consequent, node.alternate];
+    return this.ternary(...parts.map(it => () => this.expression(it)));
   },
   LogicalExpression(node) {
     return this.logical(node.operator, () => this.expression(node.left), () => this.expression(node.right));

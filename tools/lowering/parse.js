@@ -123,8 +123,8 @@ function literal(value, raw, start) {
 function tagOf(name, start) {
   if (name === '' || /^[a-z][\w:-]*$/.test(name)) return null;
   const [first, ...rest] = name.split('.').map(it => ({ type: 'Identifier', name: it, start, end: start }));
-  const member = (object, property) => ({ type: 'MemberExpression', object, property, computed: false, start, end: start });
-  return rest.reduce(member, first);
+  const form = { type: 'MemberExpression', computed: false, start, end: start };
+  return rest.reduce((object, property) => ({ ...form, object, property }), first);
 }
 
 // The text between tags, without line breaks and the spaces around them.

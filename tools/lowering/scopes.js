@@ -5,8 +5,8 @@ const { Type } = require('./environment.js');
 const { isHookCall } = require('./reactive.js');
 
 const MAKING = new Set([
-  'ArrayExpression', 'ObjectExpression', 'FunctionExpression', 'NewExpression', 'JsxExpression', 'JsxFragment', 'RegExpLiteral',
-  'TaggedTemplateExpression',
+  'ArrayExpression', 'ObjectExpression', 'FunctionExpression', 'NewExpression', 'JsxExpression', 'JsxFragment',
+  'RegExpLiteral', 'TaggedTemplateExpression',
 ]);
 const VALUES = new Set(['Logical', 'Ternary', 'Optional', 'Sequence']);
 const LOOPS = new Set(['DoWhile', 'While', 'For', 'ForOf', 'ForIn']);

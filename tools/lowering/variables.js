@@ -19,7 +19,8 @@ function boundBy(statement) {
   return statement.type === 'VariableDeclaration' ? statement.declarations.flatMap(it => idsOf(it.id)) : [];
 }
 
-// Where a name is used in a list before the statement that binds it ends: by a nested function, or where it is one itself.
+// Where a name is used in a list before the statement that binds it ends. Only nested functions may use it so early,
+// unless it is bound to a function.
 function earlyUses({ uses, owner, kind }, from, to) {
   const isEarly = it => it.start >= from && it.start < to && (it.usedIn !== owner || kind === 'function');
   return uses.filter(isEarly).map(it => it.start);
