@@ -3,7 +3,7 @@ import html, json, re
 
 import answer, code
 
-# The fates of which a scope's block stays, and why the others have none.
+# The colour of each fate, by its first word.
 COLOURS = {"kept": "#c8e6c9", "not-escaping": "#ffe0b2", "unused": "#e0e0e0", "merged": "#bbdefb",
            "dissolved": "#bbdefb", "always-invalidating": "#ffcdd2"}
 LINE, INDENT, MARGIN, COLUMN, MOST = 17, 14, 12, 7.3, 150
@@ -35,7 +35,7 @@ class Picture:
         scope = self.env["scopes"][number]
         depends = ", ".join(map(self.path, scope.get("dependencies") or [])) or "nothing"
         declares = ", ".join(self.names.of(it["key"]) for it in scope.get("declarations") or []) or "nothing"
-        fate = self.answer.fates.get(number)
+        fate = self.answer.fates.get(number, "given up before")
         return f"scope {number}, {fate}; in the document it depends on {depends}, and declares {declares}"
 
     def statement(self, text):
