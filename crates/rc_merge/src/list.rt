@@ -2,7 +2,6 @@
 
 ghost use Rattle.std.specs.Prelude.{◌≡◌, true, map, None as Nothing, Some as Just, IfOk};
 ghost use Rattle.std.specs.List.{list_any};
-ghost use Rattle.std.specs.List.{list_any};
 ghost use Rattle.std.specs.Option.{option_map};
 ghost use Rattle.rc_tree.specs.declared.statement.ReactiveStatement.{out-ReactiveStatement};
 ghost use Rattle.rc_merge.specs.Joining as joining;
@@ -45,6 +44,8 @@ pub(crate) fn merge_list(
 }
 
 /// The same of any list.
+// Not inlined, so that the frames of the walk have no room for its parts.
+#[inline(never)]
 fn merge_statements(
     known: &Known<'_>,
     statements: List<ReactiveStatement>,

@@ -230,6 +230,8 @@ fn pop_scope(outside: &mut List<Option<ScopeId>>) -> Option<ScopeId>
 }
 
 /// Returns whether a scope has the inputs of its parent. Fails only when out of memory.
+// Not inlined, so that the frames of the walk have no room for its scope.
+#[inline(never)]
 fn gives_way(
     known: &Known<'_>,
     tables: &Tables,
