@@ -1,0 +1,5 @@
+pub mod ScopeBlocks
+pub mod Slots
+pub mod Owner
+pub mod CacheRun
+pub mod inside

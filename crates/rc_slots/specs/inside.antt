@@ -1,0 +1,3 @@
+-- What private functions say of each other.
+pub mod ScopeSteps
+pub mod CachedSlots

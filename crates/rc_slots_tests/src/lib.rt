@@ -1,0 +1,5 @@
+//! Tests of the cache planner.
+#![tactic(auto)]
+
+#[cfg(test)]
+mod tests;
