@@ -1,23 +1,56 @@
 -- Each document has one due status, and so has each list of bytes. So the facts that a status gives of a document that is
 -- made, or of a source with known bytes, determine when the status comes.
-use Rattle.std.proofs.Common.{◌≡◌, ◌↔◌, ℕ, ◌⊎◌, inl, inr, List, [], length, length-append, Option, Some, None, refl, ap}
+use Rattle.std.proofs.Common.{◌≡◌, ◌↔◌, ◌≤◌, ℕ, ◌⊎◌, inl, inr, List, [], length, length-append, Option, Some, None, refl, ap}
 use Rattle.std.proofs.Common.{subst, sym, arith, rules, ◌∙◌}
 use Rattle.std.proofs.KnownBytes.{Consumes-all}
 use Rattle.serde_json.specs.Data.{Data}
 use Rattle.serde_json.specs.Read.{read}
 use Rattle.rc_doc.specs.declared.document.Doc.{Doc}
 use Rattle.rc_doc.specs.Document.{doc_of}
+use Rattle.rc_hir.specs.Model.{Environment}
+use Rattle.rc_pipe.specs.Headline.{IsAnswer}
+use Rattle.rc_pipe.specs.declared.pipeline.Pruned.{Pruned}
 use Rattle.rc_program.specs.declared.command.Command.{Command}
 use Rattle.rc_program.specs.declared.status.Status.{Status}
 use Rattle.rc_program.specs.declared.status.Status.TheVariants.{Done, Usage, NotJson, NotDoc, Refused, ReadFault}
-use Rattle.rc_program.specs.declared.status.Status.TheVariants.{WriteFault, TooLarge, NoMemory}
-use Rattle.rc_program.specs.Device.{IsReadToEnd}
+use Rattle.rc_program.specs.declared.status.Status.TheVariants.{WriteFault, TooLarge, NoMemory, TooManySlots}
+use Rattle.rc_program.specs.Device.{IsReadToEnd, most_bytes}
 use Rattle.rc_program.specs.Command.{AreWords, IsCommand, Made, Origin, Read, origin_of}
-use Rattle.rc_program.specs.DueStatus.{CanFailToRead, CanReplace, IsAnswerable, IsDue, IsDueForDoc, IsDueFrom, IsJson}
-use Rattle.rc_program.specs.DueStatus.{IsJsonOfDoc, IsJsonOfOther, IsNoJson}
+use Rattle.rc_program.specs.DueStatus.{CanFailToRead, CanReplace, IsAnswerable, IsDue, IsDueFor, IsDueForBytes}
+use Rattle.rc_program.specs.DueStatus.{IsDueForDoc, IsDueFrom, IsJson, IsJsonOfDoc, IsJsonOfOther, IsNoJson}
 use Rattle.rc_program.specs.Status.{HasDocument, HasLoaded, HasNoDocument, HasPrinted, HasReadDue, HasStoppedReading}
 use Rattle.rc_program.specs.Status.{HasTakenTooMany, IsOutcome, IsOutcomeOf, IsTextFor}
 use Rattle.rc_program.proofs.WordsLemmas.{one_command}
+
+-- an answer makes its document answerable
+answerable : (doc : Doc) (answered : Environment) (pruned : Pruned) → IsAnswer doc.hir doc.env answered pruned
+    → IsAnswerable doc
+answerable doc answered pruned it = record {
+  accepted = it.accepted;
+  func = it.spelled;
+  answer = record {
+    spelled = it.spells;
+    inside = it.passes.inside;
+    recorded = it.recorded;
+  };
+}
+
+-- a document is due one status
+one_by_doc : (command : Command) (doc : Doc) (due due' : Status) → IsDueForDoc command doc due
+    → IsDueForDoc command doc due' → due ≡ due'
+one_by_doc command doc Done Done d d' = refl
+one_by_doc command doc Refused Refused d d' = refl
+one_by_doc command doc TooManySlots TooManySlots d d' = refl
+one_by_doc command doc Done Refused d d' = absurd (d' d.0)
+one_by_doc command doc Refused Done d d' = absurd (d d'.0)
+one_by_doc command doc Done TooManySlots d d' = absurd (d.1 d')
+one_by_doc command doc TooManySlots Done d d' = absurd (d'.1 d)
+one_by_doc command doc Refused TooManySlots d d' = absurd (d (answerable doc d'.answered d'.pruned d'.answer))
+one_by_doc command doc TooManySlots Refused d d' = absurd (d' (answerable doc d.answered d.pruned d.answer))
+one_by_doc command doc Done due' d d' = absurd d'
+one_by_doc command doc Refused due' d d' = absurd d'
+one_by_doc command doc TooManySlots due' d d' = absurd d'
+one_by_doc command doc due due' d d' = absurd d
 
 module _ (bytes : List ℕ) where
   -- the bytes are JSON of one value
@@ -50,84 +83,86 @@ module _ (bytes : List ℕ) where
       let some' : doc_of j'.value ≡ Some doc' = j'.document in
       cc
 
-  -- a document that has an answer isn't refused
-  no_refusal : (doc doc' : Doc) → IsJsonOfDoc bytes doc → IsJsonOfDoc bytes doc' → IsAnswerable doc
-      → ¬ IsAnswerable doc' → ⊥
-  no_refusal doc doc' j j' it none = none (subst IsAnswerable (one_document doc doc' j j') it)
+  -- bytes that are due a status by themselves are due no other one by themselves, and are JSON of no document
+  one_by_bytes : (due due' : Status) → IsDueForBytes bytes due → IsDueForBytes bytes due' → due ≡ due'
+  one_by_bytes TooLarge due' d d' = search (rules, no_value, no_other)
+  one_by_bytes NotJson due' d d' = search (rules, no_value, no_other)
+  one_by_bytes NotDoc due' d d' = search (rules, no_value, no_other)
+  one_by_bytes _ due' d d' = absurd d
+
+  no_document : (due : Status) (doc : Doc) → IsDueForBytes bytes due → length bytes ≤ most_bytes
+      → IsJsonOfDoc bytes doc → ⊥
+  no_document TooLarge doc d size j = omega (arith, d, size)
+  no_document NotJson doc d size j = no_value j.value d.1 j.json
+  no_document NotDoc doc d size j = no_other doc j d.1
+  no_document _ doc d size j = absurd d
 
   -- bytes have one due status
-  pub due_once : (due due' : Status) → IsDue bytes due → IsDue bytes due' → due ≡ due'
-  due_once TooLarge due' d d' = search (rules, no_value, no_other, no_refusal)
-  due_once NotJson due' d d' = search (rules, no_value, no_other, no_refusal)
-  due_once NotDoc due' d d' = search (rules, no_value, no_other, no_refusal)
-  due_once Refused due' d d' = search (rules, no_value, no_other, no_refusal)
-  due_once Done due' d d' = search (rules, no_value, no_other, no_refusal)
-  due_once _ due' d d' = absurd d
+  pub due_once : (command : Command) (due due' : Status) → IsDue command bytes due → IsDue command bytes due'
+      → due ≡ due'
+  due_once command due due' (inl d) (inl d') = one_by_bytes due due' d d'
+  due_once command due due' (inl d) (inr r') = absurd (no_document due r'.doc d r'.size r'.json)
+  due_once command due due' (inr r) (inl d') = absurd (no_document due' r.doc d' r.size r.json)
+  due_once command due due' (inr r) (inr r') =
+      one_by_doc command r.doc due due' r.due
+      (subst (λ doc. IsDueForDoc command doc due') (one_document r'.doc r.doc r'.json r.json) r'.due)
 
   -- a source whose bytes are known gave all of them if none is left
   all_read : (taken : List ℕ) (left' : Option (List ℕ)) → IsReadToEnd (Some bytes) left' taken → taken ≡ bytes
   all_read taken left' whole = Consumes-all (Some bytes) left' taken [] taken whole.taken whole.end refl
 
   -- if more bytes were taken than a document may have, the source has more
-  due_of_many : (left' : Option (List ℕ)) → HasTakenTooMany (Some bytes) left' → IsDue bytes TooLarge
+  due_of_many : (left' : Option (List ℕ)) → HasTakenTooMany (Some bytes) left' → IsDueForBytes bytes TooLarge
   due_of_many None took = absurd took.taken
   due_of_many (Some rest) took = omega (arith, took.number.0, length-append took.bytes rest, ap length took.taken)
 
   -- if the bytes were read to the end, the status that is due for them is due for the source
-  due_of_read : (left' : Option (List ℕ)) (status : Status) → HasReadDue (Some bytes) left' status → IsDue bytes status
+  due_of_read : (left' : Option (List ℕ)) (status : Status) → HasReadDue (Some bytes) left' status
+      → IsDueForBytes bytes status
   due_of_read left' status reads = let whole = all_read reads.bytes left' reads.whole in rw whole at reads.due
 
--- a document is due one status, and so are the bytes of a source that tells them
-one_due : (origin : Origin) (left : Option (List ℕ)) (due due' : Status) → IsDueFrom origin left due
-    → IsDueFrom origin left due' → due ≡ due'
-one_due Read left due due' d d' =
+-- a document that is made is due one status, and so are the bytes of a source that tells them
+one_due : (command : Command) (origin : Origin) (left : Option (List ℕ)) (due due' : Status)
+    → IsDueFrom command origin left due → IsDueFrom command origin left due' → due ≡ due'
+one_due command Read left due due' d d' =
     let same : Some d.0 ≡ Some d'.0 = sym d.1 ∙ d'.1 in
     let bytes : d'.0 ≡ d.0 = cc in
-    due_once d.0 due due' d.2 (rw bytes at d'.2)
-one_due (Made doc) left Done Done d d' = refl
-one_due (Made doc) left Refused Refused d d' = refl
-one_due (Made doc) left Done Refused d d' = absurd (d' d)
-one_due (Made doc) left Refused Done d d' = absurd (d d')
-one_due (Made doc) left Done due' d d' = absurd d'
-one_due (Made doc) left Refused due' d d' = absurd d'
-one_due (Made doc) left due due' d d' = absurd d
+    due_once d.0 command due due' d.2 (rw bytes at d'.2)
+one_due command (Made doc) left due due' d d' = one_by_doc command doc due due' d d'
 
 -- a document for which a text is written with this status is due it
 due_of_text : (command : Command) (doc : Doc) (status : Status) (text : List ℕ) → IsTextFor command doc status text
-    → IsDueForDoc doc status
-due_of_text command doc Done text it = record {
-  accepted = it.answer.accepted;
-  func = it.answer.spelled;
-  answer = record {
-    spelled = it.answer.spells;
-    inside = it.answer.passes.inside;
-    recorded = it.answer.recorded;
-  };
-}
+    → IsDueForDoc command doc status
+due_of_text command doc Done text it = (answerable doc it.answered it.pruned it.answer, it.fits)
 due_of_text command doc Refused text it = it.no_answer
 due_of_text command doc _ text it = absurd it
 
 module _ (left left' : Option (List ℕ)) (due : Status) where
   -- a status that is due for the document that was had is due where that comes from
-  due_of_document : (origin : Origin) (doc : Doc) (status : Status) → IsDueFrom origin left due
-      → HasDocument origin left left' doc → IsDueForDoc doc status → IsDueFrom origin left status
-  due_of_document Read doc Done told had d =
+  due_of_document : (command : Command) (origin : Origin) (doc : Doc) (status : Status)
+      → IsDueFrom command origin left due → HasDocument origin left left' doc → IsDueForDoc command doc status
+      → IsDueFrom command origin left status
+  due_of_document command Read doc status told had d =
       let loaded : HasLoaded (Some told.0) left' doc = rw told.1 at had in
-      let whole = all_read told.0 loaded.bytes left' loaded.whole in
-      (told.0, told.1, (rw whole at loaded.whole.size, (doc, rw whole at loaded.document, d)))
-  due_of_document Read doc Refused told had d =
-      let loaded : HasLoaded (Some told.0) left' doc = rw told.1 at had in
-      let whole = all_read told.0 loaded.bytes left' loaded.whole in
-      (told.0, told.1, (rw whole at loaded.whole.size, (doc, rw whole at loaded.document, d)))
-  due_of_document Read doc _ told had d = absurd d
-  due_of_document (Made made) doc status told had d = subst (λ it. IsDueForDoc it status) had.0 d
+      let whole = all_read told.0 loaded.bytes left' loaded.whole in (
+        told.0,
+        told.1,
+        inr (record {
+          size = rw whole at loaded.whole.size;
+          doc = doc;
+          json = rw whole at loaded.document;
+          due = d;
+        }),
+      )
+  due_of_document command (Made made) doc status told had d =
+      subst (λ it. IsDueForDoc command it status) had.0 d
 
   -- a status that stops the reading is due for the bytes
-  due_of_stop : (origin : Origin) (status : Status) → IsDueFrom origin left due
-      → ((bytes : List ℕ) → HasStoppedReading (Some bytes) left' status → IsDue bytes status)
-      → HasNoDocument origin left left' status → IsDueFrom origin left status
-  due_of_stop Read status told gives stopped = (told.0, told.1, gives told.0 (rw told.1 at stopped))
-  due_of_stop (Made doc) status told gives stopped = absurd stopped
+  due_of_stop : (command : Command) (origin : Origin) (status : Status) → IsDueFrom command origin left due
+      → ((bytes : List ℕ) → HasStoppedReading (Some bytes) left' status → IsDueForBytes bytes status)
+      → HasNoDocument origin left left' status → IsDueFrom command origin left status
+  due_of_stop command Read status told gives stopped = (told.0, told.1, inl (gives told.0 (rw told.1 at stopped)))
+  due_of_stop command (Made doc) status told gives stopped = absurd stopped
 
   -- reading fails only where a document is read
   read_failed : (origin : Origin) {rose : Type 0} → HasNoDocument origin left left' ReadFault → rose
@@ -135,13 +170,19 @@ module _ (left left' : Option (List ℕ)) (due : Status) where
   read_failed Read stopped rose = rose
   read_failed (Made doc) stopped rose = absurd stopped
 
-  module _ (command : Command) (told : IsDueFrom (origin_of command) left due) where
+  module _ (command : Command) (told : IsDueFor command left due) where
+    -- a status that is due for the document that was had is the one that is due
+    due_for_had : (doc : Doc) (status : Status) → HasDocument (origin_of command) left left' doc
+        → IsDueForDoc command doc status → status ≡ due
+    due_for_had doc status had d =
+        one_due command (origin_of command) left status due
+        (due_of_document command (origin_of command) doc status told had d) told
+
     -- a status with which a text is written is due
-    due_of_printed : (status : Status) {Writes : List ℕ → Type 0} → HasPrinted command status Writes left left'
-        → IsDueFrom (origin_of command) left status
-    due_of_printed status p =
-        due_of_document (origin_of command) p.doc status told p.document
-        (due_of_text command p.doc status p.text p.answered)
+    printed_is_due : (status : Status) {Writes : List ℕ → Type 0} → HasPrinted command status Writes left left'
+        → status ≡ due
+    printed_is_due status p =
+        due_for_had p.doc status p.document (due_of_text command p.doc status p.text p.answered)
 
     -- a text that was written in part is excused by a fault of the sink
     written_in_part : (status : Status) {Writes : List ℕ → Type 0} (source_rose sink_rose : Type 0)
@@ -151,12 +192,12 @@ module _ (left left' : Option (List ℕ)) (due : Status) where
     written_in_part Refused source_rose sink_rose p rose = rose
     written_in_part _ source_rose sink_rose p rose = absurd p.answered
 
-    is_due : (status : Status) → IsDueFrom (origin_of command) left status → status ≡ due
-    is_due status d = one_due (origin_of command) left status due d told
-
-    stop_is_due : (status : Status) → ((bytes : List ℕ) → HasStoppedReading (Some bytes) left' status → IsDue bytes status)
+    stop_is_due : (status : Status)
+        → ((bytes : List ℕ) → HasStoppedReading (Some bytes) left' status → IsDueForBytes bytes status)
         → HasNoDocument (origin_of command) left left' status → status ≡ due
-    stop_is_due status gives stopped = is_due status (due_of_stop (origin_of command) status told gives stopped)
+    stop_is_due status gives stopped =
+        one_due command (origin_of command) left status due
+        (due_of_stop command (origin_of command) status told gives stopped) told
 
     -- the status is the one that is due, or is excused
     answers_due : (written written' : Option (List ℕ)) (source_rose sink_rose : Type 0) (status : Status)
@@ -164,9 +205,9 @@ module _ (left left' : Option (List ℕ)) (due : Status) where
         → (status ≡ ReadFault → source_rose) → (status ≡ WriteFault → sink_rose)
         → (status ≡ due) ⊎ CanReplace (CanFailToRead (origin_of command) source_rose) sink_rose due status
     answers_due written written' source_rose sink_rose Done o read_fault write_fault =
-        inl (is_due Done (due_of_printed Done o))
+        inl (printed_is_due Done o)
     answers_due written written' source_rose sink_rose Refused o read_fault write_fault =
-        inl (is_due Refused (due_of_printed Refused o))
+        inl (printed_is_due Refused o)
     answers_due written written' source_rose sink_rose Usage o read_fault write_fault = absurd o
     answers_due written written' source_rose sink_rose NotJson o read_fault write_fault =
         inl (stop_is_due NotJson (λ bytes stopped. due_of_read bytes left' NotJson stopped) o.0)
@@ -177,9 +218,11 @@ module _ (left left' : Option (List ℕ)) (due : Status) where
     answers_due written written' source_rose sink_rose ReadFault o read_fault write_fault =
         inr (read_failed (origin_of command) o.0 (read_fault refl))
     answers_due written written' source_rose sink_rose WriteFault o read_fault write_fault =
-        let same = is_due o.0 (due_of_printed o.0 o.1) in
+        let same = printed_is_due o.0 o.1 in
         inr (subst (λ status. CanReplace (CanFailToRead (origin_of command) source_rose) sink_rose status WriteFault) same
         (written_in_part o.0 (CanFailToRead (origin_of command) source_rose) sink_rose o.1 (write_fault refl)))
+    answers_due written written' source_rose sink_rose TooManySlots o read_fault write_fault =
+        inl (due_for_had o.0.doc TooManySlots o.0.document o.0.much)
     answers_due written written' source_rose sink_rose NoMemory o read_fault write_fault = inr tt
 
 -- where nothing is excused but want of memory, the due text is written or memory ran out
@@ -219,7 +262,7 @@ module _ (words : List (List ℕ)) (left left' written written' : Option (List �
   pub exactly : (command : Command) (due status : Status) (source_rose sink_rose : Type 0) → IsCommand words command
       → IsOutcome words left left' written written' status
       → (status ≡ ReadFault → source_rose) → (status ≡ WriteFault → sink_rose)
-      → IsDueFrom (origin_of command) left due
+      → IsDueFor command left due
       → (status ≡ due) ⊎ CanReplace (CanFailToRead (origin_of command) source_rose) sink_rose due status
   exactly command due status source_rose sink_rose is o read_fault write_fault told =
       answers_due left left' due command told written written' source_rose sink_rose status

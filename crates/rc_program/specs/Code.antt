@@ -2,7 +2,7 @@
 use Rattle.std.specs.Prelude.{ℕ}
 use Rattle.rc_program.specs.declared.status.Status.{Status}
 use Rattle.rc_program.specs.declared.status.Status.TheVariants.{Done, Usage, NotJson, NotDoc, Refused, ReadFault}
-use Rattle.rc_program.specs.declared.status.Status.TheVariants.{WriteFault, TooLarge, NoMemory}
+use Rattle.rc_program.specs.declared.status.Status.TheVariants.{WriteFault, TooLarge, NoMemory, TooManySlots}
 
 -- the number with which the process ends
 abbrev pub code_of : Status → ℕ
@@ -15,3 +15,4 @@ code_of ReadFault = 6
 code_of WriteFault = 7
 code_of TooLarge = 8
 code_of NoMemory = 9
+code_of TooManySlots = 11

@@ -1,4 +1,4 @@
--- How much a graph and its answer have of what, and the lines that say so.
+-- The counts of a graph and of its result, and their lines.
 use Rattle.std.specs.Prelude.{ℕ, ◌+◌, Bool, true, false, List, codes, count_by, decimal, length}
 use Rattle.rc_hir.specs.Model.{HirFunction}
 use Rattle.rc_tree.specs.Collected.{Contributions, collected}
@@ -70,6 +70,6 @@ last_fate_lines fates =
     & count_line (codes "dissolved") (fate_count kinds.Dissolved fates)
     & count_line (codes "always-invalidating") (fate_count kinds.AlwaysInvalidating fates)
 
--- the lines of a graph, of the function that it is answered by, and of the fates of its scopes
+-- the lines of a graph, of the function returned for it, and of the fates of its scopes
 abbrev pub count_lines : HirFunction → ReactiveFunction → List ScopeFate → List ℕ
 count_lines hir func fates = size_lines hir func & first_fate_lines fates & last_fate_lines fates

@@ -1,16 +1,21 @@
 -- The status that is due for the bytes of a source, and which one may come in its place.
-use Rattle.std.specs.Prelude.{◌≡◌, ℕ, ◌≤◌, ◌<◌, List, length, None, Option, Some, ⊤}
+use Rattle.std.specs.Prelude.{◌≡◌, ◌⊎◌, ◌^◌, ℕ, ◌≤◌, ◌<◌, List, length, None, Option, Some, ⊤}
 use Rattle.std.specs.Str.{IsUtf8}
 use Rattle.serde_json.specs.Data.{Data}
 use Rattle.serde_json.specs.Read.{read}
+use Rattle.rc_hir.specs.Model.{Environment}
+use Rattle.rc_slots.specs.Slots.{slots_of}
 use Rattle.rc_tree.specs.Model.{ReactiveFunction}
-use Rattle.rc_pipe.specs.Headline.{HasAnswer, IsAccepted}
+use Rattle.rc_pipe.specs.Headline.{HasAnswer, IsAccepted, IsAnswer}
+use Rattle.rc_pipe.specs.declared.pipeline.Pruned.{Pruned}
 use Rattle.rc_doc.specs.declared.document.Doc.{Doc}
 use Rattle.rc_doc.specs.Document.{doc_of}
 use Rattle.rc_program.specs.declared.status.Status.{Status}
 use Rattle.rc_program.specs.declared.status.Status.TheVariants.{Done, NotJson, NotDoc, Refused, ReadFault, WriteFault}
-use Rattle.rc_program.specs.declared.status.Status.TheVariants.{TooLarge, NoMemory}
-use Rattle.rc_program.specs.Command.{Made, Origin, Read}
+use Rattle.rc_program.specs.declared.status.Status.TheVariants.{TooLarge, NoMemory, TooManySlots}
+use Rattle.rc_program.specs.declared.command.Command.{Command}
+use Rattle.rc_program.specs.declared.command.Command.TheVariants.{Slots}
+use Rattle.rc_program.specs.Command.{Made, Origin, Read, origin_of}
 use Rattle.rc_program.specs.Device.{most_bytes}
 
 -- the bytes are JSON of this value
@@ -40,26 +45,53 @@ pub record IsAnswerable (doc : Doc) : Type 0 where
   pub func : ReactiveFunction
   pub answer : HasAnswer doc.hir doc.env func
 
--- The status that is due for a document.
-abbrev pub IsDueForDoc : Doc → Status → Type 0
-IsDueForDoc doc Refused = ¬ IsAnswerable doc
-IsDueForDoc doc Done = IsAnswerable doc
-IsDueForDoc doc _ = ⊥
+-- the answer has more than the command's text can say: more slots than numbers of 32 bits count
+abbrev pub Exceeds : Command → Environment → Pruned → Type 0
+Exceeds Slots env pruned = 2 ^ 32 ≤ (slots_of env pruned.func).total
+Exceeds command env pruned = ⊥
 
--- The status that is due for the bytes of a source.
-abbrev pub IsDue : List ℕ → Status → Type 0
-IsDue bytes TooLarge = most_bytes < length bytes
-IsDue bytes NotJson = (length bytes ≤ most_bytes) × IsNoJson bytes
-IsDue bytes NotDoc = (length bytes ≤ most_bytes) × IsJsonOfOther bytes
-IsDue bytes Refused = (length bytes ≤ most_bytes) × ((doc : Doc) × IsJsonOfDoc bytes doc × ¬ IsAnswerable doc)
-IsDue bytes Done = (length bytes ≤ most_bytes) × ((doc : Doc) × IsJsonOfDoc bytes doc × IsAnswerable doc)
-IsDue bytes _ = ⊥
+-- the document has an answer that has more than the command's text can say
+pub record IsTooMuchFor (command : Command) (doc : Doc) : Type 0 where
+  pub pruned : Pruned
+  -- the environment after the passes
+  pub answered : Environment
+  pub answer : IsAnswer doc.hir doc.env answered pruned
+  pub exceeds : Exceeds command answered pruned
 
--- The status that is due where a document comes from: for the bytes of a source that tells them, or for the one that is
--- made.
-abbrev pub IsDueFrom : Origin → Option (List ℕ) → Status → Type 0
-IsDueFrom Read left status = (bytes : List ℕ) × (left ≡ Some bytes) × IsDue bytes status
-IsDueFrom (Made doc) left status = IsDueForDoc doc status
+-- The status that is due for a document by a command.
+abbrev pub IsDueForDoc : Command → Doc → Status → Type 0
+IsDueForDoc command doc Refused = ¬ IsAnswerable doc
+IsDueForDoc command doc Done = IsAnswerable doc × ¬ IsTooMuchFor command doc
+IsDueForDoc command doc TooManySlots = IsTooMuchFor command doc
+IsDueForDoc command doc _ = ⊥
+
+-- The status that is due for bytes that are too many, or that are JSON of no document, by each command.
+abbrev pub IsDueForBytes : List ℕ → Status → Type 0
+IsDueForBytes bytes TooLarge = most_bytes < length bytes
+IsDueForBytes bytes NotJson = (length bytes ≤ most_bytes) × IsNoJson bytes
+IsDueForBytes bytes NotDoc = (length bytes ≤ most_bytes) × IsJsonOfOther bytes
+IsDueForBytes bytes _ = ⊥
+
+-- the bytes are JSON of a document for which the status is due
+pub record IsDueForRead (command : Command) (bytes : List ℕ) (status : Status) : Type 0 where
+  pub size : length bytes ≤ most_bytes
+  pub doc : Doc
+  pub json : IsJsonOfDoc bytes doc
+  pub due : IsDueForDoc command doc status
+
+-- The status that is due for the bytes of a source by a command.
+abbrev pub IsDue : Command → List ℕ → Status → Type 0
+IsDue command bytes status = IsDueForBytes bytes status ⊎ IsDueForRead command bytes status
+
+-- The due status, by where the document comes from: from the bytes of a source, if they can be named, or from the
+-- generator.
+abbrev pub IsDueFrom : Command → Origin → Option (List ℕ) → Status → Type 0
+IsDueFrom command Read left status = (bytes : List ℕ) × (left ≡ Some bytes) × IsDue command bytes status
+IsDueFrom command (Made doc) left status = IsDueForDoc command doc status
+
+-- The status that is due for a command.
+abbrev pub IsDueFor : Command → Option (List ℕ) → Status → Type 0
+IsDueFor command = IsDueFrom command (origin_of command)
 
 -- A fault of the source may come for a document that is read, where the count rose.
 abbrev pub CanFailToRead : Origin → Type 0 → Type 0

@@ -5,6 +5,7 @@ pub mod LineText
 pub mod ValueLines
 pub mod Lines
 pub mod FunctionLines
+pub mod SlotLines
 pub mod FaultLine
 pub mod Code
 pub mod Counts

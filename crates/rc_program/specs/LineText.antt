@@ -14,7 +14,7 @@ infixr 6 ◌&◌
 abbrev pub ◌&◌ : List ℕ → List ℕ → List ℕ
 text & more = text ++ more
 
--- the line with this text, after so many spaces
+-- the line with this text, after `indent` spaces
 abbrev pub line : ℕ → List ℕ → List ℕ
 line indent text = replicate indent 32 & text & codes "\n"
 

@@ -8,11 +8,11 @@ use Rattle.rc_doc.specs.declared.document.Doc.{Doc}
 use Rattle.rc_program.specs.declared.command.Command.{Command}
 use Rattle.rc_program.specs.declared.status.Status.{Status}
 use Rattle.rc_program.specs.declared.status.Status.TheVariants.{Done, Usage, NotJson, NotDoc, Refused, ReadFault}
-use Rattle.rc_program.specs.declared.status.Status.TheVariants.{WriteFault, TooLarge, NoMemory}
+use Rattle.rc_program.specs.declared.status.Status.TheVariants.{WriteFault, TooLarge, NoMemory, TooManySlots}
 use Rattle.rc_program.specs.Command.{AreWords, IsCommand, Made, Origin, Read, origin_of, text_of}
 use Rattle.rc_program.specs.FaultLine.{fault_line, fault_name}
 use Rattle.rc_program.specs.Device.{most_bytes, HasTaken, IsReadToEnd, HasAppendedPrefix}
-use Rattle.rc_program.specs.DueStatus.{IsJsonOfDoc, IsAnswerable, IsDue}
+use Rattle.rc_program.specs.DueStatus.{IsAnswerable, IsDueForBytes, IsJsonOfDoc, IsTooMuchFor}
 
 -- more bytes were taken than a document may have, by at most one buffer
 abbrev pub HasTakenTooMany : Option (List ℕ) → Option (List ℕ) → Type 0
@@ -26,7 +26,7 @@ HasTakenSome = HasTaken (λ count. count ≤ most_bytes)
 pub record HasReadDue (left left' : Option (List ℕ)) (status : Status) : Type 0 where
   pub bytes : List ℕ
   pub whole : IsReadToEnd left left' bytes
-  pub due : IsDue bytes status
+  pub due : IsDueForBytes bytes status
 
 -- bytes that are JSON of this document were read to their end
 pub record HasLoaded (left left' : Option (List ℕ)) (doc : Doc) : Type 0 where
@@ -58,7 +58,8 @@ pub record IsAnswerText (command : Command) (doc : Doc) (text : List ℕ) : Type
   -- the environment after the passes
   pub answered : Environment
   pub answer : IsAnswer doc.hir doc.env answered pruned
-  pub same : text ≡ text_of command doc.hir pruned
+  pub fits : ¬ IsTooMuchFor command doc
+  pub same : text ≡ text_of command doc.hir answered pruned
 
 -- the text is the line of a fault with which this document's graph is refused; the fault has a line
 pub record IsRefusalText (doc : Doc) (text : List ℕ) : Type 0 where
@@ -83,6 +84,12 @@ pub record HasPrinted (command : Command) (status : Status) (Writes : List ℕ �
   pub answered : IsTextFor command doc status text
   pub written : Writes text
 
+-- there was a document whose answer has more than the command's text can say
+pub record HasTooMuch (command : Command) (left left' : Option (List ℕ)) : Type 0 where
+  pub doc : Doc
+  pub document : HasDocument (origin_of command) left left' doc
+  pub much : IsTooMuchFor command doc
+
 -- The facts that each status gives of the bytes taken from the source and of those given to the sink, for a command.
 abbrev pub IsOutcomeOf : Command → Option (List ℕ) → Option (List ℕ) → Option (List ℕ) → Option (List ℕ) → Status
     → Type 0
@@ -93,10 +100,12 @@ IsOutcomeOf command left left' written written' WriteFault =
     (status : Status) × HasPrinted command status (HasAppendedPrefix written written') left left'
 IsOutcomeOf command left left' written written' Usage = ⊥
 IsOutcomeOf command left left' written written' NoMemory = written' ≡ written
+IsOutcomeOf command left left' written written' TooManySlots =
+    HasTooMuch command left left' × (written' ≡ written)
 IsOutcomeOf command left left' written written' status =
     HasNoDocument (origin_of command) left left' status × (written' ≡ written)
 
--- The same for words: `Usage` where they are those of no command, and the others where they are those of one.
+-- The same for words: `Usage` if they name no command, any other status if they name one.
 abbrev pub IsOutcome : List (List ℕ) → Option (List ℕ) → Option (List ℕ) → Option (List ℕ) → Option (List ℕ) → Status
     → Type 0
 IsOutcome words left left' written written' Usage = ¬ AreWords words × (left' ≡ left) × (written' ≡ written)

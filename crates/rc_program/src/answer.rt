@@ -1,19 +1,26 @@
 //! The answer for a document: the text of a command, or the line of a fault.
 
-ghost use Rattle.std.specs.Prelude.{◌≡◌, ◌↔◌, IfOk, IsTrue, MatchResult};
+ghost use Rattle.std.specs.Prelude.{◌≡◌, ◌≤◌, ◌^◌, ◌↔◌, IsTrue, MatchResult};
 ghost use Rattle.rc_program.specs.Command.{text_of};
+ghost use Rattle.rc_program.specs.DueStatus.{Exceeds, IsTooMuchFor};
+ghost use Rattle.rc_program.specs.SlotLines.{slot_lines};
 ghost use Rattle.rc_program.specs.Status.{IsTextFor};
+ghost use Rattle.rc_program.specs.inside.Stop.{HasNoText};
+ghost use Rattle.rc_slots.specs.Slots.{slots_of};
+ghost use Rattle.rc_tree.specs.TreeNames.{TreeInTables};
 
 use crate::command::Command;
-use crate::note::{Note, note_fault};
-use crate::printing::{count_lines, fates_alone, fault_line, lines};
+use crate::note::{Note, note_fault, note_nesting};
+use crate::printing::{count_lines, fates_alone, fault_line, lines, slot_lines};
 use crate::status::Status;
 use crate::stop::Stop;
 use rc_doc::Doc;
-use rc_hir::{Fault, HirFunction};
+use rc_hir::{Environment, Fault};
 use rc_names::Text;
-use rc_pipe::{Pruned, build_and_prune};
-use std::alloc::{AllocError, Global};
+use rc_pipe::{Pruned, build_and_prune_within};
+use rc_slots::{SlotFault, plan_slots};
+use rc_tree::ReactiveFunction;
+use std::alloc::Global;
 use std::mem::forget;
 
 /// A finished text, and the status of the program once it is written.
@@ -24,19 +31,20 @@ pub struct Answer {
 }
 
 /// Returns the text of the command for the document, or the line of the fault with which its graph is refused, which it
-/// notes. Fails only when out of memory.
+/// notes. Nesting may take that many bytes of stack. Stops with `TooManySlots` where the text would be that of more slots than numbers of 32 bits count, and with
+/// `NoMemory` when out of memory.
 ///
-/// The process ends once the text is written, so the graph is left to the system in place of being freed part by part.
+/// The process ends once the text is written, so the graph isn't freed part by part: the system takes it back.
 pub fn answer_for(
     alloc: Global,
     command: Command,
     mut doc: Doc,
     note: &mut Note,
+    stack: usize,
 ) -> Result<Answer, Stop>
-    ensures { MatchResult result (λ answer. IsTextFor command doc answer.status answer.text)
-        (λ stop. stop ≡ Stop.NoMemory) }
+    ensures { MatchResult result (λ answer. IsTextFor command doc answer.status answer.text) (HasNoText (IsTooMuchFor command doc)) }
 {
-    let answer = graph_answer(alloc, command, &mut doc, note)?;
+    let answer = graph_answer(alloc, command, &mut doc, note, stack)?;
     forget(doc);
     Ok(answer)
 }
@@ -46,14 +54,16 @@ fn graph_answer(
     command: Command,
     doc: &mut Doc,
     note: &mut Note,
+    stack: usize,
 ) -> Result<Answer, Stop>
     ensures { MatchResult result (λ answer. IsTextFor command doc.old answer.status answer.text)
-        (λ stop. stop ≡ Stop.NoMemory) }
+        (HasNoText (IsTooMuchFor command doc.old)) }
 {
-    match build_and_prune(alloc, &doc.hir, &mut doc.env) {
-        Ok(pruned) => pruned_answer(alloc, command, &doc.hir, pruned),
+    match build_and_prune_within(alloc, &doc.hir, &mut doc.env, stack) {
+        Ok(pruned) => pruned_answer(alloc, command, doc, pruned),
         Err(fault) => {
             if is_want_of_memory(&fault) {
+                note_nesting(alloc, note, &doc.hir.body, stack);
                 return Err(Stop::NoMemory);
             }
             note_fault(alloc, note, &fault);
@@ -66,17 +76,14 @@ fn graph_answer(
 }
 
 /// The text for a pruned function, which is left to the system too.
-fn pruned_answer(
-    alloc: Global,
-    command: Command,
-    hir: &HirFunction,
-    pruned: Pruned,
-) -> Result<Answer, Stop>
+fn pruned_answer(alloc: Global, command: Command, doc: &Doc, pruned: Pruned) -> Result<Answer, Stop>
+    requires { TreeInTables pruned.func doc.now.env }
     ensures { MatchResult result
-        (λ answer. (answer.status ≡ Status.Done) × (answer.text ≡ text_of command hir.now pruned))
-        (λ stop. stop ≡ Stop.NoMemory) }
+        (λ answer. (answer.status ≡ Status.Done) × ¬ Exceeds command doc.now.env pruned
+        × (answer.text ≡ text_of command doc.now.hir doc.now.env pruned))
+        (HasNoText (Exceeds command doc.now.env pruned)) }
 {
-    let text = text_of(alloc, command, hir, &pruned)?;
+    let text = text_of(alloc, command, doc, &pruned)?;
     forget(pruned);
     Ok(Answer {
         text,
@@ -84,19 +91,35 @@ fn pruned_answer(
     })
 }
 
-/// The text of a command for a graph and its answer.
-fn text_of(
-    alloc: Global,
-    command: Command,
-    hir: &HirFunction,
-    pruned: &Pruned,
-) -> Result<Text, AllocError>
-    ensures { IfOk result (λ text. text ≡ text_of command hir.now pruned.now) }
+/// The text of a command for a document and its answer.
+fn text_of(alloc: Global, command: Command, doc: &Doc, pruned: &Pruned) -> Result<Text, Stop>
+    requires { TreeInTables pruned.now.func doc.now.env }
+    ensures { MatchResult result
+        (λ text. ¬ Exceeds command doc.now.env pruned.now
+        × (text ≡ text_of command doc.now.hir doc.now.env pruned.now))
+        (HasNoText (Exceeds command doc.now.env pruned.now)) }
 {
     match command {
-        Command::Tree => lines(alloc, &pruned.func, &pruned.fates),
-        Command::Fates => fates_alone(alloc, &pruned.fates),
-        Command::Generate(_) => count_lines(alloc, hir, &pruned.func, &pruned.fates),
+        Command::Tree => Ok(lines(alloc, &pruned.func, &pruned.fates)?),
+        Command::Fates => Ok(fates_alone(alloc, &pruned.fates)?),
+        Command::Slots => slot_text(alloc, &pruned.func, &doc.env),
+        Command::Generate(_) => Ok(count_lines(alloc, &doc.hir, &pruned.func, &pruned.fates)?),
+    }
+}
+
+/// The lines of the slots of a function's scope blocks.
+#[tactic(auto, using(crate::proofs::AnswerLemmas::within))]
+fn slot_text(alloc: Global, func: &ReactiveFunction, env: &Environment) -> Result<Text, Stop>
+    requires { TreeInTables func.now env.now }
+    ensures { MatchResult result
+        (λ text. ¬ (2 ^ 32 ≤ (slots_of env.now func.now).total) × (text ≡ slot_lines (slots_of env.now func.now)))
+        (HasNoText (2 ^ 32 ≤ (slots_of env.now func.now).total)) }
+{
+    match plan_slots(alloc, func, env) {
+        Ok(plan) => Ok(slot_lines(alloc, &plan)?),
+        Err(SlotFault::TooMany) => Err(Stop::TooManySlots),
+        Err(SlotFault::NoMemory) => Err(Stop::NoMemory),
+        Err(SlotFault::BadName { .. }) => unreachable!(),
     }
 }
 

@@ -17,6 +17,8 @@ pub enum Command {
     Tree,
     /// The fates alone.
     Fates,
+    /// The slots of the scope blocks in a memo cache.
+    Slots,
     /// Counts of the generated document of that number of units, and of its answer.
     Generate(u32),
 }
@@ -42,6 +44,8 @@ fn command_alone(word: &Text) -> Option<Command>
         Some(Command::Tree)
     } else if is_word(word, "fates") {
         Some(Command::Fates)
+    } else if is_word(word, "slots") {
+        Some(Command::Slots)
     } else {
         None
     }
@@ -69,7 +73,7 @@ fn is_word(word: &Text, name: &str) -> bool
     word.as_str() == name
 }
 
-/// The number of units that a word gives, in decimal digits without a sign or a zero in front.
+/// Parses a number of units: decimal digits without a sign or a leading zero.
 fn unit_count(word: &str) -> Option<u32>
     ensures { MatchOption result ((units : ℕ) → 1 ≤ units → units ≤ most_units → ¬ (word.now ≡ decimal units))
         (λ units. (word.now ≡ decimal units) × (1 ≤ units) × (units ≤ most_units)) }

@@ -14,7 +14,7 @@ pub struct Failed;
 
 /// A source of bytes.
 pub trait Source {
-    /// The bytes that are left, if the device tells them.
+    /// The unread bytes, if this device's bytes can be named.
     ghost left: { Self → Option (List ℕ) };
 
     /// The number of calls that have failed.

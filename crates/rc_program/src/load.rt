@@ -1,5 +1,5 @@
-//! The document of a command: it is loaded, for which the bytes are read to their end, then parsed, then read as a
-//! document, or it is made.
+//! The document of a command: either the bytes are read to their end, parsed and read as a document, or it is
+//! generated.
 
 ghost use Rattle.std.specs.Prelude.{◌≡◌, ◌≤◌, IsErrOf, MatchResult, length};
 ghost use Rattle.serde_json.specs.View.{view};
@@ -24,7 +24,7 @@ const MAX_BYTES: usize = 16_777_216;
 /// The size of the buffer, which is the most that one call of the source may give.
 const BUFFER_BYTES: usize = 4096;
 
-/// The bytes up to which the JSON value of a document is left to the end of the process. Freeing it takes a tenth of a
+/// The largest document, in bytes, whose JSON value isn't freed before the process ends. Freeing it takes a tenth of a
 /// whole run; leaving that of a larger document would raise the most memory that any document needs.
 const LEFT_BYTES: usize = 4_194_304;
 
@@ -43,7 +43,7 @@ pub fn document_of<S: Source>(
     ensures untouched { IsMade (origin_of command) → source.new ≡ source.old }
 {
     match command {
-        Command::Tree | Command::Fates => load(alloc, source, note),
+        Command::Tree | Command::Fates | Command::Slots => load(alloc, source, note),
         Command::Generate(units) => Ok(generate(alloc, units)?),
     }
 }
@@ -82,10 +82,12 @@ fn read_to_end<S: Source>(alloc: Global, source: &mut S) -> Result<Vec<u8>, Stop
 }
 
 /// The document whose JSON the bytes are.
-fn document(alloc: Global, bytes: Vec<u8>, note: &mut Note) -> Result<Doc, Stop>
+fn document(alloc: Global, mut bytes: Vec<u8>, note: &mut Note) -> Result<Doc, Stop>
     requires { length bytes.items ≤ most_bytes }
     ensures { MatchResult result (IsJsonOfDoc bytes.items) (IsStopFor bytes.items) }
 {
+    // The room for bytes has doubled on the way, and most memory is taken while their value is made.
+    bytes.shrink_to_fit();
     let is_left = bytes.len() <= LEFT_BYTES;
     let value = parse(alloc, bytes, note)?;
     match read_doc(alloc, &value)? {

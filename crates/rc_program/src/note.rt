@@ -1,8 +1,9 @@
 //! What standard error says beyond the status: where bytes are no document, or why a graph is refused. A note that
 //! finds no memory is left out.
 
+use crate::nesting::nesting;
 use crate::printing::fault_sentence;
-use rc_hir::Fault;
+use rc_hir::{Fault, Hir};
 use rc_misread::misread_words;
 use rc_names::Text;
 use serde_json::Value;
@@ -30,6 +31,22 @@ pub fn note_fault(alloc: Global, note: &mut Note, fault: &Fault) {
     if let Ok(text) = fault_sentence(alloc, fault) {
         *note = Some(text);
     }
+}
+
+/// Notes how deep a graph nests that found no memory, and how much stack nesting may take.
+pub fn note_nesting(alloc: Global, note: &mut Note, graph: &Hir, stack: usize) {
+    if let Ok(text) = nesting_text(alloc, graph, stack) {
+        *note = Some(text);
+    }
+}
+
+fn nesting_text(alloc: Global, graph: &Hir, stack: usize) -> Result<Text, AllocError> {
+    let levels = nesting(alloc, graph)?;
+    let room = stack / 1024;
+    let text = format!(in alloc;
+        "the blocks of the graph nest {levels} levels deep, and nesting may take {room} KiB of the stack; `ulimit -s` raises it"
+    )?;
+    Ok(Text::from(text))
 }
 
 /// The text of an error of the JSON library.

@@ -6,6 +6,7 @@ ghost use Rattle.rc_program.specs.Code.{code_of};
 /// How the program is called.
 const USAGE: &str = "usage: rc tree < DOCUMENT
 rc:        rc fates < DOCUMENT
+rc:        rc slots < DOCUMENT
 rc:        rc gen N
 rc: the document is read from standard input; no word names it. N is a number from 1 to 2000";
 
@@ -30,6 +31,8 @@ pub enum Status {
     TooLarge,
     /// Memory ran out.
     NoMemory,
+    /// The scope blocks of the answer have more than 4,294,967,295 slots.
+    TooManySlots,
 }
 
 impl Status {
@@ -47,6 +50,7 @@ impl Status {
             Status::WriteFault => 7,
             Status::TooLarge => 8,
             Status::NoMemory => 9,
+            Status::TooManySlots => 11,
         }
     }
 
@@ -64,6 +68,7 @@ impl Status {
             Status::WriteFault => Some("writing standard output failed"),
             Status::TooLarge => Some("standard input has more than 16777216 bytes"),
             Status::NoMemory => Some("there is too little memory"),
+            Status::TooManySlots => Some("the scope blocks have more than 4294967295 slots"),
         }
     }
 }

@@ -25,6 +25,8 @@ pub enum Stop {
     TooLarge,
     #[error("memory ran out")]
     NoMemory,
+    #[error("the scope blocks have too many slots")]
+    TooManySlots,
 }
 
 impl From<AllocError> for Stop {
@@ -56,5 +58,6 @@ pub fn status_from(end: Result<Status, Stop>) -> Status
         Err(Stop::WriteFault) => Status::WriteFault,
         Err(Stop::TooLarge) => Status::TooLarge,
         Err(Stop::NoMemory) => Status::NoMemory,
+        Err(Stop::TooManySlots) => Status::TooManySlots,
     }
 }

@@ -5,7 +5,7 @@ ghost use Rattle.rc_program.specs.declared.command.Command.{Command};
 ghost use Rattle.rc_program.specs.declared.status.Status.{Status};
 ghost use Rattle.rc_program.specs.Command.{AreWords, IsCommand, ReadNothing, origin_of};
 ghost use Rattle.rc_program.specs.Device.{HasRisen};
-ghost use Rattle.rc_program.specs.DueStatus.{CanFailToRead, CanReplace, IsDueFrom};
+ghost use Rattle.rc_program.specs.DueStatus.{CanFailToRead, CanReplace, IsDueFor};
 ghost use Rattle.rc_program.specs.Status.{IsOutcome};
 ghost use Rattle.rc_program.specs.inside.Stop.{status_from};
 
@@ -23,14 +23,16 @@ use std::alloc::Global;
 /// Runs the command that the words name: reads a document from the source, or makes one, and writes the text of the
 /// command to the sink, or the line of the fault with which the document's graph is refused. Returns the status.
 ///
-/// The bytes are read to their end before they are parsed, and the text is made whole before any of it is written. With
-/// the statuses `NotJson`, `NotDoc` and `Refused` the note says why, where memory allows.
+/// The bytes are read to their end before they are parsed, and the text is made whole before any of it is written.
+/// Nesting may take that many bytes of stack; a graph that nests deeper ends with `NoMemory`. With the statuses
+/// `NotJson`, `NotDoc`, `Refused` and `NoMemory` the note says why, where memory allows.
 pub fn program<S: Source, K: Sink>(
     alloc: Global,
     words: &Words,
     source: &mut S,
     sink: &mut K,
     note: &mut Note,
+    stack: usize,
 ) -> Status
     // Each status gives these facts.
     ensures outcome { IsOutcome words.now (S.left source.old) (S.left source.new)
@@ -43,19 +45,19 @@ pub fn program<S: Source, K: Sink>(
     // bytes, if the source tells them.
     ensures usage { (result ≡ Status.Usage) ↔ ¬ AreWords words.now }
     ensures exact { (command : Command) (due : Status) → IsCommand words.now command
-        → IsDueFrom (origin_of command) (S.left source.old) due
+        → IsDueFor command (S.left source.old) due
         → (result ≡ due) ⊎ CanReplace
         (CanFailToRead (origin_of command) (HasRisen (S.faults source.old) (S.faults source.new)))
         (HasRisen (K.faults sink.old) (K.faults sink.new)) due result }
 
     // The text is written, unless memory runs out or a device fails.
     ensures complete { (command : Command) → IsCommand words.now command
-        → IsDueFrom (origin_of command) (S.left source.old) Status.Done
+        → IsDueFor command (S.left source.old) Status.Done
         → ¬ CanFailToRead (origin_of command) (HasRisen (S.faults source.old) (S.faults source.new))
         → ¬ HasRisen (K.faults sink.old) (K.faults sink.new)
         → (result ≡ Status.Done) ⊎ (result ≡ Status.NoMemory) }
 {
-    status_from(run(alloc, words, source, sink, note))
+    status_from(run(alloc, words, source, sink, note, stack))
 }
 
 /// The steps of the program, each of which may stop it.
@@ -65,6 +67,7 @@ fn run<S: Source, K: Sink>(
     source: &mut S,
     sink: &mut K,
     note: &mut Note,
+    stack: usize,
 ) -> Result<Status, Stop>
     ensures outcome { IsOutcome words.now (S.left source.old) (S.left source.new)
         (K.written sink.old) (K.written sink.new) (status_from result) }
@@ -76,7 +79,7 @@ fn run<S: Source, K: Sink>(
         return Err(Stop::Usage);
     };
     let doc = document_of(alloc, command, source, note)?;
-    let answer = answer_for(alloc, command, doc, note)?;
+    let answer = answer_for(alloc, command, doc, note, stack)?;
     match write_lines(sink, &answer.text) {
         Ok(()) => Ok(answer.status),
         Err(_) => Err(Stop::WriteFault),

@@ -5,10 +5,10 @@ use Rattle.rc_program.specs.declared.stop.Stop.{Stop}
 use Rattle.rc_program.specs.declared.stop.Stop.TheVariants as stops
 use Rattle.rc_program.specs.declared.status.Status.{Status}
 use Rattle.rc_program.specs.declared.status.Status.TheVariants.{Usage, NotJson, NotDoc, ReadFault, WriteFault}
-use Rattle.rc_program.specs.declared.status.Status.TheVariants.{TooLarge, NoMemory}
+use Rattle.rc_program.specs.declared.status.Status.TheVariants.{TooLarge, NoMemory, TooManySlots}
 use Rattle.rc_program.specs.Command.{Origin}
 use Rattle.rc_program.specs.Device.{IsReadToEnd}
-use Rattle.rc_program.specs.DueStatus.{IsDue}
+use Rattle.rc_program.specs.DueStatus.{IsDueForBytes}
 use Rattle.rc_program.specs.Status.{HasDocument, HasNoDocument, HasTakenSome, HasTakenTooMany}
 
 -- the status of a program that stopped
@@ -20,6 +20,7 @@ status_of stops.ReadFault = ReadFault
 status_of stops.WriteFault = WriteFault
 status_of stops.TooLarge = TooLarge
 status_of stops.NoMemory = NoMemory
+status_of stops.TooManySlots = TooManySlots
 
 -- the status of a program that stopped, or that came to its end with this status
 abbrev pub status_from : Result Status Stop → Status
@@ -29,7 +30,7 @@ status_from (Err stop) = status_of stop
 -- a step over these bytes stopped with the status that is due for them, or ran out of memory
 abbrev pub IsStopFor : List ℕ → Stop → Type 0
 IsStopFor bytes stops.NoMemory = ⊤
-IsStopFor bytes stop = IsDue bytes (status_of stop)
+IsStopFor bytes stop = IsDueForBytes bytes (status_of stop)
 
 -- Reading to the end gave these bytes, or stopped for this reason.
 abbrev pub IsReadOrStop : {X : Type 0} → (X → List ℕ) → Option (List ℕ) → Option (List ℕ) → Result X Stop → Type 0
@@ -44,3 +45,9 @@ abbrev pub IsDocumentOrStop : Origin → Option (List ℕ) → Option (List ℕ)
 IsDocumentOrStop origin left left' (Ok doc) = HasDocument origin left left' doc
 IsDocumentOrStop origin left left' (Err stops.NoMemory) = ⊤
 IsDocumentOrStop origin left left' (Err stop) = HasNoDocument origin left left' (status_of stop)
+
+-- no text was made: memory ran out, or there is more than it can say
+abbrev pub HasNoText : (much : Type 0) → Stop → Type 0
+HasNoText much stops.NoMemory = ⊤
+HasNoText much stops.TooManySlots = much
+HasNoText much _ = ⊥

@@ -1,4 +1,4 @@
-//! How much a graph and its answer have of what, a line each.
+//! The counts of a graph and of its result, one a line.
 
 ghost use Rattle.std.specs.Prelude.{◌≡◌, ◌++◌, IfOk, OnOk, count_by};
 ghost use Rattle.rc_program.specs.Counts.{count_line, count_lines, fate_count, first_fate_lines, is_of_kind};

@@ -8,8 +8,8 @@ use rc_hir::{Fault, Rule, TableName};
 use rc_names::Text;
 use std::alloc::{AllocError, Global};
 
-/// The line that reports a fault, with its line feed. `NoMemory` has a status of its own, and a bad target and
-/// a cycle of functions come from no whole run, so these have no line and give an empty text.
+/// The line that reports a fault, with its line feed. `NoMemory` has a status of its own, and `BadTarget` and
+/// `FunctionCycle` never come from `build_and_prune`; for all three the text is empty.
 ///
 /// Fails only when out of memory.
 pub fn fault_line(alloc: Global, fault: &Fault) -> Result<Text, AllocError>

@@ -3,7 +3,7 @@
 use super::DOCUMENT;
 use rc_gen::generate;
 use rc_names::{List, Text};
-use rc_program::{MemorySink, MemorySource, Status, Words, program};
+use rc_program::{MemorySink, MemorySource, Status, USUAL_STACK, Words, program};
 use std::alloc::{AllocError, Global};
 use std::test::Fail;
 
@@ -55,7 +55,14 @@ fn ends(
     let mut source = MemorySource::new(bytes(alloc, document.unwrap_or(""))?, failing);
     let mut sink = MemorySink::new(alloc, 1000, 10, List::new(alloc))?;
     let words = words(alloc, line)?;
-    let status = program(alloc, &words, &mut source, &mut sink, &mut None);
+    let status = program(
+        alloc,
+        &words,
+        &mut source,
+        &mut sink,
+        &mut None,
+        USUAL_STACK,
+    );
     Ok(status == due && sink.bytes() == text.as_bytes())
 }
 
@@ -63,7 +70,7 @@ fn ends(
 fn other_words_read_and_write_nothing(rt: HostRuntime) -> Result<(), Fail> {
     let alloc = rt.alloc();
     let alone = [
-        "", "Tree", "tree ", " tree", "fate", "gen", "gen 1", "1", "--help",
+        "", "Tree", "tree ", " tree", "fate", "slot", "gen", "gen 1", "1", "--help",
     ];
     for word in alone {
         assert!(rt;
@@ -101,7 +108,7 @@ fn other_words_read_and_write_nothing(rt: HostRuntime) -> Result<(), Fail> {
             "gen '{number}'"
         );
     }
-    for word in ["tree", "fates", "", "Gen", "1"] {
+    for word in ["tree", "fates", "slots", "", "Gen", "1"] {
         assert!(rt;
             ends(alloc, &[word, "1"], None, Status::Usage, "")?,
             "'{word}' and a number"
@@ -123,6 +130,17 @@ fn fates_are_printed_alone(rt: HostRuntime) -> Result<(), Fail> {
     assert!(rt; ends(alloc, &["fates"], Some(DOCUMENT), Status::Done, "")?);
     assert!(rt; ends(alloc, &["fates"], None, Status::ReadFault, "")?);
     assert!(rt; ends(alloc, &["fates"], Some("{}"), Status::NotDoc, "")?);
+    Ok(())
+}
+
+#[test]
+fn slots_are_printed_for_each_scope_block(rt: HostRuntime) -> Result<(), Fail> {
+    let alloc = rt.alloc();
+    let slots = "scope 0 first 0 dependencies 1 declarations 1 reassignments 0\ntotal 2\n";
+    assert!(rt; ends(alloc, &["slots"], Some(MERGED), Status::Done, slots)?);
+    assert!(rt; ends(alloc, &["slots"], Some(DOCUMENT), Status::Done, "total 0\n")?);
+    assert!(rt; ends(alloc, &["slots"], None, Status::ReadFault, "")?);
+    assert!(rt; ends(alloc, &["slots"], Some("{}"), Status::NotDoc, "")?);
     Ok(())
 }
 

@@ -5,7 +5,8 @@ ghost use Rattle.std.specs.Prelude.{None};
 use super::{DOCUMENT, TEXT};
 use rc_names::{List, Text};
 use rc_program::{
-    Failed, MemorySink, MemorySource, Sink, Source, Status, StdSink, StdSource, Words, program,
+    Failed, MemorySink, MemorySource, Sink, Source, Status, StdSink, StdSource, USUAL_STACK, Words,
+    program,
 };
 use std::alloc::{AllocError, Global};
 use std::io;
@@ -37,7 +38,7 @@ fn is_answered_over<S: Source>(
 ) -> Result<bool, AllocError> {
     let words = tree(alloc)?;
     let mut sink = MemorySink::new(alloc, 1000, 10, List::new(alloc))?;
-    let status = program(alloc, &words, source, &mut sink, &mut None);
+    let status = program(alloc, &words, source, &mut sink, &mut None, USUAL_STACK);
     Ok(status == due && sink.bytes() == text.as_bytes())
 }
 
@@ -77,7 +78,14 @@ fn source(alloc: Global) -> Result<MemorySource, AllocError> {
 fn holds(alloc: Global, room: usize, failing: &[u64], written: &[u8]) -> Result<bool, AllocError> {
     let words = tree(alloc)?;
     let mut sink = MemorySink::new(alloc, room, 10, list(alloc, failing)?)?;
-    let status = program(alloc, &words, &mut source(alloc)?, &mut sink, &mut None);
+    let status = program(
+        alloc,
+        &words,
+        &mut source(alloc)?,
+        &mut sink,
+        &mut None,
+        USUAL_STACK,
+    );
     Ok(status == Status::WriteFault && sink.bytes() == written)
 }
 
@@ -170,7 +178,14 @@ fn a_reader_of_std_is_a_source(rt: HostRuntime) -> Result<(), Fail> {
 /// The status with which the program ends over a sink.
 fn status_over<K: Sink>(alloc: Global, sink: &mut K) -> Result<Status, AllocError> {
     let words = tree(alloc)?;
-    Ok(program(alloc, &words, &mut source(alloc)?, sink, &mut None))
+    Ok(program(
+        alloc,
+        &words,
+        &mut source(alloc)?,
+        sink,
+        &mut None,
+        USUAL_STACK,
+    ))
 }
 
 /// Whether a whole text is written to a list of bytes.

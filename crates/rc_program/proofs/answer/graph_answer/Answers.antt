@@ -3,15 +3,21 @@
 use Rattle.std.proofs.Common.{◌≡◌, refl, Err, true, false}
 use Rattle.std.proofs.lemmas.Result.{MatchResult-weaker}
 use Rattle.rc_hir.specs.declared.fault.Fault.TheVariants as faults
-use Rattle.rc_program.proofs.AnswerLemmas.{text_of_answer}
+use Rattle.rc_program.proofs.AnswerLemmas.{no_text, text_of_answer}
 use Rattle.rc_program.proofs.RefusalLemmas.{line_of_cause, no_answer_of}
 use Rattle.rc_program.proofs.answer.graph_answer.Goals as goal
 
 pub returns-in-Ok : goal.returns-in-Ok
 returns-in-Ok c =
     MatchResult-weaker c.pruned_answer.result c.pruned_answer.ensures
-    (λ answer it. text_of_answer c.args.command c.args.doc.now c.in-Ok.pruned c.build_and_prune.new.env
-    c.in-Ok.ensures.ok answer.status answer.text it.0 it.1) (λ stop none. none)
+    (λ answer it. text_of_answer c.args.command c.args.doc.now c.in-Ok.pruned c.build_and_prune_within.new.env
+    c.in-Ok.ensures.ok answer.status answer.text it.0 c.in-Ok.ensures.one_answer it.1 it.2)
+    (λ stop none. no_text stop none (λ much. record {
+      pruned = c.in-Ok.pruned;
+      answered = c.build_and_prune_within.new.env;
+      answer = c.in-Ok.ensures.ok;
+      exceeds = much;
+    }))
 
 pub returns-in_ok-fault_line-in-Err : goal.returns-in_ok-fault_line-in-Err
 returns-in_ok-fault_line-in-Err c = record {
