@@ -2,8 +2,14 @@
 # rule. These are rows of its tables; where no row is of the word, a sentence that names it is printed.
 # usage: awk -v word=WORD -f explain.awk FAULTS.md
 
-# The words of a cell, without the marks of Markdown.
-function plain(text) {
+# The words of a cell, without the marks of Markdown: without anchors, and of a link its text.
+function plain(text,    link) {
+    gsub(/<a [^>]*><\/a>/, "", text)
+    while (match(text, /\[[^]]*\]\([^)]*\)/)) {
+        link = substr(text, RSTART + 1, RLENGTH - 2)
+        sub(/\]\(.*/, "", link)
+        text = substr(text, 1, RSTART - 1) link substr(text, RSTART + RLENGTH)
+    }
     gsub(/`/, "", text)
     gsub(/^ +| +$/, "", text)
     return text
