@@ -8,8 +8,9 @@ mod RunsElsewhere
 mod EventsStay
 mod PassesLemmas
 mod ScopelessRules
-mod ScopelessPasses
+mod FlowEnds
 mod NoScopes
+mod ScopelessPasses
 mod FatesHold
 mod FreshHolds
 mod ErasedBlocks

@@ -1,8 +1,9 @@
--- Each pass after the one on dependencies leaves a tree without scope blocks as it is, with its environment, and decides
+-- Each pass after the escape pass leaves a tree without scope blocks as it is, with its environment, and decides
 -- nothing.
 use Rattle.std.proofs.Common.{◌≡◌, ◌∙◌, ◌||◌, ◌+◌, ℕ, false, List, [], ◌∷◌, Ok, refl, sym, ap, subst}
 use Rattle.std.specs.List.{IsDistinct, list_any}
 use Rattle.rc_hir.specs.Model.{Environment}
+use Rattle.rc_checks.proofs.MembershipCheck.WithoutBlocks.{inside_without_blocks}
 use Rattle.rc_checks.specs.UnusedScopes as unused
 use Rattle.rc_checks.specs.UnusedScopes.{LosesUnusedScopes, unused_scope_rules}
 use Rattle.rc_early.specs.EarlyReturned.{HasEarlyReturns, Progress, early_return_rules, nothing_met, terminal_at}
@@ -20,12 +21,14 @@ use Rattle.rc_merge.specs.inside.ListSteps.{is_scope}
 use Rattle.rc_merge.specs.inside.WentRules.{Met, met_after, none_met, went_rules}
 use Rattle.rc_names.specs.Numbers.{same_id}
 use Rattle.rc_pipe.proofs.ScopelessRules.{LeavesRules, leaves_all, left_none, not_none, right_none}
-use Rattle.rc_pipe.specs.Passes.{AfterDependencies, PassState}
+use Rattle.rc_pipe.proofs.NoScopes.{no_dependencies}
+use Rattle.rc_pipe.specs.Passes.{PassState}
 use Rattle.rc_pipe.specs.inside.PrunedParts.{HasOthersPruned}
 use Rattle.rc_tree.proofs.CollectedLemmas.{collected-Scope}
 use Rattle.rc_tree.specs.Collected.{collected_list, collected_statement}
-use Rattle.rc_tree.specs.Model.{ReactiveBlock, ReactiveFunction, ReactiveStatement}
+use Rattle.rc_tree.specs.Model.{ReactiveBlock, ReactiveStatement}
 use Rattle.rc_tree.specs.ScopesIn.{HasScopesOnce, scope_parts, scopes_in}
+use Rattle.rc_tree.specs.TreeNames.{TreeInTables}
 use Rattle.rc_tree.specs.Unrolled.{UnrolledStatement}
 use Rattle.rc_tree.specs.declared.statement.ReactiveStatement.{out-ReactiveStatement, roll-ReactiveStatement}
 use Rattle.rc_tree.specs.declared.statement.ReactiveStatement.{roll-out-ReactiveStatement}
@@ -140,23 +143,23 @@ module _ (env : Environment) (body : ReactiveBlock) (none : scopes_in body ≡ [
         block = λ xs met is empty. (met, refl, is);
       }
 
--- so nothing is left to do after the pass on dependencies
-pub others_pruned : {before after : PassState} → AfterDependencies before after → scopes_in before.func.body ≡ []
-    → HasOthersPruned before after []
-others_pruned {before} {after} dependencies none =
-    let still = ap (λ (func : ReactiveFunction). scopes_in func.body) dependencies.kept_function ∙ none in
-    let unused = no_unused after.env after.func.body still in
-    let invalidating = none_invalidating after.env after.func.body still in
+-- so nothing is left to do after the escape pass, where the numbers of the tree are in their tables
+pub others_pruned : (before : PassState) → TreeInTables before.func before.env → scopes_in before.func.body ≡ []
+    → HasOthersPruned before before []
+others_pruned before known none =
+    let env = before.env in
+    let body = before.func.body in
+    let dependencies = no_dependencies env body none (inside_without_blocks env before.func known none) in
     record {
-      reactive = after;
-      dependencies = dependencies;
-      used = after;
+      reactive = before;
+      dependencies = record { scopes = dependencies; kept_function = refl };
+      used = before;
       unused = [];
-      scopes = record { scopes = unused; header = refl; kept_environment = refl };
-      merged = after;
+      scopes = record { scopes = no_unused env body none; header = refl; kept_environment = refl };
+      merged = before;
       joined = [];
-      merges = record { scopes = none_merged after.env after.func.body still; header = refl };
+      merges = record { scopes = none_merged env body none; header = refl };
       always_invalidating = [];
-      invalidating = record { scopes = invalidating; header = refl; kept_environment = refl };
+      invalidating = record { scopes = none_invalidating env body none; header = refl; kept_environment = refl };
       told = refl;
     }

@@ -1,6 +1,6 @@
 //! The checks and passes over a spelled function, in their order.
 
-ghost use Rattle.std.specs.Prelude.{◌≡◌, ◌↔◌, ◌⊎◌, [], List as Items, IfErr, IfOk, OnOk};
+ghost use Rattle.std.specs.Prelude.{◌≡◌, ◌↔◌, ◌⊎◌, [], List as Items, IfErr, IfOk};
 ghost use Rattle.rc_hir.specs.Model.{HirFunction as Graph};
 ghost use Rattle.rc_hir.specs.KeptNumbers.{KeepsNumbers};
 ghost use Rattle.rc_hir.specs.Names.{NamesInTables};
@@ -14,7 +14,7 @@ ghost use Rattle.rc_runs.specs.Erase.{erased};
 ghost use Rattle.rc_runs.specs.Event.{Event, End};
 ghost use Rattle.rc_runs.specs.Spelled.{Spells};
 ghost use Rattle.rc_pipe.specs.Causes.{HasRoom};
-ghost use Rattle.rc_pipe.specs.Passes.{AfterDependencies, AfterLabels, state};
+ghost use Rattle.rc_pipe.specs.Passes.{AfterLabels, state};
 ghost use Rattle.rc_pipe.specs.inside.PassFaults.{IsPassFault};
 ghost use Rattle.rc_pipe.specs.inside.PrunedParts.{HasOthersPruned, HasScopesPruned, IsPrunedWith};
 
@@ -94,9 +94,8 @@ fn prune_scopes(
 {
     let spelled = check(alloc, hir, func, env)?;
     if spelled.is_empty() {
-        // No operand is outside a scope block, and no pass on scope blocks finds one. The record may lack something.
+        // No operand is outside a scope block, and no other pass finds anything to do. The record may lack something.
         let log = decide_non_escaping_scopes(alloc, func, env)?;
-        prune_dependencies(alloc, func, env)?;
         return Ok(Decisions { spelled, log });
     }
     assert_known_instructions_within_scopes(alloc, func, env)?;
@@ -104,27 +103,6 @@ fn prune_scopes(
     let others = decide_others(alloc, func, env)?;
     log.append(others)?;
     Ok(Decisions { spelled, log })
-}
-
-/// Prunes dependencies that aren't reactive from a function without scope blocks. If the table has no scope, there is
-/// nothing to prune.
-fn prune_dependencies(
-    alloc: Global,
-    func: &mut ReactiveFunction,
-    env: &mut Environment,
-) -> Result<(), Fault>
-    requires known { TreeInTables func.old env.old }
-    requires none { scopes_in func.old.body ≡ [] }
-    ensures ok { OnOk result (AfterDependencies (state func.old env.old) (state func.new env.new)) }
-    ensures still_known { OnOk result (TreeInTables func.new env.new) }
-    ensures refused { IfErr result (λ fault. fault ≡ faults.NoMemory) }
-    ensures kept_numbers { KeepsNumbers env.old env.new }
-    ensures known_names { (graph : Graph) → NamesInTables graph env.old → NamesInTables graph env.new }
-{
-    if env.scopes.as_slice().is_empty() {
-        return Ok(());
-    }
-    prune_non_reactive_dependencies(alloc, func, env)
 }
 
 /// Checks break targets and prunes unused labels. Returns the scopes that have a block, which are the same with those

@@ -4,9 +4,6 @@ use Rattle.std.proofs.lemmas.Result.{err_from_is_err_and}
 use Rattle.rc_checks.proofs.MembershipCheck.WithoutBlocks.{inside_without_blocks}
 use Rattle.rc_checks.proofs.ScopeBlocks.SpelledOnce.{spelled_once}
 use Rattle.rc_escape.specs.Outputs.{staying_scopes}
-use Rattle.rc_runs.specs.Erase.{erased}
-use Rattle.rc_tree.specs.Model.{ReactiveFunction}
-use Rattle.rc_tree.specs.ScopesIn.{scopes_in}
 use Rattle.rc_pipe.specs.Passes.{state}
 use Rattle.rc_pipe.proofs.EnvironmentStays.{keeps_own}
 use Rattle.rc_pipe.proofs.PassesLemmas.{checked, escape_fault, labels_keep_once, labels_keep_scopes, memory_fault}
@@ -38,7 +35,6 @@ pub returns-then-is_empty-clause-ok : goal.returns-then-is_empty-clause-ok
 returns-then-is_empty-clause-ok c =
     let before = c.in_ok-spelled.ensures in
     let escape = c.in_ok-log.ensures in
-    let dependencies = c.in_ok-prune_dependencies.ensures in
     let empty : c.in_ok-spelled.spelled ≡ [] = search rules in
     let none = sym before.listed ∙ empty in
     let env = c.args.env.now in
@@ -50,9 +46,9 @@ returns-then-is_empty-clause-ok c =
       not_escaping = c.in_ok-log.log;
       escapes = record { scopes = escape.ok; header = escape.header; kept_environment = refl };
       log = [];
-      others = others_pruned dependencies.ok
+      others = others_pruned (state c.decide_non_escaping_scopes.new.func env) (escape.known before.still_known)
           (escape.ok.without.left ∙ ap (staying_scopes env escape.ok.without.set) none);
-      kept_erased = ap erased dependencies.ok.kept_function ∙ escape.kept_erased;
+      kept_erased = escape.kept_erased;
       listed = before.listed ∙ labels_keep_scopes before.ok;
       told = sym (append-nil c.in_ok-log.log);
       needed = escape.needed;
@@ -62,21 +58,11 @@ returns-then-is_empty-clause-ok c =
 pub returns-then-is_empty-clause-still_none : goal.returns-then-is_empty-clause-still_none
 returns-then-is_empty-clause-still_none c = λ empty.
     let without = c.in_ok-log.ensures.ok.without in
-    ap (λ (func : ReactiveFunction). scopes_in func.body) c.in_ok-prune_dependencies.ensures.ok.kept_function
-    ∙ (without.left ∙ ap (staying_scopes c.args.env.now without.set) (sym c.in_ok-spelled.ensures.listed ∙ empty))
+    without.left ∙ ap (staying_scopes c.args.env.now without.set) (sym c.in_ok-spelled.ensures.listed ∙ empty)
 
 pub returns-clause-still_none : goal.returns-clause-still_none
 returns-clause-still_none c = λ empty.
     let filled : ¬ (c.in_ok-spelled.spelled ≡ []) = search rules in absurd (filled empty)
-
-pub prune_dependencies-requires-clause-known : goal.prune_dependencies-requires-clause-known
-prune_dependencies-requires-clause-known c = c.in_ok-log.ensures.known c.in_ok-spelled.ensures.still_known
-
-pub prune_dependencies-requires-clause-none : goal.prune_dependencies-requires-clause-none
-prune_dependencies-requires-clause-none c =
-    let empty : c.in_ok-spelled.spelled ≡ [] = search rules in
-    let without = c.in_ok-log.ensures.ok.without in
-    without.left ∙ ap (staying_scopes c.args.env.now without.set) (sym c.in_ok-spelled.ensures.listed ∙ empty)
 
 -- the spelled tree has each scope once, and so has the tree after each pass
 pub decide_others-requires-clause-once : goal.decide_others-requires-clause-once
@@ -100,10 +86,10 @@ returns-clause-kept_runs c = λ none.
 pub returns-then-is_empty-clause-kept_runs : goal.returns-then-is_empty-clause-kept_runs
 unfolding returns-then-is_empty-clause-ok
 returns-then-is_empty-clause-kept_runs c = λ none.
-    runs_through c.args.env.now c.prune_dependencies.new.env c.args.func.now c.check.new.func
-    c.decide_non_escaping_scopes.new.func c.prune_dependencies.new.func []
-    (c.in_ok-spelled.ensures.kept_runs none) c.in_ok-log.ensures.kept_erased
-    (ap erased c.in_ok-prune_dependencies.ensures.ok.kept_function) (returns-then-is_empty-clause-ok c).others none
+    runs_through c.args.env.now c.args.env.now c.args.func.now c.check.new.func
+    c.decide_non_escaping_scopes.new.func c.decide_non_escaping_scopes.new.func []
+    (c.in_ok-spelled.ensures.kept_runs none) c.in_ok-log.ensures.kept_erased refl
+    (returns-then-is_empty-clause-ok c).others none
 
 -- the checks fail only when out of memory
 pub returns-in_err-spelled-clause-refused : goal.returns-in_err-spelled-clause-refused
@@ -160,14 +146,14 @@ returns-in_err-others-clause-kept_environment c =
     rw (p.1, p.2) (inl c.in_err-others.ensures.refused)
 
 -- whatever the passes give, numbers stay in their tables
-pub returns-then-is_empty-clause-known_names : goal.returns-then-is_empty-clause-known_names
-returns-then-is_empty-clause-known_names c = c.prune_dependencies.ensures.known_names c.args.hir.now
+pub returns-then-is_empty-clause-still_known : goal.returns-then-is_empty-clause-still_known
+returns-then-is_empty-clause-still_known c = c.in_ok-log.ensures.known c.in_ok-spelled.ensures.still_known
+
+pub returns-then-is_empty-clause-kept_numbers : goal.returns-then-is_empty-clause-kept_numbers
+returns-then-is_empty-clause-kept_numbers c = keeps_own c.args.env.now
 
 pub returns-clause-known_names : goal.returns-clause-known_names
 returns-clause-known_names c = c.decide_others.ensures.known_names c.args.hir.now
-
-pub returns-in_err-prune_dependencies-clause-known_names : goal.returns-in_err-prune_dependencies-clause-known_names
-returns-in_err-prune_dependencies-clause-known_names c = c.prune_dependencies.ensures.known_names c.args.hir.now
 
 pub returns-in_err-append-clause-known_names : goal.returns-in_err-append-clause-known_names
 returns-in_err-append-clause-known_names c = c.decide_others.ensures.known_names c.args.hir.now
