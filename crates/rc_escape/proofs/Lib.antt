@@ -20,4 +20,6 @@ pub mod OneRowWalks
 pub mod OutputsLemmas
 pub mod StoresLemmas
 pub mod OneRecord
+pub mod EveryWalk
+pub mod ScopelessTrees
 pub mod NotEscaping

@@ -4,4 +4,5 @@ pub mod KeptParts
 pub mod LeftScopes
 pub mod NeededOutputs
 pub mod Decided
+pub mod FlagsAlone
 pub mod EscapeFaults

@@ -16,5 +16,5 @@ mod row_users;
 mod walk_state;
 
 pub use memoized_names::memoized;
-pub use not_escaping::{decide_non_escaping_scopes, prune_non_escaping_scopes};
+pub use not_escaping::{decide_non_escaping_scopes, flag_memoizations, prune_non_escaping_scopes};
 pub use rc_memo::{DeclSet, MemoNode, MemoRecord, MemoizationLevel, collect, join_aliases};

@@ -2,9 +2,11 @@
 //!
 //! After oxc's prune_non_escaping_scopes.
 
-ghost use Rattle.std.specs.Prelude.{◌≡◌, Contains, IfErr, IfOk, OnOk};
-ghost use Rattle.rc_escape.specs.WholeRecord.{AreMemoized, IsEscapeFault};
-ghost use Rattle.rc_escape.specs.NotEscaping.{HasDecidedNotEscaping, IsNeededOutput, IsWithoutNotEscaping};
+ghost use Rattle.std.specs.Prelude.{◌≡◌, [], Contains, IfErr, IfOk, OnOk};
+ghost use Rattle.rc_hir.specs.declared.fault.Fault.TheVariants as faults;
+ghost use Rattle.rc_escape.specs.WholeRecord.{AreMemoized, HasWholeRecord, IsEscapeFault};
+ghost use Rattle.rc_escape.specs.NotEscaping.{HasDecidedNotEscaping, IsNeededOutput, IsRebuiltFor};
+ghost use Rattle.rc_escape.specs.NotEscaping.{IsWithoutNotEscaping};
 ghost use Rattle.std.specs.List.{IsDistinct};
 ghost use Rattle.rc_names.specs.Numbers.{DeclarationId as Declaration, same_id, ScopeId as Scope};
 ghost use Rattle.rc_runs.specs.Erase.{erased};
@@ -18,6 +20,7 @@ mod transform;
 
 use crate::DeclSet;
 use crate::memoized_names::memoized_rows;
+use crate::missing_scopes::lowest_missing;
 use crate::not_escaping::met::Met;
 use crate::not_escaping::transform::PruneScopesTransform;
 use rc_hir::{Environment, Fault};
@@ -79,11 +82,63 @@ pub fn decide_non_escaping_scopes(
     ensures refused { IfErr result (IsEscapeFault env.now func.old) }
 {
     let set = deciding_names(alloc, func, env)?;
-    let mut transform = PruneScopesTransform {
-        alloc,
-        env,
-        set: &set,
-    };
+    let log = rebuild(alloc, func, env, &set)?;
+    Ok(log)
+}
+
+/// Does what `prune_non_escaping_scopes` does to a function in which no scope has a block: sets the flags. The memo
+/// record isn't walked, since only a scope block asks which names are memoized.
+///
+/// Fails as `prune_non_escaping_scopes` does.
+pub fn flag_memoizations(
+    alloc: Global,
+    func: &mut ReactiveFunction,
+    env: &Environment,
+) -> Result<(), Fault>
+    requires none { scopes_in func.old.body ≡ [] }
+    ensures ok { OnOk result (HasDecidedNotEscaping env.now func.old func.new.body []) }
+    ensures header { func.new ≡ record func.old { body = func.new.body } }
+    ensures needed { OnOk result ((scope : Scope) (name : Declaration) → Contains (scopes_in func.old.body) scope
+        → IsNeededOutput env.now func.old scope name → Contains (scopes_in func.new.body) scope) }
+    ensures kept_erased { OnOk result (erased func.new ≡ erased func.old) }
+    ensures known { OnOk result (TreeInTables func.old env.now → TreeInTables func.new env.now) }
+
+    ensures refused { IfErr result (IsEscapeFault env.now func.old) }
+{
+    check_record(alloc, func, env)?;
+    let set = DeclSet::new(alloc);
+    rebuild(alloc, func, env, &set)?;
+    Ok(())
+}
+
+/// Checks that the memo record of a function lacks nothing.
+///
+/// Fails as `prune_non_escaping_scopes` does.
+fn check_record(alloc: Global, func: &ReactiveFunction, env: &Environment) -> Result<(), Fault>
+    ensures ok { OnOk result (HasWholeRecord env.now func.now) }
+    ensures refused { IfErr result (IsEscapeFault env.now func.now) }
+{
+    let rows = collect_rows(alloc, func, env)?;
+    if let Some(scope) = lowest_missing(&rows) {
+        return Err(Fault::NoScopeNode { scope });
+    }
+    Ok(())
+}
+
+/// Rebuilds the body of a function where these names are memoized. Returns the scope of each block that gave way, with
+/// its fate, in the order in which the blocks ended. Fails only when out of memory.
+fn rebuild(
+    alloc: Global,
+    func: &mut ReactiveFunction,
+    env: &Environment,
+    set: &DeclSet,
+) -> Result<List<ScopeFate>, Fault>
+    ensures ok { IfOk result (λ log. (is : IsRebuiltFor env.now set.now func.old.body func.new.body)
+        × (is.left.log ≡ log)) }
+    ensures header { func.new ≡ record func.old { body = func.new.body } }
+    ensures refused { IfErr result (λ fault. fault ≡ faults.NoMemory) }
+{
+    let mut transform = PruneScopesTransform { alloc, env, set };
     let mut met = Met::new(alloc);
     transform_reactive_function(alloc, func, &mut transform, &mut met)?;
     Ok(met.log)
