@@ -29,7 +29,7 @@ use Rattle.rc_tree.specs.declared.statement.ReactiveStatement.TheVariants as rea
 use Rattle.rc_tree.specs.declared.terminal.ReactiveTerminal.{roll-ReactiveTerminal}
 use Rattle.rc_tree.specs.declared.terminal.ReactiveTerminal.TheVariants as tree
 use Rattle.rc_tree.specs.declared.value.ReactiveValue.TheVariants as reactive_values
-use Rattle.rc_pipe.proofs.ScopelessRules.{one_has, two_have}
+use Rattle.rc_escape.proofs.ScopelessTrees.{one_has, two_have}
 
 -- the scopes of the blocks that end in a list of steps
 abbrev pub ended : List Step → List ScopeId

@@ -20,8 +20,9 @@ use Rattle.rc_merge.specs.Merged.{Merges}
 use Rattle.rc_merge.specs.inside.ListSteps.{is_scope}
 use Rattle.rc_merge.specs.inside.WentRules.{Met, met_after, none_met, went_rules}
 use Rattle.rc_names.specs.Numbers.{same_id}
-use Rattle.rc_pipe.proofs.ScopelessRules.{LeavesRules, leaves_all, left_none, not_none, right_none}
+use Rattle.rc_escape.proofs.ScopelessTrees.{left_none, not_none, right_none}
 use Rattle.rc_pipe.proofs.NoScopes.{no_dependencies}
+use Rattle.rc_pipe.proofs.ScopelessRules.{LeavesRules, leaves_all}
 use Rattle.rc_pipe.specs.Passes.{PassState}
 use Rattle.rc_pipe.specs.inside.PrunedParts.{HasOthersPruned}
 use Rattle.rc_tree.proofs.CollectedLemmas.{collected-Scope}

@@ -1,15 +1,15 @@
 -- Rules that leave each statement but scope blocks leave a tree without scope blocks as it is.
-use Rattle.std.proofs.Common.{◌≡◌, ◌∙◌, List, [], ◌∷◌, ◌++◌, None, Some, map, Result, Ok, append-nil, refl}
+use Rattle.std.proofs.Common.{◌≡◌, ◌∙◌, List, [], ◌∷◌, None, Some, map, Result, Ok, refl}
 use Rattle.std.proofs.Common.{sym, ap}
 use Rattle.rc_hir.specs.Model.{Fault}
-use Rattle.rc_names.specs.Numbers.{EvaluationOrder, ScopeId}
+use Rattle.rc_names.specs.Numbers.{EvaluationOrder}
+use Rattle.rc_escape.proofs.ScopelessTrees.{left_none, not_none, one_has, right_none, two_have}
 use Rattle.rc_tree.proofs.CollectedLemmas.{collected-block, collected-case, collected-Terminal, collected-Scope}
 use Rattle.rc_tree.proofs.CollectedLemmas.{collected-PrunedScope, collected-Switch}
 use Rattle.rc_tree.proofs.RebuiltLemmas.{opened_case, if_some, rebuilt-block, rebuilt-labeled, rebuilt-pruned_scope}
 use Rattle.rc_tree.proofs.RebuiltLemmas.{rebuilt-Instruction, rebuilt-Terminal, rebuilt-PrunedScope, rebuilt-Switch}
-use Rattle.rc_tree.proofs.TerminalShapes.{OneBlock, TwoBlocks, collected-one, collected-two, leaf, of_one, of_two}
+use Rattle.rc_tree.proofs.TerminalShapes.{collected-one, collected-two, leaf}
 use Rattle.rc_tree.proofs.TerminalShapes.{rebuilt-leaf, rebuilt-one, rebuilt-two, with_block, with_blocks}
-use Rattle.rc_tree.proofs.TerminalShapes as shapes
 use Rattle.rc_tree.proofs.TreeInduction.{IsInductive, TreeClaims, of_every_block}
 use Rattle.rc_tree.specs.Collected.{collected_case, collected_cases, collected_list, collected_statement}
 use Rattle.rc_tree.specs.Collected.{collected_terminal}
@@ -21,29 +21,6 @@ use Rattle.rc_tree.specs.ScopesIn.{scope_parts, scopes_in}
 use Rattle.rc_tree.specs.Step.{bind}
 use Rattle.rc_tree.specs.declared.statement.ReactiveStatement.TheVariants as reactive
 use Rattle.rc_tree.specs.declared.terminal.ReactiveTerminal.TheVariants as tree
-
--- of two parts, neither has a scope block where both together have none
-pub left_none : {X : Type 0} (xs ys : List X) → xs ++ ys ≡ [] → xs ≡ []
-left_none [] ys e = refl
-left_none (x ∷ xs) ys e = absurd (let bad : ⊥ = cc in bad)
-
-pub right_none : {X : Type 0} (xs ys : List X) → xs ++ ys ≡ [] → ys ≡ []
-right_none [] ys e = e
-right_none (x ∷ xs) ys e = absurd (let bad : ⊥ = cc in bad)
-
-pub not_none : {X : Type 0} (xs : List X) (x : X) → xs ++ x ∷ [] ≡ [] → ⊥
-not_none xs x e = let last = right_none xs (x ∷ []) e in let bad : ⊥ = cc in bad
-
--- a terminal has the scope blocks of its blocks
-pub one_has : (shape : OneBlock) (scopes : List ScopeId) → of_one scope_parts shape scopes ≡ scopes
-one_has (shapes.DoWhile test id) scopes = append-nil scopes
-one_has (shapes.For init test update id) scopes = append-nil scopes
-one_has (shapes.IfAlone test id) scopes = append-nil scopes
-one_has _ scopes = refl
-
-pub two_have : (shape : TwoBlocks) (xs ys : List ScopeId) → of_two scope_parts shape xs ys ≡ xs ++ ys
-two_have (shapes.IfElse test id) xs ys = refl
-two_have (shapes.Try binding id) xs ys = refl
 
 module _ {S : Type 0} (IsKept : S → Type 0) where
   -- the part is left, and so is what holds of the state

@@ -24,7 +24,7 @@ use rc_checks::{
     decide_unused_scopes, prune_unused_labels,
 };
 use rc_early::propagate_early_returns;
-use rc_escape::decide_non_escaping_scopes;
+use rc_escape::{decide_non_escaping_scopes, flag_memoizations};
 use rc_flow::{decide_always_invalidating_scopes, prune_non_reactive_dependencies};
 use rc_hir::{Environment, Fault, HirFunction};
 use rc_merge::decide_merged_scopes;
@@ -95,8 +95,11 @@ fn prune_scopes(
     let spelled = check(alloc, hir, func, env)?;
     if spelled.is_empty() {
         // No operand is outside a scope block, and no other pass finds anything to do. The record may lack something.
-        let log = decide_non_escaping_scopes(alloc, func, env)?;
-        return Ok(Decisions { spelled, log });
+        flag_memoizations(alloc, func, env)?;
+        return Ok(Decisions {
+            spelled,
+            log: List::new(alloc),
+        });
     }
     assert_known_instructions_within_scopes(alloc, func, env)?;
     let mut log = decide_non_escaping_scopes(alloc, func, env)?;

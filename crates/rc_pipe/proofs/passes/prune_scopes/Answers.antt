@@ -1,5 +1,5 @@
 -- The clauses of the parts of the passes before early returns, put together.
-use Rattle.std.proofs.Common.{◌≡◌, ◌∙◌, [], Err, ap, append-nil, inl, refl, rules, sym}
+use Rattle.std.proofs.Common.{◌≡◌, ◌∙◌, [], Err, ap, inl, refl, rules, sym}
 use Rattle.std.proofs.lemmas.Result.{err_from_is_err_and}
 use Rattle.rc_checks.proofs.MembershipCheck.WithoutBlocks.{inside_without_blocks}
 use Rattle.rc_checks.proofs.ScopeBlocks.SpelledOnce.{spelled_once}
@@ -14,13 +14,13 @@ use Rattle.rc_pipe.proofs.passes.prune_scopes.Goals as goal
 pub returns-clause-ok : goal.returns-clause-ok
 returns-clause-ok c =
     let before = c.in_ok-spelled.ensures in
-    let escape = c.in_ok-log-2.ensures in
+    let escape = c.in_ok-log.ensures in
     record {
       labeled = state c.check.new.func c.args.env.now;
       checked = checked c.args.env.now c.args.func.now c.check.new.func before.ok before.kept_visits
           c.in_ok-assert_known_instructions_within_scopes.ensures.ok;
-      escaping = state c.decide_non_escaping_scopes-2.new.func c.args.env.now;
-      not_escaping = c.in_ok-log-2.log;
+      escaping = state c.decide_non_escaping_scopes.new.func c.args.env.now;
+      not_escaping = c.in_ok-log.log;
       escapes = record { scopes = escape.ok; header = escape.header; kept_environment = refl };
       log = c.in_ok-others.others;
       others = c.in_ok-others.ensures.ok;
@@ -34,7 +34,7 @@ returns-clause-ok c =
 pub returns-then-is_empty-clause-ok : goal.returns-then-is_empty-clause-ok
 returns-then-is_empty-clause-ok c =
     let before = c.in_ok-spelled.ensures in
-    let escape = c.in_ok-log.ensures in
+    let escape = c.in_ok-flag_memoizations.ensures in
     let empty : c.in_ok-spelled.spelled ≡ [] = search rules in
     let none = sym before.listed ∙ empty in
     let env = c.args.env.now in
@@ -42,36 +42,41 @@ returns-then-is_empty-clause-ok c =
       labeled = state c.check.new.func env;
       checked = checked env c.args.func.now c.check.new.func before.ok before.kept_visits
           (inside_without_blocks env c.check.new.func before.still_known none);
-      escaping = state c.decide_non_escaping_scopes.new.func env;
-      not_escaping = c.in_ok-log.log;
+      escaping = state c.flag_memoizations.new.func env;
+      not_escaping = [];
       escapes = record { scopes = escape.ok; header = escape.header; kept_environment = refl };
       log = [];
-      others = others_pruned (state c.decide_non_escaping_scopes.new.func env) (escape.known before.still_known)
+      others = others_pruned (state c.flag_memoizations.new.func env) (escape.known before.still_known)
           (escape.ok.without.left ∙ ap (staying_scopes env escape.ok.without.set) none);
       kept_erased = escape.kept_erased;
       listed = before.listed ∙ labels_keep_scopes before.ok;
-      told = sym (append-nil c.in_ok-log.log);
+      told = search rules;
       needed = escape.needed;
     }
 
 -- and the tree has no scope block after them
 pub returns-then-is_empty-clause-still_none : goal.returns-then-is_empty-clause-still_none
 returns-then-is_empty-clause-still_none c = λ empty.
-    let without = c.in_ok-log.ensures.ok.without in
+    let without = c.in_ok-flag_memoizations.ensures.ok.without in
     without.left ∙ ap (staying_scopes c.args.env.now without.set) (sym c.in_ok-spelled.ensures.listed ∙ empty)
 
 pub returns-clause-still_none : goal.returns-clause-still_none
 returns-clause-still_none c = λ empty.
     let filled : ¬ (c.in_ok-spelled.spelled ≡ []) = search rules in absurd (filled empty)
 
+pub flag_memoizations-requires : goal.flag_memoizations-requires
+flag_memoizations-requires c =
+    let empty : c.in_ok-spelled.spelled ≡ [] = search rules in
+    record { none = sym c.in_ok-spelled.ensures.listed ∙ empty }
+
 -- the spelled tree has each scope once, and so has the tree after each pass
 pub decide_others-requires-clause-once : goal.decide_others-requires-clause-once
 decide_others-requires-clause-once c =
     let spelled = spelled_once c.args.hir.now c.args.env.now c.args.func.now c.requires.spelled in
-    c.in_ok-log-2.ensures.scopes_once (labels_keep_once c.in_ok-spelled.ensures.ok spelled)
+    c.in_ok-log.ensures.scopes_once (labels_keep_once c.in_ok-spelled.ensures.ok spelled)
 
 pub decide_others-requires-clause-known : goal.decide_others-requires-clause-known
-decide_others-requires-clause-known c = c.in_ok-log-2.ensures.known c.in_ok-spelled.ensures.still_known
+decide_others-requires-clause-known c = c.in_ok-log.ensures.known c.in_ok-spelled.ensures.still_known
 
 pub returns-clause-still_known : goal.returns-clause-still_known
 returns-clause-still_known c = c.in_ok-others.ensures.still_known
@@ -79,17 +84,16 @@ returns-clause-still_known c = c.in_ok-others.ensures.still_known
 pub returns-clause-kept_runs : goal.returns-clause-kept_runs
 returns-clause-kept_runs c = λ none.
     runs_through c.args.env.now c.decide_others.new.env c.args.func.now c.check.new.func
-    c.decide_non_escaping_scopes-2.new.func c.decide_others.new.func c.in_ok-others.others
-    (c.in_ok-spelled.ensures.kept_runs none) c.in_ok-log-2.ensures.kept_erased c.in_ok-others.ensures.kept_erased
+    c.decide_non_escaping_scopes.new.func c.decide_others.new.func c.in_ok-others.others
+    (c.in_ok-spelled.ensures.kept_runs none) c.in_ok-log.ensures.kept_erased c.in_ok-others.ensures.kept_erased
     c.in_ok-others.ensures.ok none
 
 pub returns-then-is_empty-clause-kept_runs : goal.returns-then-is_empty-clause-kept_runs
 unfolding returns-then-is_empty-clause-ok
 returns-then-is_empty-clause-kept_runs c = λ none.
-    runs_through c.args.env.now c.args.env.now c.args.func.now c.check.new.func
-    c.decide_non_escaping_scopes.new.func c.decide_non_escaping_scopes.new.func []
-    (c.in_ok-spelled.ensures.kept_runs none) c.in_ok-log.ensures.kept_erased refl
-    (returns-then-is_empty-clause-ok c).others none
+    runs_through c.args.env.now c.args.env.now c.args.func.now c.check.new.func c.flag_memoizations.new.func
+    c.flag_memoizations.new.func [] (c.in_ok-spelled.ensures.kept_runs none)
+    c.in_ok-flag_memoizations.ensures.kept_erased refl (returns-then-is_empty-clause-ok c).others none
 
 -- the checks fail only when out of memory
 pub returns-in_err-spelled-clause-refused : goal.returns-in_err-spelled-clause-refused
@@ -110,26 +114,26 @@ returns-in_err-assert_known_instructions_within_scopes-clause-refused c =
     refused.field-0.0 (λ id scope is. refused.ensures.scope_completed id scope (ap Err is)) refused.ensures.only)
 
 -- and so is one of the escape pass
-pub returns-in_err-log-clause-refused : goal.returns-in_err-log-clause-refused
-returns-in_err-log-clause-refused c =
-    let exit = c.from_residual-in_err-log in
+pub returns-in_err-flag_memoizations-clause-refused : goal.returns-in_err-flag_memoizations-clause-refused
+returns-in_err-flag_memoizations-clause-refused c =
+    let exit = c.from_residual-in_err-flag_memoizations in
     let before = c.in_ok-spelled.ensures in
     let empty : c.in_ok-spelled.spelled ≡ [] = search rules in
     let p = err_from_is_err_and exit.result exit.ensures.1 in
     rw (p.1, p.2) (escape_fault c.args.env.now c.args.func.now c.check.new.func
     (checked c.args.env.now c.args.func.now c.check.new.func before.ok before.kept_visits
     (inside_without_blocks c.args.env.now c.check.new.func before.still_known (sym before.listed ∙ empty)))
-    c.in_err-log.field-0.0 c.in_err-log.ensures.refused)
+    c.in_err-flag_memoizations.field-0.0 c.in_err-flag_memoizations.ensures.refused)
 
-pub returns-in_err-log-2-clause-refused : goal.returns-in_err-log-2-clause-refused
-returns-in_err-log-2-clause-refused c =
-    let exit = c.from_residual-in_err-log-2 in
+pub returns-in_err-log-clause-refused : goal.returns-in_err-log-clause-refused
+returns-in_err-log-clause-refused c =
+    let exit = c.from_residual-in_err-log in
     let before = c.in_ok-spelled.ensures in
     let p = err_from_is_err_and exit.result exit.ensures.1 in
     rw (p.1, p.2) (escape_fault c.args.env.now c.args.func.now c.check.new.func
     (checked c.args.env.now c.args.func.now c.check.new.func before.ok before.kept_visits
-    c.in_ok-assert_known_instructions_within_scopes.ensures.ok) c.in_err-log-2.field-0.0
-    c.in_err-log-2.ensures.refused)
+    c.in_ok-assert_known_instructions_within_scopes.ensures.ok) c.in_err-log.field-0.0
+    c.in_err-log.ensures.refused)
 
 -- pruning of other scopes refuses nothing that a graph spells, unless memory runs out
 pub returns-in_err-others-clause-refused : goal.returns-in_err-others-clause-refused
@@ -147,7 +151,7 @@ returns-in_err-others-clause-kept_environment c =
 
 -- whatever the passes give, numbers stay in their tables
 pub returns-then-is_empty-clause-still_known : goal.returns-then-is_empty-clause-still_known
-returns-then-is_empty-clause-still_known c = c.in_ok-log.ensures.known c.in_ok-spelled.ensures.still_known
+returns-then-is_empty-clause-still_known c = c.in_ok-flag_memoizations.ensures.known c.in_ok-spelled.ensures.still_known
 
 pub returns-then-is_empty-clause-kept_numbers : goal.returns-then-is_empty-clause-kept_numbers
 returns-then-is_empty-clause-kept_numbers c = keeps_own c.args.env.now
@@ -164,8 +168,8 @@ returns-in_err-others-clause-known_names c = c.decide_others.ensures.known_names
 pub returns-in_err-spelled-clause-kept_numbers : goal.returns-in_err-spelled-clause-kept_numbers
 returns-in_err-spelled-clause-kept_numbers c = keeps_own c.args.env.now
 
+pub returns-in_err-flag_memoizations-clause-kept_numbers : goal.returns-in_err-flag_memoizations-clause-kept_numbers
+returns-in_err-flag_memoizations-clause-kept_numbers c = keeps_own c.args.env.now
+
 pub returns-in_err-log-clause-kept_numbers : goal.returns-in_err-log-clause-kept_numbers
 returns-in_err-log-clause-kept_numbers c = keeps_own c.args.env.now
-
-pub returns-in_err-log-2-clause-kept_numbers : goal.returns-in_err-log-2-clause-kept_numbers
-returns-in_err-log-2-clause-kept_numbers c = keeps_own c.args.env.now
