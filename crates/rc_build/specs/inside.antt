@@ -1,7 +1,6 @@
 -- What the builder's own functions say of each other; no public clause speaks of it.
 pub mod LiveBlocks
 pub mod Depths
-pub mod Nesting
 pub mod Rows
 pub mod Marks
 pub mod CanBuild

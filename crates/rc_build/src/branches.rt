@@ -15,7 +15,6 @@ ghost use Rattle.rc_build.specs.inside.Built.{Builds, BuildsTask, BuiltAlternate
 ghost use Rattle.rc_build.specs.inside.Setting as settings;
 
 use crate::builder::{Builder, Site, falls_to, label_at, let_go, malformed, put_terminal};
-use crate::nesting::STATEMENT_LEVEL;
 use rc_hir::{Fault, Place, Rule};
 use rc_names::{BlockId, EvaluationOrder, List};
 use rc_runs::Frame;
@@ -86,7 +85,7 @@ impl<'g> Builder<'g> {
             return Err(malformed(site.block, Rule::BreakTarget));
         }
         let part = self.build_consequent(site, consequent, id)?;
-        let statements = self.build_apart(site.at(alternate), STATEMENT_LEVEL)?;
+        let statements = self.build_apart(site.at(alternate))?;
         let other = Some(ReactiveBlock { statements });
         put_if(self.alloc, &mut self.out, test, part, other, id, None)?;
         Ok(None)
@@ -114,7 +113,7 @@ impl<'g> Builder<'g> {
             self.put_break(site, consequent, id)?;
             return Ok(mem::replace(&mut self.out, outer));
         }
-        self.build_apart(site.at(consequent), STATEMENT_LEVEL)
+        self.build_apart(site.at(consequent))
     }
 
     /// Builds the list of an alternate; none where it is the fallthrough.

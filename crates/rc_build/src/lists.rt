@@ -9,7 +9,7 @@ ghost use Rattle.rc_build.specs.inside.Built.{Builds, BuildsList, BuildsTask, Bu
 
 use crate::builder::{Builder, Site, let_go};
 use crate::enclosures::Enclosure;
-use crate::nesting::{left_inside, level_of};
+use crate::nesting::{STATEMENT_LEVEL, left_inside};
 use rc_hir::{Fault, Terminal};
 use rc_names::{BlockId, List};
 use rc_runs::Frame;
@@ -156,26 +156,21 @@ impl<'g> Builder<'g> {
             self.old.marks.used) result }
     {
         self.frames.enter(frame, opened)?;
-        let list = self.build_apart(site.inside(part, frame, opened), level_of(frame))?;
+        let list = self.build_apart(site.inside(part, frame, opened))?;
         self.frames.leave(opened);
         Ok(list)
     }
 
-    /// Builds the list from the site's block on, apart from the statements in front of it, as a level that takes that
-    /// much stack.
+    /// Builds the list from the site's block on, apart from the statements in front of it, a level deeper.
     // Inlined, so that a level of nested statements has a frame less.
     #[inline(always)]
     #[cycle(builder)]
-    pub fn build_apart(
-        &mut self,
-        site: Site,
-        level: usize,
-    ) -> Result<List<ReactiveStatement>, Fault>
+    pub fn build_apart(&mut self, site: Site) -> Result<List<ReactiveStatement>, Fault>
         requires { CanBuildList self.old.hir.now self.old.marks site.handler self.old.frames site.block }
         ensures { BuildsList self.old self.new site site.block result }
     {
         let stack = self.stack;
-        self.stack = left_inside(stack, level)?;
+        self.stack = left_inside(stack, STATEMENT_LEVEL)?;
         let outer = self.out.take();
         match self.build_list(site) {
             Ok(()) => {

@@ -3,40 +3,21 @@
 //! Each level of a tree takes stack here and in every later call that goes down the tree. A level of each kind counts
 //! as more than was measured of the whole program on x86-64 (`docs/BENCHMARKS.md`, "Depth").
 
-ghost use Rattle.std.specs.Prelude.{◌≡◌, ◌<◌, ◌+◌, IfOk, IfErr, if◌then◌else◌};
-ghost use Rattle.rc_build.specs.inside.Nesting.{is_scope};
+ghost use Rattle.std.specs.Prelude.{◌≡◌, ◌<◌, ◌+◌, IfOk, IfErr};
 
-use rc_runs::Frame;
 use std::alloc::AllocError;
 
 /// What nesting may take of a stack of 8 MiB: a quarter is left to words and environment, and 256 KiB to all else.
 pub const USUAL_STACK: usize = (6 * 1024 - 256) * 1024;
 
-/// What a statement takes that isn't the block of a scope: 562 bytes at most were measured, of `If`.
-pub const STATEMENT_LEVEL: usize = 600;
-
-/// What the block of a scope takes: 2,265 bytes were measured, in the pass that merges scopes.
-pub const SCOPE_LEVEL: usize = 2_300;
+/// What a part of a statement takes: 609 bytes at most were measured, of a `Switch`.
+pub const STATEMENT_LEVEL: usize = 640;
 
 /// What a value in a value takes: 1,236 bytes at most were measured, of `Logical`.
 pub const VALUE_LEVEL: usize = 1_300;
 
 /// What a row of a value takes, since the rest of the value is inside its sequence: 289 bytes were measured.
 pub const ROW_LEVEL: usize = 320;
-
-/// What a part of a statement takes, by its frame.
-pub fn level_of(frame: Frame) -> usize
-    ensures { result ≡ (if is_scope frame then SCOPE_LEVEL else STATEMENT_LEVEL) }
-{
-    match frame {
-        Frame::Scope { .. } => SCOPE_LEVEL,
-        Frame::Statement { .. }
-        | Frame::Switch { .. }
-        | Frame::Case { .. }
-        | Frame::Loop { .. }
-        | Frame::Mark => STATEMENT_LEVEL,
-    }
-}
 
 /// What is left of a stack inside a level that takes that much. The only error is out of memory: the stack has less.
 pub fn left_inside(stack: usize, level: usize) -> Result<usize, AllocError>

@@ -22,7 +22,6 @@ ghost use Rattle.rc_build.specs.inside.Task.{FromTerminal, left};
 ghost use Rattle.rc_build.specs.inside.Built.{BuildsTask};
 
 use crate::builder::{Builder, Site, falls_to, label_at, let_go, malformed, put_terminal};
-use crate::nesting::STATEMENT_LEVEL;
 use rc_hir::{Case, Fault, Place, Rule};
 use rc_names::{BlockId, EvaluationOrder, List};
 use rc_runs::Frame;
@@ -128,7 +127,7 @@ impl<'g> Builder<'g> {
                 next,
                 handler: site.handler,
             };
-            let statements = self.build_apart(here, STATEMENT_LEVEL)?;
+            let statements = self.build_apart(here)?;
             // Before the frame is pushed, so that no statement is dropped here when memory runs out.
             put_case(parts, kept, statements)?;
             self.frames.push(Frame::Case { block })?;
