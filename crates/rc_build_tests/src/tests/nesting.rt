@@ -65,14 +65,16 @@ fn sequence(block: u32, fallthrough: u32) -> Terminal {
 
 /// The terminal of a block before the last one.
 fn inner_terminal(shape: Shape, number: u32) -> Terminal {
-    let on = jump(GotoVariant::Break, number + 1, 1);
+    let next = number.saturating_add(1);
+    let after = number.saturating_add(2);
+    let fallthrough = LAST.saturating_sub(number);
     match (shape, number) {
-        (Shape::LabelsInARow, 0 | 2 | 4) => label(number + 1, number + 2),
-        (Shape::NestedLabels, 0..=2) => label(number + 1, LAST - number),
-        (Shape::NestedSequences, 0..=2) => sequence(number + 1, LAST - number),
-        (Shape::SequencesInARow, 0) => sequence(1, LAST),
-        (Shape::SequencesInARow, 1 | 3) => sequence(number + 1, number + 2),
-        _ => on,
+        (Shape::LabelsInARow, 0 | 2 | 4) => label(next, after),
+        (Shape::NestedLabels, 0..=2) => label(next, fallthrough),
+        (Shape::NestedSequences, 0..=2) => sequence(next, fallthrough),
+        (Shape::SequencesInARow, 0) => sequence(next, LAST),
+        (Shape::SequencesInARow, 1 | 3) => sequence(next, after),
+        _ => jump(GotoVariant::Break, next, 1),
     }
 }
 
