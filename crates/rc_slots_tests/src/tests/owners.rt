@@ -6,7 +6,7 @@ use rc_slots::{ScopeLengths, SlotFault, SlotOwner, SlotPart, number_slots, plan_
 use std::alloc::Global;
 use std::test::Fail;
 
-/// The owner of a slot of a function with blocks of these scopes, where the scopes have so many entries.
+/// The owner of a slot of a function with blocks of these scopes, whose lists have these lengths.
 fn owner_of(
     alloc: Global,
     scopes: &[Counts],
@@ -72,7 +72,7 @@ fn a_function_without_blocks_owns_no_slot(rt: HostRuntime) -> Result<(), Fail> {
     Ok(())
 }
 
-/// The owner of a slot where scope 0 has so many dependencies, and scope 1 has one declaration.
+/// The owner of a slot where scope 0 has that number of dependencies, and scope 1 has one declaration.
 fn owner_after(
     alloc: Global,
     dependencies: usize,

@@ -7,7 +7,7 @@ use rc_tree::ReactiveStatement;
 use std::alloc::{AllocError, Global};
 use std::test::Fail;
 
-/// The plan of a function with that body, where the scopes have so many entries.
+/// The plan of a function with that body, where the lists of the scopes have these lengths.
 fn plan(
     alloc: Global,
     scopes: &[Counts],
@@ -121,7 +121,7 @@ fn memory_alone_is_missing(rt: HostRuntime) -> Result<(), Fail> {
     Ok(())
 }
 
-/// So many empty blocks of scope 0.
+/// That number of empty blocks of scope 0.
 fn many_blocks(alloc: Global, count: u32) -> Result<List<ReactiveStatement>, AllocError> {
     let mut body = List::new(alloc);
     for _ in 0..count {
