@@ -12,9 +12,9 @@ use Rattle.rc_doc.specs.Terminals.Loops.{loop_terminals}
 use Rattle.rc_doc.specs.Terminals.Jumps.{jump_terminals}
 use Rattle.rc_doc.specs.Terminals.Blocks.{block_terminals}
 
--- the terminal with this name
+-- the terminal with this name; those that real functions have most come first
 abbrev pub terminal_named : Data → List ℕ → Option Terminal
-terminal_named d = variant (branch_terminals d ++ loop_terminals d ++ jump_terminals d ++ block_terminals d)
+terminal_named d = variant (jump_terminals d ++ branch_terminals d ++ block_terminals d ++ loop_terminals d)
 
 -- a terminal
 unfoldable pub terminal_of : Data → Option Terminal

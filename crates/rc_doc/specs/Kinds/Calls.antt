@@ -81,11 +81,11 @@ finish_memoize_of d = do
 -- the kinds of this family, by their names
 abbrev pub call_kinds : Data → List (List ℕ × Option InstructionValue)
 call_kinds d =
-    (codes "NewExpression", new_expression_of d)
+    (codes "MethodCall", method_call_of d)
     ∷ (codes "CallExpression", call_expression_of d)
-    ∷ (codes "MethodCall", method_call_of d)
-    ∷ (codes "ObjectMethod", object_method_of d)
     ∷ (codes "FunctionExpression", function_expression_of d)
+    ∷ (codes "NewExpression", new_expression_of d)
+    ∷ (codes "ObjectMethod", object_method_of d)
     ∷ (codes "Debugger", debugger_of d)
     ∷ (codes "StartMemoize", start_memoize_of d)
     ∷ (codes "FinishMemoize", finish_memoize_of d)

@@ -101,14 +101,14 @@ computed_store_of d = do
 -- the kinds of this family, by their names
 abbrev pub object_kinds : Data → List (List ℕ × Option InstructionValue)
 object_kinds d =
-    (codes "ObjectExpression", object_expression_of d)
+    (codes "PropertyLoad", property_load_of d)
+    ∷ (codes "PropertyStore", property_store_of d)
+    ∷ (codes "ComputedLoad", computed_load_of d)
+    ∷ (codes "ObjectExpression", object_expression_of d)
     ∷ (codes "ArrayExpression", array_expression_of d)
     ∷ (codes "JsxExpression", jsx_expression_of d)
     ∷ (codes "JsxFragment", jsx_fragment_of d)
-    ∷ (codes "PropertyLoad", property_load_of d)
     ∷ (codes "PropertyDelete", property_delete_of d)
-    ∷ (codes "PropertyStore", property_store_of d)
-    ∷ (codes "ComputedLoad", computed_load_of d)
     ∷ (codes "ComputedDelete", computed_delete_of d)
     ∷ (codes "ComputedStore", computed_store_of d)
     ∷ []

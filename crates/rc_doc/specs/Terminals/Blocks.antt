@@ -65,9 +65,9 @@ try_of d = do
 -- the terminals of this family, by their names
 abbrev pub block_terminals : Data → List (List ℕ × Option Terminal)
 block_terminals d =
-    (codes "Sequence", sequence_of d)
-    ∷ (codes "Label", label_of d)
-    ∷ (codes "Scope", scope_of d)
+    (codes "Scope", scope_of d)
     ∷ (codes "PrunedScope", pruned_scope_of d)
+    ∷ (codes "Label", label_of d)
+    ∷ (codes "Sequence", sequence_of d)
     ∷ (codes "Try", try_of d)
     ∷ []

@@ -70,9 +70,9 @@ maybe_throw_of d = do
 -- the terminals of this family, by their names
 abbrev pub jump_terminals : Data → List (List ℕ × Option Terminal)
 jump_terminals d =
-    (codes "Throw", throw_of d)
+    (codes "Goto", goto_of d)
     ∷ (codes "Return", return_of d)
-    ∷ (codes "Goto", goto_of d)
-    ∷ (codes "Unreachable", unreachable_of d)
     ∷ (codes "MaybeThrow", maybe_throw_of d)
+    ∷ (codes "Throw", throw_of d)
+    ∷ (codes "Unreachable", unreachable_of d)
     ∷ []

@@ -20,6 +20,6 @@ impl Read for Terminal {
     #[tactic(auto, unfolding(crate::specs::Terminals::terminal_of))]
     fn read(alloc: Global, from: &Value) -> Result<Terminal, Refusal> {
         let name = or_refuse(tag(from))?;
-        branches::terminal_named(alloc, name, from)
+        jumps::terminal_named(alloc, name, from)
     }
 }

@@ -25,11 +25,11 @@ pub(super) fn value_named(
     ensures { IsRead result (variant (call_kinds (view from.now) ++ object_kinds (view from.now)) name.now) }
 {
     match name {
-        "NewExpression" => new_expression(alloc, from),
-        "CallExpression" => call_expression(alloc, from),
         "MethodCall" => method_call(alloc, from),
-        "ObjectMethod" => object_method(alloc, from),
+        "CallExpression" => call_expression(alloc, from),
         "FunctionExpression" => function_expression(alloc, from),
+        "NewExpression" => new_expression(alloc, from),
+        "ObjectMethod" => object_method(alloc, from),
         "Debugger" => debugger(alloc, from),
         "StartMemoize" => start_memoize(alloc, from),
         "FinishMemoize" => finish_memoize(alloc, from),

@@ -23,14 +23,14 @@ pub(super) fn value_named(
     ensures { IsRead result (variant (object_kinds (view from.now)) name.now) }
 {
     match name {
+        "PropertyLoad" => property_load(alloc, from),
+        "PropertyStore" => property_store(alloc, from),
+        "ComputedLoad" => computed_load(alloc, from),
         "ObjectExpression" => object_expression(alloc, from),
         "ArrayExpression" => array_expression(alloc, from),
         "JsxExpression" => jsx_expression(alloc, from),
         "JsxFragment" => jsx_fragment(alloc, from),
-        "PropertyLoad" => property_load(alloc, from),
         "PropertyDelete" => property_delete(alloc, from),
-        "PropertyStore" => property_store(alloc, from),
-        "ComputedLoad" => computed_load(alloc, from),
         "ComputedDelete" => computed_delete(alloc, from),
         "ComputedStore" => computed_store(alloc, from),
         _ => Err(Refusal::NotDoc),

@@ -25,13 +25,13 @@ pub(super) fn value_named(
 {
     match name {
         "LoadLocal" => load_local(alloc, from),
+        "LoadGlobal" => load_global(alloc, from),
+        "StoreLocal" => store_local(alloc, from),
         "LoadContext" => load_context(alloc, from),
         "DeclareLocal" => declare_local(alloc, from),
         "DeclareContext" => declare_context(alloc, from),
-        "StoreLocal" => store_local(alloc, from),
         "StoreContext" => store_context(alloc, from),
         "Destructure" => destructure(alloc, from),
-        "LoadGlobal" => load_global(alloc, from),
         "StoreGlobal" => store_global(alloc, from),
         "PrefixUpdate" => prefix_update(alloc, from),
         "PostfixUpdate" => postfix_update(alloc, from),

@@ -1,28 +1,31 @@
 //! Readers of the terminals that go into one block and then on at their fallthrough.
 
+ghost use Rattle.std.specs.Prelude.{◌++◌};
 ghost use Rattle.serde_json.specs.View.{view};
 ghost use Rattle.rc_doc.specs.Reading.{IsRead, variant};
 ghost use Rattle.rc_doc.specs.Terminals.Blocks.{block_terminals, label_of, pruned_scope_of, scope_of, sequence_of};
 ghost use Rattle.rc_doc.specs.Terminals.Blocks.{try_of};
+ghost use Rattle.rc_doc.specs.Terminals.Loops.{loop_terminals};
 
 use crate::fields::{optional, required};
 use crate::members::{five_fields, seven_fields, six_fields};
+use crate::read::terminal::loops;
 use crate::refusal::Refusal;
 use rc_hir::Terminal;
 use serde_json::Value;
 use std::alloc::Global;
 
-/// The terminal of this family with this name.
+/// The terminal with this name, of this family or of one after it.
 pub(super) fn terminal_named(alloc: Global, name: &str, from: &Value) -> Result<Terminal, Refusal>
-    ensures { IsRead result (variant (block_terminals (view from.now)) name.now) }
+    ensures { IsRead result (variant (block_terminals (view from.now) ++ loop_terminals (view from.now)) name.now) }
 {
     match name {
-        "Sequence" => sequence(alloc, from),
-        "Label" => label(alloc, from),
         "Scope" => scope(alloc, from),
         "PrunedScope" => pruned_scope(alloc, from),
+        "Label" => label(alloc, from),
+        "Sequence" => sequence(alloc, from),
         "Try" => try_terminal(alloc, from),
-        _ => Err(Refusal::NotDoc),
+        _ => loops::terminal_named(alloc, name, from),
     }
 }
 

@@ -1,15 +1,16 @@
 //! Readers of the terminals that choose a way.
 
-ghost use Rattle.std.specs.Prelude.{◌≡◌};
+ghost use Rattle.std.specs.Prelude.{◌≡◌, ◌++◌};
 ghost use Rattle.serde_json.specs.View.{view};
-ghost use Rattle.rc_doc.specs.Reading.{IsRead};
-ghost use Rattle.rc_doc.specs.Terminals.{terminal_named};
-ghost use Rattle.rc_doc.specs.Terminals.Branches.{branch_of, case_of, if_of, logical_of, logical_operator_of};
+ghost use Rattle.rc_doc.specs.Reading.{IsRead, variant};
+ghost use Rattle.rc_doc.specs.Terminals.Blocks.{block_terminals};
+ghost use Rattle.rc_doc.specs.Terminals.Loops.{loop_terminals};
+ghost use Rattle.rc_doc.specs.Terminals.Branches.{branch_of, branch_terminals, case_of, if_of, logical_of, logical_operator_of};
 ghost use Rattle.rc_doc.specs.Terminals.Branches.{operator_named, optional_of, switch_of, ternary_of};
 
 use crate::fields::{Read, flag, list_or_empty, optional, or_refuse, required};
 use crate::members::{five_fields, seven_fields, six_fields, two_fields};
-use crate::read::terminal::loops;
+use crate::read::terminal::blocks;
 use crate::refusal::Refusal;
 use rc_hir::{Case, LogicalOperator, Terminal};
 use serde_json::Value;
@@ -17,7 +18,7 @@ use std::alloc::Global;
 
 /// The terminal with this name, of this family or of one after it.
 pub(super) fn terminal_named(alloc: Global, name: &str, from: &Value) -> Result<Terminal, Refusal>
-    ensures { IsRead result (terminal_named (view from.now) name.now) }
+    ensures { IsRead result (variant (branch_terminals (view from.now) ++ block_terminals (view from.now) ++ loop_terminals (view from.now)) name.now) }
 {
     match name {
         "If" => if_terminal(alloc, from),
@@ -26,7 +27,7 @@ pub(super) fn terminal_named(alloc: Global, name: &str, from: &Value) -> Result<
         "Ternary" => ternary(alloc, from),
         "Optional" => optional_terminal(alloc, from),
         "Switch" => switch(alloc, from),
-        _ => loops::terminal_named(alloc, name, from),
+        _ => blocks::terminal_named(alloc, name, from),
     }
 }
 

@@ -1,15 +1,15 @@
 //! Readers of the terminals that jump or end a run, and of the one that may throw.
 
-ghost use Rattle.std.specs.Prelude.{◌≡◌, ◌++◌};
+ghost use Rattle.std.specs.Prelude.{◌≡◌};
 ghost use Rattle.serde_json.specs.View.{view};
-ghost use Rattle.rc_doc.specs.Reading.{IsRead, variant};
-ghost use Rattle.rc_doc.specs.Terminals.Blocks.{block_terminals};
-ghost use Rattle.rc_doc.specs.Terminals.Jumps.{goto_named, goto_of, goto_variant_of, jump_terminals, maybe_throw_of};
+ghost use Rattle.rc_doc.specs.Reading.{IsRead};
+ghost use Rattle.rc_doc.specs.Terminals.{terminal_named};
+ghost use Rattle.rc_doc.specs.Terminals.Jumps.{goto_named, goto_of, goto_variant_of, maybe_throw_of};
 ghost use Rattle.rc_doc.specs.Terminals.Jumps.{return_of, throw_of, unreachable_of};
 
 use crate::fields::{Read, optional, or_refuse, required};
 use crate::members::{five_fields, four_fields, three_fields};
-use crate::read::terminal::blocks;
+use crate::read::terminal::branches;
 use crate::refusal::Refusal;
 use rc_hir::{GotoVariant, Terminal};
 use serde_json::Value;
@@ -17,15 +17,15 @@ use std::alloc::Global;
 
 /// The terminal with this name, of this family or of one after it.
 pub(super) fn terminal_named(alloc: Global, name: &str, from: &Value) -> Result<Terminal, Refusal>
-    ensures { IsRead result (variant (jump_terminals (view from.now) ++ block_terminals (view from.now)) name.now) }
+    ensures { IsRead result (terminal_named (view from.now) name.now) }
 {
     match name {
-        "Throw" => throw(alloc, from),
-        "Return" => return_terminal(alloc, from),
         "Goto" => goto(alloc, from),
-        "Unreachable" => unreachable(alloc, from),
+        "Return" => return_terminal(alloc, from),
         "MaybeThrow" => maybe_throw(alloc, from),
-        _ => blocks::terminal_named(alloc, name, from),
+        "Throw" => throw(alloc, from),
+        "Unreachable" => unreachable(alloc, from),
+        _ => branches::terminal_named(alloc, name, from),
     }
 }
 

@@ -1,23 +1,19 @@
 //! Readers of the terminals that loop.
 
-ghost use Rattle.std.specs.Prelude.{◌++◌};
 ghost use Rattle.serde_json.specs.View.{view};
 ghost use Rattle.rc_doc.specs.Reading.{IsRead, variant};
-ghost use Rattle.rc_doc.specs.Terminals.Blocks.{block_terminals};
-ghost use Rattle.rc_doc.specs.Terminals.Jumps.{jump_terminals};
 ghost use Rattle.rc_doc.specs.Terminals.Loops.{do_while_of, for_in_of, for_of, for_of_of, loop_terminals, while_of};
 
 use crate::fields::{optional, required};
 use crate::members::{eight_fields, seven_fields, six_fields};
-use crate::read::terminal::jumps;
 use crate::refusal::Refusal;
 use rc_hir::Terminal;
 use serde_json::Value;
 use std::alloc::Global;
 
-/// The terminal with this name, of this family or of one after it.
+/// The terminal of this family with this name.
 pub(super) fn terminal_named(alloc: Global, name: &str, from: &Value) -> Result<Terminal, Refusal>
-    ensures { IsRead result (variant (loop_terminals (view from.now) ++ jump_terminals (view from.now) ++ block_terminals (view from.now)) name.now) }
+    ensures { IsRead result (variant (loop_terminals (view from.now)) name.now) }
 {
     match name {
         "DoWhile" => do_while(alloc, from),
@@ -25,7 +21,7 @@ pub(super) fn terminal_named(alloc: Global, name: &str, from: &Value) -> Result<
         "For" => for_terminal(alloc, from),
         "ForOf" => for_of(alloc, from),
         "ForIn" => for_in(alloc, from),
-        _ => jumps::terminal_named(alloc, name, from),
+        _ => Err(Refusal::NotDoc),
     }
 }
 
