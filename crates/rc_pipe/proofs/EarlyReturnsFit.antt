@@ -1,42 +1,27 @@
 -- The tree and the environment before early returns have room for them, and the next block is above each block number
 -- of the tree, so early returns keep the runs.
-use Rattle.std.proofs.Common.{◌≡◌, ◌∙◌, ◌<◌, ◌≤◌, ◌⊎◌, inl, inr, All, IsTrue, List, Option, None, Some}
+use Rattle.std.proofs.Common.{◌≡◌, ◌∙◌, ◌<◌, ◌≤◌, ◌⊎◌, inl, inr, All, IsTrue, Option, None, Some}
 use Rattle.std.proofs.Common.{is_some, length, slice_index_or, arith, false, ap, subst, sym}
 use Rattle.rc_early.proofs.RoomLemmas.{fits_room}
 use Rattle.rc_early.specs.Entries.{has_room}
 use Rattle.rc_early.specs.NewBlocks.{HasNewBlocks, IsLabelBelow, blocks_in}
 use Rattle.rc_checks.proofs.ScopeBlocks.SpelledOnce.{spelled_once}
-use Rattle.rc_checks.proofs.UnusedScopes.Decided.{unused_decided}
-use Rattle.rc_escape.proofs.NotEscaping.Decided.{not_escaping_decided}
-use Rattle.rc_flow.proofs.AlwaysInvalidating.DecidedScopes.{invalidating_decided}
 use Rattle.rc_hir.specs.declared.fault.Fault.TheVariants as faults
 use Rattle.rc_hir.specs.Model.{Environment, Fault, HirFunction, ReactiveScope, ReactiveScopeEarlyReturn}
-use Rattle.rc_merge.proofs.DecidedByRule.{merging_decided}
 use Rattle.rc_names.specs.Numbers.{BlockId, ScopeId, times}
 use Rattle.rc_runs.proofs.ReturningLemmas.{none_passes}
 use Rattle.rc_runs.specs.EarlyReturns.{NoEarlyReturnSet, returns_early}
 use Rattle.rc_runs.specs.Spelled.{Spells}
-use Rattle.rc_tree.proofs.DistinctLemmas.{at_least_once, at_most_once, differ, from_times, times-append}
-use Rattle.rc_tree.specs.Decided.{FateRule, IsDecidedBy, decided}
-use Rattle.rc_tree.specs.Model.{ReactiveBlock}
+use Rattle.rc_tree.proofs.DistinctLemmas.{at_least_once, at_most_once, differ, from_times}
 use Rattle.rc_tree.specs.ScopesIn.{HasScopesOnce, scopes_in}
-use Rattle.rc_tree.specs.declared.fate.ScopeFate.{ScopeFate}
 use Rattle.rc_pipe.proofs.ErasedBlocks.{same_blocks}
 use Rattle.rc_pipe.proofs.LabelBlocks.{blocks_stay}
-use Rattle.rc_pipe.proofs.PassesLemmas.{labels_keep_scopes, none_set, only_scopes}
+use Rattle.rc_pipe.proofs.PassesLemmas.{escape_decided, fewer, no_more, none_set, only_scopes, others_decided}
 use Rattle.rc_pipe.proofs.RoomHolds.{blocks_below, no_more_scopes}
 use Rattle.rc_pipe.specs.Causes.{HasRoom, scope_count}
-use Rattle.rc_pipe.specs.Passes.{PassState}
+use Rattle.rc_pipe.specs.Passes.{PassState, other_rules}
 use Rattle.rc_pipe.specs.declared.passes.Decisions.{Decisions}
 use Rattle.rc_pipe.specs.inside.PrunedParts.{HasScopesPruned}
-
--- a pass makes no scope block
-fewer : (rule : FateRule) (before after : ReactiveBlock) (log : List ScopeFate) → IsDecidedBy rule before after log
-    → (scope : ScopeId) → times scope (scopes_in after) ≤ times scope (scopes_in before)
-fewer rule before after log is scope =
-    let lost = is.lost scope in
-    let parts = times-append scope (scopes_in after) (decided log) in
-    omega (arith, lost, parts)
 
 -- a scope without an early return has no label of one
 no_label : (next : _) (early : Option ReactiveScopeEarlyReturn) → is_some early ≡ false → IsLabelBelow next early
@@ -51,48 +36,22 @@ module _ {spelled pruned : PassState} {decisions : Decisions} (parts : HasScopes
   left = only_scopes parts.others
       ∙ ap (λ (env : Environment). record env { scopes = parts.others.merged.env.scopes }) kept_environment
 
-  module _ (once : HasScopesOnce spelled.func.body) where
-    -- each scope has a block at most as often as before, after each pass
-    labeled_fewer : (scope : ScopeId)
-        → times scope (scopes_in parts.labeled.func.body) ≤ times scope (scopes_in spelled.func.body)
-    labeled_fewer scope =
-        let same = ap (times scope) (labels_keep_scopes parts.checked.labels) in omega (arith, same)
-
-    used_fewer : (scope : ScopeId)
-        → times scope (scopes_in parts.others.used.func.body) ≤ times scope (scopes_in spelled.func.body)
-    used_fewer scope =
-        let labeled = labeled_fewer scope in
-        let escaping = fewer _ parts.labeled.func.body parts.escaping.func.body parts.not_escaping
-        (not_escaping_decided parts.labeled.env parts.labeled.func parts.escaping.func.body parts.not_escaping
-        parts.escapes.scopes) scope in
-        let same = ap (λ func. times scope (scopes_in func.body)) parts.others.dependencies.kept_function in
-        let used = fewer _ parts.others.reactive.func.body parts.others.used.func.body parts.others.unused
-        (unused_decided parts.others.reactive.env parts.others.reactive.func.body parts.others.used.func.body
-        parts.others.unused parts.others.scopes.scopes) scope in
-        omega (arith, labeled, escaping, same, used)
-
-    merged_fewer : (scope : ScopeId)
-        → times scope (scopes_in parts.others.merged.func.body) ≤ times scope (scopes_in spelled.func.body)
-    merged_fewer scope =
-        let used = used_fewer scope in
-        let merged = fewer _ parts.others.used.func.body parts.others.merged.func.body parts.others.joined
-        (merging_decided parts.others.used.func.body parts.others.used.env parts.others.merged.func.body
-        parts.others.merged.env parts.others.joined parts.others.merges.scopes) scope in
-        omega (arith, used, merged)
-
-    merged_once : (scope : ScopeId) → times scope (scopes_in parts.others.merged.func.body) ≤ 1
-    merged_once scope =
-        let most = at_most_once (scopes_in spelled.func.body) once scope in
-        omega (arith, most, merged_fewer scope)
-
-    pruned_fewer : (scope : ScopeId)
-        → times scope (scopes_in pruned.func.body) ≤ times scope (scopes_in spelled.func.body)
-    pruned_fewer scope =
-        let merged = merged_fewer scope in
-        let last = fewer _ parts.others.merged.func.body pruned.func.body parts.others.always_invalidating
-        (invalidating_decided parts.others.merged.env parts.others.merged.func.body pruned.func.body
-        parts.others.always_invalidating parts.others.invalidating.scopes merged_once) scope in
-        omega (arith, merged, last)
+  -- each scope has a block at most as often as before
+  pruned_fewer : HasScopesOnce spelled.func.body → (scope : ScopeId)
+      → times scope (scopes_in pruned.func.body) ≤ times scope (scopes_in spelled.func.body)
+  pruned_fewer once scope =
+      let left = escaping_fewer scope in
+      let others = no_more (other_rules parts.others) parts.escaping.func.body pruned.func.body parts.log
+      (others_decided parts.others (λ other.
+      let most = at_most_once (scopes_in spelled.func.body) once other in
+      let still = escaping_fewer other in
+      omega (arith, most, still))) scope in
+      omega (arith, left, others)
+    where
+      escaping_fewer : (scope : ScopeId)
+          → times scope (scopes_in parts.escaping.func.body) ≤ times scope (scopes_in spelled.func.body)
+      escaping_fewer = fewer _ spelled.func.body parts.escaping.func.body parts.not_escaping
+          (escape_decided parts.checked.labels parts.escapes)
 
   module _ (hir : HirFunction) (spells : Spells hir spelled.env spelled.func) (room : HasRoom hir spelled.env) where
     -- the tree that is left has no more scope blocks than the graph opens

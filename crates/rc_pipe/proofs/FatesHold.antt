@@ -19,8 +19,8 @@ use Rattle.rc_escape.specs.WholeRecord.{HasWholeRecord}
 use Rattle.rc_memo.specs.Record.{IsRecordOf}
 use Rattle.rc_pipe.proofs.EventsStay.{events_stay, same_needed, same_record}
 use Rattle.rc_pipe.proofs.PassesLemmas.{decided, labels_keep_scopes, not_escaping_first}
-use Rattle.rc_pipe.specs.Fates.{AreKeptExactly, fate_rules, listed_scopes}
-use Rattle.rc_pipe.specs.Passes.{PassState, IsPruned}
+use Rattle.rc_pipe.specs.Fates.{AreKeptExactly, listed_scopes}
+use Rattle.rc_pipe.specs.Passes.{IsPruned, PassState, fate_rules}
 use Rattle.rc_pipe.specs.declared.passes.Decisions.{Decisions}
 use Rattle.rc_pipe.specs.inside.PrunedParts.{IsPrunedWith}
 

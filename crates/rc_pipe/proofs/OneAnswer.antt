@@ -13,7 +13,7 @@ use Rattle.rc_early.specs.Entries.{with_early_returns}
 use Rattle.rc_merge.proofs.OneMerging as merging
 use Rattle.rc_pipe.specs.Headline.{IsAnswer}
 use Rattle.rc_pipe.specs.Passes.{AfterDependencies, AfterEarlyReturns, AfterEscape, AfterInvalidating, AfterLabels}
-use Rattle.rc_pipe.specs.Passes.{AfterMerging, AfterUnusedScopes, IsPruned, PassState, state}
+use Rattle.rc_pipe.specs.Passes.{AfterMerging, AfterUnusedScopes, HasOthersPruned, IsPruned, PassState, state}
 use Rattle.rc_pipe.specs.declared.pipeline.Pruned.{Pruned}
 use Rattle.rc_pipe.proofs.OneAnswer.AlwaysInvalidating as invalidating
 use Rattle.rc_pipe.proofs.OneAnswer.NotEscaping as escape
@@ -70,7 +70,25 @@ module _ {before after after1 : PassState} where
         is1.scopes)
         (is.kept_environment ∙ sym is1.kept_environment)
 
--- so all passes lead from one state through the same states
+-- so the passes between those on escaping scopes and on early returns lead from one state through the same states
+module _ {before after after1 : PassState} {log log1 : List ScopeFate} (others : HasOthersPruned before after log)
+    (others1 : HasOthersPruned before after1 log1) where
+  same_reactive : others.reactive ≡ others1.reactive
+  same_reactive = one_after_dependencies others.dependencies others1.dependencies
+
+  same_used : others.used ≡ others1.used
+  same_used = one_after_unused_scopes others.scopes
+      (subst (λ s. AfterUnusedScopes s others1.used others1.unused) (sym same_reactive) others1.scopes)
+
+  same_merged : others.merged ≡ others1.merged
+  same_merged = one_after_merging others.merges
+      (subst (λ s. AfterMerging s others1.merged others1.joined) (sym same_used) others1.merges)
+
+  one_after_others : after ≡ after1
+  one_after_others = one_after_invalidating others.invalidating
+      (subst (λ s. AfterInvalidating s after1 others1.always_invalidating) (sym same_merged) others1.invalidating)
+
+-- and so do all passes
 module _ {spelled pruned pruned1 : PassState} (passes : IsPruned spelled pruned)
     (passes1 : IsPruned spelled pruned1) where
   same_labeled : passes.labeled ≡ passes1.labeled
@@ -80,22 +98,9 @@ module _ {spelled pruned pruned1 : PassState} (passes : IsPruned spelled pruned)
   same_escaping = one_after_escape passes.escapes
       (subst (λ s. AfterEscape s passes1.escaping passes1.not_escaping) (sym same_labeled) passes1.escapes)
 
-  same_reactive : passes.reactive ≡ passes1.reactive
-  same_reactive = one_after_dependencies passes.dependencies
-      (subst (λ s. AfterDependencies s passes1.reactive) (sym same_escaping) passes1.dependencies)
-
-  same_used : passes.used ≡ passes1.used
-  same_used = one_after_unused_scopes passes.scopes
-      (subst (λ s. AfterUnusedScopes s passes1.used passes1.unused) (sym same_reactive) passes1.scopes)
-
-  same_merged : passes.merged ≡ passes1.merged
-  same_merged = one_after_merging passes.merges
-      (subst (λ s. AfterMerging s passes1.merged passes1.joined) (sym same_used) passes1.merges)
-
   same_invalidated : passes.invalidated ≡ passes1.invalidated
-  same_invalidated = one_after_invalidating passes.invalidating
-      (subst (λ s. AfterInvalidating s passes1.invalidated passes1.always_invalidating) (sym same_merged)
-      passes1.invalidating)
+  same_invalidated = one_after_others passes.others
+      (subst (λ s. HasOthersPruned s passes1.invalidated passes1.decided) (sym same_escaping) passes1.others)
 
   pub one_pruned : pruned ≡ pruned1
   one_pruned = one_after_early_returns passes.early_returns

@@ -6,7 +6,8 @@ use Rattle.rc_hir.specs.Model.{Environment, Fault, HirFunction}
 use Rattle.rc_hir.specs.declared.fault.Fault.TheVariants as faults
 use Rattle.rc_names.specs.Numbers.{EvaluationOrder, ScopeId, same_id, times}
 use Rattle.rc_tree.proofs.DistinctLemmas.{at_most_once, times-append}
-use Rattle.rc_tree.specs.Decided.{FateRule, IsDecidedBy, IsFateBy, decided as decided_scopes}
+use Rattle.rc_tree.specs.Decided.{FateRule, FateRules, IsDecidedBy, IsFateBy, NoMore, Then}
+use Rattle.rc_tree.specs.Decided.{decided as decided_scopes}
 use Rattle.rc_tree.specs.inside.DecisionLogs.{AreDecidedBy}
 use Rattle.rc_tree.specs.Model.{ReactiveBlock, ReactiveFunction}
 use Rattle.rc_runs.specs.BodyRun.{IsBodyRun}
@@ -22,14 +23,15 @@ use Rattle.rc_checks.proofs.ScopeBlocks.ContentsLemmas.{same_scopes}
 use Rattle.rc_checks.specs.ScopeBlocks.{ScopeBlock}
 use Rattle.rc_tree.specs.ScopesIn.{HasScopesOnce, scopes_in}
 use Rattle.rc_tree.specs.Visits.{visits_of}
+use Rattle.rc_tree.specs.declared.fate.Fate.{Fate}
 use Rattle.rc_tree.specs.declared.fate.Fate.TheVariants.{NotEscaping}
 use Rattle.rc_tree.specs.declared.fate.ScopeFate.{ScopeFate}
 use Rattle.rc_pipe.specs.Headline.{IsAccepted, IsCause}
-use Rattle.rc_pipe.specs.Passes.{AfterEarlyReturns, AfterLabels, AreInside, EndsOutside, IsPruned, PassState, state}
+use Rattle.rc_pipe.specs.Passes.{AfterEarlyReturns, AfterEscape, AfterLabels, AreInside, EndsOutside, HasOthersPruned}
+use Rattle.rc_pipe.specs.Passes.{IsPruned, PassState, fate_rules, other_rules, state}
 use Rattle.rc_pipe.specs.inside.PassFaults.{IsPassFault}
-use Rattle.rc_pipe.specs.Fates.{fate_rules}
 use Rattle.rc_pipe.specs.declared.passes.Decisions.{Decisions}
-use Rattle.rc_pipe.specs.inside.PrunedParts.{HasOthersPruned, HasScopesPruned, IsChecked, IsPrunedWith}
+use Rattle.rc_pipe.specs.inside.PrunedParts.{HasScopesPruned, IsChecked, IsPrunedWith}
 use Rattle.rc_escape.proofs.NotEscaping.Decided.{not_escaping_decided}
 use Rattle.rc_escape.specs.NotEscaping.{not_escaping_rule}
 use Rattle.rc_escape.specs.Outputs.{is_dissolved}
@@ -38,7 +40,7 @@ use Rattle.rc_flow.proofs.AlwaysInvalidating.DecidedScopes.{invalidating_decided
 use Rattle.rc_memo.specs.TreeEvents.{events_in}
 use Rattle.rc_merge.specs.Merged.{merging_rule}
 use Rattle.rc_pipe.proofs.EventsStay.{events_stay, same_node, same_scope}
-use Rattle.rc_merge.proofs.DecidedByRule.{gives_own, merging_decided}
+use Rattle.rc_merge.proofs.DecidedByRule.{IsOfMerging, gives_own, merging_decided}
 use Rattle.rc_merge.proofs.EarlyReturnsStay.{still_none as merged_none}
 use Rattle.rc_pipe.proofs.EnvironmentStays.{still_none}
 use Rattle.rc_pipe.proofs.RunsElsewhere.{runs_with_scopes}
@@ -91,33 +93,23 @@ runs_after first between last old middle new one other events end =
 pub all_passes : {spelled between pruned : PassState} {decisions : Decisions}
     → HasScopesPruned spelled between decisions → AfterEarlyReturns between pruned
     → IsPrunedWith spelled pruned decisions
-all_passes {spelled} {between} {pruned} {decisions} parts returns =
-    let others = parts.others in
-    record {
-      passes = record {
-        labeled = parts.labeled;
-        labels = parts.checked.labels;
-        inside = parts.checked.inside;
-        escaping = parts.escaping;
-        not_escaping = parts.not_escaping;
-        escapes = parts.escapes;
-        reactive = others.reactive;
-        dependencies = others.dependencies;
-        used = others.used;
-        unused = others.unused;
-        scopes = others.scopes;
-        merged = others.merged;
-        joined = others.joined;
-        merges = others.merges;
-        invalidated = between;
-        always_invalidating = others.always_invalidating;
-        invalidating = others.invalidating;
-        early_returns = returns;
-      };
-      listed = parts.listed;
-      told = parts.told ∙ ap (λ (log : List ScopeFate). parts.not_escaping ++ log) others.told;
-      needed = parts.needed;
-    }
+all_passes {spelled} {between} {pruned} {decisions} parts returns = record {
+  passes = record {
+    labeled = parts.labeled;
+    labels = parts.checked.labels;
+    inside = parts.checked.inside;
+    escaping = parts.escaping;
+    not_escaping = parts.not_escaping;
+    escapes = parts.escapes;
+    invalidated = between;
+    decided = parts.log;
+    others = parts.others;
+    early_returns = returns;
+  };
+  listed = parts.listed;
+  told = parts.told;
+  needed = parts.needed;
+}
 
 -- each pass may run out of memory
 pub memory_fault : (spelled : PassState) (fault : Fault) → fault ≡ faults.NoMemory → IsPassFault spelled fault
@@ -226,34 +218,88 @@ received rule before other after log same is = record {
 }
 
 -- a pass makes no scope block
-no_more : (rule : FateRule) (before after : ReactiveBlock) (log : List ScopeFate) → IsDecidedBy rule before after log
-    → ((scope : ScopeId) → times scope (scopes_in before) ≤ 1) → (scope : ScopeId) → times scope (scopes_in after) ≤ 1
-no_more rule before after log is once scope =
+pub fewer : (rule : FateRule) (before after : ReactiveBlock) (log : List ScopeFate) → IsDecidedBy rule before after log
+    → (scope : ScopeId) → times scope (scopes_in after) ≤ times scope (scopes_in before)
+fewer rule before after log is scope =
     let lost = is.lost scope in
     let parts = times-append scope (scopes_in after) (decided_scopes log) in
-    let most = once scope in
-    omega (arith, lost, parts, most)
+    omega (arith, lost, parts)
+
+-- nor do passes that follow each other
+pub no_more : (rules : FateRules) (before after : ReactiveBlock) (log : List ScopeFate)
+    → AreDecidedBy rules before after log → (scope : ScopeId)
+    → times scope (scopes_in after) ≤ times scope (scopes_in before)
+no_more NoMore before after log are scope = let same = ap (times scope) are.0 in omega (arith, same)
+no_more (Then rule rest) before after log are scope =
+    let first = fewer rule before are.0 are.1 are.4 scope in
+    let later = no_more rest are.0 after are.2 are.5 scope in
+    omega (arith, first, later)
+
+-- only the scope blocks of what passes left count
+left_alike : (rules : FateRules) (before after other : ReactiveBlock) (log : List ScopeFate)
+    → scopes_in after ≡ scopes_in other → AreDecidedBy rules before after log → AreDecidedBy rules before other log
+left_alike NoMore before after other log same are = (are.0 ∙ same, are.1)
+left_alike (Then rule rest) before after other log same are =
+    (are.0, are.1, are.2, are.3, are.4, left_alike rest are.0 after other are.2 same are.5)
+
+-- what the escape pass decided, by its rule
+pub escape_decided : {spelled labeled escaping : PassState} {log : List ScopeFate} → AfterLabels spelled labeled
+    → (escapes : AfterEscape labeled escaping log)
+    → IsDecidedBy (not_escaping_rule labeled.env escapes.scopes.without.set) spelled.func.body escaping.func.body log
+escape_decided {spelled} {labeled} {escaping} {log} labels escapes =
+    received _ labeled.func.body spelled.func.body escaping.func.body log (labels_keep_scopes labels)
+    (not_escaping_decided labeled.env labeled.func escaping.func.body log escapes.scopes)
+
+-- what each of the other passes decided, by its rule
+module _ {before after : PassState} {log : List ScopeFate} (parts : HasOthersPruned before after log) where
+  by_use : IsDecidedBy (unused_rule parts.reactive.env parts.reactive.func.body) before.func.body
+      parts.used.func.body parts.unused
+  by_use = received _ parts.reactive.func.body before.func.body parts.used.func.body parts.unused
+      (ap (λ f. scopes_in f.body) parts.dependencies.kept_function)
+      (unused_decided parts.reactive.env parts.reactive.func.body parts.used.func.body parts.unused parts.scopes.scopes)
+
+  by_merging : IsDecidedBy (merging_rule parts.used.env parts.used.func.body) parts.used.func.body
+      parts.merged.func.body parts.joined
+  by_merging = merging_decided parts.used.func.body parts.used.env parts.merged.func.body parts.merged.env
+      parts.joined parts.merges.scopes
+
+  module _ (once : (scope : ScopeId) → times scope (scopes_in before.func.body) ≤ 1) where
+    merged_once : (scope : ScopeId) → times scope (scopes_in parts.merged.func.body) ≤ 1
+    merged_once scope =
+        let used = fewer _ before.func.body parts.used.func.body parts.unused by_use scope in
+        let merged = fewer _ parts.used.func.body parts.merged.func.body parts.joined by_merging scope in
+        let most = once scope in
+        omega (arith, used, merged, most)
+
+    pub others_decided : AreDecidedBy (other_rules parts) before.func.body after.func.body log
+    others_decided = (
+      parts.used.func.body,
+      parts.unused,
+      parts.joined ++ parts.always_invalidating,
+      parts.told,
+      by_use,
+      (
+        parts.merged.func.body,
+        parts.joined,
+        parts.always_invalidating,
+        refl,
+        by_merging,
+        (
+          after.func.body,
+          parts.always_invalidating,
+          [],
+          sym (append-nil parts.always_invalidating),
+          invalidating_decided parts.merged.env parts.merged.func.body after.func.body parts.always_invalidating
+              parts.invalidating.scopes merged_once,
+          (refl, refl),
+        ),
+      ),
+    )
 
 module _ {spelled pruned : PassState} (passes : IsPruned spelled pruned) where
-  -- what each pass decided, by its rule
   by_escape : IsDecidedBy (not_escaping_rule passes.labeled.env passes.escapes.scopes.without.set) spelled.func.body
       passes.escaping.func.body passes.not_escaping
-  by_escape = received _ passes.labeled.func.body spelled.func.body passes.escaping.func.body passes.not_escaping
-      (labels_keep_scopes passes.labels)
-      (not_escaping_decided passes.labeled.env passes.labeled.func passes.escaping.func.body passes.not_escaping
-      passes.escapes.scopes)
-
-  by_use : IsDecidedBy (unused_rule passes.reactive.env passes.reactive.func.body) passes.escaping.func.body
-      passes.used.func.body passes.unused
-  by_use = received _ passes.reactive.func.body passes.escaping.func.body passes.used.func.body passes.unused
-      (ap (λ f. scopes_in f.body) passes.dependencies.kept_function)
-      (unused_decided passes.reactive.env passes.reactive.func.body passes.used.func.body passes.unused
-      passes.scopes.scopes)
-
-  by_merging : IsDecidedBy (merging_rule passes.used.env passes.used.func.body) passes.used.func.body
-      passes.merged.func.body passes.joined
-  by_merging = merging_decided passes.used.func.body passes.used.env passes.merged.func.body passes.merged.env
-      passes.joined passes.merges.scopes
+  by_escape = escape_decided passes.labels passes.escapes
 
   -- the fate of the escape pass comes by its rule alone
   pub not_escaping_first : (scope : ScopeId) → IsFateBy (fate_rules passes) scope NotEscaping
@@ -261,51 +307,35 @@ module _ {spelled pruned : PassState} (passes : IsPruned spelled pruned) where
   not_escaping_first scope (inl rule) = rule.1
   not_escaping_first scope (inr (none, inl rule)) = absurd (let no : ⊥ = cc in no)
   not_escaping_first scope (inr (none, inr (used, inl rule))) =
-      absurd (gives_own passes.used.env passes.used.func.body scope NotEscaping rule)
+      absurd (gives_own passes.others.used.env passes.others.used.func.body scope NotEscaping rule)
   not_escaping_first scope (inr (none, inr (used, inr (apart, inl rule)))) = absurd (let no : ⊥ = cc in no)
   not_escaping_first scope (inr (none, inr (used, inr (apart, inr (stays, kept))))) = absurd (let no : ⊥ = cc in no)
 
-  module _ (once : HasScopesOnce spelled.func.body) where
-    used_once : (scope : ScopeId) → times scope (scopes_in passes.used.func.body) ≤ 1
-    used_once = no_more _ passes.escaping.func.body passes.used.func.body passes.unused by_use
-        (no_more _ spelled.func.body passes.escaping.func.body passes.not_escaping by_escape
-        (at_most_once (scopes_in spelled.func.body) once))
+  -- and a fate that merging gives by its own
+  pub merging_first : (scope : ScopeId) (fate : Fate) → IsOfMerging fate → IsFateBy (fate_rules passes) scope fate
+      → merging_rule passes.others.used.env passes.others.used.func.body scope fate
+  merging_first scope fate of (inl rule) = absurd (subst IsOfMerging rule.0 of)
+  merging_first scope fate of (inr (escapes, inl rule)) = absurd (subst IsOfMerging rule.0 of)
+  merging_first scope fate of (inr (escapes, inr (used, inl rule))) = rule
+  merging_first scope fate of (inr (escapes, inr (used, inr (apart, inl rule)))) = absurd (subst IsOfMerging rule.0 of)
+  merging_first scope fate of (inr (escapes, inr (used, inr (apart, inr (stays, kept))))) =
+      absurd (subst IsOfMerging kept of)
 
-    merged_once : (scope : ScopeId) → times scope (scopes_in passes.merged.func.body) ≤ 1
-    merged_once = no_more _ passes.used.func.body passes.merged.func.body passes.joined by_merging used_once
-
-    decided_by_all : AreDecidedBy (fate_rules passes) spelled.func.body pruned.func.body
-        (passes.not_escaping ++ (passes.unused ++ (passes.joined ++ passes.always_invalidating)))
-    decided_by_all = (
-      passes.escaping.func.body,
-      passes.not_escaping,
-      passes.unused ++ (passes.joined ++ passes.always_invalidating),
-      refl,
-      by_escape,
-      (
-        passes.used.func.body,
-        passes.unused,
-        passes.joined ++ passes.always_invalidating,
-        refl,
-        by_use,
-        (
-          passes.merged.func.body,
-          passes.joined,
-          passes.always_invalidating,
-          refl,
-          by_merging,
-          (
-            passes.invalidated.func.body,
-            passes.always_invalidating,
-            [],
-            sym (append-nil passes.always_invalidating),
-            invalidating_decided passes.merged.env passes.merged.func.body passes.invalidated.func.body
-                passes.always_invalidating passes.invalidating.scopes merged_once,
-            (sym passes.early_returns.kept_scopes, refl),
-          ),
-        ),
-      ),
-    )
+  decided_by_all : HasScopesOnce spelled.func.body
+      → AreDecidedBy (fate_rules passes) spelled.func.body pruned.func.body (passes.not_escaping ++ passes.decided)
+  decided_by_all once = (
+    passes.escaping.func.body,
+    passes.not_escaping,
+    passes.decided,
+    refl,
+    by_escape,
+    left_alike (other_rules passes.others) passes.escaping.func.body passes.invalidated.func.body pruned.func.body
+        passes.decided (sym passes.early_returns.kept_scopes)
+        (others_decided passes.others (λ scope.
+        let most = at_most_once (scopes_in spelled.func.body) once scope in
+        let left = fewer _ spelled.func.body passes.escaping.func.body passes.not_escaping by_escape scope in
+        omega (arith, most, left))),
+  )
 
 -- the passes decided by their rules, one after the other
 pub decided : {spelled pruned : PassState} {decisions : Decisions} (parts : IsPrunedWith spelled pruned decisions)
@@ -329,11 +359,12 @@ pub graph_header : {hir : HirFunction} {env : Environment} {func : ReactiveFunct
     → Spells hir env func → IsPruned (state func env) pruned → IsHeaded hir pruned.func
 graph_header {hir} {env} {func} {pruned} spelled passes =
     let headed : ReactiveFunction → ReactiveFunction = λ f. with_header hir f.body in
+    let others = passes.others in
     still_headed hir passes.invalidated.func pruned.func passes.early_returns.header
-    (still_headed hir passes.merged.func passes.invalidated.func passes.invalidating.header
-    (still_headed hir passes.used.func passes.merged.func passes.merges.header
-    (still_headed hir passes.reactive.func passes.used.func passes.scopes.header
-    (subst (IsHeaded hir) (sym passes.dependencies.kept_function)
+    (still_headed hir others.merged.func passes.invalidated.func others.invalidating.header
+    (still_headed hir others.used.func others.merged.func others.merges.header
+    (still_headed hir others.reactive.func others.used.func others.scopes.header
+    (subst (IsHeaded hir) (sym others.dependencies.kept_function)
     (still_headed hir passes.labeled.func passes.escaping.func passes.escapes.header
     (still_headed hir func passes.labeled.func passes.labels.header
     (spelled.whole ∙ ap headed (sym spelled.whole))))))))

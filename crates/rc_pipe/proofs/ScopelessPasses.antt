@@ -23,8 +23,7 @@ use Rattle.rc_names.specs.Numbers.{same_id}
 use Rattle.rc_escape.proofs.ScopelessTrees.{left_none, not_none, right_none}
 use Rattle.rc_pipe.proofs.NoScopes.{no_dependencies}
 use Rattle.rc_pipe.proofs.ScopelessRules.{LeavesRules, leaves_all}
-use Rattle.rc_pipe.specs.Passes.{PassState}
-use Rattle.rc_pipe.specs.inside.PrunedParts.{HasOthersPruned}
+use Rattle.rc_pipe.specs.Passes.{HasOthersPruned, PassState}
 use Rattle.rc_tree.proofs.CollectedLemmas.{collected-Scope}
 use Rattle.rc_tree.specs.Collected.{collected_list, collected_statement}
 use Rattle.rc_tree.specs.Model.{ReactiveBlock, ReactiveStatement}

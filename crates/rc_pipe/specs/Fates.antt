@@ -4,35 +4,23 @@
 use Rattle.std.specs.Prelude.{◌≡◌, ◌↔◌, List, All, Contains, map}
 use Rattle.std.specs.List.Sorted.{IsStrictlyIncreasing}
 use Rattle.rc_names.specs.Numbers.{ScopeId}
-use Rattle.rc_tree.specs.Decided.{FateRules, IsFateBy, NoMore, Then}
+use Rattle.rc_tree.specs.Decided.{IsFateBy}
 use Rattle.rc_tree.specs.Model.{ReactiveBlock}
 use Rattle.rc_tree.specs.ScopesIn.{scopes_in}
 use Rattle.rc_tree.specs.declared.fate.Fate.TheVariants.{Kept}
 use Rattle.rc_tree.specs.declared.fate.ScopeFate.{ScopeFate}
-use Rattle.rc_checks.specs.UnusedScopes.{unused_rule}
-use Rattle.rc_escape.specs.NotEscaping.{not_escaping_rule}
-use Rattle.rc_flow.specs.AlwaysInvalidating.{invalidating_rule}
-use Rattle.rc_merge.specs.Merged.{merging_rule}
-use Rattle.rc_pipe.specs.Passes.{PassState, IsPruned}
+use Rattle.rc_pipe.specs.Passes.{IsPruned, PassState, fate_rules}
 
 -- the listed scopes, in the order of the list
 abbrev pub listed_scopes : List ScopeFate → List ScopeId
 listed_scopes fates = map (λ entry. entry.scope) fates
 
 module _ {spelled pruned : PassState} (passes : IsPruned spelled pruned) where
-  -- the rules of the passes, in their order, each judged on what its pass received
-  abbrev pub fate_rules : FateRules
-  fate_rules =
-      Then (not_escaping_rule passes.labeled.env passes.escapes.scopes.without.set)
-      (Then (unused_rule passes.reactive.env passes.reactive.func.body)
-      (Then (merging_rule passes.used.env passes.used.func.body)
-      (Then (invalidating_rule passes.merged.env passes.merged.func.body) NoMore)))
-
   -- each scope of the spelled tree is listed once, in ascending order, with its fate
   pub record AreFates (fates : List ScopeFate) : Type 0 where
     pub rising : IsStrictlyIncreasing (map (λ scope. scope.0) (listed_scopes fates))
     pub listed : (scope : ScopeId) → Contains (listed_scopes fates) scope ↔ Contains (scopes_in spelled.func.body) scope
-    pub told : All (λ entry. IsFateBy fate_rules entry.scope entry.fate) fates
+    pub told : All (λ entry. IsFateBy (fate_rules passes) entry.scope entry.fate) fates
 
 -- the scopes that have a scope block in the body are exactly those whose fate is kept
 abbrev pub AreKeptExactly : ReactiveBlock → List ScopeFate → Type 0

@@ -60,12 +60,12 @@ pub record IsAnswer (hir : HirFunction) (env answered : Environment) (pruned : P
       → ¬ IsNeededOutput env spelled entry.scope name) pruned.fates
   -- where no copied name is written by two rows, a scope that is merged into a head recomputes only where the head
   -- does, in every legal render of the tree that merging received; scopes recompute by the dependencies that it received
-  pub joins_fresh : JoinsFresh passes.used.env passes.used.func.body pruned.fates
+  pub joins_fresh : JoinsFresh passes.others.used.env passes.others.used.func.body pruned.fates
   -- under the same premise, a scope recomputes wherever one of its parts would have: a scope that is merged into it, by
   -- one such fate or by several that follow each other
-  pub parts_fresh : PartsFresh passes.used.env passes.used.func.body pruned.fates
+  pub parts_fresh : PartsFresh passes.others.used.env passes.others.used.func.body pruned.fates
   -- a scope that is dissolved into another recomputes only where that one does, in every render
-  pub dissolves_fresh : DissolvesFresh passes.used.env pruned.fates
+  pub dissolves_fresh : DissolvesFresh passes.others.used.env pruned.fates
   -- every number of the answered function and of the answered environment is in its table
   pub known : TreeInTables pruned.func answered
 

@@ -1,7 +1,8 @@
--- The sequence of passes over a spelled function and its environment, and the faults with which they refuse one.
-use Rattle.std.specs.Prelude.{◌≡◌, All, List}
+-- The sequence of passes over a spelled function and its environment, and the rules by which they decide fates.
+use Rattle.std.specs.Prelude.{◌≡◌, ◌++◌, All, List}
 use Rattle.rc_hir.specs.Model.{Environment}
 use Rattle.rc_names.specs.Numbers.{EvaluationOrder, ScopeId}
+use Rattle.rc_tree.specs.Decided.{FateRules, NoMore, Then}
 use Rattle.rc_tree.specs.Model.{ReactiveFunction, ReactiveBlock}
 use Rattle.rc_tree.specs.ScopesIn.{scopes_in}
 use Rattle.rc_tree.specs.Visits.{visits_of}
@@ -9,12 +10,12 @@ use Rattle.rc_tree.specs.declared.fate.ScopeFate.{ScopeFate}
 use Rattle.rc_checks.specs.Labels.{IsWithoutUnusedLabels}
 use Rattle.rc_checks.specs.Membership.{IsInside, IsLastOutside}
 use Rattle.rc_checks.specs.ScopeBlocks.{scope_blocks}
-use Rattle.rc_checks.specs.UnusedScopes.{LosesUnusedScopes}
+use Rattle.rc_checks.specs.UnusedScopes.{LosesUnusedScopes, unused_rule}
 use Rattle.rc_early.specs.EarlyReturned.{HasEarlyReturns}
-use Rattle.rc_escape.specs.NotEscaping.{HasDecidedNotEscaping}
-use Rattle.rc_flow.specs.AlwaysInvalidating.{PrunesInvalidating}
+use Rattle.rc_escape.specs.NotEscaping.{HasDecidedNotEscaping, not_escaping_rule}
+use Rattle.rc_flow.specs.AlwaysInvalidating.{PrunesInvalidating, invalidating_rule}
 use Rattle.rc_flow.specs.ReactiveDependencies.{HasReactiveDependencies}
-use Rattle.rc_merge.specs.Merged.{Merges}
+use Rattle.rc_merge.specs.Merged.{Merges, merging_rule}
 
 -- a function with its environment, between two passes
 pub record PassState : Type 0 where
@@ -77,6 +78,22 @@ AreInside env body = All (IsInside env (scopes_in body)) (visits_of env.function
 abbrev pub EndsOutside : Environment → ReactiveBlock → EvaluationOrder → ScopeId → Type 0
 EndsOutside env body id scope = IsLastOutside env (scopes_in body) (visits_of env.functions body) id scope
 
+-- the passes after the one on escaping scopes, up to early returns: dependencies that aren't reactive are gone, the
+-- function lost its unused scopes, those that invalidate together are merged, and those that always invalidate are gone;
+-- the log has what was decided
+pub record HasOthersPruned (escaping pruned : PassState) (log : List ScopeFate) : Type 0 where
+  pub reactive : PassState
+  pub dependencies : AfterDependencies escaping reactive
+  pub used : PassState
+  pub unused : List ScopeFate
+  pub scopes : AfterUnusedScopes reactive used unused
+  pub merged : PassState
+  pub joined : List ScopeFate
+  pub merges : AfterMerging used merged joined
+  pub always_invalidating : List ScopeFate
+  pub invalidating : AfterInvalidating merged pruned always_invalidating
+  pub told : log ≡ unused ++ (joined ++ always_invalidating)
+
 -- the passes lead from the spelled function and its environment to the pruned ones, by the states in between and by what
 -- each pass decided
 pub record IsPruned (spelled pruned : PassState) : Type 0 where
@@ -86,15 +103,19 @@ pub record IsPruned (spelled pruned : PassState) : Type 0 where
   pub escaping : PassState
   pub not_escaping : List ScopeFate
   pub escapes : AfterEscape labeled escaping not_escaping
-  pub reactive : PassState
-  pub dependencies : AfterDependencies escaping reactive
-  pub used : PassState
-  pub unused : List ScopeFate
-  pub scopes : AfterUnusedScopes reactive used unused
-  pub merged : PassState
-  pub joined : List ScopeFate
-  pub merges : AfterMerging used merged joined
   pub invalidated : PassState
-  pub always_invalidating : List ScopeFate
-  pub invalidating : AfterInvalidating merged invalidated always_invalidating
+  pub decided : List ScopeFate
+  pub others : HasOthersPruned escaping invalidated decided
   pub early_returns : AfterEarlyReturns invalidated pruned
+
+-- the rules of the passes that decide fates, in their order, each judged on what its pass received
+abbrev pub other_rules : {escaping pruned : PassState} {log : List ScopeFate} → HasOthersPruned escaping pruned log
+    → FateRules
+other_rules others =
+    Then (unused_rule others.reactive.env others.reactive.func.body)
+    (Then (merging_rule others.used.env others.used.func.body)
+    (Then (invalidating_rule others.merged.env others.merged.func.body) NoMore))
+
+abbrev pub fate_rules : {spelled pruned : PassState} → IsPruned spelled pruned → FateRules
+fate_rules passes =
+    Then (not_escaping_rule passes.labeled.env passes.escapes.scopes.without.set) (other_rules passes.others)

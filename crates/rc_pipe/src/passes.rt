@@ -14,9 +14,9 @@ ghost use Rattle.rc_runs.specs.Erase.{erased};
 ghost use Rattle.rc_runs.specs.Event.{Event, End};
 ghost use Rattle.rc_runs.specs.Spelled.{Spells};
 ghost use Rattle.rc_pipe.specs.Causes.{HasRoom};
-ghost use Rattle.rc_pipe.specs.Passes.{AfterLabels, state};
+ghost use Rattle.rc_pipe.specs.Passes.{AfterLabels, HasOthersPruned, state};
 ghost use Rattle.rc_pipe.specs.inside.PassFaults.{IsPassFault};
-ghost use Rattle.rc_pipe.specs.inside.PrunedParts.{HasOthersPruned, HasScopesPruned, IsPrunedWith};
+ghost use Rattle.rc_pipe.specs.inside.PrunedParts.{HasScopesPruned, IsPrunedWith};
 
 use crate::spelled_scopes::spelled_scopes;
 use rc_checks::{

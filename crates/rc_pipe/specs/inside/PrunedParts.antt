@@ -1,33 +1,17 @@
--- The passes in parts: those on labels, those on scopes after the escape pass, and all before early returns.
+-- The passes in parts: those on labels, and all before early returns.
 use Rattle.std.specs.Prelude.{◌≡◌, ◌++◌, Contains, List}
 use Rattle.rc_names.specs.Numbers.{DeclarationId, ScopeId}
 use Rattle.rc_tree.specs.ScopesIn.{scopes_in}
 use Rattle.rc_tree.specs.declared.fate.ScopeFate.{ScopeFate}
 use Rattle.rc_runs.specs.Erase.{erased}
 use Rattle.rc_escape.specs.NotEscaping.{IsNeededOutput}
-use Rattle.rc_pipe.specs.Passes.{AfterDependencies, AfterEscape, AfterInvalidating, AfterLabels, AfterMerging}
-use Rattle.rc_pipe.specs.Passes.{AfterUnusedScopes, AreInside, IsPruned, PassState}
+use Rattle.rc_pipe.specs.Passes.{AfterEscape, AfterLabels, AreInside, HasOthersPruned, IsPruned, PassState}
 use Rattle.rc_pipe.specs.declared.passes.Decisions.{Decisions}
 
 -- the function lost its unused labels, and its operands are inside the blocks of their scopes
 pub record IsChecked (spelled labeled : PassState) : Type 0 where
   pub labels : AfterLabels spelled labeled
   pub inside : AreInside spelled.env spelled.func.body
-
--- dependencies that aren't reactive are gone, the function lost its unused scopes, those that invalidate together are
--- merged, and those that always invalidate are gone; the log has what was decided
-pub record HasOthersPruned (escaping pruned : PassState) (log : List ScopeFate) : Type 0 where
-  pub reactive : PassState
-  pub dependencies : AfterDependencies escaping reactive
-  pub used : PassState
-  pub unused : List ScopeFate
-  pub scopes : AfterUnusedScopes reactive used unused
-  pub merged : PassState
-  pub joined : List ScopeFate
-  pub merges : AfterMerging used merged joined
-  pub always_invalidating : List ScopeFate
-  pub invalidating : AfterInvalidating merged pruned always_invalidating
-  pub told : log ≡ unused ++ (joined ++ always_invalidating)
 
 -- all passes before early returns, with the scopes that have a block in the spelled function, and with what was decided
 -- of them; without scope blocks, the function is the one without its unused labels
@@ -50,7 +34,7 @@ pub record HasScopesPruned (spelled pruned : PassState) (decisions : Decisions) 
 pub record IsPrunedWith (spelled pruned : PassState) (decisions : Decisions) : Type 0 where
   pub passes : IsPruned spelled pruned
   pub listed : decisions.spelled ≡ scopes_in spelled.func.body
-  pub told : decisions.log ≡ passes.not_escaping ++ (passes.unused ++ (passes.joined ++ passes.always_invalidating))
+  pub told : decisions.log ≡ passes.not_escaping ++ passes.decided
   -- a scope with an output that must be memoized keeps its block in the escape pass
   pub needed : (scope : ScopeId) (name : DeclarationId) → Contains (scopes_in passes.labeled.func.body) scope
       → IsNeededOutput passes.labeled.env passes.labeled.func scope name
