@@ -1,0 +1,51 @@
+//! The names of the instruction kinds in a document.
+
+use rc_hir::{InstructionValue, InstructionValue as Kind};
+
+/// The name of an instruction's kind.
+pub fn kind_of(value: &InstructionValue) -> &'static str {
+    match value {
+        Kind::LoadLocal { .. } => "LoadLocal",
+        Kind::LoadContext { .. } => "LoadContext",
+        Kind::DeclareLocal { .. } => "DeclareLocal",
+        Kind::DeclareContext { .. } => "DeclareContext",
+        Kind::StoreLocal { .. } => "StoreLocal",
+        Kind::StoreContext { .. } => "StoreContext",
+        Kind::Destructure { .. } => "Destructure",
+        Kind::Primitive { .. } => "Primitive",
+        Kind::JSXText { .. } => "JSXText",
+        Kind::BinaryExpression { .. } => "BinaryExpression",
+        Kind::UnaryExpression { .. } => "UnaryExpression",
+        Kind::TypeCastExpression { .. } => "TypeCastExpression",
+        Kind::Await { .. } => "Await",
+        Kind::NewExpression { .. } => "NewExpression",
+        Kind::CallExpression { .. } => "CallExpression",
+        Kind::MethodCall { .. } => "MethodCall",
+        Kind::ObjectExpression { .. } => "ObjectExpression",
+        Kind::ObjectMethod { .. } => "ObjectMethod",
+        Kind::FunctionExpression { .. } => "FunctionExpression",
+        Kind::ArrayExpression { .. } => "ArrayExpression",
+        Kind::JsxExpression { .. } => "JsxExpression",
+        Kind::JsxFragment { .. } => "JsxFragment",
+        Kind::RegExpLiteral { .. } => "RegExpLiteral",
+        Kind::MetaProperty { .. } => "MetaProperty",
+        Kind::PropertyLoad { .. } => "PropertyLoad",
+        Kind::PropertyDelete { .. } => "PropertyDelete",
+        Kind::PropertyStore { .. } => "PropertyStore",
+        Kind::ComputedLoad { .. } => "ComputedLoad",
+        Kind::ComputedDelete { .. } => "ComputedDelete",
+        Kind::ComputedStore { .. } => "ComputedStore",
+        Kind::LoadGlobal { .. } => "LoadGlobal",
+        Kind::StoreGlobal { .. } => "StoreGlobal",
+        Kind::TaggedTemplateExpression { .. } => "TaggedTemplateExpression",
+        Kind::TemplateLiteral { .. } => "TemplateLiteral",
+        Kind::GetIterator { .. } => "GetIterator",
+        Kind::IteratorNext { .. } => "IteratorNext",
+        Kind::NextPropertyOf { .. } => "NextPropertyOf",
+        Kind::PrefixUpdate { .. } => "PrefixUpdate",
+        Kind::PostfixUpdate { .. } => "PostfixUpdate",
+        Kind::Debugger { .. } => "Debugger",
+        Kind::StartMemoize { .. } => "StartMemoize",
+        Kind::FinishMemoize { .. } => "FinishMemoize",
+    }
+}
