@@ -84,6 +84,10 @@ function print_sentences(    line, sentence, count, at) {
 END {
     if (!found && in_text != "")
         print_sentences()
+    if (word == "") {
+        print "rc: nothing to explain: it takes the number or the name of a status, a fault or a rule" > "/dev/stderr"
+        exit 64
+    }
     if (!found) {
         print "rc: nothing to explain: " word " is no status, fault or rule of docs/FAULTS.md" > "/dev/stderr"
         exit 64
