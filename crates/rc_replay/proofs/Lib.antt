@@ -1,0 +1,7 @@
+mod SetLemmas
+mod AddsLemmas
+mod PathLemmas
+mod ClosingLemmas
+mod ChoiceLemmas
+mod GraphTableLemmas
+mod GraphReplay

@@ -1,0 +1,2 @@
+pub mod GivenRun
+pub mod inside

@@ -1,0 +1,5 @@
+-- What private functions say of each other.
+pub mod Positions
+pub mod Paths
+pub mod Closing
+pub mod GraphTable

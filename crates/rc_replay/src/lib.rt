@@ -1,0 +1,14 @@
+//! Replay of one given run: whether a list of events with an end is a run of a graph, or of a body.
+//!
+//! Both are laid out as a table of positions with moves, some of which have an event. A run is replayed by following its
+//! events through the table, from all positions at once that the events so far lead to.
+#![tactic(auto)]
+
+mod given;
+mod graph;
+mod paths;
+mod positions;
+mod silent;
+
+pub use given::{End, Event, GivenRun, has_throw};
+pub use graph::replay_graph;
