@@ -24,6 +24,7 @@ use Rattle.rc_build.specs.inside.Setting.{Setting, label_at, open_block, part_se
 use Rattle.rc_build.specs.inside.Task.{Progress, FromBlock, FromTerminal, left, Spells}
 use Rattle.rc_build.specs.inside.Built.{BuiltPrefix, BuiltList, Refused}
 use Rattle.rc_build.proofs.BuiltLemmas.{marking_beside, statement_prefix, is_some-opened, refused_front}
+use Rattle.rc_build.proofs.LoopKindLemmas.{among_first}
 use Rattle.rc_build.proofs.WalkLemmas.{at_first_part, none_used}
 use Rattle.rc_build.proofs.StatementLemmas.{label_at-opened}
 use Rattle.rc_hir.specs.Model.{HirFunction}
@@ -94,9 +95,9 @@ pub enclosure_can : {hir : HirFunction} {marks : Marks} {handler : Option BlockI
 enclosure_can {hir} {marks} at enclosures.Label part fallthrough id span can =
     at_first_part hir (frame_kinds.Statement fallthrough) at can refl (none_used marks) (λ key. omega arith)
 enclosure_can {hir} {marks} at (enclosures.Scope number) part fallthrough id span can =
-    at_first_part hir (frame_kinds.Scope fallthrough) at can refl (none_used marks) (λ key. omega arith)
+    at_first_part hir (frame_kinds.Scope fallthrough) at can (among_first fallthrough []) (none_used marks) (λ key. omega arith)
 enclosure_can {hir} {marks} at (enclosures.PrunedScope number) part fallthrough id span can =
-    at_first_part hir (frame_kinds.Scope fallthrough) at can refl (none_used marks) (λ key. omega arith)
+    at_first_part hir (frame_kinds.Scope fallthrough) at can (among_first fallthrough []) (none_used marks) (λ key. omega arith)
 
 -- once its part is built and it is appended, the statement is built
 pub enclosure_built : {s : Setting} {at : Option BlockId} (e : Enclosure) (part fallthrough : BlockId)

@@ -104,7 +104,7 @@ module _ {hir : HirFunction} {marks : Marks} {key : BlockId} {throw : MayThrow}
   pub last_referenced : 1 ≤ times_referenced hir throw.continuation
   last_referenced = referenced_at hir key block found throw.continuation
       (ap (λ t. is_among (referenced_blocks t) throw.continuation) (throws_as block.terminal throw last_throws).2
-      ∙ among_first throw.continuation (option_to_list throw.handler))
+      ∙ among_first throw.continuation (option_to_list throw.handler ++ []))
 
   -- the first one can be marked
   pub first_can_mark : {env : Environment} {numbers : List InstructionId} {other : BlockId} {terminal : Terminal}

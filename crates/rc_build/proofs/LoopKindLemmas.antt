@@ -11,10 +11,12 @@ use Rattle.rc_hir.specs.declared.terminal.Terminal.TheVariants as terminals
 use Rattle.rc_build.specs.declared.loops.LoopKind.{LoopKind}
 use Rattle.rc_build.specs.declared.loops.LoopKind.TheVariants as kinds
 use Rattle.rc_build.specs.declared.loops.LoopTerminal.{LoopTerminal}
-use Rattle.rc_build.specs.References.{fallthrough_of, is_while, referenced_blocks, tested_blocks, turn_block}
+use Rattle.rc_build.specs.References.{Arm, InValue, Test, ValueFallthrough, blocks_as, fallthrough_of, is_while}
+use Rattle.rc_build.specs.References.{referenced_blocks, turn_block}
 use Rattle.rc_build.specs.References.{value_references}
 use Rattle.rc_build.specs.inside.LoopKinds.{before_of, init_of, is_while_kind, loop_of, loop_with, terminal_of}
 use Rattle.rc_build.specs.inside.LoopKinds.{terminal_with}
+use Rattle.rc_build.proofs.MarksLemmas.{among_front}
 
 -- a block is the first of these, or one of those after it
 pub among_first : (key : BlockId) (later : List BlockId) → is_among (key ∷ later) key ≡ true
@@ -71,49 +73,50 @@ module _ (t : LoopTerminal) where
   while_with kinds.ForIn e = e
 
   -- a loop refers to its values by fields for values
-  pub valued_with : (kind : LoopKind) (key : BlockId) → is_among (tested_blocks (terminal_with kind t)) key ≡ true
+  pub valued_with : (kind : LoopKind) (key : BlockId) → is_among (blocks_as Test (terminal_with kind t)) key ≡ true
       → is_among (value_references (terminal_with kind t)) key ≡ true
-  valued_with kinds.While key h = h
-  valued_with kinds.DoWhile key h = h
-  valued_with (kinds.For init update) key h = h
-  valued_with (kinds.ForOf init) key h = h
-  valued_with kinds.ForIn key h = h
+  valued_with kind key h =
+      among_front (blocks_as Test terminal) (blocks_as InValue terminal ++ (blocks_as Arm terminal
+      ++ blocks_as ValueFallthrough terminal)) key h
+    where
+      terminal : Terminal
+      terminal = terminal_with kind t
 
-  pub tests_test : (kind : LoopKind) → is_among (tested_blocks (terminal_with kind t)) t.test ≡ true
+  pub tests_test : (kind : LoopKind) → is_among (blocks_as Test (terminal_with kind t)) t.test ≡ true
   tests_test kinds.While = among_first t.test []
   tests_test kinds.DoWhile = among_first t.test []
   tests_test (kinds.For init update) =
-      among_next init t.test (t.test ∷ option_to_list update) (among_first t.test (option_to_list update))
+      let later = option_to_list update ++ [] in among_next init t.test (t.test ∷ later) (among_first t.test later)
   tests_test (kinds.ForOf init) = among_next init t.test (t.test ∷ []) (among_first t.test [])
   tests_test kinds.ForIn = among_first t.test []
 
   pub tests_before : (kind : LoopKind) (key : BlockId) → before_of kind ≡ Some key
-      → is_among (tested_blocks (terminal_with kind t)) key ≡ true
+      → is_among (blocks_as Test (terminal_with kind t)) key ≡ true
   tests_before kinds.While key e = let bad : ⊥ = cc in absurd bad
   tests_before kinds.DoWhile key e = let bad : ⊥ = cc in absurd bad
   tests_before (kinds.For init update) key e =
-      subst (λ z. is_among (init ∷ t.test ∷ option_to_list z) key ≡ true) (sym e)
+      subst (λ z. is_among (init ∷ t.test ∷ (option_to_list z ++ [])) key ≡ true) (sym e)
       (among_next init key (t.test ∷ key ∷ []) (among_next t.test key (key ∷ []) (among_first key [])))
   tests_before (kinds.ForOf init) key e =
       subst (λ z. is_among (option_to_list z ++ t.test ∷ []) key ≡ true) (sym e) (among_first key (t.test ∷ []))
   tests_before kinds.ForIn key e = let bad : ⊥ = cc in absurd bad
 
   pub tests_init : (kind : LoopKind) (key : BlockId) → init_of kind ≡ Some key
-      → is_among (tested_blocks (terminal_with kind t)) key ≡ true
+      → is_among (blocks_as Test (terminal_with kind t)) key ≡ true
   tests_init kinds.While key e = let bad : ⊥ = cc in absurd bad
   tests_init kinds.DoWhile key e = let bad : ⊥ = cc in absurd bad
   tests_init (kinds.For init update) key e =
-      subst (λ z. is_among (option_to_list z ++ t.test ∷ option_to_list update) key ≡ true) (sym e)
-      (among_first key (t.test ∷ option_to_list update))
+      subst (λ z. is_among (option_to_list z ++ t.test ∷ (option_to_list update ++ [])) key ≡ true) (sym e)
+      (among_first key (t.test ∷ (option_to_list update ++ [])))
   tests_init (kinds.ForOf init) key e = let bad : ⊥ = cc in absurd bad
   tests_init kinds.ForIn key e = let bad : ⊥ = cc in absurd bad
 
   pub tests_start : (kind : LoopKind)
-      → is_among (tested_blocks (terminal_with kind t)) (first_of (before_of kind) t.test) ≡ true
+      → is_among (blocks_as Test (terminal_with kind t)) (first_of (before_of kind) t.test) ≡ true
   tests_start kind = go (before_of kind) refl
     where
       go : (at : Option BlockId) → before_of kind ≡ at
-          → is_among (tested_blocks (terminal_with kind t)) (first_of at t.test) ≡ true
+          → is_among (blocks_as Test (terminal_with kind t)) (first_of at t.test) ≡ true
       go None e = tests_test kind
       go (Some key) e = tests_before kind key e
 

@@ -1,7 +1,7 @@
 -- Used blocks: what one more mark keeps, and how often blocks are referred to.
 use Rattle.std.proofs.Common.{◌≡◌, ◌≤◌, ◌+◌, Bool, true, false, cond, List, [], ◌∷◌, ◌++◌, Some, ◌||◌, length, refl}
 use Rattle.std.proofs.Common.{sym, ap, ◌∙◌, subst, arith, inl, inr}
-use Rattle.std.specs.Prelude.{if◌then◌else◌, ◌⊎◌}
+use Rattle.std.specs.Prelude.{if◌then◌else◌, ◌⊎◌, slice_get}
 use Rattle.std.specs.List.{IsDistinct, filter_map, flat_map, AllByRecursion}
 use Rattle.std.specs.Map.{lookup}
 use Rattle.std.proofs.Math.Bool.{or-true}
@@ -56,6 +56,15 @@ among_back xs ys q h = list_any-append (same_id q) xs ys ∙ or_right (is_among 
 pub among_parts : (xs ys : List BlockId) (q : BlockId) → is_among (xs ++ ys) q ≡ true
     → (is_among xs q ≡ true) ⊎ (is_among ys q ≡ true)
 among_parts xs ys q h = or_cases (is_among xs q) (is_among ys q) (sym (list_any-append (same_id q) xs ys) ∙ h)
+
+-- the first block
+pub first_among : (blocks : List BlockId) (block : BlockId) → slice_get blocks 0 ≡ Some block
+    → is_among blocks block ≡ true
+first_among [] block e = let bad : ⊥ = cc in absurd bad
+first_among (first ∷ blocks) block e =
+    let same : first ≡ block = cc in
+    or_left (same_id block first) (is_among blocks block) (subst (λ z. same_id block z ≡ true) (sym same)
+    (ids_equivalence.refl block))
 
 -- the only block
 pub among_alone : (block key : BlockId) → same_id block key ≡ true → is_among (block ∷ []) key ≡ true

@@ -13,14 +13,13 @@ use Rattle.rc_runs.specs.declared.frames.BreakResult.{BreakResult}
 use Rattle.rc_runs.specs.declared.frames.BreakResult.TheVariants.{NoFrame, LeavesScope, LeavesCase}
 use Rattle.rc_runs.specs.Frames.{break_block, is_block, is_jump_target, is_jump_target_at, is_mark, takes_unlabeled}
 use Rattle.rc_runs.specs.Frames.{resolve_at, resolve_from}
-use Rattle.std.specs.Option.{option_to_list}
-use Rattle.rc_hir.specs.Successors.{case_blocks}
-use Rattle.rc_build.specs.References.{framed_blocks, tested_blocks, fallthrough_of, scope_fallthrough, cases_of}
-use Rattle.rc_build.specs.BlockFacts.{BlockIs, IsScopeFallthrough, IsCaseBlock}
+use Rattle.rc_build.specs.References.{Fallthrough, InCase, ScopeFallthrough, Test, ValueFallthrough, blocks_as}
+use Rattle.rc_build.specs.References.{fallthrough_of, fallthroughs, framed_blocks}
+use Rattle.rc_build.specs.BlockFacts.{BlockIs, IsReferredAs}
 use Rattle.rc_build.specs.inside.CanBuild.{pending_at, used_at, pending_blocks, used_blocks, IsFrameOf, HasOwner}
 use Rattle.rc_build.specs.inside.CanBuild.{AreOwned}
 use Rattle.rc_names.proofs.NumbersLemmas.{same_id-eq}
-use Rattle.rc_build.proofs.MarksLemmas.{among_front, among_back, among_alone, among_same}
+use Rattle.rc_build.proofs.MarksLemmas.{among_alone, among_front, among_back, among_same, first_among}
 
 -- the block is the only one of its frame
 sole : (block key : BlockId) → (same_id block key || false) ≡ true → same_id block key ≡ true
@@ -76,51 +75,45 @@ owned_weaker hir P Q [] f o = tt
 owned_weaker hir P Q (frame ∷ frames) f o = (owner_weaker hir P Q frame f o.0, owned_weaker hir P Q frames f o.1)
 
 -- the fallthrough of a terminal is framed by it, and so are its cases and what it tests
-module _ (terminal : Terminal) where
-  framed_fallthrough : (block key : BlockId) → fallthrough_of terminal ≡ Some block → same_id block key ≡ true
-      → is_among (framed_blocks terminal) key ≡ true
-  framed_fallthrough block key f e =
-      among_front (tested_blocks terminal ++ option_to_list (fallthrough_of terminal)) (case_blocks (cases_of terminal)) key
-      (among_back (tested_blocks terminal) (option_to_list (fallthrough_of terminal)) key
-      (subst (λ z. is_among (option_to_list z) key ≡ true) (sym f) (among_alone block key e)))
+module _ (terminal : Terminal) (block key : BlockId) (same : same_id block key ≡ true) where
+  framed_fallthroughs : is_among (fallthroughs terminal) block ≡ true → is_among (framed_blocks terminal) key ≡ true
+  framed_fallthroughs f =
+      among_back (blocks_as Test terminal) (fallthroughs terminal ++ blocks_as InCase terminal) key
+      (among_front (fallthroughs terminal) (blocks_as InCase terminal) key (among_same (fallthroughs terminal) block key f same))
 
-  framed_case : (block key : BlockId) → is_among (case_blocks (cases_of terminal)) block ≡ true
-      → same_id block key ≡ true → is_among (framed_blocks terminal) key ≡ true
-  framed_case block key c e =
-      among_back (tested_blocks terminal ++ option_to_list (fallthrough_of terminal)) (case_blocks (cases_of terminal)) key
-      (among_same (case_blocks (cases_of terminal)) block key c e)
+  framed_fallthrough : fallthrough_of terminal ≡ Some block → is_among (framed_blocks terminal) key ≡ true
+  framed_fallthrough f = framed_fallthroughs (first_among (fallthroughs terminal) block f)
 
-  framed_test : (block key : BlockId) → is_among (tested_blocks terminal) block ≡ true
-      → same_id block key ≡ true → is_among (framed_blocks terminal) key ≡ true
-  framed_test block key t e =
-      among_front (tested_blocks terminal ++ option_to_list (fallthrough_of terminal)) (case_blocks (cases_of terminal)) key
-      (among_front (tested_blocks terminal) (option_to_list (fallthrough_of terminal)) key
-      (among_same (tested_blocks terminal) block key t e))
+  framed_scope : is_among (blocks_as ScopeFallthrough terminal) block ≡ true → is_among (framed_blocks terminal) key ≡ true
+  framed_scope f = framed_fallthroughs (among_back (blocks_as Fallthrough terminal)
+      (blocks_as ValueFallthrough terminal ++ blocks_as ScopeFallthrough terminal) block
+      (among_back (blocks_as ValueFallthrough terminal) (blocks_as ScopeFallthrough terminal) block f))
 
--- the fallthrough of a scope is that of its terminal
-scope_falls : (terminal : Terminal) (block : BlockId) → scope_fallthrough terminal ≡ Some block
-    → fallthrough_of terminal ≡ Some block
-scope_falls (terminals.Scope fallthrough inner scope id span) block e = e
-scope_falls (terminals.PrunedScope fallthrough inner scope id span) block e = e
-scope_falls _ block e = let bad : ⊥ = cc in absurd bad
+  framed_case : is_among (blocks_as InCase terminal) block ≡ true → is_among (framed_blocks terminal) key ≡ true
+  framed_case c = among_back (blocks_as Test terminal) (fallthroughs terminal ++ blocks_as InCase terminal) key
+      (among_back (fallthroughs terminal) (blocks_as InCase terminal) key
+      (among_same (blocks_as InCase terminal) block key c same))
+
+  framed_test : is_among (blocks_as Test terminal) block ≡ true → is_among (framed_blocks terminal) key ≡ true
+  framed_test t = among_front (blocks_as Test terminal) (fallthroughs terminal ++ blocks_as InCase terminal) key
+      (among_same (blocks_as Test terminal) block key t same)
 
 -- a block that is a jump target at a frame is framed by the frame's terminal
 framed_there : (terminal : Terminal) (frame : Frame) (key : BlockId) → IsFrameOf terminal frame
     → is_jump_target_at frame key ≡ true → is_among (framed_blocks terminal) key ≡ true
 framed_there terminal (frame_kinds.Statement block) key f e =
-    framed_fallthrough terminal block key f (sole block key e)
+    framed_fallthrough terminal block key (sole block key e) f
 framed_there terminal (frame_kinds.Switch block) key f e =
-    framed_fallthrough terminal block key f (sole block key e)
-framed_there terminal (frame_kinds.Case block) key f e = framed_case terminal block key f (sole block key e)
-framed_there terminal (frame_kinds.Scope block) key f e =
-    framed_fallthrough terminal block key (scope_falls terminal block f) (sole block key e)
+    framed_fallthrough terminal block key (sole block key e) f
+framed_there terminal (frame_kinds.Case block) key f e = framed_case terminal block key (sole block key e) f
+framed_there terminal (frame_kinds.Scope block) key f e = framed_scope terminal block key (sole block key e) f
 framed_there terminal frame_kinds.Mark key f e = let bad : ⊥ = cc in absurd bad
 framed_there terminal (frame_kinds.Loop block again) key f e =
     go (or_cases (same_id block key) (same_id again key) e)
   where
     go : (same_id block key ≡ true) ⊎ (same_id again key ≡ true) → is_among (framed_blocks terminal) key ≡ true
-    go (inl h) = framed_fallthrough terminal block key f.0 h
-    go (inr h) = framed_test terminal again key f.1 h
+    go (inl h) = framed_fallthrough terminal block key h f.0
+    go (inr h) = framed_test terminal again key h f.1
 
 -- a block of which P holds frames the block
 pub record Frames (hir : HirFunction) (P : BlockId → Type 0) (key : BlockId) : Type 0 where
@@ -169,7 +162,7 @@ at_owner hir P way key {Q} none at innermost taken (frame ∷ frames) o e =
 -- a break that leaves a scope names a scope's fallthrough
 leaves_scope_at : (hir : HirFunction) (P : BlockId → Type 0) (innermost taken : Bool) (frame : Frame) (key : BlockId)
     → HasOwner hir P frame → is_block (break_block frame) key ≡ true →
-    resolve_at innermost taken frame ≡ LeavesScope → IsScopeFallthrough hir key
+    resolve_at innermost taken frame ≡ LeavesScope → IsReferredAs ScopeFallthrough hir key
 leaves_scope_at hir P innermost taken (frame_kinds.Statement block) key o s e = let bad : ⊥ = cc in absurd bad
 leaves_scope_at hir P innermost taken (frame_kinds.Switch block) key o s e = let bad : ⊥ = cc in absurd bad
 leaves_scope_at hir P true taken (frame_kinds.Case block) key o s e = let bad : ⊥ = cc in absurd bad
@@ -179,7 +172,7 @@ leaves_scope_at hir P innermost taken (frame_kinds.Scope block) key o s e = (
   record {
     block = o.owns.block;
     found = o.owns.found;
-    holds = o.owns.holds ∙ ap Some (same_id-eq block key s);
+    holds = among_same (blocks_as ScopeFallthrough o.owns.block.terminal) block key o.owns.holds s;
   },
 )
 leaves_scope_at hir P innermost taken (frame_kinds.Loop block continue_block) key o s e = let bad : ⊥ = cc in absurd bad
@@ -187,7 +180,7 @@ leaves_scope_at hir P innermost taken frame_kinds.Mark key o s e = let bad : ⊥
 
 pub leaves_scope : (hir : HirFunction) (P : BlockId → Type 0) (innermost taken : Bool) (frames : List Frame)
     (key : BlockId) → AreOwned hir P frames →
-    resolve_from innermost taken frames key ≡ LeavesScope → IsScopeFallthrough hir key
+    resolve_from innermost taken frames key ≡ LeavesScope → IsReferredAs ScopeFallthrough hir key
 leaves_scope hir P innermost taken frames key =
     at_owner hir P LeavesScope key (λ bad. let no : ⊥ = cc in no)
     (λ i l frame. leaves_scope_at hir P i l frame key) innermost taken frames
@@ -195,7 +188,7 @@ leaves_scope hir P innermost taken frames key =
 -- a break that leaves a case names a case's block
 leaves_case_at : (hir : HirFunction) (P : BlockId → Type 0) (innermost taken : Bool) (frame : Frame) (key : BlockId)
     → HasOwner hir P frame → is_block (break_block frame) key ≡ true →
-    resolve_at innermost taken frame ≡ LeavesCase → IsCaseBlock hir key
+    resolve_at innermost taken frame ≡ LeavesCase → IsReferredAs InCase hir key
 leaves_case_at hir P innermost taken (frame_kinds.Statement block) key o s e = let bad : ⊥ = cc in absurd bad
 leaves_case_at hir P innermost taken (frame_kinds.Switch block) key o s e = let bad : ⊥ = cc in absurd bad
 leaves_case_at hir P innermost taken (frame_kinds.Case block) key o s e = (
@@ -203,7 +196,7 @@ leaves_case_at hir P innermost taken (frame_kinds.Case block) key o s e = (
   record {
     block = o.owns.block;
     found = o.owns.found;
-    holds = among_same (case_blocks (cases_of o.owns.block.terminal)) block key o.owns.holds s;
+    holds = among_same (blocks_as InCase o.owns.block.terminal) block key o.owns.holds s;
   },
 )
 leaves_case_at hir P true taken (frame_kinds.Scope block) key o s e = let bad : ⊥ = cc in absurd bad
@@ -213,7 +206,7 @@ leaves_case_at hir P innermost taken frame_kinds.Mark key o s e = let bad : ⊥ 
 
 pub leaves_case : (hir : HirFunction) (P : BlockId → Type 0) (innermost taken : Bool) (frames : List Frame)
     (key : BlockId) → AreOwned hir P frames →
-    resolve_from innermost taken frames key ≡ LeavesCase → IsCaseBlock hir key
+    resolve_from innermost taken frames key ≡ LeavesCase → IsReferredAs InCase hir key
 leaves_case hir P innermost taken frames key =
     at_owner hir P LeavesCase key (λ bad. let no : ⊥ = cc in no)
     (λ i l frame. leaves_case_at hir P i l frame key) innermost taken frames

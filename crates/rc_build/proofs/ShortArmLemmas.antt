@@ -11,7 +11,8 @@ use Rattle.rc_runs.specs.Spelled.{AreSound}
 use Rattle.rc_runs.specs.ShortArms.{SpellsShortArm, no_arm, left_to_test, own_arm, shares_alternate}
 use Rattle.rc_build.specs.declared.builder.Marks.{Marks}
 use Rattle.rc_build.specs.declared.short_arms.ShortArm.{ShortArm}
-use Rattle.rc_build.specs.TerminalForms.{branch_alternate, branch_arms, is_branch}
+use Rattle.rc_build.specs.References.{Arm, blocks_as}
+use Rattle.rc_build.specs.TerminalForms.{branch_alternate, is_branch}
 use Rattle.rc_build.specs.BlockFacts.{ValueBlockIs}
 use Rattle.rc_build.specs.RuleFacts.{RuleFact}
 use Rattle.rc_build.specs.inside.Built.{Refused}
@@ -24,7 +25,7 @@ use Rattle.rc_build.proofs.BuiltLemmas.{marking_drop, marking_none}
 
 -- the alternate of a `Branch` is one of its arms
 alternate_among : (terminal : Terminal) (alternate : BlockId) → branch_alternate terminal ≡ Some alternate
-    → is_among (branch_arms terminal) alternate ≡ true
+    → is_among (blocks_as Arm terminal) alternate ≡ true
 alternate_among (terminals.Branch test consequent other id span) alternate e =
     let same : other ≡ alternate = cc in
     or_right (same_id alternate consequent) (same_id alternate other || false)

@@ -21,7 +21,7 @@ use Rattle.rc_runs.specs.SwitchCases.{has_one_default, tests_past, kept_cases, i
 use Rattle.rc_runs.specs.Fallthrough.{falls_to, label_of, opens_reachable}
 use Rattle.rc_runs.specs.Grammar.{value_statement, SpellsCases, and_rest, switch_statement}
 use Rattle.rc_build.specs.declared.builder.Marks.{Marks}
-use Rattle.rc_build.specs.References as references
+use Rattle.rc_build.specs.References.{InCase, blocks_as, fallthrough_of}
 use Rattle.rc_build.specs.RuleFacts.{HasOddCases, RuleFact}
 use Rattle.rc_build.specs.inside.CanBuild.{CanBuildTerminal, IsUsed, IsUsedApart, pending_blocks}
 use Rattle.rc_build.specs.inside.Depths.{frames_inside}
@@ -30,7 +30,7 @@ use Rattle.rc_build.specs.inside.Switches.{BuiltCases, CanBuildCases, SpellsKept
 use Rattle.rc_build.specs.inside.Task.{FromTerminal, Progress, Spells, left}
 use Rattle.rc_build.specs.inside.Built.{BuiltPrefix, Refused}
 use Rattle.rc_build.proofs.BuiltLemmas.{is_some-opened, marking_beside, marking_more, refused_front, statement_prefix}
-use Rattle.rc_build.proofs.MarksLemmas.{referenced_fewer, times_append}
+use Rattle.rc_build.proofs.MarksLemmas.{among_front, referenced_fewer, times_append}
 use Rattle.rc_build.proofs.CanBuildCasesLemmas.{cases_marked}
 use Rattle.rc_build.proofs.OwnersLemmas.{owned_weaker}
 use Rattle.rc_build.proofs.StatementLemmas.{label_at-opened}
@@ -114,9 +114,9 @@ module _ {hir : HirFunction} {marks : Marks} {handler : Option BlockId} {frames 
       kept = kept_cases is_target fallthrough cases
 
       within : (key : BlockId) → is_among (case_blocks kept) key ≡ true
-          → is_among (case_blocks (references.cases_of can.here.block.terminal)) key ≡ true
-      within key h = subst (λ z. is_among (case_blocks (references.cases_of z)) key ≡ true) (sym can.here.holds)
-          (among_kept is_target fallthrough key cases h)
+          → is_among (blocks_as InCase can.here.block.terminal) key ≡ true
+      within key h = subst (λ z. is_among (blocks_as InCase z) key ≡ true) (sym can.here.holds)
+          (among_front (case_blocks cases) [] key (among_kept is_target fallthrough key cases h))
 
       go : (at : Option BlockId) → CanBuildCases hir marks handler
           (frames_inside at (frame_kinds.Switch fallthrough) frames) kept
@@ -159,7 +159,7 @@ module _ {hir : HirFunction} {marks : Marks} {handler : Option BlockId} {frames 
             owns = record {
               block = can.here.block;
               found = can.here.found;
-              holds = ap references.fallthrough_of can.here.holds;
+              holds = ap fallthrough_of can.here.holds;
             };
           },
           owned_weaker hir (IsUsedApart marks key) (IsUsed marks) frames (λ other h. h.0) can.owned,

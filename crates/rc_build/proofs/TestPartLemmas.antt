@@ -16,9 +16,9 @@ use Rattle.rc_runs.proofs.OneValue.{one_choice, one_value}
 use Rattle.rc_build.specs.declared.values.BuiltValue.{BuiltValue}
 use Rattle.rc_build.specs.declared.values.TestArms.{TestArms}
 use Rattle.rc_build.specs.declared.value_terminals.ValueKind.{ValueKind}
-use Rattle.rc_build.specs.References.{referenced_blocks, value_references}
-use Rattle.rc_build.specs.TerminalForms.{branch_alternate, branch_arms}
-use Rattle.rc_build.specs.BlockFacts.{BlockIs, IsBranchArm, IsValueReferenced, times_referenced}
+use Rattle.rc_build.specs.References.{Arm, blocks_as, referenced_blocks, value_references}
+use Rattle.rc_build.specs.TerminalForms.{branch_alternate}
+use Rattle.rc_build.specs.BlockFacts.{BlockIs, IsReferredAs, IsValueReferenced, times_referenced}
 use Rattle.rc_build.specs.inside.CanBuild.{AreReferenced}
 use Rattle.rc_build.specs.inside.Marks.{MarksBlocks}
 use Rattle.rc_build.specs.inside.Setting.{Setting}
@@ -78,13 +78,13 @@ module _ {hir : HirFunction} {env : Environment} where
     )
 
     pub branch_arm : (key : BlockId) → is_among (arms.consequent ∷ arms.alternate ∷ []) key ≡ true
-        → IsBranchArm hir key
+        → IsReferredAs Arm hir key
     branch_arm key among = (
       tested.block,
       record {
         block = branch_here.block;
         found = branch_here.found;
-        holds = ap (λ t. is_among (branch_arms t) key) branch_here.holds ∙ among;
+        holds = ap (λ t. is_among (blocks_as Arm t) key) branch_here.holds ∙ among;
       },
     )
 

@@ -126,7 +126,7 @@ module _ {continuation : BlockId} {handler : Option BlockId} {id : EvaluationOrd
     newly = [];
     put = sym (append-nil old.out);
     marking = marking_drop old.hir.now (λ key. omega arith)
-        (marking_none old.hir.now (continuation ∷ option_to_list handler) old.marks can.marked);
+        (marking_none old.hir.now (continuation ∷ (option_to_list handler ++ [])) old.marks can.marked);
     onward = λ later used d. may_throw current apart d;
     only = only;
   }) refl

@@ -8,8 +8,7 @@ use Rattle.rc_runs.specs.Graph.{basic_block}
 use Rattle.rc_runs.specs.declared.frames.Frame.{Frame}
 use Rattle.rc_runs.specs.declared.frames.Frame.TheVariants as frame_kinds
 use Rattle.rc_build.specs.declared.builder.Marks.{Marks}
-use Rattle.rc_hir.specs.Successors.{case_blocks}
-use Rattle.rc_build.specs.References.{referenced_blocks, cases_of}
+use Rattle.rc_build.specs.References.{InCase, blocks_as, referenced_blocks}
 use Rattle.rc_build.specs.BlockFacts.{BlockIs}
 use Rattle.rc_build.specs.inside.CanBuild.{AreReferenced, AreUsed, CanBuildList, CanBuildTerminal, IsUsed, IsUsedApart, IsFrameOf}
 use Rattle.rc_build.specs.inside.CanBuild.{pending_at, used_at, pending_blocks, used_blocks}
@@ -140,7 +139,7 @@ module _ (hir : HirFunction) where
   pub at_case : {old new : Marks} {handler : Option BlockId} {outer frames : List Frame} {key block later : BlockId}
       {terminal : Terminal}
       {before after blocks : List BlockId} → CanBuildTerminal hir old handler outer key terminal
-      → MarksBlocks hir before after old new blocks → is_among (case_blocks (cases_of terminal)) later ≡ true
+      → MarksBlocks hir before after old new blocks → is_among (blocks_as InCase terminal) later ≡ true
       → IsUsed new later → CanBuildList hir new handler frames block
       → CanBuildList hir new handler (frame_kinds.Case later ∷ frames) block
   at_case {new = new} {key = key} {later = later} a m c u inner =

@@ -1,107 +1,96 @@
--- Which blocks the terminals of a graph refer to, and by which kinds of fields.
-use Rattle.std.specs.Prelude.{Bool, true, false, List, [], ◌∷◌, ◌++◌, Option, Some, None}
+-- The blocks to which the terminals of a graph refer, and as what.
+use Rattle.std.specs.Prelude.{Bool, true, false, List, [], ◌∷◌, ◌++◌, Option, Some, None, if◌then◌else◌, slice_get}
 use Rattle.std.specs.List.{flat_map}
 use Rattle.std.specs.Option.{option_to_list}
 use Rattle.rc_names.specs.Numbers.{BlockId}
 use Rattle.rc_hir.specs.Successors.{case_blocks}
 use Rattle.rc_runs.specs.LoopParts.{first_of}
-use Rattle.rc_hir.specs.Model.{Case, Terminal, HirFunction}
+use Rattle.rc_hir.specs.Model.{Terminal, HirFunction}
 use Rattle.rc_hir.specs.declared.terminal.Terminal.TheVariants as terminals
 
--- the blocks that a terminal refers to, by its own block fields and those of its cases
+-- what a block is to a terminal that refers to it: a `test`, `init` or `update`; the block of a `Sequence`, or a
+-- continuation; an arm of a `Branch`; that of a case; the fallthrough of a value, of a scope, kept or pruned, or of
+-- another terminal; or any other
+pub data Role : Type 0 where
+  Test : Role
+  InValue : Role
+  Arm : Role
+  InCase : Role
+  ValueFallthrough : Role
+  ScopeFallthrough : Role
+  Fallthrough : Role
+  Other : Role
+
+abbrev pub is_role : Role → Role → Bool
+is_role Test Test = true
+is_role InValue InValue = true
+is_role Arm Arm = true
+is_role InCase InCase = true
+is_role ValueFallthrough ValueFallthrough = true
+is_role ScopeFallthrough ScopeFallthrough = true
+is_role Fallthrough Fallthrough = true
+is_role _ _ = false
+
+-- a field that is one block
+abbrev pub one : Role → BlockId → Role × List BlockId
+one role block = (role, block ∷ [])
+
+-- the block fields of a terminal, and those of its cases
+abbrev pub fields : Terminal → List (Role × List BlockId)
+fields (terminals.If test consequent alternate fallthrough id span) =
+    one Other consequent ∷ one Other alternate ∷ one Fallthrough fallthrough ∷ []
+fields (terminals.Branch test consequent alternate id span) = one Arm consequent ∷ one Arm alternate ∷ []
+fields (terminals.Logical operator test fallthrough id span) = one Test test ∷ one ValueFallthrough fallthrough ∷ []
+fields (terminals.Ternary test fallthrough id span) = one Test test ∷ one ValueFallthrough fallthrough ∷ []
+fields (terminals.Optional optional test fallthrough id span) = one Test test ∷ one ValueFallthrough fallthrough ∷ []
+fields (terminals.Sequence block fallthrough id span) = one InValue block ∷ one ValueFallthrough fallthrough ∷ []
+fields (terminals.Goto block variant id span) = one Other block ∷ []
+fields (terminals.Switch test cases fallthrough id span) = (InCase, case_blocks cases) ∷ one Fallthrough fallthrough ∷ []
+fields (terminals.DoWhile loop_block test fallthrough id span) =
+    one Other loop_block ∷ one Test test ∷ one Fallthrough fallthrough ∷ []
+fields (terminals.While test loop_block fallthrough id span) =
+    one Test test ∷ one Other loop_block ∷ one Fallthrough fallthrough ∷ []
+fields (terminals.For init test update loop_block fallthrough id span) =
+    (Test, init ∷ test ∷ option_to_list update) ∷ one Other loop_block ∷ one Fallthrough fallthrough ∷ []
+fields (terminals.ForOf init test loop_block fallthrough id span) =
+    one Test init ∷ one Test test ∷ one Other loop_block ∷ one Fallthrough fallthrough ∷ []
+fields (terminals.ForIn init loop_block fallthrough id span) =
+    one Test init ∷ one Other loop_block ∷ one Fallthrough fallthrough ∷ []
+fields (terminals.Label block fallthrough id span) = one Other block ∷ one Fallthrough fallthrough ∷ []
+fields (terminals.MaybeThrow continuation handler id span) =
+    one InValue continuation ∷ (Other, option_to_list handler) ∷ []
+fields (terminals.Scope fallthrough block scope id span) = one Other block ∷ one ScopeFallthrough fallthrough ∷ []
+fields (terminals.PrunedScope fallthrough block scope id span) = one Other block ∷ one ScopeFallthrough fallthrough ∷ []
+fields (terminals.Try block handler_binding handler fallthrough id span) =
+    one Other block ∷ one Other handler ∷ one Fallthrough fallthrough ∷ []
+fields _ = []
+
+-- the blocks to which a terminal refers in that role
+abbrev pub blocks_as : Role → Terminal → List BlockId
+blocks_as role terminal = flat_map (λ field. if is_role role field.0 then field.1 else []) (fields terminal)
+
+-- the blocks to which a terminal refers
 abbrev pub referenced_blocks : Terminal → List BlockId
-referenced_blocks (terminals.If test consequent alternate fallthrough id span) =
-    consequent ∷ alternate ∷ fallthrough ∷ []
-referenced_blocks (terminals.Branch test consequent alternate id span) = consequent ∷ alternate ∷ []
-referenced_blocks (terminals.Logical operator test fallthrough id span) = test ∷ fallthrough ∷ []
-referenced_blocks (terminals.Ternary test fallthrough id span) = test ∷ fallthrough ∷ []
-referenced_blocks (terminals.Optional optional test fallthrough id span) = test ∷ fallthrough ∷ []
-referenced_blocks (terminals.Sequence block fallthrough id span) = block ∷ fallthrough ∷ []
-referenced_blocks (terminals.Throw value id span) = []
-referenced_blocks (terminals.Return value id span) = []
-referenced_blocks (terminals.Goto block variant id span) = block ∷ []
-referenced_blocks (terminals.Switch test cases fallthrough id span) = case_blocks cases ++ fallthrough ∷ []
-referenced_blocks (terminals.DoWhile loop_block test fallthrough id span) = loop_block ∷ test ∷ fallthrough ∷ []
-referenced_blocks (terminals.While test loop_block fallthrough id span) = test ∷ loop_block ∷ fallthrough ∷ []
-referenced_blocks (terminals.For init test update loop_block fallthrough id span) =
-    init ∷ test ∷ option_to_list update ++ loop_block ∷ fallthrough ∷ []
-referenced_blocks (terminals.ForOf init test loop_block fallthrough id span) =
-    init ∷ test ∷ loop_block ∷ fallthrough ∷ []
-referenced_blocks (terminals.ForIn init loop_block fallthrough id span) = init ∷ loop_block ∷ fallthrough ∷ []
-referenced_blocks (terminals.Label block fallthrough id span) = block ∷ fallthrough ∷ []
-referenced_blocks (terminals.Unreachable id span) = []
-referenced_blocks (terminals.MaybeThrow continuation handler id span) = continuation ∷ option_to_list handler
-referenced_blocks (terminals.Scope fallthrough block scope id span) = block ∷ fallthrough ∷ []
-referenced_blocks (terminals.PrunedScope fallthrough block scope id span) = block ∷ fallthrough ∷ []
-referenced_blocks (terminals.Try block handler_binding handler fallthrough id span) =
-    block ∷ handler ∷ fallthrough ∷ []
+referenced_blocks terminal = flat_map (λ field. field.1) (fields terminal)
 
 -- the fallthrough of a terminal that has one
+abbrev pub fallthroughs : Terminal → List BlockId
+fallthroughs terminal =
+    blocks_as Fallthrough terminal ++ (blocks_as ValueFallthrough terminal ++ blocks_as ScopeFallthrough terminal)
+
 abbrev pub fallthrough_of : Terminal → Option BlockId
-fallthrough_of (terminals.If test consequent alternate fallthrough id span) = Some fallthrough
-fallthrough_of (terminals.Logical operator test fallthrough id span) = Some fallthrough
-fallthrough_of (terminals.Ternary test fallthrough id span) = Some fallthrough
-fallthrough_of (terminals.Optional optional test fallthrough id span) = Some fallthrough
-fallthrough_of (terminals.Sequence block fallthrough id span) = Some fallthrough
-fallthrough_of (terminals.Switch test cases fallthrough id span) = Some fallthrough
-fallthrough_of (terminals.DoWhile loop_block test fallthrough id span) = Some fallthrough
-fallthrough_of (terminals.While test loop_block fallthrough id span) = Some fallthrough
-fallthrough_of (terminals.For init test update loop_block fallthrough id span) = Some fallthrough
-fallthrough_of (terminals.ForOf init test loop_block fallthrough id span) = Some fallthrough
-fallthrough_of (terminals.ForIn init loop_block fallthrough id span) = Some fallthrough
-fallthrough_of (terminals.Label block fallthrough id span) = Some fallthrough
-fallthrough_of (terminals.Scope fallthrough block scope id span) = Some fallthrough
-fallthrough_of (terminals.PrunedScope fallthrough block scope id span) = Some fallthrough
-fallthrough_of (terminals.Try block handler_binding handler fallthrough id span) = Some fallthrough
-fallthrough_of _ = None
+fallthrough_of terminal = slice_get (fallthroughs terminal) 0
 
--- the fallthrough of a scope, kept or pruned
-abbrev pub scope_fallthrough : Terminal → Option BlockId
-scope_fallthrough (terminals.Scope fallthrough block scope id span) = Some fallthrough
-scope_fallthrough (terminals.PrunedScope fallthrough block scope id span) = Some fallthrough
-scope_fallthrough _ = None
-
--- the cases of a switch
-abbrev pub cases_of : Terminal → List Case
-cases_of (terminals.Switch test cases fallthrough id span) = cases
-cases_of _ = []
-
--- the blocks that a terminal refers to by a field `test`, `init` or `update`
-abbrev pub tested_blocks : Terminal → List BlockId
-tested_blocks (terminals.Logical operator test fallthrough id span) = test ∷ []
-tested_blocks (terminals.Ternary test fallthrough id span) = test ∷ []
-tested_blocks (terminals.Optional optional test fallthrough id span) = test ∷ []
-tested_blocks (terminals.DoWhile loop_block test fallthrough id span) = test ∷ []
-tested_blocks (terminals.While test loop_block fallthrough id span) = test ∷ []
-tested_blocks (terminals.For init test update loop_block fallthrough id span) = init ∷ test ∷ option_to_list update
-tested_blocks (terminals.ForOf init test loop_block fallthrough id span) = init ∷ test ∷ []
-tested_blocks (terminals.ForIn init loop_block fallthrough id span) = init ∷ []
-tested_blocks _ = []
-
--- the blocks to which a terminal refers as to values: by a field `test`, `init` or `update`, as the block of a `Sequence`,
--- as the fallthrough of a terminal that is a value, as an arm of a `Branch`, or as a continuation
+-- the blocks to which a terminal refers as to values: a value begins there, or goes on there
 abbrev pub value_references : Terminal → List BlockId
-value_references (terminals.Branch test consequent alternate id span) = consequent ∷ alternate ∷ []
-value_references (terminals.Logical operator test fallthrough id span) = test ∷ fallthrough ∷ []
-value_references (terminals.Ternary test fallthrough id span) = test ∷ fallthrough ∷ []
-value_references (terminals.Optional optional test fallthrough id span) = test ∷ fallthrough ∷ []
-value_references (terminals.Sequence block fallthrough id span) = block ∷ fallthrough ∷ []
-value_references (terminals.MaybeThrow continuation handler id span) = continuation ∷ []
-value_references terminal = tested_blocks terminal
-
--- the fallthrough of a terminal that is a value
-abbrev pub value_fallthrough : Terminal → Option BlockId
-value_fallthrough (terminals.Logical operator test fallthrough id span) = Some fallthrough
-value_fallthrough (terminals.Ternary test fallthrough id span) = Some fallthrough
-value_fallthrough (terminals.Optional optional test fallthrough id span) = Some fallthrough
-value_fallthrough (terminals.Sequence block fallthrough id span) = Some fallthrough
-value_fallthrough _ = None
+value_references terminal =
+    blocks_as Test terminal ++ (blocks_as InValue terminal ++ (blocks_as Arm terminal
+    ++ blocks_as ValueFallthrough terminal))
 
 -- the blocks that a terminal frames: by a field `test`, `init`, `update` or `fallthrough`, or as a case's
 -- block
 abbrev pub framed_blocks : Terminal → List BlockId
-framed_blocks terminal = tested_blocks terminal ++ option_to_list (fallthrough_of terminal)
-    ++ case_blocks (cases_of terminal)
+framed_blocks terminal = blocks_as Test terminal ++ (fallthroughs terminal ++ blocks_as InCase terminal)
 
 -- the block with which the turns of a loop begin, to which a continue goes
 abbrev pub turn_block : Terminal → Option BlockId

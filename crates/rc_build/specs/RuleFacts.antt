@@ -13,13 +13,14 @@ use Rattle.rc_hir.specs.declared.terminal.Terminal.TheVariants as terminals
 use Rattle.rc_runs.specs.Silent.{is_unset}
 use Rattle.rc_runs.specs.LastRow.{ends_value}
 use Rattle.rc_runs.specs.Graph.{basic_block, ends_unreachable}
+use Rattle.rc_build.specs.References.{Arm, InCase, ScopeFallthrough, ValueFallthrough}
 use Rattle.rc_build.specs.References.{fallthrough_of, turn_block, is_while}
 use Rattle.rc_runs.specs.Spelled.{scope_named}
 use Rattle.rc_runs.specs.SwitchCases.{has_one_default, tests_past}
 use Rattle.rc_build.specs.TerminalForms.{Jumps, is_continue, is_leave, names_handler, is_throw, is_branch, is_label}
 use Rattle.rc_build.specs.TerminalForms.{is_in_values}
-use Rattle.rc_build.specs.BlockFacts.{BlockIs, times_referenced, IsFramedApart, IsScopeFallthrough, IsCaseBlock, HasTry}
-use Rattle.rc_build.specs.BlockFacts.{IsValueFallthrough, ValueBlockIs, IsBranchArm, IsEmptyGoto}
+use Rattle.rc_build.specs.BlockFacts.{BlockIs, times_referenced, IsFramedApart, IsReferredAs, HasTry}
+use Rattle.rc_build.specs.BlockFacts.{ValueBlockIs, IsEmptyGoto}
 
 -- a row of the block has the id that means unset
 pub record HasUnsetRow (hir : HirFunction) (block : BasicBlock) : Type 0 where
@@ -97,9 +98,9 @@ RuleFact hir rules.ThrowInTry key = BlockIs hir key (λ block. is_throw block.te
 RuleFact hir rules.LoopLive key = BlockIs hir key (λ block. LoopsBadly hir key block.terminal)
 RuleFact hir rules.SwitchCase key = BlockIs hir key (λ block. HasOddCases block.terminal)
 RuleFact hir rules.CaseLabel key =
-    BlockIs hir key (λ block. (target : BlockId) × Jumps block.terminal target × IsCaseBlock hir target)
+    BlockIs hir key (λ block. (target : BlockId) × Jumps block.terminal target × IsReferredAs InCase hir target)
 RuleFact hir rules.ScopeBreak key =
-    BlockIs hir key (λ block. (target : BlockId) × Jumps block.terminal target × IsScopeFallthrough hir target)
+    BlockIs hir key (λ block. (target : BlockId) × Jumps block.terminal target × IsReferredAs ScopeFallthrough hir target)
 RuleFact hir rules.Dead key = BlockIs hir key (λ block. HasUnreachableSuccessor hir block.terminal)
 RuleFact hir rules.ScopeTwice key = BlockIs hir key (λ block. SharesScope hir key block.terminal)
 RuleFact hir rules.FallsElsewhere key = BlockIs hir key (λ block. FallsBadly hir key block.terminal)
@@ -107,10 +108,10 @@ RuleFact hir rules.EmptyValue key =
     ValueBlockIs hir key (λ block. (block.instructions ≡ []) × OnlyGoesOn hir block.terminal)
 RuleFact hir rules.NotValue key = ValueBlockIs hir key (λ block. is_in_values block.terminal ≡ false)
 RuleFact hir rules.ValueEnd key =
-    ValueBlockIs hir key (λ block. (ends_value block.terminal ≡ true) ⊎ IsValueFallthrough hir key)
+    ValueBlockIs hir key (λ block. (ends_value block.terminal ≡ true) ⊎ IsReferredAs ValueFallthrough hir key)
 RuleFact hir rules.Tested key = ValueBlockIs hir key (λ block. is_branch block.terminal ≡ true)
 RuleFact hir rules.ShortArm key = ValueBlockIs hir key (λ block. is_branch block.terminal ≡ true)
-RuleFact hir rules.LoudArm key = IsBranchArm hir key × BlockIs hir key (λ block. Unit {0})
+RuleFact hir rules.LoudArm key = IsReferredAs Arm hir key × BlockIs hir key (λ block. Unit {0})
 RuleFact hir _ key = ⊥
 
 -- the block names a row that isn't there

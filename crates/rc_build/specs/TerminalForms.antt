@@ -1,5 +1,5 @@
 -- The forms of terminals that the facts of rules ask for.
-use Rattle.std.specs.Prelude.{Bool, true, false, List, [], ◌∷◌, Option, Some, None}
+use Rattle.std.specs.Prelude.{Bool, true, false, Option, Some, None}
 use Rattle.rc_names.specs.Numbers.{BlockId, EvaluationOrder}
 use Rattle.rc_names.specs.declared.span.Span.{Span}
 use Rattle.rc_hir.specs.Model.{Place, Terminal}
@@ -41,11 +41,6 @@ is_try _ = false
 abbrev pub is_branch : Terminal → Bool
 is_branch (terminals.Branch test consequent alternate id span) = true
 is_branch _ = false
-
--- the blocks between which a `Branch` chooses
-abbrev pub branch_arms : Terminal → List BlockId
-branch_arms (terminals.Branch test consequent alternate id span) = consequent ∷ alternate ∷ []
-branch_arms _ = []
 
 -- the alternate of a `Branch`
 abbrev pub branch_alternate : Terminal → Option BlockId

@@ -4,14 +4,13 @@ use Rattle.std.specs.Prelude.{if◌then◌else◌, position}
 use Rattle.std.specs.List.{filter_map, flat_map}
 use Rattle.std.specs.Map.{keys_of}
 use Rattle.rc_names.specs.Numbers.{BlockId, same_id, is_among, times}
-use Rattle.rc_hir.specs.Successors.{case_blocks}
 use Rattle.rc_hir.specs.Model.{Terminal, HirFunction}
 use Rattle.rc_runs.specs.declared.frames.Frame.{Frame}
 use Rattle.rc_runs.specs.declared.frames.Frame.TheVariants as frame_kinds
 use Rattle.rc_build.specs.declared.builder.Marks.{Marks}
 use Rattle.rc_runs.specs.Graph.{basic_block}
 use Rattle.rc_runs.specs.Spelled.{AreSound, scope_at}
-use Rattle.rc_build.specs.References.{referenced_blocks, tested_blocks, fallthrough_of, scope_fallthrough, cases_of}
+use Rattle.rc_build.specs.References.{Test, InCase, ScopeFallthrough, blocks_as, referenced_blocks, fallthrough_of}
 use Rattle.rc_build.specs.TerminalForms.{Jumps}
 use Rattle.rc_build.specs.BlockFacts.{BlockIs, HasTry}
 use Rattle.rc_build.specs.RuleFacts.{IsLostJump}
@@ -68,10 +67,10 @@ used_blocks frames = flat_map used_at frames
 abbrev pub IsFrameOf : Terminal → Frame → Type 0
 IsFrameOf terminal (frame_kinds.Statement block) = fallthrough_of terminal ≡ Some block
 IsFrameOf terminal (frame_kinds.Switch block) = fallthrough_of terminal ≡ Some block
-IsFrameOf terminal (frame_kinds.Case block) = is_among (case_blocks (cases_of terminal)) block ≡ true
-IsFrameOf terminal (frame_kinds.Scope block) = scope_fallthrough terminal ≡ Some block
+IsFrameOf terminal (frame_kinds.Case block) = is_among (blocks_as InCase terminal) block ≡ true
+IsFrameOf terminal (frame_kinds.Scope block) = is_among (blocks_as ScopeFallthrough terminal) block ≡ true
 IsFrameOf terminal (frame_kinds.Loop block again) =
-    (fallthrough_of terminal ≡ Some block) × (is_among (tested_blocks terminal) again ≡ true)
+    (fallthrough_of terminal ≡ Some block) × (is_among (blocks_as Test terminal) again ≡ true)
 IsFrameOf terminal frame_kinds.Mark = Unit {0}
 
 -- the frame is that of a block of which P holds

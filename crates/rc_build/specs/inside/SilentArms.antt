@@ -11,7 +11,8 @@ use Rattle.rc_runs.specs.ShortArms.{SpellsSilentArm, are_silent}
 use Rattle.rc_build.specs.declared.builder.Builder.{Builder}
 use Rattle.rc_build.specs.declared.builder.Marks.{Marks}
 use Rattle.rc_build.specs.declared.builder.Site.{Site}
-use Rattle.rc_build.specs.BlockFacts.{BlockIs, IsBranchArm, times_referenced}
+use Rattle.rc_build.specs.References.{Arm}
+use Rattle.rc_build.specs.BlockFacts.{BlockIs, IsReferredAs, times_referenced}
 use Rattle.rc_build.specs.inside.CanBuild.{AreMarked, AreReferenced, IsUsed}
 use Rattle.rc_build.specs.inside.Marks.{MarksBlocks}
 use Rattle.rc_build.specs.inside.Setting.{setting_of}
@@ -29,7 +30,7 @@ pub record HasSilentRows (hir : HirFunction) (env : Environment) (numbers : List
 -- the block under the key lists these numbers, and a `Branch` leads to the arm
 pub record AreArmRows (hir : HirFunction) (arm key : BlockId) (numbers : List InstructionId) : Type 0 where
   pub listed : AreListed hir key numbers
-  pub arm_is : IsBranchArm hir arm
+  pub arm_is : IsReferredAs Arm hir arm
   pub there : BlockIs hir arm (λ block. Unit {0})
 
 -- a silent arm can be built from the block on: the block is pending, and a `Branch` leads to the arm, whose first block
@@ -37,7 +38,7 @@ pub record AreArmRows (hir : HirFunction) (arm key : BlockId) (numbers : List In
 pub record CanBuildArm (hir : HirFunction) (marks : Marks) (arm key : BlockId) : Type 0 where
   pub marked : AreMarked hir marks
   pub referenced : AreReferenced hir marks.used (key ∷ [])
-  pub arm_is : IsBranchArm hir arm
+  pub arm_is : IsReferredAs Arm hir arm
   pub there : (key ≡ arm) ⊎ IsUsed marks arm
 
 -- the silent arm from a block on is built under the handler, and its blocks are marked
@@ -96,11 +97,11 @@ AreArmBlocks hir env (key ∷ keys) = IsArmBlock hir env key × AreArmBlocks hir
 -- the block can be looked at: a block of the graph refers to it, and a `Branch` leads to the arm
 pub record CanCheckBlock (hir : HirFunction) (arm key : BlockId) : Type 0 where
   pub referenced : 1 ≤ times_referenced hir key
-  pub arm_is : IsBranchArm hir arm
+  pub arm_is : IsReferredAs Arm hir arm
   pub there : BlockIs hir arm (λ block. Unit {0})
 
 -- the used blocks can be looked at
 pub record CanCheckSilent (hir : HirFunction) (marks : Marks) (arm : BlockId) : Type 0 where
   pub referenced : (key : BlockId) → is_among marks.used key ≡ true → 1 ≤ times_referenced hir key
-  pub arm_is : IsBranchArm hir arm
+  pub arm_is : IsReferredAs Arm hir arm
   pub there : BlockIs hir arm (λ block. Unit {0})

@@ -13,7 +13,7 @@ use Rattle.rc_runs.specs.Grammar.{SpellsCases}
 use Rattle.rc_build.specs.declared.builder.Builder.{Builder}
 use Rattle.rc_build.specs.declared.builder.Marks.{Marks}
 use Rattle.rc_build.specs.declared.builder.Site.{Site}
-use Rattle.rc_build.specs.References as references
+use Rattle.rc_build.specs.References.{InCase, blocks_as}
 use Rattle.rc_build.specs.BlockFacts.{BlockIs}
 use Rattle.rc_build.specs.inside.CanBuild.{AreMarked, AreOwned, AreReferenced, AreUsed, IsHandler, IsUsed, pending_blocks}
 use Rattle.rc_build.specs.inside.CanBuild.{used_blocks}
@@ -34,7 +34,7 @@ pub record CanBuildCases (hir : HirFunction) (marks : Marks) (handler : Option B
   pub owner : BlockId
   pub used : IsUsed marks owner
   pub here : BlockIs hir owner (λ block. (key : BlockId) → is_among (case_blocks cases) key ≡ true →
-      is_among (case_blocks (references.cases_of block.terminal)) key ≡ true)
+      is_among (blocks_as InCase block.terminal) key ≡ true)
 
 -- the case of the tree with that test and these statements
 abbrev pub switch_case : Option Place → List ReactiveStatement → ReactiveSwitchCase
