@@ -18,13 +18,13 @@ use Rattle.rc_build.specs.declared.handlers.MayThrow.{MayThrow}
 use Rattle.rc_build.specs.References.{referenced_blocks}
 use Rattle.rc_build.specs.BlockFacts.{BlockIs}
 use Rattle.rc_build.specs.inside.CanBuild.{IsUsed}
-use Rattle.rc_build.specs.inside.Marks.{IsUnusable, MarksBlocks}
+use Rattle.rc_build.specs.inside.Marks.{IsUnusable, Marked, MarksBlocks}
 use Rattle.rc_build.specs.inside.Setting.{Setting, setting_of}
 use Rattle.rc_build.specs.inside.SilentArms.{ArmBlockBuilt, ArmBuilt, ArmPrefix, ArmSoFar, AreArmRows, CanBuildArm, HasNoArm}
 use Rattle.rc_build.specs.inside.SilentArms.{HasSilentRows, SpellsArmRest}
 use Rattle.rc_build.specs.inside.Task.{Progress, progress_of}
 use Rattle.rc_build.specs.inside.Throws.{may_throw}
-use Rattle.rc_build.specs.inside.Values.{Marked, goes_to}
+use Rattle.rc_build.specs.inside.Values.{goes_to}
 use Rattle.rc_build.proofs.BuiltLemmas.{marking_drop, marking_none, marking_then, refused_back, refused_front}
 use Rattle.rc_build.proofs.MarksLemmas.{among_front, among_push}
 use Rattle.rc_build.proofs.SilentArmLemmas.{all_listed, silent_rows, silent_usable}

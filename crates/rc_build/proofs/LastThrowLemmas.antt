@@ -14,7 +14,6 @@ use Rattle.rc_runs.specs.LastRow.{after_rows, ends_value, last_answer, last_valu
 use Rattle.rc_runs.specs.ListContext.{ValueContext, is_current}
 use Rattle.rc_runs.specs.PlainTree.{Value, Base}
 use Rattle.rc_runs.specs.Silent.{is_unset}
-use Rattle.rc_runs.specs.Spelled.{scope_named}
 use Rattle.rc_runs.specs.ValueEnd.{ValueEnd}
 use Rattle.rc_runs.specs.ValueGrammar.{SpellsValue, named_test, last_block, last_throw, may_throw as throws_on}
 use Rattle.rc_runs.specs.ValueGrammar.{value_row}
@@ -28,13 +27,13 @@ use Rattle.rc_build.specs.TerminalForms.{is_goto}
 use Rattle.rc_build.specs.BlockFacts.{IsEmptyGoto, ValueBlockIs, times_referenced}
 use Rattle.rc_build.specs.RuleFacts.{OnlyGoesOn, RuleFact}
 use Rattle.rc_build.specs.inside.CanBuild.{AreReferenced}
-use Rattle.rc_build.specs.inside.Marks.{IsUnusable}
+use Rattle.rc_build.specs.inside.Marks.{CanMark, IsUnusable, Marked}
 use Rattle.rc_build.specs.inside.Task.{Progress}
 use Rattle.rc_build.specs.inside.Throws.{may_throw}
 use Rattle.rc_build.specs.inside.ValueRows.{row_of}
 use Rattle.rc_build.specs.inside.ShortArms.{alternate_of}
 use Rattle.rc_build.specs.inside.ValueEnds.{CanBuildLastThrow, IsValueOfRows}
-use Rattle.rc_build.specs.inside.Values.{CanMark, HasNoValue, Marked, ValueBuilt, any_end}
+use Rattle.rc_build.specs.inside.Values.{HasNoValue, ValueBuilt, any_end}
 use Rattle.rc_build.proofs.BuiltLemmas.{marking_then, refused_back}
 use Rattle.rc_build.proofs.LoopKindLemmas.{among_first}
 use Rattle.rc_build.proofs.MarksLemmas.{times_among, times_append}
@@ -200,10 +199,6 @@ module _ {hir : HirFunction} {marks : Marks} {key : BlockId} {throw : MayThrow}
     bare_ids : is_unset (evaluation_order behind.terminal) ≡ false → has_all_ids (filled behind []) ≡ true
     bare_ids set = ap (λ b. true && not b) set
 
-    goto_unscoped : (terminal : Terminal) → is_goto terminal ≡ true → scope_named terminal ≡ None
-    goto_unscoped (terminals.Goto next variant id span) goes = refl
-    goto_unscoped terminal goes = let bad : ⊥ = cc in absurd bad
-
     module _ {old mid : Progress} (same : old.marks ≡ marks) (m : Marked hir key block.terminal old mid) where
       -- it can be marked after the first one
       pub last_can_mark : is_unset (evaluation_order behind.terminal) ≡ false
@@ -219,7 +214,6 @@ module _ {hir : HirFunction} {marks : Marks} {key : BlockId} {throw : MayThrow}
         };
         found = there;
         ids = record { rows = []; filled = bare_rows; set = bare_ids set };
-        unscoped = goto_unscoped behind.terminal bare_goto;
       }
 
       -- the value of both

@@ -9,7 +9,6 @@ use Rattle.rc_hir.specs.declared.terminal.Terminal.TheVariants as terminals
 use Rattle.rc_runs.specs.Graph.{basic_block, block_at, rows_of, with_rows, only_goes, is_empty_goto}
 use Rattle.rc_runs.specs.ListContext.{is_current}
 use Rattle.rc_runs.specs.LastRow.{ends_value}
-use Rattle.rc_runs.specs.Spelled.{scope_named}
 use Rattle.rc_runs.specs.ValueGrammar.{Nested, SpellsNested, sequence_value, ternary_value, logical_value, optional_value}
 use Rattle.rc_build.specs.declared.handlers.MayThrow.{MayThrow}
 use Rattle.rc_build.specs.TerminalForms.{is_goto, names_handler}
@@ -28,14 +27,10 @@ throws_as (terminals.MaybeThrow continuation handler id span) throw e =
     (id, span, ap (λ (z : MayThrow). terminals.MaybeThrow z.continuation z.handler id span) same)
 throws_as terminal throw e = let bad : ⊥ = cc in absurd bad
 
--- it ends no value, and opens no scope
+-- it ends no value
 pub throws_unended : (terminal : Terminal) (throw : MayThrow) → may_throw terminal ≡ Some throw
     → ends_value terminal ≡ false
 throws_unended terminal throw e = ap ends_value (throws_as terminal throw e).2
-
-pub throws_unscoped : (terminal : Terminal) (throw : MayThrow) → may_throw terminal ≡ Some throw
-    → scope_named terminal ≡ None
-throws_unscoped terminal throw e = ap scope_named (throws_as terminal throw e).2
 
 -- a value terminal doesn't throw
 pub nested_stays : {hir : HirFunction} {env : Environment} {handler : Option BlockId} {terminal : Terminal}

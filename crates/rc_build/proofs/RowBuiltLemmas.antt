@@ -13,7 +13,6 @@ use Rattle.rc_runs.specs.Graph.{Block, basic_block, has_all_ids, usable_block}
 use Rattle.rc_runs.specs.LastRow.{ends_value, rows_then}
 use Rattle.rc_runs.specs.PlainTree.{Rows, NoRows, Row}
 use Rattle.rc_runs.specs.Silent.{is_unset}
-use Rattle.rc_runs.specs.Spelled.{scope_named}
 use Rattle.rc_runs.specs.TreeOf.{instructions_of}
 use Rattle.rc_runs.specs.ValueGrammar.{SpellsNested, named_test, last_block, last_throw, may_throw as throws_on}
 use Rattle.rc_runs.specs.ValueGrammar.{value_row}
@@ -26,7 +25,7 @@ use Rattle.rc_build.specs.References.{referenced_blocks, value_references}
 use Rattle.rc_build.specs.RuleFacts.{RuleFact}
 use Rattle.rc_build.specs.inside.Built.{Refused}
 use Rattle.rc_build.specs.inside.CanBuild.{AreReferenced}
-use Rattle.rc_build.specs.inside.Marks.{MarksBlocks}
+use Rattle.rc_build.specs.inside.Marks.{CanMark, Marked, MarksBlocks}
 use Rattle.rc_build.specs.inside.Task.{Progress}
 use Rattle.rc_build.specs.inside.Throws.{may_throw}
 use Rattle.rc_build.specs.inside.ValueKinds.{terminal_of}
@@ -35,7 +34,7 @@ use Rattle.rc_build.specs.inside.ShortArms.{arm_blocks}
 use Rattle.rc_build.specs.inside.StepRows.{CanBuildRow, IsRow, RowBuilt}
 use Rattle.rc_build.specs.inside.ValueTerminals.{CanBuildNested, NestedBuilt}
 use Rattle.rc_build.specs.inside.ValueRows.{HasRows, row_of}
-use Rattle.rc_build.specs.inside.Values.{CanMark, HasNoValue, Marked, any_end}
+use Rattle.rc_build.specs.inside.Values.{HasNoValue, any_end}
 use Rattle.rc_build.proofs.BuiltLemmas.{marking_then, refused_back, refused_front}
 use Rattle.rc_build.proofs.LoopKindLemmas.{among_first}
 use Rattle.rc_build.proofs.MarksLemmas.{among_back}
@@ -85,7 +84,6 @@ module _ {hir : HirFunction} {marks : Marks} (key : BlockId) (terminal : ValueTe
       set = ap (λ b. not b && not (is_unset (evaluation_order block.terminal))) rows.set
           ∙ ap (λ b. true && not b) (ap is_unset order ∙ set);
     };
-    unscoped = ap scope_named row_terminal ∙ (value_facts terminal).unscoped;
   }
 
   ends_not : (whole : Block) → usable_block hir key ≡ Some whole → ends_value whole.terminal ≡ true → ⊥

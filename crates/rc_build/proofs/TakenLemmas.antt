@@ -114,6 +114,15 @@ repeated {eq = eq} laws (z ∷ xs) x ys h d = go (eq x z) refl h (λ k. repeated
         let yes : eq z x ≡ true = laws.symm z x ∙ e in let bad : ⊥ = cc in bad
     go false e k f = f k
 
+-- a block that is marked wasn't used before
+pub newly_used : {hir : HirFunction} {after : List BlockId} {old new : Marks} {key : BlockId}
+    → MarksBlocks hir (key ∷ []) after old new (key ∷ []) → is_among old.used key ≡ false
+newly_used {old = old} {key = key} m = go (is_among old.used key) refl
+  where
+    go : (b : Bool) → is_among old.used key ≡ b → b ≡ false
+    go true e = absurd (repeated ids_equivalence old.used key [] e (subst (IsDistinct same_id) m.used m.marked.sound.distinct))
+    go false e = refl
+
 -- no tree may use a block twice
 pub unusable_used : (hir : HirFunction) (frames : List Frame) (key : BlockId) (marks : Marks)
     → is_among marks.used key ≡ true → IsUnusable hir frames key marks

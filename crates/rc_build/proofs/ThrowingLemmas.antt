@@ -23,16 +23,16 @@ use Rattle.rc_build.specs.References.{referenced_blocks, value_references}
 use Rattle.rc_build.specs.BlockFacts.{BlockIs, IsValueReferenced}
 use Rattle.rc_build.specs.inside.Built.{Builds}
 use Rattle.rc_build.specs.inside.CanBuild.{CanBuildList}
-use Rattle.rc_build.specs.inside.Marks.{MarksBlocks}
+use Rattle.rc_build.specs.inside.Marks.{CanMark, Marked, MarksBlocks}
 use Rattle.rc_build.specs.inside.Task.{Progress}
 use Rattle.rc_build.specs.inside.Throws.{may_throw}
 use Rattle.rc_build.specs.inside.StepRows.{IsThrowing, RowBuilt}
 use Rattle.rc_build.specs.inside.ValueRows.{HasRows}
-use Rattle.rc_build.specs.inside.Values.{CanMark, HasNoValue, Marked, any_end}
+use Rattle.rc_build.specs.inside.Values.{HasNoValue, any_end}
 use Rattle.rc_build.proofs.BuildsLemmas.{breaks_rule}
 use Rattle.rc_build.proofs.BuiltLemmas.{marking_drop}
 use Rattle.rc_build.proofs.LoopKindLemmas.{among_first}
-use Rattle.rc_build.proofs.MayThrowLemmas.{nested_stays, throws_as, throws_unended, throws_unscoped, handler_fact}
+use Rattle.rc_build.proofs.MayThrowLemmas.{nested_stays, throws_as, throws_unended, handler_fact}
 use Rattle.rc_build.proofs.UsableLemmas.{filled, usable_made}
 use Rattle.rc_build.proofs.ValueLemmas.{same_terminal}
 use Rattle.rc_build.proofs.ValueRowsLemmas.{instructions_of-rows_then}
@@ -87,7 +87,6 @@ module _ (hir : HirFunction) (key : BlockId) (block : BasicBlock) (found : basic
     can = can;
     found = found;
     ids = record { rows = rows.rows; filled = rows.filled; set = throwing_ids made rows set };
-    unscoped = throws_unscoped block.terminal throw throws;
   }
 
   -- its continuation is pending then

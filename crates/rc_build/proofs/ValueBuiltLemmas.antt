@@ -1,48 +1,22 @@
 -- What the builder ensures of a block of a value that it marks, and of the last one.
-use Rattle.std.proofs.Common.{◌≡◌, ℕ, false, true, List, [], ◌∷◌, ◌++◌, Some, None, refl, sym, ap, ◌∙◌, subst}
+use Rattle.std.proofs.Common.{◌≡◌, false, List, [], ◌∷◌, Some, None, sym, ap, ◌∙◌, subst}
 use Rattle.std.proofs.Common.{option_and_then}
-use Rattle.std.specs.Option.{option_to_list}
-use Rattle.std.proofs.lemmas.List.{append-nil}
-use Rattle.rc_names.specs.Numbers.{BlockId, is_among}
+use Rattle.rc_names.specs.Numbers.{BlockId}
 use Rattle.rc_hir.specs.Model.{BasicBlock, Terminal, HirFunction, Environment}
-use Rattle.rc_hir.specs.declared.terminal.Terminal.TheVariants as terminals
 use Rattle.rc_runs.specs.Graph.{basic_block}
-use Rattle.rc_runs.specs.GraphRun.{HasNoUnreachableSuccessor}
-use Rattle.rc_runs.specs.LastRow.{ends_value}
 use Rattle.rc_runs.specs.ListContext.{ValueContext}
-use Rattle.rc_runs.specs.Spelled.{scope_named}
 use Rattle.rc_build.specs.declared.builder.Marks.{Marks}
 use Rattle.rc_build.specs.declared.values.BuiltValue.{BuiltValue}
 use Rattle.rc_build.specs.References.{referenced_blocks}
-use Rattle.rc_build.specs.inside.CanBuild.{CanBuildList, place_of}
-use Rattle.rc_build.specs.inside.Marks.{MarksBlocks, is_fresh_scope, with_used}
+use Rattle.rc_build.specs.inside.CanBuild.{CanBuildList}
+use Rattle.rc_build.specs.inside.Marks.{CanMark, Marked, MarksBlocks}
 use Rattle.rc_build.specs.inside.Task.{Progress}
 use Rattle.rc_build.specs.inside.Throws.{may_throw, throw_at}
 use Rattle.rc_build.specs.inside.ValueKinds.{terminal_at, value_terminal}
-use Rattle.rc_build.specs.inside.ValueEnds.{EndsValue, IsValueOf, SpellsNoValue}
-use Rattle.rc_build.specs.inside.Values.{CanMark, HasNoValue, Marked, ValueBuilt, any_end}
-use Rattle.rc_build.proofs.TakenLemmas.{marked_push, marking_push}
+use Rattle.rc_build.specs.inside.ValueEnds.{IsValueOf, SpellsNoValue}
+use Rattle.rc_build.specs.inside.Values.{HasNoValue, ValueBuilt, any_end}
 use Rattle.rc_build.proofs.UsableLemmas.{usable_ids}
 use Rattle.rc_build.proofs.ValueLemmas.{value_block}
-
--- a terminal that ends a value opens no scope
-ends_value-unscoped : (terminal : Terminal) → ends_value terminal ≡ true → scope_named terminal ≡ None
-ends_value-unscoped (terminals.Branch test consequent alternate id span) ends = refl
-ends_value-unscoped (terminals.Goto block variant id span) ends = refl
-ends_value-unscoped terminal ends = let bad : ⊥ = cc in absurd bad
-
--- the block of a value is marked
-pub marks_block : {hir : HirFunction} {old new : Marks} {key : BlockId} {block : BasicBlock} {place : ℕ}
-    → CanMark hir old key block → is_among old.used key ≡ false → place_of hir key ≡ Some place
-    → HasNoUnreachableSuccessor hir block.terminal → new ≡ with_used key place old
-    → MarksBlocks hir (key ∷ []) (referenced_blocks block.terminal) old new (key ∷ [])
-marks_block {hir} {old} {new} {key} {block} {place} can fresh at alive put =
-    let used = ap (λ (z : Marks). z.used) put in
-    let scopes = ap (λ (z : Marks). z.scopes) put
-    ∙ sym (ap (λ z. old.scopes ++ option_to_list z) can.unscoped ∙ append-nil old.scopes) in
-    let marked = marked_push hir old new key block can.ids.rows place can.can.marked fresh at can.found can.ids.filled
-    alive (ap (is_fresh_scope old.scopes) can.unscoped) used (ap (λ (z : Marks). z.bits) put) scopes in
-    marking_push hir old new key block fresh can.found marked used
 
 nowhere : ValueContext
 nowhere = record { around = None; handler = None; is_test = false }
@@ -57,14 +31,12 @@ module _ (hir : HirFunction) (key : BlockId) {block : BasicBlock} (found : basic
   no_throw_at none = sym (ap (option_and_then (λ (b : BasicBlock). may_throw b.terminal)) found) ∙ none
 
   -- the block of a value that is made can be marked
-  pub end_can : {marks : Marks} {env : Environment} {built : BuiltValue} → CanBuildList hir marks None [] key → EndsValue block.terminal
-      → IsValueOf hir env key block.terminal built → CanMark hir marks key block
-  end_can can ends is =
+  pub end_can : {marks : Marks} {env : Environment} {built : BuiltValue} → CanBuildList hir marks None [] key → IsValueOf hir env key block.terminal built → CanMark hir marks key block
+  end_can can is =
       let at = value_block (is.spelled nowhere) in record {
         can = can;
         found = found;
         ids = usable_ids hir key block at.whole found at.usable;
-        unscoped = ends_value-unscoped block.terminal ends.ends;
       }
 
 -- a value of one block is built, once that is marked

@@ -5,7 +5,6 @@ use Rattle.rc_names.specs.declared.span.Span.{Span}
 use Rattle.rc_hir.specs.Terminal.{evaluation_order}
 use Rattle.rc_hir.specs.Model.{Terminal, HirFunction}
 use Rattle.rc_runs.specs.LastRow.{ends_value}
-use Rattle.rc_runs.specs.Spelled.{scope_named}
 use Rattle.rc_build.specs.declared.builder.Marks.{Marks}
 use Rattle.rc_build.specs.declared.value_terminals.ValueKind.{ValueKind}
 use Rattle.rc_build.specs.declared.value_terminals.ValueKind.TheVariants as kinds
@@ -29,7 +28,6 @@ begins_at (kinds.Optional optional test) = test
 -- it doesn't end a value, and it refers to its first block and to its fallthrough as to values
 pub record IsValueTerminal (terminal : Terminal) (first fallthrough : BlockId) (id : EvaluationOrder) : Type 0 where
   pub order : evaluation_order terminal ≡ id
-  pub unscoped : scope_named terminal ≡ None
   pub ends : ends_value terminal ≡ false
   pub stays : may_throw terminal ≡ None
   pub referenced : referenced_blocks terminal ≡ first ∷ fallthrough ∷ []
@@ -38,13 +36,13 @@ pub record IsValueTerminal (terminal : Terminal) (first fallthrough : BlockId) (
 with_facts : (kind : ValueKind) (fallthrough : BlockId) (id : EvaluationOrder) (span : Option Span)
     → IsValueTerminal (terminal_with kind fallthrough id span) (begins_at kind) fallthrough id
 with_facts (kinds.Sequence block) fallthrough id span =
-    record { order = refl; unscoped = refl; ends = refl; stays = refl; referenced = refl; valued = refl }
+    record { order = refl; ends = refl; stays = refl; referenced = refl; valued = refl }
 with_facts (kinds.Ternary test) fallthrough id span =
-    record { order = refl; unscoped = refl; ends = refl; stays = refl; referenced = refl; valued = refl }
+    record { order = refl; ends = refl; stays = refl; referenced = refl; valued = refl }
 with_facts (kinds.Logical operator test) fallthrough id span =
-    record { order = refl; unscoped = refl; ends = refl; stays = refl; referenced = refl; valued = refl }
+    record { order = refl; ends = refl; stays = refl; referenced = refl; valued = refl }
 with_facts (kinds.Optional optional test) fallthrough id span =
-    record { order = refl; unscoped = refl; ends = refl; stays = refl; referenced = refl; valued = refl }
+    record { order = refl; ends = refl; stays = refl; referenced = refl; valued = refl }
 
 pub value_facts : (terminal : ValueTerminal)
     → IsValueTerminal (terminal_of terminal) (begins_at terminal.kind) terminal.fallthrough terminal.id

@@ -18,7 +18,7 @@ use Rattle.rc_build.proofs.MarksLemmas.{referenced_fewer, times_append, among_pu
 use Rattle.rc_build.proofs.MarksLemmas.{alone_same}
 use Rattle.rc_build.proofs.OwnersLemmas.{owned_weaker}
 use Rattle.rc_build.proofs.BuiltLemmas.{marking_none, marking_drop}
-use Rattle.rc_build.proofs.TakenLemmas.{used_apart}
+use Rattle.rc_build.proofs.TakenLemmas.{newly_used, used_apart}
 
 -- nothing is to be used before the parts of an `If`, a `Switch` or a scope
 pub none_used : (marks : Marks) → AreUsed marks []
@@ -48,13 +48,24 @@ module _ (hir : HirFunction) where
     owned = owned_weaker hir (IsUsed old) (IsUsed new) frames (used_more m) a.owned;
   }
 
+  -- a block can be built under no handler and in no frame
+  pub list_alone : {marks : Marks} {handler : Option BlockId} {frames : List Frame} {key : BlockId}
+      → CanBuildList hir marks handler frames key → CanBuildList hir marks None [] key
+  list_alone {marks = marks} {frames = frames} {key = key} a = record {
+    marked = a.marked;
+    handled = tt;
+    referenced = referenced_fewer hir marks.used (key ∷ []) (key ∷ pending_blocks frames) (λ other. omega arith) a.referenced;
+    used_before = none_used marks;
+    owned = tt;
+  }
+
   -- a block's terminal, once the block is marked
   pub at_terminal : {old new : Marks} {handler : Option BlockId} {frames : List Frame} {key : BlockId}
       {block : BasicBlock}
-      → CanBuildList hir old handler frames key → basic_block hir key ≡ Some block → is_among old.used key ≡ false
+      → CanBuildList hir old handler frames key → basic_block hir key ≡ Some block
       → MarksBlocks hir (key ∷ []) (referenced_blocks block.terminal) old new (key ∷ [])
       → CanBuildTerminal hir new handler frames key block.terminal
-  at_terminal {old = old} {new = new} {frames = frames} {key = key} {block = block} a found fresh m = record {
+  at_terminal {old = old} {new = new} {frames = frames} {key = key} {block = block} a found m = record {
     marked = m.marked;
     handled = a.handled;
     used = subst (λ z. is_among z key ≡ true) (sym m.used) (among_push old.used key);
@@ -62,7 +73,7 @@ module _ (hir : HirFunction) where
     referenced = m.referenced (pending_blocks frames) a.referenced;
     used_before = λ other h. used_more m other (a.used_before other h);
     owned = owned_weaker hir (IsUsed old) (IsUsedApart new key) frames
-        (λ other h. (used_more m other h, used_apart old.used key other fresh h)) a.owned;
+        (λ other h. (used_more m other h, used_apart old.used key other (newly_used m) h)) a.owned;
   }
 
   -- a list can be built inside one more frame of a used block, where what is to be used before is

@@ -1,6 +1,6 @@
 //! One block: whether a tree may use it where the walk is, its rows, and its mark.
 
-ghost use Rattle.std.specs.Prelude.{◌≡◌, ◌≤◌, ◌++◌, true, false, None, Some, IfOk, IfErr};
+ghost use Rattle.std.specs.Prelude.{◌≡◌, ◌≤◌, ◌++◌, [], true, false, None, Some, IfOk, IfErr};
 ghost use Rattle.std.specs.Option.{option_to_list};
 ghost use Rattle.rc_names.specs.Numbers.{same_id};
 ghost use Rattle.rc_hir.specs.Terminal.{evaluation_order};
@@ -9,10 +9,11 @@ ghost use Rattle.rc_runs.specs.Silent.{is_unset};
 ghost use Rattle.rc_runs.specs.Spelled as spelled;
 ghost use Rattle.rc_build.specs.BlockFacts.{times_referenced};
 ghost use Rattle.rc_build.specs.RuleFacts.{FaultFact};
-ghost use Rattle.rc_build.specs.inside.Marks.{is_fresh_scope};
+ghost use Rattle.rc_build.specs.declared.builder.Site.{Site};
+ghost use Rattle.rc_build.specs.inside.Marks.{CanMark, IsUnusable, Marked, is_fresh_scope};
 ghost use Rattle.rc_build.specs.inside.CanBuild.{CanBuildList, place_of};
 ghost use Rattle.rc_build.specs.inside.Setting.{setting_of};
-ghost use Rattle.rc_build.specs.inside.Task.{FromBlock, Spells};
+ghost use Rattle.rc_build.specs.inside.Task.{FromBlock, Spells, progress_of};
 ghost use Rattle.rc_build.specs.inside.Built.{Builds, Refused, TakesBlock};
 
 use crate::builder::{Builder, Site, malformed};
@@ -26,8 +27,7 @@ impl<'g> Builder<'g> {
     /// Builds the rows of the site's block and marks it as used; returns its terminal.
     ///
     /// - `Malformed`: no tree may use it there; it is no key (`NoBlock`), is under another number than its
-    ///   own (`KeyDiffers`), is used already or a jump target (`Twice`), has an unset id (`UnsetId`), leads to a
-    ///   block that ends in `Unreachable` (`Dead`), or opens a scope that is used already (`ScopeTwice`).
+    ///   own (`KeyDiffers`), is a jump target (`Twice`), has an unset id (`UnsetId`), or can't be marked.
     /// - `BadName`: one of its rows isn't there.
     // Not inlined, so that a row takes no room in the frames of nested calls.
     #[inline(never)]
@@ -39,21 +39,37 @@ impl<'g> Builder<'g> {
     {
         let hir = self.hir;
         let found = find_block(hir, site.block)?;
-        let block = found.block;
         if self.frames.is_jump_target_at(site.block, found.place) {
             return Err(malformed(site.block, Rule::Twice));
         }
-        put_rows(self.alloc, hir, site.block, block, &mut self.out)?;
-        if has_unreachable_successor(hir, &block.terminal) {
-            return Err(malformed(site.block, Rule::Dead));
+        put_rows(self.alloc, hir, site.block, found.block, &mut self.out)?;
+        self.mark_block(site.block, found)?;
+        Ok(&found.block.terminal)
+    }
+
+    /// Marks a block as used, and the scope that it opens.
+    ///
+    /// `Malformed`: it leads to a block that ends in `Unreachable` (`Dead`), is used already (`Twice`), or opens a scope
+    /// that is used already (`ScopeTwice`).
+    pub fn mark_block(&mut self, key: BlockId, found: FoundBlock<'_>) -> Result<(), Fault>
+        requires can { CanMark self.old.hir.now self.old.marks key found.block.now }
+        requires placed { place_of self.old.hir.now key ≡ Some found.place }
+        ensures { (site : Site) → Builds self.old self.new site
+            (λ _. Marked self.old.hir.now key found.entry.block.now.terminal (progress_of self.old)
+            (progress_of self.new))
+            (IsUnusable self.old.hir.now [] key self.old.marks) result }
+    {
+        let terminal = &found.block.terminal;
+        if has_unreachable_successor(self.hir, terminal) {
+            return Err(malformed(key, Rule::Dead));
         }
-        if !self.marks.put_used(site.block, found.place)? {
-            return Err(malformed(site.block, Rule::Twice));
+        if !self.marks.put_used(key, found.place)? {
+            return Err(malformed(key, Rule::Twice));
         }
-        if !mark_scope(&mut self.marks.scopes, scope_named(&block.terminal))? {
-            return Err(malformed(site.block, Rule::ScopeTwice));
+        if !mark_scope(&mut self.marks.scopes, scope_named(terminal))? {
+            return Err(malformed(key, Rule::ScopeTwice));
         }
-        Ok(&block.terminal)
+        Ok(())
     }
 }
 

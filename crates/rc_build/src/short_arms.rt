@@ -105,13 +105,13 @@ impl<'g> Builder<'g> {
             if !is_current(throw.handler, handler) {
                 return Err(malformed(key, Rule::Handler));
             }
-            self.mark_value_block(key, found)?;
+            self.mark_block(key, found)?;
             return Ok(Some(throw.continuation));
         }
         if !goes_to(&found.block.terminal, next) {
             return Err(malformed(arm, Rule::LoudArm));
         }
-        self.mark_value_block(key, found)?;
+        self.mark_block(key, found)?;
         Ok(None)
     }
 

@@ -72,8 +72,8 @@ impl<'g> Builder<'g> {
             throw.continuation,
             &behind.block.terminal,
         )?;
-        self.mark_value_block(key, found)?;
-        self.mark_value_block(throw.continuation, behind)?;
+        self.mark_block(key, found)?;
+        self.mark_block(throw.continuation, behind)?;
         Ok(built)
     }
 
@@ -102,7 +102,7 @@ impl<'g> Builder<'g> {
         let found = find_block(hir, key)?;
         check_end(key, &found.block.terminal)?;
         let built = self.end_value(key, found.block)?;
-        self.mark_value_block(key, found)?;
+        self.mark_block(key, found)?;
         Ok(built)
     }
 

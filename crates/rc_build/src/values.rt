@@ -17,8 +17,6 @@ ghost use Rattle.rc_runs.specs.LoopValues.{SpellsGoing, SpellsTest};
 ghost use Rattle.rc_runs.specs.LoopValues as loop_values;
 ghost use Rattle.rc_build.specs.declared.builder.Site.{Site};
 ghost use Rattle.rc_build.specs.inside.Built.{Builds};
-ghost use Rattle.rc_build.specs.inside.CanBuild.{place_of};
-ghost use Rattle.rc_build.specs.inside.Marks.{IsUnusable};
 ghost use Rattle.rc_build.specs.inside.Setting.{setting_of};
 ghost use Rattle.rc_build.specs.inside.Task.{progress_of};
 ghost use Rattle.rc_build.specs.inside.ValueSteps as steps;
@@ -30,13 +28,12 @@ ghost use Rattle.rc_build.specs.inside.ValueRows.{behind_rows};
 ghost use Rattle.rc_build.specs.inside.Values as spec;
 
 use crate::answered_test::{answers_test, same_declaration};
-use crate::blocks::{FoundBlock, block_with_id, find_block};
+use crate::blocks::{block_with_id, find_block};
 use crate::builder::{Builder, Site, malformed};
 use crate::flatten::flattened;
 use crate::handlers::{MayThrow, is_current, is_empty_goto, may_throw};
 use crate::nesting::{ROW_LEVEL, VALUE_LEVEL, left_inside};
 use crate::short_arms::ShortArm;
-use crate::unreachable::has_unreachable_successor;
 use crate::value_rows::{after_rows, sequence_rows};
 use crate::value_terminals::{NestedValue, ValueTerminal, value_terminal};
 use rc_hir::{Environment, Fault, HirFunction, Place, Rule, Terminal};
@@ -300,7 +297,7 @@ impl<'g> Builder<'g> {
         if terminal.id.0 == 0 {
             return Err(malformed(key, Rule::UnsetId));
         }
-        self.mark_value_block(key, found)?;
+        self.mark_block(key, found)?;
         let stack = self.stack;
         self.stack = left_inside(stack, VALUE_LEVEL)?;
         let NestedValue {
@@ -340,7 +337,7 @@ impl<'g> Builder<'g> {
         if !is_current(throw.handler, handler) {
             return Err(malformed(key, Rule::Handler));
         }
-        self.mark_value_block(key, found)?;
+        self.mark_block(key, found)?;
         Ok(ValueRow {
             rows,
             next: throw.continuation,
@@ -383,27 +380,6 @@ impl<'g> Builder<'g> {
             Some(block) => step_behind(self.hir, &block.terminal),
             None => None,
         }
-    }
-
-    /// Marks a block of a value.
-    ///
-    /// - `Malformed` with `Dead`: it leads to a block that ends in `Unreachable`.
-    /// - `Malformed` with `Twice`: it is used already.
-    pub fn mark_value_block(&mut self, key: BlockId, found: FoundBlock<'_>) -> Result<(), Fault>
-        requires can { spec.CanMark self.old.hir.now self.old.marks key found.block.now }
-        requires placed { place_of self.old.hir.now key ≡ Some found.place }
-        ensures { (site : Site) → Builds self.old self.new site
-            (λ _. spec.Marked self.old.hir.now key found.entry.block.now.terminal (progress_of self.old)
-            (progress_of self.new))
-            (IsUnusable self.old.hir.now [] key self.old.marks) result }
-    {
-        if has_unreachable_successor(self.hir, &found.block.terminal) {
-            return Err(malformed(key, Rule::Dead));
-        }
-        if !self.marks.put_used(key, found.place)? {
-            return Err(malformed(key, Rule::Twice));
-        }
-        Ok(())
     }
 }
 

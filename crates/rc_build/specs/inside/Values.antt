@@ -1,17 +1,16 @@
 -- Values as the builder makes them: when one can be built from a block on, and the value with its end.
 use Rattle.std.specs.Prelude.{◌≡◌, Bool, true, false, List, [], ◌∷◌, ◌++◌, Option, Some, None, Result}
 use Rattle.rc_names.specs.Numbers.{BlockId, EvaluationOrder, same_id}
-use Rattle.rc_hir.specs.Model.{BasicBlock, Terminal, Fault, HirFunction, Environment}
+use Rattle.rc_hir.specs.Model.{Terminal, Fault, HirFunction, Environment}
 use Rattle.rc_hir.specs.declared.terminal.Terminal.TheVariants as terminals
 use Rattle.rc_tree.specs.Model.{ReactiveValue}
-use Rattle.rc_runs.specs.Graph.{basic_block}
 use Rattle.rc_runs.specs.PlainTree.{Value}
 use Rattle.rc_runs.specs.TreeOf.{value_of}
 use Rattle.rc_runs.specs.ListContext.{ValueContext}
 use Rattle.rc_runs.specs.AnsweredTest.{same_declaration}
 use Rattle.rc_runs.specs.ValueEnd.{ValueEnd, ChoosesBetween}
 use Rattle.rc_runs.specs.ValueGrammar.{SpellsValue}
-use Rattle.rc_runs.specs.Spelled.{AreSound, scope_named}
+use Rattle.rc_runs.specs.Spelled.{AreSound}
 use Rattle.rc_build.specs.declared.builder.Builder.{Builder}
 use Rattle.rc_build.specs.declared.builder.Marks.{Marks}
 use Rattle.rc_build.specs.declared.builder.Site.{Site}
@@ -23,7 +22,6 @@ use Rattle.rc_build.specs.References.{referenced_blocks}
 use Rattle.rc_build.specs.BlockFacts.{IsValueReferenced, ValueBlockIs}
 use Rattle.rc_build.specs.inside.CanBuild.{CanBuildList}
 use Rattle.rc_build.specs.inside.Marks.{MarksBlocks}
-use Rattle.rc_build.specs.inside.Rows.{HasIds}
 use Rattle.rc_build.specs.inside.Task.{Progress, progress_of}
 use Rattle.rc_build.specs.inside.Built.{Builds, BuiltPart, Refused}
 use Rattle.rc_build.specs.inside.ShortArms.{alternate_of, AreShort}
@@ -43,18 +41,6 @@ arms_of _ = None
 pub record CanBuildValue (hir : HirFunction) (marks : Marks) (key : BlockId) : Type 0 where
   pub can : CanBuildList hir marks None [] key
   pub referenced : IsValueReferenced hir key
-
--- the block of a value can be marked: its rows are there, and it opens no scope
-pub record CanMark (hir : HirFunction) (marks : Marks) (key : BlockId) (block : BasicBlock) : Type 0 where
-  pub can : CanBuildList hir marks None [] key
-  pub found : basic_block hir key ≡ Some block
-  pub ids : HasIds hir block
-  pub unscoped : scope_named block.terminal ≡ None
-
--- the block is marked, and the blocks that its terminal refers to are pending
-pub record Marked (hir : HirFunction) (key : BlockId) (terminal : Terminal) (old new : Progress) : Type 0 where
-  pub marking : MarksBlocks hir (key ∷ []) (referenced_blocks terminal) old.marks new.marks (key ∷ [])
-  pub kept : new.out ≡ old.out
 
 -- the value with that end is what was built
 pub record IsBuilt (hir : HirFunction) (value : Value) (end : ValueEnd) (built : BuiltValue) : Type 0 where

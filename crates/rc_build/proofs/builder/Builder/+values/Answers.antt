@@ -192,24 +192,24 @@ build_row-returns-then-terminal-eq0 t c = λ site is_test.
     unset)
     (row_unset c.args.key c.args.terminal block found c.requires unset)
 
-pub build_row-mark_value_block-requires-clause-can : goal.build_row-mark_value_block-requires-clause-can
-build_row-mark_value_block-requires-clause-can t c =
+pub build_row-mark_block-requires-clause-can : goal.build_row-mark_block-requires-clause-can
+build_row-mark_block-requires-clause-can t c =
     let block = c.in_ok-found.found.block.now in
     row_can_mark c.args.key c.args.terminal block c.in_ok-found.ensures.found c.requires c.in_ok-rows.rows
     (subst (λ z. HasRows c.args.self.now.hir.now z c.in_ok-rows.rows) c.as_slice.ensures c.in_ok-rows.ensures.ok)
     (ne_eqb c.args.terminal.id.0 0 c.if-terminal-eq0.false)
 
-pub build_row-returns-in_err-mark_value_block : goal.build_row-returns-in_err-mark_value_block
-build_row-returns-in_err-mark_value_block t c = λ site is_test.
-    passes_on c.from_residual-in_err-mark_value_block.ensures.1 refl (c.in_err-mark_value_block.ensures site)
+pub build_row-returns-in_err-mark_block : goal.build_row-returns-in_err-mark_block
+build_row-returns-in_err-mark_block t c = λ site is_test.
+    passes_on c.from_residual-in_err-mark_block.ensures.1 refl (c.in_err-mark_block.ensures site)
     (spells_unusable c.args.key c.args.self.now.marks (value_at c.args.around is_test) any_end)
 
 pub build_row-build_nested-requires : goal.build_row-build_nested-requires
 build_row-build_nested-requires t c =
     let old = c.args.self.now in
-    let mid = c.mark_value_block.new.self in
+    let mid = c.mark_block.new.self in
     let site = any_site c.args.key in
-    let marked = c.in_ok-mark_value_block.ensures site in
+    let marked = c.in_ok-mark_block.ensures site in
     let block = c.in_ok-found.found.block.now in (
       omega (arith, fewer_left marked marked.ok.marking.marked (omega (arith, used_longer marked.ok.marking))),
       subst (λ (z : Setting). CanBuildNested z.hir mid.marks c.args.terminal) (sym marked.frames)
@@ -219,8 +219,8 @@ build_row-build_nested-requires t c =
 pub build_row-returns-in_err-value : goal.build_row-returns-in_err-value
 build_row-returns-in_err-value t c = λ site is_test.
     let old = c.args.self.now in
-    let mid = c.mark_value_block.new.self in
-    let marked = c.in_ok-mark_value_block.ensures site in
+    let mid = c.mark_block.new.self in
+    let marked = c.in_ok-mark_block.ensures site in
     let block = c.in_ok-found.found.block.now in
     passes_on c.from_residual-in_err-value.ensures.1 (same_graph marked.frames)
     (c.in_err-value.ensures site)
@@ -230,9 +230,9 @@ build_row-returns-in_err-value t c = λ site is_test.
 
 pub build_row-returns : goal.build_row-returns
 build_row-returns t c = λ site is_test.
-    let mid = c.mark_value_block.new.self in
+    let mid = c.mark_block.new.self in
     let late = c.build_nested.new.self in
-    let marked = c.in_ok-mark_value_block.ensures site in
+    let marked = c.in_ok-mark_block.ensures site in
     let nested = c.in_ok-value.ensures site in
     let block = c.in_ok-found.found.block.now in
     let made = c.in_ok-rows.rows in

@@ -33,15 +33,15 @@ returns-then-not-is_current c = λ site.
     (handler_fact c.args.self.now.hir.now c.args.key c.in_ok-found.found.block.now found throw c.args.handler throws
     other)
 
-pub returns-in_err-mark_value_block : goal.returns-in_err-mark_value_block
-returns-in_err-mark_value_block c = λ site.
-    passes_on c.from_residual-in_err-mark_value_block.ensures.1 refl (c.in_err-mark_value_block.ensures site)
+pub returns-in_err-mark_block : goal.returns-in_err-mark_block
+returns-in_err-mark_block c = λ site.
+    passes_on c.from_residual-in_err-mark_block.ensures.1 refl (c.in_err-mark_block.ensures site)
     (arm_unusable c.args.self.now.marks)
 
 pub returns-in-Some : goal.returns-in-Some
 returns-in-Some c = λ site.
     let block = c.in_ok-found.ensures in
-    let marked = c.in_ok-mark_value_block.ensures site in
+    let marked = c.in_ok-mark_block.ensures site in
     is_built _ (chain_prefix block.found block.own
     (subst (HasSilentRows c.args.self.now.hir.now c.args.self.now.env.now) c.as_slice.ensures
     c.in_ok-check_silent_rows.ensures.ok) block.set marked.ok c.in-Some.throw (sym c.may_throw.ensures ∙ c.in-Some.is)
@@ -55,15 +55,15 @@ returns-then-not-goes_to c = λ site.
     (λ blocks d sound. let goes = (arm_ends found (sym c.may_throw.ensures ∙ c.in_default.is) d).0 in let bad : ⊥ = cc in bad)
     (c.requires.arm_is, arm_there found c.requires)
 
-pub returns-in_err-mark_value_block-2 : goal.returns-in_err-mark_value_block-2
-returns-in_err-mark_value_block-2 c = λ site.
-    passes_on c.from_residual-in_err-mark_value_block-2.ensures.1 refl (c.in_err-mark_value_block-2.ensures site)
+pub returns-in_err-mark_block-2 : goal.returns-in_err-mark_block-2
+returns-in_err-mark_block-2 c = λ site.
+    passes_on c.from_residual-in_err-mark_block-2.ensures.1 refl (c.in_err-mark_block-2.ensures site)
     (arm_unusable c.args.self.now.marks)
 
 pub returns : goal.returns
 returns c = λ site.
     let block = c.in_ok-found.ensures in
-    let marked = c.in_ok-mark_value_block-2.ensures site in
+    let marked = c.in_ok-mark_block-2.ensures site in
     is_built _ (last_prefix block.found block.own
     (subst (HasSilentRows c.args.self.now.hir.now c.args.self.now.env.now) c.as_slice.ensures
     c.in_ok-check_silent_rows.ensures.ok) block.set marked.ok (sym c.may_throw.ensures ∙ c.in_default.is)

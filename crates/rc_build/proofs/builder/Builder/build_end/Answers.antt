@@ -43,17 +43,17 @@ pub returns-in_err-built : goal.returns-in_err-built
 returns-in_err-built c = λ site context. fails c.from_residual-in_err-built.ensures.1 c.in_err-built.ensures.facts
     (λ named rule e. none_there c.args.self.now.marks.used context (c.in_err-built.ensures.refused named rule (ap Err e)))
 
-pub mark_value_block-requires-clause-can : goal.mark_value_block-requires-clause-can
-mark_value_block-requires-clause-can c =
+pub mark_block-requires-clause-can : goal.mark_block-requires-clause-can
+mark_block-requires-clause-can c =
     end_can c.args.self.now.hir.now c.args.key c.in_ok-found.ensures.found c.requires.can.can
-    c.in_ok-check_end.ensures.ok c.in_ok-built.ensures.ok
+    c.in_ok-built.ensures.ok
 
-pub returns-in_err-mark_value_block : goal.returns-in_err-mark_value_block
-returns-in_err-mark_value_block c = λ site context.
-    passes_on c.from_residual-in_err-mark_value_block.ensures.1 refl (c.in_err-mark_value_block.ensures site)
+pub returns-in_err-mark_block : goal.returns-in_err-mark_block
+returns-in_err-mark_block c = λ site context.
+    passes_on c.from_residual-in_err-mark_block.ensures.1 refl (c.in_err-mark_block.ensures site)
     (spells_unusable c.args.key c.args.self.now.marks context any_end)
 
 pub returns : goal.returns
 returns c = λ site context.
-    let marked = c.in_ok-mark_value_block.ensures site in
+    let marked = c.in_ok-mark_block.ensures site in
     is_built _ (end_built context c.in_ok-built.ensures.ok marked.ok) marked.frames

@@ -25,8 +25,8 @@ returns-then-not-is_current c = λ site context same.
     other_handler c.in_ok-found.ensures.found c.requires.here same (sym c.is_current.ensures ∙ c.if-not-is_current.true)
     c.malformed.ensures
 
-pub mark_value_block-requires-clause-can : goal.mark_value_block-requires-clause-can
-mark_value_block-requires-clause-can c =
+pub mark_block-requires-clause-can : goal.mark_block-requires-clause-can
+mark_block-requires-clause-can c =
     let block = c.in_ok-found.found.block.now in
     let found = c.in_ok-found.ensures.found in
     throwing_can_mark c.args.self.now.hir.now c.args.key block found c.args.throw (block_throws found c.requires.here)
@@ -34,16 +34,16 @@ mark_value_block-requires-clause-can c =
     (subst (λ z. HasRows c.args.self.now.hir.now z c.in_ok-rows.rows) c.as_slice.ensures c.in_ok-rows.ensures.ok)
     c.in_ok-found.ensures.set
 
-pub returns-in_err-mark_value_block : goal.returns-in_err-mark_value_block
-returns-in_err-mark_value_block c = λ site context same.
-    passes_on c.from_residual-in_err-mark_value_block.ensures.1 refl (c.in_err-mark_value_block.ensures site)
+pub returns-in_err-mark_block : goal.returns-in_err-mark_block
+returns-in_err-mark_block c = λ site context same.
+    passes_on c.from_residual-in_err-mark_block.ensures.1 refl (c.in_err-mark_block.ensures site)
     (spells_unusable c.args.key c.args.self.now.marks context any_end)
 
 pub returns : goal.returns
 returns c = λ site context same.
     let block = c.in_ok-found.found.block.now in
     let found = c.in_ok-found.ensures.found in
-    let marked = c.in_ok-mark_value_block.ensures site in
+    let marked = c.in_ok-mark_block.ensures site in
     is_built _ (throwing_built c.args.self.now.hir.now c.args.key block found c.args.throw
     (block_throws found c.requires.here) c.in_ok-found.ensures.own
     (subst (λ z. HasRows c.args.self.now.hir.now z c.in_ok-rows.rows) c.as_slice.ensures c.in_ok-rows.ensures.ok)
