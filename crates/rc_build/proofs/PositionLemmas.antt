@@ -2,11 +2,13 @@
 use Rattle.std.proofs.Common.{◌≡◌, ◌≢◌, ◌<◌, ℕ, Bool, true, false, List, None, Some, length, refl, sym, ap, ◌∙◌}
 use Rattle.std.proofs.Common.{subst, get_or, position, cond, arith, lt-ltb, nat_lt}
 use Rattle.std.specs.List.{IsDistinct}
-use Rattle.std.specs.Map.{keys_of}
+use Rattle.std.specs.Map.{keys_of, lookup, values_of}
 use Rattle.std.proofs.lemmas.List.Quantifiers.{position-Some}
 use Rattle.std.proofs.lemmas.List.Sums.{position_or_len_is}
 use Rattle.std.proofs.lemmas.Map.Keys.{apart_from_distinct}
-use Rattle.std.proofs.lemmas.Map.Entries.{length-keys_of}
+use Rattle.std.proofs.lemmas.Map.Entries.{length-keys_of, length-values_of}
+use Rattle.std.proofs.lemmas.Option.{slice_get-get_or}
+use Rattle.indexmap.proofs.MapLemmas.{Found-position}
 use Rattle.rc_names.specs.Numbers.{BlockId, same_id}
 use Rattle.rc_names.proofs.NumbersLemmas.{ids_equivalence, same_id-eq}
 
@@ -15,6 +17,15 @@ pub position_within : {X : Type 0} (blocks : List (BlockId × X)) (key : BlockId
     → position (same_id key) (keys_of blocks) ≡ Some place → place < length blocks
 position_within blocks key place at =
     subst (λ n. place < n) (length-keys_of blocks) (position-Some (same_id key) (keys_of blocks) place key at).0
+
+-- at the position of a key is what is under the key
+pub value_there : {X : Type 0} (blocks : List (BlockId × X)) (key : BlockId) {values : List X} {place : ℕ} {value : X}
+    → position (same_id key) (keys_of blocks) ≡ Some place → values ≡ values_of blocks → value ≡ get_or values place value
+    → lookup (same_id key) blocks ≡ Some value
+value_there blocks key {values} {place} {value} at is here =
+    let within = subst (λ n. place < n) (sym (length-values_of blocks)) (position_within blocks key place at) in
+    (Found-position (same_id key) blocks place at).value ∙ slice_get-get_or (values_of blocks) place value within
+    ∙ ap (λ w. Some (get_or w place value)) (sym is) ∙ ap Some (sym here)
 
 module _ (keys : List BlockId) (key other : BlockId) where
   -- two blocks at one position are the same

@@ -17,6 +17,7 @@ ghost use Rattle.rc_build.specs.inside.Task.{FromBlock, Spells, progress_of};
 ghost use Rattle.rc_build.specs.inside.Built.{Builds, Refused, TakesBlock};
 
 use crate::builder::{Builder, Site, malformed};
+use crate::places::position_from;
 use crate::rows::put_rows;
 use crate::unreachable::has_unreachable_successor;
 use rc_hir::{BasicBlock, Fault, HirFunction, Rule, Terminal};
@@ -38,7 +39,7 @@ impl<'g> Builder<'g> {
             self.old.marks.used) result }
     {
         let hir = self.hir;
-        let found = find_block(hir, site.block)?;
+        let found = find_block(hir, site.block, self.next_place())?;
         if self.frames.is_jump_target_at(site.block, found.place) {
             return Err(malformed(site.block, Rule::Twice));
         }
@@ -60,7 +61,7 @@ impl<'g> Builder<'g> {
             (IsUnusable self.old.hir.now [] key self.old.marks) result }
     {
         let terminal = &found.block.terminal;
-        if has_unreachable_successor(self.hir, terminal) {
+        if has_unreachable_successor(self.hir, terminal, found.place.saturating_add(1)) {
             return Err(malformed(key, Rule::Dead));
         }
         if !self.marks.put_used(key, found.place)? {
@@ -80,8 +81,9 @@ pub struct FoundBlock<'g> {
     pub block: &'g BasicBlock,
 }
 
-/// The block under a key: `NoBlock` where there is none, `KeyDiffers` where it has another number.
-pub fn find_block(hir: &HirFunction, key: BlockId) -> Result<FoundBlock<'_>, Fault>
+/// The block under a key, which may be at that place: `NoBlock` where there is none, `KeyDiffers` where it has another
+/// number.
+pub fn find_block(hir: &HirFunction, key: BlockId, place: usize) -> Result<FoundBlock<'_>, Fault>
     requires { 1 ≤ times_referenced hir.now key }
     ensures placed { IfOk result (λ found. place_of hir.now key ≡ Some found.place) }
     ensures found { IfOk result (λ found. basic_block hir.now key ≡ Some found.block.now) }
@@ -89,7 +91,7 @@ pub fn find_block(hir: &HirFunction, key: BlockId) -> Result<FoundBlock<'_>, Fau
     ensures refused { IfErr result (λ _. usable_block hir.now key ≡ None) }
     ensures facts { IfErr result (FaultFact hir.now) }
 {
-    let Some(place) = hir.body.blocks.position(key) else {
+    let Some(place) = position_from(&hir.body.blocks, key, place) else {
         return Err(malformed(key, Rule::NoBlock));
     };
     let block = &hir.body.blocks.values()[place];
@@ -100,7 +102,7 @@ pub fn find_block(hir: &HirFunction, key: BlockId) -> Result<FoundBlock<'_>, Fau
 }
 
 /// The block under a key whose terminal has an id: `UnsetId` where it has none, and otherwise as for `find_block`.
-pub fn block_with_id(hir: &HirFunction, key: BlockId) -> Result<FoundBlock<'_>, Fault>
+pub fn block_with_id(hir: &HirFunction, key: BlockId, place: usize) -> Result<FoundBlock<'_>, Fault>
     requires { 1 ≤ times_referenced hir.now key }
     ensures placed { IfOk result (λ found. place_of hir.now key ≡ Some found.place) }
     ensures found { IfOk result (λ found. basic_block hir.now key ≡ Some found.block.now) }
@@ -109,7 +111,7 @@ pub fn block_with_id(hir: &HirFunction, key: BlockId) -> Result<FoundBlock<'_>, 
     ensures refused { IfErr result (λ _. usable_block hir.now key ≡ None) }
     ensures facts { IfErr result (FaultFact hir.now) }
 {
-    let found = find_block(hir, key)?;
+    let found = find_block(hir, key, place)?;
     if found.block.terminal.evaluation_order().0 == 0 {
         return Err(malformed(key, Rule::UnsetId));
     }

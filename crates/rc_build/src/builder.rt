@@ -8,6 +8,7 @@ ghost use Rattle.rc_build.specs.inside.Setting as settings;
 ghost use Rattle.rc_build.specs.inside.Task as tasks;
 
 use crate::frames::FrameStack;
+use crate::places::place_of;
 use crate::unreachable::ends_unreachable;
 use rc_hir::{Environment, Fault, HirFunction, Rule};
 use rc_names::{BitRow, BlockId, Boxed, KeySet, List, ScopeId};
@@ -142,6 +143,11 @@ impl<'g> Builder<'g> {
         })
     }
 
+    /// Where the block that is taken next may be: most graphs have their blocks in the order in which they are taken.
+    pub fn next_place(&self) -> usize {
+        self.marks.used.len()
+    }
+
     /// The fallthrough of a scope, where it is opened: no jump can name it already.
     pub fn open(&self, fallthrough: BlockId) -> Option<BlockId>
         ensures { result ≡ settings.open_block (spec.opens self.now.frames fallthrough) fallthrough }
@@ -158,7 +164,10 @@ impl<'g> Builder<'g> {
         ensures { result ≡
             settings.open_block (spec.opens_reachable self.now.hir.now self.now.frames fallthrough) fallthrough }
     {
-        if self.frames.is_jump_target(fallthrough) || ends_unreachable(self.hir, fallthrough) {
+        let place = place_of(&self.hir.body.blocks, Some(fallthrough));
+        if self.frames.is_jump_target_at(fallthrough, place)
+            || ends_unreachable(self.hir, fallthrough, place)
+        {
             None
         } else {
             Some(fallthrough)

@@ -6,6 +6,7 @@ ghost use Rattle.rc_runs.specs.ListContext as contexts;
 ghost use Rattle.rc_build.specs.TerminalForms as forms;
 ghost use Rattle.rc_build.specs.inside.Throws as spec;
 
+use crate::places::block_from;
 use rc_hir::{HirFunction, Terminal};
 use rc_names::BlockId;
 
@@ -43,11 +44,11 @@ pub fn is_current(named: Option<BlockId>, current: Option<BlockId>) -> bool
     }
 }
 
-/// Whether the block under a key is there, has no rows, and ends in a `Goto`.
-pub fn is_empty_goto(hir: &HirFunction, key: BlockId) -> bool
+/// Whether the block under a key, which may be at that place, is there, has no rows, and ends in a `Goto`.
+pub fn is_empty_goto(hir: &HirFunction, key: BlockId, place: usize) -> bool
     ensures { result ≡ graph.is_empty_goto (graph.block_at hir.now key) }
 {
-    match hir.body.blocks.get(key) {
+    match block_from(&hir.body.blocks, key, place) {
         Some(block) => block.instructions.is_empty() && is_goto(&block.terminal),
         None => false,
     }

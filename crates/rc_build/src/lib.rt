@@ -21,6 +21,7 @@ mod jumps;
 mod lists;
 mod loops;
 mod nesting;
+mod places;
 mod reactive_function;
 mod rows;
 mod short_arms;

@@ -17,6 +17,7 @@ ghost use Rattle.rc_build.specs.inside.CanBuild.{CanBuildTerminal};
 ghost use Rattle.rc_build.specs.inside.Built.{Builds, BuildsTask, Refused};
 
 use crate::builder::{Builder, Site, label_at, let_go, malformed, put_terminal};
+use crate::places::place_of;
 use crate::unreachable::ends_unreachable;
 use crate::values::Showing;
 use rc_hir::{Fault, Rule, Terminal};
@@ -295,9 +296,10 @@ impl<'g> Builder<'g> {
             || (kinds.is_while_kind terminal.now.kind
             && ends_unreachable self.now.hir.now terminal.now.fallthrough))) }
     {
-        self.frames.is_jump_target(terminal.fallthrough)
+        let place = place_of(&self.hir.body.blocks, Some(terminal.fallthrough));
+        self.frames.is_jump_target_at(terminal.fallthrough, place)
             || self.frames.is_jump_target(terminal.start())
-            || terminal.is_while() && ends_unreachable(self.hir, terminal.fallthrough)
+            || terminal.is_while() && ends_unreachable(self.hir, terminal.fallthrough, place)
     }
 }
 

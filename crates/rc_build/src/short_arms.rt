@@ -99,7 +99,7 @@ impl<'g> Builder<'g> {
             (HasNoArm self.old.hir.now self.old.env.now handler next key self.old.marks.used) result }
     {
         let hir = self.hir;
-        let found = block_with_id(hir, key)?;
+        let found = block_with_id(hir, key, self.next_place())?;
         self.check_silent_rows(arm, key, found.block.instructions.as_slice())?;
         if let Some(throw) = may_throw(&found.block.terminal) {
             if !is_current(throw.handler, handler) {
@@ -126,21 +126,21 @@ impl<'g> Builder<'g> {
     {
         for place in before..self.marks.used.len() {
             if let Some(key) = self.marks.used.get(place).copied() {
-                self.check_arm_block(arm, key)?;
+                self.check_arm_block(arm, key, place)?;
             }
         }
         Ok(())
     }
 
-    /// Refuses a value's block at the arm, if a silent arm can't have it. `Malformed` with `LoudArm`: a row of it isn't
-    /// silent, or it ends in a value terminal.
-    fn check_arm_block(&self, arm: BlockId, key: BlockId) -> Result<(), Fault>
+    /// Refuses a value's block at the arm, which may be at that place, if a silent arm can't have it. `Malformed` with
+    /// `LoudArm`: a row of it isn't silent, or it ends in a value terminal.
+    fn check_arm_block(&self, arm: BlockId, key: BlockId, place: usize) -> Result<(), Fault>
         requires { CanCheckBlock self.now.hir.now arm key }
         ensures ok { OnOk result (IsArmBlock self.now.hir.now self.now.env.now key) }
         ensures refused { IfRefused result (IsArmBlock self.now.hir.now self.now.env.now key → ⊥) }
         ensures facts { IfErr result (FaultFact self.now.hir.now) }
     {
-        let found = block_with_id(self.hir, key)?;
+        let found = block_with_id(self.hir, key, place)?;
         self.check_silent_rows(arm, key, found.block.instructions.as_slice())?;
         if value_terminal(&found.block.terminal).is_some() {
             return Err(malformed(arm, Rule::LoudArm));

@@ -17,6 +17,7 @@ ghost use Rattle.rc_build.specs.inside.ValueEnds as spec;
 use crate::blocks::{block_with_id, find_block};
 use crate::builder::{Builder, malformed};
 use crate::handlers::{MayThrow, is_current, may_throw};
+use crate::places::block_from;
 use crate::value_rows::{after_rows, last_answer, last_value, load, row_with_id, sequence_rows};
 use crate::values::BuiltValue;
 use rc_hir::{BasicBlock, Fault, Place, Rule, Terminal};
@@ -57,11 +58,12 @@ impl<'g> Builder<'g> {
             BuildsValue self.old self.new site key context any_end result }
     {
         let hir = self.hir;
-        let found = block_with_id(hir, key)?;
+        let place = self.next_place();
+        let found = block_with_id(hir, key, place)?;
         if !is_current(throw.handler, handler) {
             return Err(malformed(key, Rule::Handler));
         }
-        let behind = block_with_id(hir, throw.continuation)?;
+        let behind = block_with_id(hir, throw.continuation, place.saturating_add(1))?;
         let Some((last, front)) = found.block.instructions.as_slice().split_last() else {
             return Err(malformed(key, Rule::EmptyValue));
         };
@@ -81,7 +83,7 @@ impl<'g> Builder<'g> {
     fn throw_at(&self, key: BlockId) -> Option<MayThrow>
         ensures { result ≡ throw_at self.now.hir.now key }
     {
-        match self.hir.body.blocks.get(key) {
+        match block_from(&self.hir.body.blocks, key, self.next_place()) {
             Some(block) => may_throw(&block.terminal),
             None => None,
         }
@@ -99,7 +101,7 @@ impl<'g> Builder<'g> {
             BuildsValue self.old self.new site key context any_end result }
     {
         let hir = self.hir;
-        let found = find_block(hir, key)?;
+        let found = find_block(hir, key, self.next_place())?;
         check_end(key, &found.block.terminal)?;
         let built = self.end_value(key, found.block)?;
         self.mark_block(key, found)?;

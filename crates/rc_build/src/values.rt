@@ -33,6 +33,7 @@ use crate::builder::{Builder, Site, malformed};
 use crate::flatten::flattened;
 use crate::handlers::{MayThrow, is_current, is_empty_goto, may_throw};
 use crate::nesting::{ROW_LEVEL, VALUE_LEVEL, left_inside};
+use crate::places::block_from;
 use crate::short_arms::ShortArm;
 use crate::value_rows::{after_rows, sequence_rows};
 use crate::value_terminals::{NestedValue, ValueTerminal, value_terminal};
@@ -292,7 +293,7 @@ impl<'g> Builder<'g> {
             self.old.marks.used) result }
     {
         let hir = self.hir;
-        let found = find_block(hir, key)?;
+        let found = find_block(hir, key, self.next_place())?;
         let mut rows = sequence_rows(self.alloc, hir, key, found.block.instructions.as_slice())?;
         if terminal.id.0 == 0 {
             return Err(malformed(key, Rule::UnsetId));
@@ -332,7 +333,7 @@ impl<'g> Builder<'g> {
             (spec.HasNoValue self.old.hir.now self.old.env.now key context spec.any_end self.old.marks.used) result }
     {
         let hir = self.hir;
-        let found = block_with_id(hir, key)?;
+        let found = block_with_id(hir, key, self.next_place())?;
         let rows = sequence_rows(self.alloc, hir, key, found.block.instructions.as_slice())?;
         if !is_current(throw.handler, handler) {
             return Err(malformed(key, Rule::Handler));
@@ -376,8 +377,9 @@ impl<'g> Builder<'g> {
     fn step_at(&self, key: BlockId) -> Option<Step>
         ensures { result ≡ steps.step_at self.now.hir.now key }
     {
-        match self.hir.body.blocks.get(key) {
-            Some(block) => step_behind(self.hir, &block.terminal),
+        let place = self.next_place();
+        match block_from(&self.hir.body.blocks, key, place) {
+            Some(block) => step_behind(self.hir, &block.terminal, place.saturating_add(1)),
             None => None,
         }
     }
@@ -482,15 +484,15 @@ fn put_row(
 }
 
 /// How a value goes on after a block with the terminal, if that isn't the value's last one. A block that may throw
-/// counts as the last one if only a `Goto` comes after it.
-fn step_behind(hir: &HirFunction, terminal: &Terminal) -> Option<Step>
+/// counts as the last one if only a `Goto` comes after it, which may be in a block at that place.
+fn step_behind(hir: &HirFunction, terminal: &Terminal, place: usize) -> Option<Step>
     ensures { result ≡ steps.step_behind hir.now terminal.now }
 {
     if let Some(terminal) = value_terminal(terminal) {
         return Some(Step::Nested { terminal });
     }
     match may_throw(terminal) {
-        Some(throw) => if is_empty_goto(hir, throw.continuation) {
+        Some(throw) => if is_empty_goto(hir, throw.continuation, place) {
             None
         } else {
             Some(Step::Throws { throw })

@@ -5,7 +5,7 @@ ghost use Rattle.rc_names.specs.Numbers.{BlockId};
 ghost use Rattle.rc_build.specs.inside.LiveBlocks as spec;
 ghost use Rattle.rc_runs.specs.Frames.{break_block, continue_block, is_block, is_jump_target};
 
-use crate::frames::places::{FramePlaces, place_of, position_from};
+use crate::places::{FramePlaces, place_of, position_from};
 use rc_hir::BasicBlock;
 use rc_names::{BitRow, BlockId, Keyed};
 use rc_runs::Frame;

@@ -6,7 +6,7 @@ use Rattle.std.proofs.lemmas.Map.Entries.{length-keys_of}
 use Rattle.rc_names.specs.Numbers.{same_id}
 use Rattle.rc_names.proofs.NumbersLemmas.{same_id-eq}
 use Rattle.rc_build.proofs.PositionLemmas.{position_is}
-use Rattle.rc_build.proofs.frames.places.position_from.Goals as goal
+use Rattle.rc_build.proofs.places.position_from.Goals as goal
 
 pub returns : goal.returns
 returns c =

@@ -1,7 +1,8 @@
-//! Where blocks are in the graph, kept to save look-ups.
+//! Where blocks are in the graph, kept or guessed to save look-ups.
 
 ghost use Rattle.std.specs.Prelude.{◌≡◌, ℕ, Some, position};
-ghost use Rattle.std.specs.Map.{keys_of};
+ghost use Rattle.std.specs.Map.{keys_of, lookup};
+ghost use Rattle.std.specs.Option.{option_copied};
 ghost use Rattle.rc_names.specs.Numbers.{BlockId, same_id};
 
 use rc_hir::BasicBlock;
@@ -30,6 +31,20 @@ pub fn position_from(
         return blocks.position(key);
     }
     Some(place)
+}
+
+/// The block under a key, if there is one, without a look-up where it is at that place.
+pub fn block_from(
+    blocks: &Keyed<BlockId, BasicBlock>,
+    key: BlockId,
+    place: usize,
+) -> Option<&BasicBlock>
+    ensures { option_copied result ≡ lookup (same_id key) blocks.now }
+{
+    match position_from(blocks, key, place) {
+        Some(place) => Some(&blocks.values()[place]),
+        None => None,
+    }
 }
 
 /// The place of a block, if one is given.
