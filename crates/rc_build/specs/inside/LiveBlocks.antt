@@ -6,12 +6,12 @@ use Rattle.rc_runs.specs.declared.frames.Frame.{Frame}
 use Rattle.rc_runs.specs.Frames.{is_jump_target}
 use Rattle.rc_build.specs.declared.frames.live_blocks.LiveBlocks.{LiveBlocks}
 
--- there is a bit for each of these blocks, at its position, which is what is told of the block
+-- at the position of each of these blocks there is a bit, which is what is told of the block
 abbrev pub TellBlocks : {X : Type 0} → List (BlockId × X) → List Bool → (BlockId → Bool) → Type 0
 TellBlocks blocks bits told = (key : BlockId) (place : ℕ) → position (same_id key) (keys_of blocks) ≡ Some place →
     slice_get bits place ≡ Some (told key)
 
--- the live blocks are those of which that is told
+-- the bits are what is told of the blocks of the graph
 abbrev pub TellLive : LiveBlocks → (BlockId → Bool) → Type 0
 TellLive live told = TellBlocks live.blocks.now live.bits told
 
