@@ -159,35 +159,17 @@ module _ {V : Type 0} (d : DeclarationId) where
     go true g r = cc
     go false g r = ap (λ w. e ∷ w) (r g)
 
-  -- the same by putting: a value where there was none, and the changed value where one was there before
-  pub or_put : (empty : V) (f : V → V) (old new : List (DeclarationId × V)) → None ≡ lookup (same_id d) old
-      → new ≡ insert_entry same_id old d (f empty) → new ≡ at_name_or empty d f old
-  or_put empty f old new none put =
-      let absent = found_none d old none in
-      put ∙ insert_absent d (f empty) old absent ∙ sym (or_absent empty f old absent)
+  -- the same as they are found: an entry that was changed, and one that was put in where none was changed
+  pub or_changed : (empty : V) (f : V → V) (old new : List (DeclarationId × V)) → new ≡ at_name d f old
+      → list_any (same_id d) (keys_of old) ≡ true → new ≡ at_name_or empty d f old
+  or_changed empty f old new is there = is ∙ sym (or_there empty f old there)
 
-  pub or_changed : (empty : V) (f : V → V) (x v w : V) (old between new : List (DeclarationId × V))
-      → Some v ≡ lookup (same_id d) old → between ≡ insert_entry same_id old d x → w ≡ f v
-      → new ≡ insert_entry same_id between d w → new ≡ at_name_or empty d f old
-  or_changed empty f x v w old between new found once is twice =
-      twice ∙ ap (λ es. insert_entry same_id es d w) once ∙ again old found
-    where
-      again : (es : List (DeclarationId × V)) → Some v ≡ lookup (same_id d) es
-          → insert_entry same_id (insert_entry same_id es d x) d w ≡ at_name_or empty d f es
-      again [] h = cc
-      again (e ∷ es) h = go (same_id d e.0) refl h (again es) where
-        go : (b : Bool) → same_id d e.0 ≡ b → Some v ≡ cond b (Some e.1) (lookup (same_id d) es)
-            → (Some v ≡ lookup (same_id d) es
-            → insert_entry same_id (insert_entry same_id es d x) d w ≡ at_name_or empty d f es)
-            → insert_entry same_id (cond b ((e.0, x) ∷ es) (e ∷ insert_entry same_id es d x)) d w
-            ≡ cond b ((e.0, f e.1) ∷ es) (e ∷ at_name_or empty d f es)
-        go true there h r =
-            let one : v ≡ e.1 = cc in
-            ap (λ b. cond b ((e.0, w) ∷ es) ((e.0, x) ∷ insert_entry same_id es d w)) there
-            ∙ ap (λ y. (e.0, y) ∷ es) (is ∙ ap f one)
-        go false apart h r =
-            ap (λ b. cond b ((e.0, w) ∷ insert_entry same_id es d x)
-            (e ∷ insert_entry same_id (insert_entry same_id es d x) d w)) apart ∙ ap (λ y. e ∷ y) (r h)
+  pub or_put : (empty : V) (f : V → V) (old between new : List (DeclarationId × V)) → between ≡ at_name d f old
+      → list_any (same_id d) (keys_of old) ≡ false → new ≡ insert_entry same_id between d (f empty)
+      → new ≡ at_name_or empty d f old
+  or_put empty f old between new is none put =
+      put ∙ ap (λ w. insert_entry same_id w d (f empty)) (is ∙ at_absent d f old none)
+      ∙ insert_absent d (f empty) old none ∙ sym (or_absent empty f old none)
 
 -- entries that are seen as others, name by name
 module _ {V W : Type 0} (see : DeclarationId → V → W) where

@@ -71,9 +71,28 @@ fn grow(node: &mut RowNode, target: RowTarget) -> Result<(), AllocError>
     put_scope_if(&mut node.scopes, target.scope)
 }
 
-/// Returns a node that has only what a row tells of it. Fails only when out of memory.
-fn first_node(alloc: Global, target: RowTarget) -> Result<RowNode, AllocError>
-    ensures { IfOk result (λ node. node ≡ with_target target empty_row_node) }
+/// Adds a target to the node of its name, and returns whether there is one. Fails only when out of memory.
+fn grow_node(nodes: &mut Nodes, name: DeclarationId, target: RowTarget) -> Result<bool, AllocError>
+    ensures nodes { IfOk result (λ found. nodes.new ≡ at_name name (with_target target) nodes.old) }
+    ensures found { IfOk result (λ found. found ≡ is_among (keys_of nodes.old) name) }
+{
+    match nodes.get_mut(name) {
+        Some(node) => {
+            grow(node, target)?;
+            Ok(true)
+        }
+        None => Ok(false),
+    }
+}
+
+/// Puts a node that has only what a row tells of it. Fails only when out of memory.
+fn put_node(
+    nodes: &mut Nodes,
+    alloc: Global,
+    name: DeclarationId,
+    target: RowTarget,
+) -> Result<(), AllocError>
+    ensures { OnOk result (nodes.new ≡ insert_entry same_id nodes.old name (with_target target empty_row_node)) }
 {
     let mut node = RowNode {
         level: MemoizationLevel::Never,
@@ -81,13 +100,12 @@ fn first_node(alloc: Global, target: RowTarget) -> Result<RowNode, AllocError>
         scopes: KeySet::new(alloc),
     };
     grow(&mut node, target)?;
-    Ok(node)
+    nodes.insert(name, node)?;
+    Ok(())
 }
 
 /// Adds a target; a name without a node gets one. Fails only when out of memory.
-///
-/// Most targets are new names, so the node is put first, and grows from the one before where there is one.
-#[tactic(auto, using(crate::proofs::EntryLemmas::or_put))]
+#[tactic(auto, using(crate::proofs::EntryLemmas::or_changed, crate::proofs::EntryLemmas::or_put))]
 pub fn put_target(
     nodes: &mut Nodes,
     alloc: Global,
@@ -96,12 +114,10 @@ pub fn put_target(
 ) -> Result<(), AllocError>
     ensures { OnOk result (nodes.new ≡ at_name_or empty_row_node name (with_target target) nodes.old) }
 {
-    let Some(mut node) = nodes.insert(name, first_node(alloc, target)?)? else {
+    if grow_node(nodes, name, target)? {
         return Ok(());
-    };
-    grow(&mut node, target)?;
-    nodes.insert(name, node)?;
-    Ok(())
+    }
+    put_node(nodes, alloc, name, target)
 }
 
 /// Puts a scope into the node of a name, and returns whether there is one. Fails only when out of memory.
@@ -129,7 +145,7 @@ fn note_missing(missing: &mut Option<DeclarationId>, name: DeclarationId)
 
 /// The methods that return a `Result` fail only when out of memory.
 impl HeldNodes {
-    /// Holds no fact, and has room for that many names and rows.
+    /// Holds no fact, and has room for so many names and rows.
     pub fn with_capacity(alloc: Global, n: usize) -> Result<HeldNodes, AllocError>
         ensures { IfOk result (λ held. HoldsFacts [] held) }
     {
