@@ -58,6 +58,26 @@ module _ (env : Environment) where
       → Tells env (a ++ b) old new
   tells_next a b old mid new first second = tells_joined old mid new a b (a ++ b) refl first second
 
+  -- whatever room there is for levels before and after
+  pub tells_with_room : (events : List MemoEvent) (old new : Recording) (before after : List LevelGiven)
+      → Tells env events (record old { levels = before }) new → Tells env events old (record new { levels = after })
+  unfolding Tells Knows
+  tells_with_room events old new before after told params earlier h =
+      let is = told params earlier (record {
+        facts = h.facts;
+        definitions = h.definitions;
+        escaping = h.escaping;
+        scopes = h.scopes;
+        known = h.known;
+      }) in
+      record {
+        facts = is.facts;
+        definitions = is.definitions;
+        escaping = is.escaping;
+        scopes = is.scopes;
+        known = is.known;
+      }
+
   -- an event that is no load and by which no name escapes
   tells_plain : (event : MemoEvent) (old new : Recording) → loads_in event ≡ [] → escaping_in event ≡ []
       → (Knows env old → Adds env (event_facts (resolved old.definitions) event) (scopes_in event) old new)

@@ -145,7 +145,7 @@ fn note_missing(missing: &mut Option<DeclarationId>, name: DeclarationId)
 
 /// The methods that return a `Result` fail only when out of memory.
 impl HeldNodes {
-    /// Holds no fact, and has room for so many names and rows.
+    /// Holds no fact, and has room for that many names and rows.
     pub fn with_capacity(alloc: Global, n: usize) -> Result<HeldNodes, AllocError>
         ensures { IfOk result (λ held. HoldsFacts [] held) }
     {

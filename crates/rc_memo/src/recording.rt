@@ -35,6 +35,8 @@ pub struct Recording {
     pub escaping: DeclSet,
     /// Where the names of a function's context are among the operands of rows.
     pub known: Keyed<FunctionId, usize>,
+    /// Room for the levels of a row, which the next row uses again.
+    pub levels: List<LevelGiven>,
 }
 
 /// Returns the name that a name stands for.
@@ -60,6 +62,7 @@ impl<'a> RowReader<'a> {
             definitions: Keyed::with_capacity(self.alloc, names)?,
             escaping: KeySet::new(self.alloc),
             known: Keyed::new(self.alloc),
+            levels: List::new(self.alloc),
         })
     }
 

@@ -9,7 +9,7 @@ ghost use Rattle.rc_memo.specs.inside.Recording.{AddsPlaces, AddsRows, AddsWalke
 use crate::MemoizationLevel;
 use crate::reader::RowReader;
 use crate::recording::Recording;
-use crate::table::{memo_rule, push_levels, push_own, recorded};
+use crate::table::{LevelGiven, memo_rule, push_levels, push_own, recorded};
 use rc_hir::{
     Fault, InstructionValue, InstructionValue as Kind, Place, PlaceOrSpread, Places,
     borrowed_operands,
@@ -152,7 +152,8 @@ impl<'a> RowReader<'a> {
     {
         let all = self.places_read(value)?;
         let line = memo_rule(value);
-        let mut levels = List::new(self.alloc);
+        let mut levels = recording.levels.take();
+        clear(&mut levels);
         push_levels(&mut levels, self.env, value, line, target, &all)?;
         self.record_row(
             recording,
@@ -160,7 +161,9 @@ impl<'a> RowReader<'a> {
             self.function_named(value),
             recorded(self.env, &line, &all),
             &levels,
-        )
+        )?;
+        recording.levels = levels;
+        Ok(())
     }
 
     /// Adds a row whose value is one instruction.
@@ -374,6 +377,13 @@ impl<'a> RowReader<'a> {
         }
         Ok(())
     }
+}
+
+/// Empties a list, which keeps its room.
+fn clear(levels: &mut List<LevelGiven>)
+    ensures { levels.new ≡ [] }
+{
+    while let Some(_) = levels.pop() {}
 }
 
 /// Adds places to a list. Fails only when out of memory.
