@@ -66,7 +66,7 @@ fn graph_answer(
                 note_nesting(alloc, note, &doc.hir.body, stack);
                 return Err(Stop::NoMemory);
             }
-            note_fault(alloc, note, &fault);
+            note_fault(alloc, note, &fault, doc);
             Ok(Answer {
                 text: fault_line(alloc, &fault)?,
                 status: Status::Refused,

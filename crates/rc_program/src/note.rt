@@ -2,10 +2,11 @@
 //! finds no memory is left out.
 
 use crate::nesting::nesting;
-use crate::printing::fault_sentence;
+use rc_doc::Doc;
 use rc_hir::{Fault, Hir};
 use rc_misread::misread_words;
 use rc_names::Text;
+use rc_sentences::fault_sentence;
 use serde_json::Value;
 use std::alloc::{AllocError, Global};
 
@@ -26,9 +27,9 @@ pub fn note_no_doc(alloc: Global, note: &mut Note, value: &Value) {
     }
 }
 
-/// Notes why a graph is refused.
-pub fn note_fault(alloc: Global, note: &mut Note, fault: &Fault) {
-    if let Ok(text) = fault_sentence(alloc, fault) {
+/// Notes why the graph of a document is refused.
+pub fn note_fault(alloc: Global, note: &mut Note, fault: &Fault, doc: &Doc) {
+    if let Ok(text) = fault_sentence(alloc, fault, &doc.hir, &doc.env) {
         *note = Some(text);
     }
 }
