@@ -25,10 +25,10 @@ pub enum Step {
 
 /// A part of a value that isn't read as it is asked, and the step to it.
 #[derive(Drop)]
-struct Part<'a> {
-    step: Step,
-    asked: Asked,
-    value: &'a Value,
+pub(crate) struct Part<'a> {
+    pub step: Step,
+    pub asked: Asked,
+    pub value: &'a Value,
 }
 
 /// A part of a value that isn't read as it is asked, while each of its own parts is.
@@ -86,7 +86,7 @@ fn misread_part(alloc: Global, asked: Asked, value: &Value) -> Result<Option<Par
 }
 
 /// The form of the items of what is asked, if it has items.
-fn item_form(asked: Asked) -> Option<Form>
+pub(crate) fn item_form(asked: Asked) -> Option<Form>
     ensures { result ≡ item_form asked }
 {
     if asked.is_list {
@@ -120,7 +120,7 @@ fn misread_field<'a>(
 }
 
 /// The value of a field, where it counts as there.
-fn part_at<'a>(field: &Field, value: &'a Value) -> Option<&'a Value>
+pub(crate) fn part_at<'a>(field: &Field, value: &'a Value) -> Option<&'a Value>
     ensures { option_map (λ part. view part.now) result ≡ part_at (row_of field.now) (view value.now) }
 {
     match value.get(field.0) {
@@ -150,7 +150,7 @@ fn misread_item<'a>(
 }
 
 /// The part that this step leads to, if it is there and isn't read as it is asked.
-fn if_misread<'a>(
+pub(crate) fn if_misread<'a>(
     alloc: Global,
     step: Step,
     asked: Asked,

@@ -5,6 +5,7 @@ mod answer;
 mod command;
 mod command_line;
 mod device;
+mod json_mistake;
 mod load;
 mod memory;
 mod nesting;

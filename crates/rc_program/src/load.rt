@@ -28,6 +28,10 @@ const BUFFER_BYTES: usize = 4096;
 /// whole run; leaving that of a larger document would raise the most memory that any document needs.
 const LEFT_BYTES: usize = 4_194_304;
 
+/// The largest document, in bytes, whose bytes stay until it is read, so that lines and columns can be told of what is
+/// misread. Most memory is taken by larger ones.
+const KEPT_BYTES: usize = 1_048_576;
+
 /// Returns the document of a command: the one that the source gives, or one that is made without it. Stops as `load`
 /// does, or when out of memory.
 pub fn document_of<S: Source>(
@@ -89,7 +93,8 @@ fn document(alloc: Global, mut bytes: Vec<u8>, note: &mut Note) -> Result<Doc, S
     // The room for bytes has doubled on the way, and most memory is taken while their value is made.
     bytes.shrink_to_fit();
     let is_left = bytes.len() <= LEFT_BYTES;
-    let value = parse(alloc, bytes, note)?;
+    let value = parse(alloc, bytes.as_slice(), note)?;
+    let text = if_kept(bytes);
     match read_doc(alloc, &value)? {
         Some(doc) => {
             if is_left {
@@ -98,22 +103,31 @@ fn document(alloc: Global, mut bytes: Vec<u8>, note: &mut Note) -> Result<Doc, S
             Ok(doc)
         }
         None => {
-            note_no_doc(alloc, note, &value);
+            note_no_doc(alloc, note, &value, &text);
             Err(Stop::NotDoc)
         }
     }
 }
 
+/// The bytes, unless there are many.
+fn if_kept(bytes: Vec<u8>) -> Option<Vec<u8>> {
+    if bytes.len() <= KEPT_BYTES {
+        Some(bytes)
+    } else {
+        None
+    }
+}
+
 /// The value whose JSON the bytes are.
-fn parse(alloc: Global, bytes: Vec<u8>, note: &mut Note) -> Result<Value, Stop>
-    requires { length bytes.items ≤ most_bytes }
-    ensures { MatchResult result (λ value. IsJson bytes.items (view value)) (IsStopFor bytes.items) }
+fn parse(alloc: Global, bytes: &[u8], note: &mut Note) -> Result<Value, Stop>
+    requires { length bytes.now ≤ most_bytes }
+    ensures { MatchResult result (λ value. IsJson bytes.now (view value)) (IsStopFor bytes.now) }
 {
-    match Value::from_slice(alloc, bytes.as_slice()) {
+    match Value::from_slice(alloc, bytes) {
         Ok(value) => Ok(value),
         Err(error) if error.is_memory() => Err(Stop::NoMemory),
         Err(error) => {
-            note_no_json(alloc, note, &error);
+            note_no_json(alloc, note, bytes, &error);
             Err(Stop::NotJson)
         }
     }

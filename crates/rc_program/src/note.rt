@@ -1,6 +1,7 @@
 //! What standard error says beyond the status: where bytes are no document, or why a graph is refused. A note that
 //! finds no memory is left out.
 
+use crate::json_mistake::json_mistake;
 use crate::nesting::nesting;
 use rc_doc::Doc;
 use rc_hir::{Fault, Hir};
@@ -13,16 +14,16 @@ use std::alloc::{AllocError, Global};
 /// A note, if there is one.
 pub type Note = Option<Text>;
 
-/// Notes the line and the column at which bytes are no JSON, and what is wrong there.
-pub fn note_no_json(alloc: Global, note: &mut Note, error: &serde_json::Error) {
-    if let Ok(text) = error_text(alloc, error) {
+/// Notes why bytes aren't read as JSON, and the line and the column.
+pub fn note_no_json(alloc: Global, note: &mut Note, bytes: &[u8], error: &serde_json::Error) {
+    if let Ok(text) = json_mistake(alloc, bytes, error) {
         *note = Some(text);
     }
 }
 
-/// Notes the part of a value that isn't read, and what was expected.
-pub fn note_no_doc(alloc: Global, note: &mut Note, value: &Value) {
-    if let Ok(words) = misread_words(alloc, value) {
+/// Notes the parts of a value that aren't read, what was expected, and where they are in the text, if that is still there.
+pub fn note_no_doc(alloc: Global, note: &mut Note, value: &Value, text: &Option<Vec<u8>>) {
+    if let Ok(words) = misread_words(alloc, value, text.as_ref().map(Vec::as_slice)) {
         *note = words;
     }
 }
@@ -48,9 +49,4 @@ fn nesting_text(alloc: Global, graph: &Hir, stack: usize) -> Result<Text, AllocE
         "the blocks of the graph nest {levels} levels deep, and nesting may take {room} KiB of the stack; `ulimit -s` raises it"
     )?;
     Ok(Text::from(text))
-}
-
-/// The text of an error of the JSON library.
-fn error_text(alloc: Global, error: &serde_json::Error) -> Result<Text, AllocError> {
-    Ok(Text::from(format!(in alloc; "{error}")?))
 }

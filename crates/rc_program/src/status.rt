@@ -61,7 +61,7 @@ impl Status {
         match self {
             Status::Done => None,
             Status::Usage => Some(USAGE),
-            Status::NotJson => Some("standard input is not JSON"),
+            Status::NotJson => Some("standard input can't be read as JSON"),
             Status::NotDoc => Some("standard input is no document"),
             Status::Refused => Some("the document's graph is refused"),
             Status::ReadFault => Some("reading standard input failed"),
