@@ -29,7 +29,7 @@ def many_identifiers():
 
 
 def levels(depth=500):
-    """`If`s in one another: block N is that of level N, and 2 * depth - N the block behind it."""
+    """`If`s in one another: block N is that of level N, and 2 * depth - N the block after it."""
     blocks, lines, ends = [], [], []
     for level in range(depth):
         behind, number, indent = 2 * depth - level, level + 1, "  " + "    " * level
