@@ -11,16 +11,18 @@ TOP = os.path.dirname(os.path.dirname(os.path.abspath(__file__)))
 # A function as far as its clauses or its body, and the head of a trait or of a type's own methods.
 FUNCTION = re.compile(r"(pub )?(?:final )?fn (\w+.*?)(?=\n\s*(?:requires|ensures)\W|\n\s*where\b|\s*[{;])", re.DOTALL)
 HOLDER = re.compile(r"^(?:pub )?(?:(trait) |impl(?:<[^{]*?>)? )(\w+)(?![^{]* for )[^{]*\{", re.MULTILINE)
+# A text or a character, which may be a brace.
+TEXT = re.compile(r"""b?"(?:\\.|[^"\\])*"|b?'(?:\\.|[^'\\])'""")
 
 
 def sources(place):
-    """The texts of a file or of the files below a folder, without comments."""
+    """The texts of a file or of the files below a folder, without comments and without what texts and characters are."""
     files = [place] if os.path.isfile(place) else [
         f"{folder}/{name}" for folder, _, names in os.walk(place) for name in sorted(names) if name.endswith(".rt")
     ]
     for path in files:
         with open(path) as file:
-            yield re.sub(r"//[^\n]*", "", file.read())
+            yield TEXT.sub('""', re.sub(r"//[^\n]*", "", file.read()))
 
 
 def one_line(function):
