@@ -1,47 +1,14 @@
 -- What is added to a set of positions, by one move, by several, and by those of several positions.
-use Rattle.std.proofs.Common.{◌≡◌, ◌∙◌, ◌⊎◌, ◌++◌, ℕ, Bool, true, false, List, [], ◌∷◌, Option, Some, refl, sym, ap, subst}
-use Rattle.std.proofs.Common.{inl, inr, length, min, nat_eq, if◌then◌else◌, append-nil, append_assoc}
+use Rattle.std.proofs.Common.{◌≡◌, ◌∙◌, ◌⊎◌, ◌++◌, ℕ, true, false, List, [], ◌∷◌, Option, refl, sym, ap, subst}
+use Rattle.std.proofs.Common.{inl, inr, min, append-nil, append_assoc}
 use Rattle.std.specs.Prelude.{Err, Ok, OnOk, Result}
-use Rattle.std.proofs.lemmas.Option.{same_Some}
-use Rattle.indexmap.specs.IndexSet.{insert_key}
 use Rattle.rc_hir.specs.Model.{InstructionValue, Place}
 use Rattle.rc_replay.specs.declared.positions.Position.{Position as LaidPosition}
 use Rattle.rc_replay.specs.inside.Closing.{Adds, IsNextOf, has}
 use Rattle.rc_replay.specs.inside.Paths.{Leads, LeadsWithin, ShowsWithin, Steps, chooses, computes, fails, goes_on, holds, passes, throws}
-use Rattle.rc_replay.specs.inside.Positions.{Attempts, Choice, Chooses, Computes, IsChoice, Passes, Position, Tests, first, later, table_of}
+use Rattle.rc_replay.specs.inside.Positions.{Attempts, Choice, Chooses, Computes, IsChoice, Passes, Position, Tests, first, later}
 use Rattle.rc_replay.proofs.SetLemmas.{has_either, has_left, has_one, has_right, one_has}
 use Rattle.rc_runs.specs.Event.{Arm, Chose, Did, Event, Threw}
-
-module _ (property : ℕ → Type 0) (old : List ℕ) where
-  pub adds_nothing : ((at : ℕ) → property at → ⊥) → Adds property old old
-  adds_nothing none = record {
-    more = [];
-    grown = sym (append-nil old);
-    only = λ at h. inl h;
-    all = λ at p. absurd (none at p);
-  }
-
-  -- one number is put where it isn't yet
-  pub adds_one : (to : ℕ) → ((at : ℕ) → property at → at ≡ to) → property to → Adds property old (insert_key nat_eq old to)
-  adds_one to alone this = by (has old to) refl
-    where
-      by : (there : Bool) → has old to ≡ there → Adds property old (if there then old else (old ++ to ∷ []))
-      by true is = record {
-        more = [];
-        grown = sym (append-nil old);
-        only = λ at h. inl h;
-        all = λ at p. subst (λ n. has old n ≡ true) (sym (alone at p)) is;
-      }
-      by false is = record {
-        more = to ∷ [];
-        grown = refl;
-        only = λ at h. only at (has_either old (to ∷ []) at h);
-        all = λ at p. subst (λ n. has (old ++ to ∷ []) n ≡ true) (sym (alone at p)) (has_right old (to ∷ []) to (one_has to));
-      }
-        where
-          only : (at : ℕ) → (has old at ≡ true) ⊎ (has (to ∷ []) at ≡ true) → (has old at ≡ true) ⊎ property at
-          only at (inl h) = inl h
-          only at (inr h) = inr (subst property (sym (has_one to at h)) this)
 
 module _ (first second both : ℕ → Type 0) (old mid new : List ℕ) where
   -- one addition after the other
@@ -86,34 +53,32 @@ pub shows_leads : {position : Position} {events wanted : List Event} {next : ℕ
 shows_leads {position} {next = next} last at leads shows =
     (next, subst (λ w. Leads position w next) shows.0 leads, shows.1)
 
--- a switch without choices leads nowhere
-pub adds_no_choice : (last : ℕ) (wanted : List Event) (old : List ℕ)
-    → Adds (LeadsWithin (Chooses []) last wanted) old old
-adds_no_choice last wanted old = adds_nothing (LeadsWithin (Chooses []) last wanted) old (λ at leads. none at leads)
-  where
-    none : {wanted : List Event} (at : ℕ) → LeadsWithin (Chooses []) last wanted at → ⊥
-    none at (next, chooses found, there) = elim found [ ]
-
 module _ (last : ℕ) (wanted : List Event) (old new : List ℕ) where
-  pub adds_passes : (next : ℕ) → Adds (ShowsWithin [] next last wanted) old new
-      → Adds (LeadsWithin (Passes next) last wanted) old new
-  adds_passes next = adds_as (λ at. shows_leads last at passes) (λ at. back at)
+  -- the moves of a position of each form, of which the last was added by a call that may have failed
+  pub passes_ok : {T E : Type 0} (result : Result T E) (next : ℕ) → OnOk result (Adds (ShowsWithin [] next last wanted) old new)
+      → OnOk result (Adds (LeadsWithin (Passes next) last wanted) old new)
+  passes_ok (Err error) next adds = adds
+  passes_ok (Ok done) next adds = adds_as (λ at. shows_leads last at passes) (λ at. back at) adds
     where
       back : {wanted : List Event} (at : ℕ) → LeadsWithin (Passes next) last wanted at → ShowsWithin [] next last wanted at
       back at (next, passes, there) = (refl, there)
 
-  pub adds_computes : (value : InstructionValue) (next : ℕ) → Adds (ShowsWithin (Did value ∷ []) next last wanted) old new
-      → Adds (LeadsWithin (Computes value next) last wanted) old new
-  adds_computes value next = adds_as (λ at. shows_leads last at computes) (λ at. back at)
+  pub computes_ok : {T E : Type 0} (result : Result T E) (value : InstructionValue) (next : ℕ)
+      → OnOk result (Adds (ShowsWithin (Did value ∷ []) next last wanted) old new)
+      → OnOk result (Adds (LeadsWithin (Computes value next) last wanted) old new)
+  computes_ok (Err error) value next adds = adds
+  computes_ok (Ok done) value next adds = adds_as (λ at. shows_leads last at computes) (λ at. back at) adds
     where
       back : {wanted : List Event} (at : ℕ) → LeadsWithin (Computes value next) last wanted at
           → ShowsWithin (Did value ∷ []) next last wanted at
       back at (next, computes, there) = (refl, there)
 
-  pub adds_tests : (mid : List ℕ) (when otherwise : ℕ) → Adds (ShowsWithin (Arm true ∷ []) when last wanted) old mid
-      → Adds (ShowsWithin (Arm false ∷ []) otherwise last wanted) mid new
-      → Adds (LeadsWithin (Tests when otherwise) last wanted) old new
-  adds_tests mid when otherwise one two = adds_both (ShowsWithin (Arm true ∷ []) when last wanted)
+  pub tests_ok : {T E : Type 0} (result : Result T E) (mid : List ℕ) (when otherwise : ℕ)
+      → Adds (ShowsWithin (Arm true ∷ []) when last wanted) old mid
+      → OnOk result (Adds (ShowsWithin (Arm false ∷ []) otherwise last wanted) mid new)
+      → OnOk result (Adds (LeadsWithin (Tests when otherwise) last wanted) old new)
+  tests_ok (Err error) mid when otherwise one two = two
+  tests_ok (Ok done) mid when otherwise one two = adds_both (ShowsWithin (Arm true ∷ []) when last wanted)
       (ShowsWithin (Arm false ∷ []) otherwise last wanted) (LeadsWithin (Tests when otherwise) last wanted) old mid new
       one two (λ at. shows_leads last at holds) (λ at. shows_leads last at fails) (λ at. either at)
     where
@@ -122,10 +87,12 @@ module _ (last : ℕ) (wanted : List Event) (old new : List ℕ) where
       either at (next, holds, there) = inl (refl, there)
       either at (next, fails, there) = inr (refl, there)
 
-  pub adds_attempts : (mid : List ℕ) (next handler : ℕ) → Adds (ShowsWithin [] next last wanted) old mid
-      → Adds (ShowsWithin (Threw ∷ []) handler last wanted) mid new
-      → Adds (LeadsWithin (Attempts next handler) last wanted) old new
-  adds_attempts mid next handler one two = adds_both (ShowsWithin [] next last wanted)
+  pub attempts_ok : {T E : Type 0} (result : Result T E) (mid : List ℕ) (next handler : ℕ)
+      → Adds (ShowsWithin [] next last wanted) old mid
+      → OnOk result (Adds (ShowsWithin (Threw ∷ []) handler last wanted) mid new)
+      → OnOk result (Adds (LeadsWithin (Attempts next handler) last wanted) old new)
+  attempts_ok (Err error) mid next handler one two = two
+  attempts_ok (Ok done) mid next handler one two = adds_both (ShowsWithin [] next last wanted)
       (ShowsWithin (Threw ∷ []) handler last wanted) (LeadsWithin (Attempts next handler) last wanted) old mid new
       one two (λ at. shows_leads last at goes_on) (λ at. shows_leads last at throws) (λ at. either at)
     where
@@ -134,30 +101,17 @@ module _ (last : ℕ) (wanted : List Event) (old new : List ℕ) where
       either at (to, goes_on, there) = inl (refl, there)
       either at (to, throws, there) = inr (refl, there)
 
-  pub passes_ok : {T E : Type 0} (result : Result T E) (next : ℕ) → OnOk result (Adds (ShowsWithin [] next last wanted) old new)
-      → OnOk result (Adds (LeadsWithin (Passes next) last wanted) old new)
-  passes_ok (Ok done) next adds = adds_passes next adds
-  passes_ok (Err error) next adds = adds
-
-  pub computes_ok : {T E : Type 0} (result : Result T E) (value : InstructionValue) (next : ℕ)
-      → OnOk result (Adds (ShowsWithin (Did value ∷ []) next last wanted) old new)
-      → OnOk result (Adds (LeadsWithin (Computes value next) last wanted) old new)
-  computes_ok (Ok done) value next adds = adds_computes value next adds
-  computes_ok (Err error) value next adds = adds
-
-  pub tests_ok : {T E : Type 0} (result : Result T E) (mid : List ℕ) (when otherwise : ℕ)
-      → Adds (ShowsWithin (Arm true ∷ []) when last wanted) old mid
-      → OnOk result (Adds (ShowsWithin (Arm false ∷ []) otherwise last wanted) mid new)
-      → OnOk result (Adds (LeadsWithin (Tests when otherwise) last wanted) old new)
-  tests_ok (Ok done) mid when otherwise one two = adds_tests mid when otherwise one two
-  tests_ok (Err error) mid when otherwise one two = two
-
-  pub attempts_ok : {T E : Type 0} (result : Result T E) (mid : List ℕ) (next handler : ℕ)
-      → Adds (ShowsWithin [] next last wanted) old mid
-      → OnOk result (Adds (ShowsWithin (Threw ∷ []) handler last wanted) mid new)
-      → OnOk result (Adds (LeadsWithin (Attempts next handler) last wanted) old new)
-  attempts_ok (Ok done) mid next handler one two = adds_attempts mid next handler one two
-  attempts_ok (Err error) mid next handler one two = two
+  -- a switch without choices leads nowhere
+  pub adds_no_choice : Adds (LeadsWithin (Chooses []) last wanted) old old
+  adds_no_choice = record {
+    more = [];
+    grown = sym (append-nil old);
+    only = λ at there. inl there;
+    all = λ at leads. absurd (none at leads);
+  }
+    where
+      none : {wanted : List Event} (at : ℕ) → LeadsWithin (Chooses []) last wanted at → ⊥
+      none at (next, chooses found, there) = elim found [ ]
 
   -- one more choice
   pub adds_choice : (mid : List ℕ) (choices : List Choice) (choice : Choice)
@@ -206,13 +160,7 @@ module _ (last : ℕ) (wanted : List Event) (old new : List ℕ) where
       either at (next, chooses found, there) = split at there (choice_either choices found)
 
 module _ (table : List LaidPosition) (wanted : List Event) (old new : List ℕ) where
-  -- the moves of the position with a number
-  pub adds_steps : (at : ℕ) (position : Position) → table_of table at ≡ Some position
-      → Adds (LeadsWithin position (length table) wanted) old new → Adds (Steps table at wanted) old new
-  adds_steps at position known = adds_as (λ to leads. record { position = position; known = known; leads = leads })
-      (λ to step. subst (λ p. LeadsWithin p (length table) wanted to) (same_Some step.position position (sym step.known ∙ known)) step.leads)
-
-  -- and those of one more position
+  -- the moves of one more position
   pub adds_next : (mid here : List ℕ) (at : ℕ) → Adds (IsNextOf table here wanted) old mid
       → Adds (Steps table at wanted) mid new → Adds (IsNextOf table (here ++ at ∷ []) wanted) old new
   adds_next mid here at one two = adds_both (IsNextOf table here wanted) (Steps table at wanted)

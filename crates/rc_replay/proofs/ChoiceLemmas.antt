@@ -1,6 +1,6 @@
 -- The choices of a switch's position are the edges from the switch.
 use Rattle.std.proofs.Common.{◌≡◌, ◌∙◌, ◌++◌, ℕ, Bool, true, false, List, [], ◌∷◌, Option, None, Some, refl, sym, ap, subst}
-use Rattle.std.proofs.Common.{append-nil, map, if◌then◌else◌}
+use Rattle.std.proofs.Common.{map, if◌then◌else◌}
 use Rattle.std.specs.List.{list_any}
 use Rattle.std.specs.Option.{option_to_list}
 use Rattle.rc_names.specs.Numbers.{BlockId}
@@ -75,14 +75,3 @@ module _ (hir : HirFunction) where
   pub choice_edge : (cases : List Case) (fallthrough : BlockId) {test : Option Place} {next : ℕ}
       → IsChoice (all_choices hir cases fallthrough) test next → ChoiceEdge cases fallthrough test next
   choice_edge cases fallthrough choice = edge_from cases fallthrough cases (λ case found. found) choice
-
-  -- the choices of a switch with a default, and of one without
-  pub all_with_default : (cases : List Case) (fallthrough : BlockId) → list_any is_default cases ≡ true
-      → all_choices hir cases fallthrough ≡ case_choices hir cases
-  all_with_default cases fallthrough is = ap (λ b. case_choices hir cases ++ map (λ key. (None, number_of hir key))
-      (option_to_list (if b then None else Some fallthrough))) is ∙ append-nil (case_choices hir cases)
-
-  pub all_without_default : (cases : List Case) (fallthrough : BlockId) → list_any is_default cases ≡ false
-      → all_choices hir cases fallthrough ≡ case_choices hir cases ++ (None, number_of hir fallthrough) ∷ []
-  all_without_default cases fallthrough is = ap (λ b. case_choices hir cases ++ map (λ key. (None, number_of hir key))
-      (option_to_list (if b then None else Some fallthrough))) is

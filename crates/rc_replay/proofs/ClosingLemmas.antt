@@ -5,9 +5,9 @@ use Rattle.std.specs.List.{IsDistinct}
 use Rattle.std.proofs.lemmas.List.{length-append, take-append-le, take_all, take_more}
 use Rattle.std.proofs.lemmas.Map.Steps.{length-le_from_distinct_below}
 use Rattle.rc_replay.specs.declared.positions.Position.{Position}
-use Rattle.rc_replay.specs.inside.Closing.{has, Adds, AreWithin, IsNextOf, MayEndAmong, Begins, Closing, Closes, Following}
+use Rattle.rc_replay.specs.inside.Closing.{has, Adds, IsNextOf, MayEndAmong, Begins, Closing, Closes, Following}
 use Rattle.rc_replay.specs.inside.Paths.{Path, ends, goes, Steps}
-use Rattle.rc_replay.proofs.SetLemmas.{has_at, has_either, has_left, has_none, has_one, one_has}
+use Rattle.rc_replay.proofs.SetLemmas.{has_at, has_either, has_left, has_none, has_one}
 use Rattle.rc_replay.proofs.PathLemmas.{Ahead, ended, went, ahead}
 use Rattle.rc_runs.specs.Event.{Event, End}
 
@@ -18,15 +18,6 @@ kept_by property old new adds at h = ap (λ l. has l at) adds.grown ∙ has_left
 module _ (table : List Position) where
   step_within : {at to : ℕ} {events : List Event} → Steps table at events to → to ≤ length table
   step_within step = omega (arith, step.leads.2)
-
-  pub closing_start : (old : List ℕ) → AreWithin table old → Closing table old old 0
-  closing_start old within = record {
-    kept = λ at h. h;
-    within = within;
-    back = λ events end leads. leads;
-    led = λ at to h step. has_none at h;
-    bound = omega arith;
-  }
 
   pub closing_next : (old here new : List ℕ) (looked at : ℕ) → looked < length here → at ≡ get_or here looked 0
       → Closing table old here looked → Adds (Steps table at []) here new → Closing table old new (looked + 1)
@@ -76,13 +67,6 @@ module _ (table : List Position) where
   }
 
   module _ (start : ℕ) (all : List Event) (end : End) where
-    pub following_start : start ≤ length table → Following table start all (start ∷ []) all end
-    following_start inside = record {
-      within = λ at h. subst (λ n. n ≤ length table) (sym (has_one start at h)) inside;
-      forth = λ path. record { at = start; among = one_has start; path = path };
-      back = λ leads. subst (λ n. Path table n all end) (has_one start leads.at leads.among) leads.path;
-    }
-
     module _ (here closed : List ℕ) (closes : Closes table here closed) where
       pub following_next : (next : List ℕ) (event : Event) (rest : List Event)
           → Following table start all here (event ∷ rest) end → Adds (IsNextOf table closed (event ∷ [])) [] next

@@ -9,8 +9,9 @@ use Rattle.rc_names.specs.Numbers.{BlockId, InstructionId, same_id}
 use Rattle.rc_hir.specs.Model.{BasicBlock, Environment, HirFunction, Instruction, Terminal}
 use Rattle.rc_replay.specs.declared.positions.Position.{Position as LaidPosition}
 use Rattle.rc_replay.specs.declared.positions.Position.TheVariants as laid
-use Rattle.rc_replay.specs.inside.GraphTable.{AreEntries, AreLaid, HasFrom, IsEntry, IsGraphTable, IsGrown, IsLaidOut, at_row, at_terminal, no_entry, number_of, one_entry, row_position, row_start, terminal_position}
-use Rattle.rc_replay.specs.inside.Positions.{Passes, Position, Stops, Table, position_of, table_of}
+use Rattle.rc_replay.specs.inside.GraphTable.{AreEntries, AreLaid, HasFrom, IsEntry, IsGraphTable, IsGrown, IsLaidOut}
+use Rattle.rc_replay.specs.inside.GraphTable.{at_row, at_terminal, no_entry, number_of, one_entry, row_position, row_start, terminal_position}
+use Rattle.rc_replay.specs.inside.Positions.{Position, Stops, Table, position_of, table_of}
 use Rattle.rc_runs.specs.Graph.{block_at, rows_of, with_rows}
 
 -- what follows a list is found after it
@@ -92,13 +93,8 @@ missing_row instructions (number ∷ numbers) (suc i) none =
     by None rest is = refl
     by (Some row) rest is = ap (option_map (λ rows. row ∷ rows)) is
 
-module _ (hir : HirFunction) (env : Environment) (block : BasicBlock) (old new : List LaidPosition) where
-  pub laid_block : (next : ℕ) → AreLaid hir env block.terminal old new block.instructions next
-      → IsLaidOut hir env new (Passes next) block
-  laid_block next laid table has = subst (λ o. IsEntry hir env table
-      (option_map (λ rows. record { rows = rows; terminal = block.terminal }) o) (Passes next)) (sym laid.known)
-      (next, refl, laid.begin table has)
-
+module _ (hir : HirFunction) (env : Environment) (block : BasicBlock) (new : List LaidPosition) where
+  -- a block with such a number leads no further
   pub laid_nowhere : (number : InstructionId) (numbers : List InstructionId) (i : ℕ)
       → drop i block.instructions ≡ number ∷ numbers → slice_get hir.instructions number.0 ≡ None
       → IsLaidOut hir env new Stops block

@@ -1,8 +1,8 @@
 //! Replay of a run of a graph.
 //!
 //! The table begins with a position for each block, in graph order, and one for all numbers that are no key. They are
-//! followed by those of the blocks' rows and terminals, laid out from the last one of a block to its first, so that each
-//! is told where it goes on.
+//! followed by those of the blocks' rows and terminals, laid out from the last one of a block to its first, so that
+//! each is told where it goes on.
 
 ghost use Rattle.std.specs.Prelude.{◌≡◌, ◌↔◌, IsTrue, IfErr, IfOk, OnOk};
 ghost use Rattle.std.specs.List.{list_any};
@@ -21,11 +21,11 @@ use rc_hir::{BasicBlock, Case, Environment, Fault, HirFunction, Instruction, Ter
 use rc_names::{BlockId, List, Name};
 use std::alloc::{AllocError, Global};
 
-/// Returns whether the run is one of the graph: whether its events are those of rows and edges on a way from the entry,
-/// and the way ends as the run does.
+/// Returns whether the run is one of the graph: whether its events are those of rows and edges on a way from the
+/// entry, and the way ends as the run does.
 ///
-/// A run with an open end may stop anywhere. A block number that is no key, or whose block has a row that is none of the
-/// function's, leads no further. The only fault is `NoMemory`.
+/// A run with an open end may stop anywhere. A block number that is no key, or whose block has a row that is none of
+/// the function's, leads no further. The only fault is `NoMemory`.
 pub fn replay_graph(
     alloc: Global,
     hir: &HirFunction,
@@ -154,8 +154,8 @@ fn terminal_position<'g>(
     }
 }
 
-/// Returns the choices of a switch: those of its cases, and the way past all of them, if none is the default. Fails only
-/// when out of memory.
+/// Returns the choices of a switch: those of its cases, and the way past all of them, if none is the default. Fails
+/// only when out of memory.
 fn all_choices(
     alloc: Global,
     hir: &HirFunction,

@@ -1,7 +1,7 @@
 //! Replay of one given run: whether a list of events with an end is a run of a graph, or of a body.
 //!
-//! Both are laid out as a table of positions with moves, some of which have an event. A run is replayed by following its
-//! events through the table, from all positions at once that the events so far lead to.
+//! Both are laid out as a table of positions with moves, some of which have an event. A run is replayed by following
+//! its events through the table, from all positions at once that the events so far lead to.
 #![tactic(auto)]
 
 mod given;

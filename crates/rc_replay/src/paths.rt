@@ -1,7 +1,7 @@
 //! Whether a path through a table of positions has the events of a given run.
 //!
-//! The positions that the events so far lead to are closed under moves without an event, and the next event then leads on
-//! from them. Each is looked at once for each event, so cycles of moves without an event do no harm.
+//! The positions that the events so far lead to are closed under moves without an event, and the next event then leads
+//! on from them. Each is looked at once for each event, so cycles of moves without an event do no harm.
 
 ghost use Rattle.std.specs.Prelude.{◌≡◌, ◌↔◌, ◌∷◌, [], IsTrue, IfOk, OnOk};
 ghost use Rattle.rc_replay.specs.GivenRun.{event_of, events_of, end_of, run_end};
@@ -15,8 +15,8 @@ use indexmap::IndexSet;
 use rc_names::List;
 use std::alloc::{AllocError, Global};
 
-/// Returns whether a run from the position with this number on has the given events and the given end. A number without a
-/// position leads no further. Fails only when out of memory.
+/// Returns whether a run from the position with this number on has the given events and the given end. A number
+/// without a position leads no further. Fails only when out of memory.
 pub(crate) fn follows(
     alloc: Global,
     table: &List<Position<'_>>,
@@ -84,7 +84,8 @@ fn add_next(
     }
 }
 
-/// Adds the positions to which the moves lead that show this. Fails only when out of memory.
+/// Adds the positions to which the moves lead that show this. All numbers from `last` on count as that one. Fails
+/// only when out of memory.
 fn add_moves(
     position: &Position<'_>,
     last: usize,
@@ -110,7 +111,8 @@ fn add_moves(
     }
 }
 
-/// Adds the positions where a switch goes on, if its choices show this. Fails only when out of memory.
+/// Adds the positions to which the choices of a switch lead that show this, as for all moves. Fails only when out of
+/// memory.
 fn add_choices(
     choices: &[Choice],
     last: usize,
@@ -126,7 +128,7 @@ fn add_choices(
     Ok(())
 }
 
-/// Adds the position to which a move leads, if the move shows this. Fails only when out of memory.
+/// Adds the position to which a move leads, if the move shows this, as for all moves. Fails only when out of memory.
 fn add_move(
     shown: Shown<'_>,
     to: usize,

@@ -13,8 +13,8 @@ use rc_names::List;
 /// A choice of a switch: a test, and the number of the position where the run goes on.
 pub(crate) type Choice = (Option<Place>, usize);
 
-/// What a run does at a position, with the numbers of the positions where it goes on. A value is that of the graph or of
-/// the tree.
+/// What a run does at a position, with the numbers of the positions where it goes on. A value is that of the graph or
+/// of the tree.
 #[derive(Drop)]
 pub(crate) enum Position<'t> {
     /// The run goes on without an event.

@@ -34,7 +34,7 @@ returns-in_default-clause-entry c =
     c.index.ensures.value ∙ ap (λ l. (get_or l at (to_id 0)).0) c.as_slice-numbers.ensures in
     let none : slice_get hir.instructions number.0 ≡ None = ap (slice_get hir.instructions) (sym index)
     ∙ sym c.get.ensures ∙ ap option_copied c.in_default.is in
-    laid_nowhere hir c.args.env.now c.args.block.now c.args.rows.now c.loop-i.rows number (drop (at + 1) numbers) at
+    laid_nowhere hir c.args.env.now c.args.block.now c.loop-i.rows number (drop (at + 1) numbers) at
     (drop_more numbers at (to_id 0) inside) none
 
 pub loop-i-preserved : goal.loop-i-preserved

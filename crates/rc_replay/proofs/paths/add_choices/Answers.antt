@@ -8,6 +8,7 @@ use Rattle.rc_replay.proofs.paths.add_choices.Goals as goal
 
 pub loop-test-init : goal.loop-test-init
 loop-test-init c = adds_no_choice c.args.last (shown c.args.wanted) c.args.next.now.keys
+    c.args.next.now.keys
 
 pub loop-test-preserved : goal.loop-test-preserved
 loop-test-preserved c =
