@@ -1,0 +1,5 @@
+//! Runs that are replayed.
+
+mod build;
+mod graphs;
+mod runs;
