@@ -5,3 +5,13 @@ mod ClosingLemmas
 mod ChoiceLemmas
 mod GraphTableLemmas
 mod GraphReplay
+mod FollowsSize
+mod ExitsLemmas
+mod ValueToPositions
+mod PositionsToValue
+mod BodyToPositions
+mod BodyStops
+mod PartLeads
+mod PositionsToLoop
+mod PositionsToBody
+mod BodyRuns

@@ -3,3 +3,6 @@ pub mod Positions
 pub mod Paths
 pub mod Closing
 pub mod GraphTable
+pub mod Exits
+pub mod LoweredValue
+pub mod Lowered
