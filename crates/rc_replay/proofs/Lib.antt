@@ -15,3 +15,14 @@ mod PartLeads
 mod PositionsToLoop
 mod PositionsToBody
 mod BodyRuns
+pub mod LayoutLemmas
+pub mod ValueLays
+pub mod RowsLays
+pub mod LabelExitLemmas
+mod EarlyReturnLemmas
+mod StatementLays
+mod PartLays
+pub mod LoopLays
+mod CasesLays
+mod LoopStatementLays
+mod BlockLays

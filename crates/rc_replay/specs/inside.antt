@@ -6,3 +6,8 @@ pub mod GraphTable
 pub mod Exits
 pub mod LoweredValue
 pub mod Lowered
+pub mod Layout
+pub mod RowOfTest
+pub mod EarlyReturn
+pub mod LaidExits
+pub mod LaidBody

@@ -4,8 +4,12 @@
 //! its events through the table, from all positions at once that the events so far lead to.
 #![tactic(auto)]
 
+mod body_values;
+mod early_returns;
+mod exits;
 mod given;
 mod graph;
+mod layout;
 mod paths;
 mod positions;
 mod silent;

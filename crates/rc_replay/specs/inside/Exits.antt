@@ -3,13 +3,8 @@ use Rattle.std.specs.Prelude.{ℕ, Bool, true, false, List, [], ◌∷◌, Optio
 use Rattle.rc_names.specs.Numbers.{BlockId, same_id}
 use Rattle.rc_tree.specs.Model.{ReactiveLabel}
 use Rattle.rc_runs.specs.Event.{End, Thrown}
+use Rattle.rc_replay.specs.declared.exits.LabelExit.{LabelExit}
 use Rattle.rc_runs.specs.Completion.{Completion, Normal, BreakTo, BreakInnermost, ContinueTo, ContinueLoop, Ended}
-
--- a label around a statement: where a break to it leads, and a continue, if it is the label of a loop
-pub record LabelExit : Type 0 where
-  pub block : BlockId
-  pub break_to : ℕ
-  pub continue_to : Option ℕ
 
 -- where a statement goes on, and where its jumps lead. The labels are those around it, innermost first. A throw
 -- statement in a protected block doesn't end the run.

@@ -1,0 +1,6 @@
+use Rattle.std.proofs.Common.{◌≡◌, reverse, take}
+use Rattle.rc_replay.specs.inside.Exits.{continue_exit}
+use Rattle.rc_replay.proofs.exits.continue_label.Given as goal
+
+abbrev pub invariant-loop-label : goal.invariant-loop-label
+invariant-loop-label l = l.found ≡ continue_exit (reverse (take l.label-index l.labels)) l.target
