@@ -1,7 +1,8 @@
-//! Replay of one given run: whether a list of events with an end is a run of a graph, or of a body.
+//! Replay of one given run: whether a list of events with an end is a run of a graph.
 //!
-//! Both are laid out as a table of positions with moves, some of which have an event. A run is replayed by following
-//! its events through the table, from all positions at once that the events so far lead to.
+//! The graph is laid out as a table of positions with moves, some of which have an event. A run is replayed by following
+//! its events through the table, from all positions at once that the events so far lead to. The values of a body can be
+//! laid out in the same way; its statements can't yet.
 #![tactic(auto)]
 
 mod body_values;
