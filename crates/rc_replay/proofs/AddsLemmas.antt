@@ -54,7 +54,7 @@ shows_leads {position} {next = next} last at leads shows =
     (next, subst (λ w. Leads position w next) shows.0 leads, shows.1)
 
 module _ (last : ℕ) (wanted : List Event) (old new : List ℕ) where
-  -- the moves of a position of each form, of which the last was added by a call that may have failed
+  -- the moves of a position of each form, where the call that added the last one may have failed
   pub passes_ok : {T E : Type 0} (result : Result T E) (next : ℕ) → OnOk result (Adds (ShowsWithin [] next last wanted) old new)
       → OnOk result (Adds (LeadsWithin (Passes next) last wanted) old new)
   passes_ok (Err error) next adds = adds

@@ -21,16 +21,16 @@ pub lays_statement : {env : Environment} {exits x : LaidExits} {stored : Option 
     → LaysList env (stored_in (out-ReactiveStatement statement)) exits rest a b next
     → LaysStatement env stored x statement b c start → LaysList env stored exits (statement ∷ rest) a c start
 unfolding returning_after
-lays_statement {env} {exits} {x} {stored} {statement} {next = next} {start} {a} {b} {c} p behind one =
+lays_statement {env} {exits} {x} {stored} {statement} {next = next} {start} {a} {b} {c} p following one =
     let own : LaysStatement env stored (laid_before next exits) statement b c start =
     subst (λ x. LaysStatement env stored x statement b c start) p one in
     let stores : stored_in (out-ReactiveStatement statement) ≡ stored_by own.plain =
     sym (ap (λ s. stored_in (out-ReactiveStatement s)) own.same) ∙ stored-plain own.plain in
     record {
-      plain = Cons own.plain behind.plain;
-      same = λ i. own.same i ∷ behind.same i;
+      plain = Cons own.plain following.plain;
+      same = λ i. own.same i ∷ following.same i;
       lays = lays_more (λ table h. one_statement (subst (λ st. LowersList table env (exits_of exits a.labels)
-          (returning_after env st behind.plain) next) stores h.0) (subst (λ labels. LowersStatement table env
+          (returning_after env st following.plain) next) stores h.0) (subst (λ labels. LowersStatement table env
           (exits_of (laid_before next exits) labels) (returning_statement env stored own.plain) start)
-          behind.lays.labels h.1)) (lays_both behind.lays own.lays);
+          following.lays.labels h.1)) (lays_both following.lays own.lays);
     }

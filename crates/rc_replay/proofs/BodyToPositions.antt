@@ -43,10 +43,10 @@ last_choice : (choices : List Choice) {test : Option Place} {next : ℕ} → IsC
 last_choice [] = first_choice
 last_choice (choice ∷ choices) = later_choice (last_choice choices)
 
-front_choice : {choices : List Choice} {test : Option Place} {next : ℕ} (behind : List Choice)
-    → IsChoice choices test next → IsChoice (choices ++ behind) test next
-front_choice behind first_choice = first_choice
-front_choice behind (later_choice among) = later_choice (front_choice behind among)
+front_choice : {choices : List Choice} {test : Option Place} {next : ℕ} (following : List Choice)
+    → IsChoice choices test next → IsChoice (choices ++ following) test next
+front_choice following first_choice = first_choice
+front_choice following (later_choice among) = later_choice (front_choice following among)
 
 kept_choice : {choices : List Choice} {test : Option Place} {next : ℕ} (defaults : Bool) (normal : ℕ)
     → IsChoice choices test next → IsChoice (all_choices defaults normal choices) test next

@@ -53,19 +53,19 @@ module _ {env : Environment} {label : Option ReactiveLabel} where
       (choices ++ ((out-ReactiveSwitchCase case).test, start) ∷ [])
       (is_none (out-ReactiveSwitchCase case).test || defaults)
   unfolding returning_cases
-  cases_step {rest} {x} {y} {next} {start} {b = b} {c} exits case p q behind inner =
+  cases_step {rest} {x} {y} {next} {start} {b = b} {c} exits case p q following inner =
       let form = out-ReactiveSwitchCase case in
       let own : LaysAlternate env (laid_before next (laid_switch exits)) (laid_around label exits) form.block b c start =
       subst (λ y. LaysAlternate env (laid_before next (laid_switch exits)) y form.block b c start) q
       (subst (λ x. LaysAlternate env x y form.block b c start) p inner) in
       record {
-        plain = Case form.test own.plain behind.plain;
-        same = (λ i. roll-ReactiveSwitchCase (record { test = form.test; block = own.same i }) ∷ behind.same i)
+        plain = Case form.test own.plain following.plain;
+        same = (λ i. roll-ReactiveSwitchCase (record { test = form.test; block = own.same i }) ∷ following.same i)
             ∙ ap (λ c. c ∷ rest) (roll-out-ReactiveSwitchCase case);
-        default = ap (λ d. is_none form.test || d) behind.default;
+        default = ap (λ d. is_none form.test || d) following.default;
         lays = lays_more (λ table h. lower.one_case h.0 (subst (λ labels. LowersAlternate table env
             (part_exits (laid_before next (laid_switch exits)) (laid_around label exits) labels)
-            (returning_alternate env own.plain) start) behind.lays.labels h.1)) (lays_both behind.lays own.lays);
+            (returning_alternate env own.plain) start) following.lays.labels h.1)) (lays_both following.lays own.lays);
       }
 
 module _ {env : Environment} {exits : LaidExits} {label : Option ReactiveLabel} where

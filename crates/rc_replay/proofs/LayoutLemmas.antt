@@ -7,13 +7,13 @@ use Rattle.rc_replay.specs.inside.Layout.{HasList, none_has, one_has, Lays, Has}
 use Rattle.rc_replay.specs.inside.Positions.{Table, position_of}
 
 -- a table that has joined lists has both
-has_both : {table : Table} (front behind : List LaidPosition) (start : ℕ) → HasList table start (front ++ behind)
-    → HasList table start front × HasList table (length front + start) behind
-has_both {table} [] behind start has =
-    (none_has, subst (λ n. HasList table n behind) (omega arith) has)
-has_both {table} (position ∷ front) behind start (one_has here rest) =
-    let parts = has_both front behind (start + 1) rest in
-    (one_has here parts.0, subst (λ n. HasList table n behind) (omega arith) parts.1)
+has_both : {table : Table} (front following : List LaidPosition) (start : ℕ) → HasList table start (front ++ following)
+    → HasList table start front × HasList table (length front + start) following
+has_both {table} [] following start has =
+    (none_has, subst (λ n. HasList table n following) (omega arith) has)
+has_both {table} (position ∷ front) following start (one_has here rest) =
+    let parts = has_both front following (start + 1) rest in
+    (one_has here parts.0, subst (λ n. HasList table n following) (omega arith) parts.1)
 
 -- what is laid out tells more
 pub lays_more : {old new : Layout} {F G : Table → Type 0} → ((table : Table) → F table → G table) → Lays old new F

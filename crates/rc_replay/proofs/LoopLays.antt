@@ -23,10 +23,10 @@ use Rattle.rc_replay.proofs.LayoutLemmas.{lays_more, lays_none, lays_both}
 use Rattle.rc_replay.proofs.ValueLays.{at_both}
 
 -- a list whose entry after the first part is set
-set_seam : {X : Type 0} (front behind : List X) (old new : X)
-    → slice_set (front ++ old ∷ behind) (length front) new ≡ front ++ new ∷ behind
-set_seam [] behind old new = refl
-set_seam (x ∷ front) behind old new = ap (λ v. x ∷ v) (set_seam front behind old new)
+set_seam : {X : Type 0} (front following : List X) (old new : X)
+    → slice_set (front ++ old ∷ following) (length front) new ≡ front ++ new ∷ following
+set_seam [] following old new = refl
+set_seam (x ∷ front) following old new = ap (λ v. x ∷ v) (set_seam front following old new)
 
 -- nothing is found past the end
 pub get_none : {X : Type 0} (xs : List X) (i : ℕ) → slice_get xs i ≡ None → length xs ≤ i

@@ -35,7 +35,7 @@ module _ (table : Table) where
       (events : List Event) (end : End) (run : FollowsAt table start events end) → size_at run < bound
       → Leads exits bound R events end
 
-  -- a statement with a position of its own, in front of which a run may stop
+  -- a statement with a position of its own, before which a run may stop
   pub data Starts (exits : Exits) (bound : ℕ) (R : Runs) (events : List Event) (end : End) : Type 0 where
     in_front : events ≡ [] → end ≡ Open → Starts exits bound R events end
     starts : Leads exits bound R events end → Starts exits bound R events end
@@ -58,11 +58,11 @@ module _ {table : Table} {bound : ℕ} where
   lead_events {exits} {R} {end = end} e d = subst (λ v. Leads table exits bound R v end) (sym e) d
 
   -- events come before those of the part
-  pub lead_behind : {exits : Exits} {R S : Runs} {events : List Event} {end : End} (front : List Event)
+  pub lead_after : {exits : Exits} {R S : Runs} {events : List Event} {end : End} (front : List Event)
       → ((events : List Event) (outcome : Completion) → R events outcome → S (front ++ events) outcome)
       → Leads table exits bound R events end → Leads table exits bound S (front ++ events) end
-  lead_behind {events = events} {end} front put (ends_here here can) = ends_here (put events (Ended end) here) can
-  lead_behind front put (leads {front = middle} {back} {outcome} here n run small e) =
+  lead_after {events = events} {end} front put (ends_here here can) = ends_here (put events (Ended end) here) can
+  lead_after front put (leads {front = middle} {back} {outcome} here n run small e) =
       leads (put middle outcome here) n run small (ap (λ v. front ++ v) e ∙ sym (append_assoc front middle back))
 
   -- the part is in a statement that makes `whole` of its completion
@@ -88,8 +88,8 @@ module _ {table : Table} {bound : ℕ} where
       → T (first ++ second) outcome)
       → Led table exits next bound S → Leads table (before next exits) bound R events end
       → Leads table exits bound T events end
-  then_lead out on behind (ends_here here can) = ends_here (out _ _ here refl) can
-  then_lead {exits} {next} {R} {S} {T} {events} {end} out on behind
+  then_lead out on following (ends_here here can) = ends_here (out _ _ here refl) can
+  then_lead {exits} {next} {R} {S} {T} {events} {end} out on following
       (leads {front = front} {back} {outcome} here n run small e) =
       by (by_leaves outcome)
     where
@@ -97,7 +97,7 @@ module _ {table : Table} {bound : ℕ} where
       by (inl normal) =
           let to = from_equal (ap (exit (before next exits)) normal) run small in
           lead_events e
-          (lead_behind front (λ events outcome after. on _ _ _ (subst (R front) normal here) after)
-          (behind _ _ to.0 to.1))
+          (lead_after front (λ events outcome after. on _ _ _ (subst (R front) normal here) after)
+          (following _ _ to.0 to.1))
       by (inr l) =
           let to = from_equal (before-leads exits next outcome l) run small in leads (out _ _ here l) n to.0 to.1 e

@@ -59,7 +59,7 @@ follows_move paths.goes_on rest = positions.goes_on rest
 follows_move paths.throws rest = positions.throws rest
 
 module _ (table : List LaidPosition) where
-  -- a number with a position stands for itself
+  -- a number with a position is itself
   has_place : (number : ℕ) (position : Position) → table_of table number ≡ Some position → number < length table
   has_place number position known = by (slice_get table number) refl known
     where

@@ -31,7 +31,7 @@ use Rattle.rc_replay.proofs.ExitsLemmas.{caught-over, caught-catches, caught_unl
 use Rattle.rc_replay.proofs.ExitsLemmas.{protected-leads, in_switch-leads}
 use Rattle.rc_replay.proofs.PositionsToValue.{Crosses, stays, passes, shortens, value_crossed, row_crossed}
 use Rattle.rc_replay.proofs.PartLeads.{Leads, ends_here, leads, Led, Starts, in_front, starts, Below, more_room}
-use Rattle.rc_replay.proofs.PartLeads.{lead_events, lead_behind, lead_out, then_lead}
+use Rattle.rc_replay.proofs.PartLeads.{lead_events, lead_after, lead_out, then_lead}
 use Rattle.rc_replay.proofs.PositionsToLoop.{body_led, test_led, turn_led}
 
 -- a choice among those before the last one, or the last one
@@ -171,9 +171,9 @@ module _ {table : Table} {env : Environment} {bound : ℕ} {exits : Exits} where
       → Led table exits next bound (RunsCases env rest)
       → Led table (before next exits) start bound (RunsAlternate env block)
       → Led table exits start bound (RunsCases env (Case test block rest))
-  case_leads behind here events end run small =
+  case_leads following here events end run small =
       then_lead (λ events outcome here l. body.leaves_case here l)
-      (λ first second outcome here after. body.falls_into here after refl) behind (here _ _ run small)
+      (λ first second outcome here after. body.falls_into here after refl) following (here _ _ run small)
 
   -- a later case, or this one
   case_or_later : {test chosen : Option Place} {block : Alternate} {rest : Cases} {choices : List Choice}
@@ -184,11 +184,11 @@ module _ {table : Table} {env : Environment} {bound : ℕ} {exits : Exits} where
       → (run : FollowsAt table next events end) → size_at run < bound
       → Leads table exits bound (RunsChosen env chosen (Case test block rest)) events end
   case_or_later further here (inl front) run small =
-      lead_behind [] (λ events outcome after. body.chosen_later after) (further front _ _ run small)
+      lead_after [] (λ events outcome after. body.chosen_later after) (further front _ _ run small)
   case_or_later {test} {block = block} {rest} {events = events} {end} further here (inr last) run small =
       let to = from_equal last.1 run small in
       subst (λ chosen. Leads table exits bound (RunsChosen env chosen (Case test block rest)) events end) (sym last.0)
-      (lead_behind [] (λ events outcome after. body.chosen_here after) (here _ _ to.0 to.1))
+      (lead_after [] (λ events outcome after. body.chosen_here after) (here _ _ to.0 to.1))
 
   -- a protected block
   try_leads : {block handler : Statements} {binding : Option Place} {id : EvaluationOrder}
@@ -213,29 +213,29 @@ module _ {table : Table} {env : Environment} {bound : ℕ} {exits : Exits} where
       events z) (sym e) (ends_here (body.in_init here) refl)
   init_leads turns (passes {front = front} here run small e) =
       lead_events e
-      (lead_behind front (λ events outcome after. body.past_init here refl after refl) (turns _ _ run small))
+      (lead_after front (λ events outcome after. body.past_init here refl after refl) (turns _ _ run small))
   init_leads turns (shortens {front = front} here run small e) =
       lead_events e
-      (lead_behind front (λ events outcome after. body.past_init here refl after refl) (turns _ _ run small))
+      (lead_after front (λ events outcome after. body.past_init here refl after refl) (turns _ _ run small))
 
   -- a statement, and those after it
   after_statement : {statement : Statement} {rest : Statements} {next : ℕ} {events : List Event} {end : End}
       → Led table exits next bound (RunsList env rest)
       → Leads table (before next exits) bound (RunsStatement env statement) events end
       → Leads table exits bound (RunsList env (Cons statement rest)) events end
-  after_statement behind here =
+  after_statement following here =
       then_lead (λ events outcome here l. body.and_then here (body.leaves_list l) (sym (append-nil events)))
-      (λ first second outcome here after. body.and_then here (body.goes_on after) refl) behind here
+      (λ first second outcome here after. body.and_then here (body.goes_on after) refl) following here
 
   from_start : {statement : Statement} {rest : Statements} {next : ℕ} {events : List Event} {end : End}
       → Led table exits next bound (RunsList env rest)
       → Starts table (before next exits) bound (RunsStatement env statement) events end
       → Leads table exits bound (RunsList env (Cons statement rest)) events end
-  from_start {statement} {rest} {end = end} behind (in_front e q) =
+  from_start {statement} {rest} {end = end} following (in_front e q) =
       subst (λ v. Leads table exits bound (RunsList env (Cons statement rest)) v end) (sym e)
       (subst (λ z. Leads table exits bound (RunsList env (Cons statement rest)) [] z) (sym q)
       (ends_here body.stopped refl))
-  from_start behind (starts here) = after_statement behind here
+  from_start following (starts here) = after_statement following here
 
 module _ {table : Table} {env : Environment} {bound : ℕ} where
   mutual
@@ -261,29 +261,29 @@ module _ {table : Table} {env : Environment} {bound : ℕ} where
     statement_starts below (lower.switches l found) run small =
         let at = entered found run small in switch_starts (chosen_leads below l) at.0 at.1
     statement_starts below (lower.while_loop k) run small =
-        starts (lead_behind [] (λ events outcome here. body.in_while here) (test_led below k (body_leads below k) _ _ run small))
+        starts (lead_after [] (λ events outcome here. body.in_while here) (test_led below k (body_leads below k) _ _ run small))
     statement_starts below (lower.do_while_loop k) run small =
-        starts (lead_behind [] (λ events outcome here. body.in_do_while here) (body_led below k (body_leads below k) _ _ run small))
+        starts (lead_after [] (λ events outcome here. body.in_do_while here) (body_led below k (body_leads below k) _ _ run small))
     statement_starts below (lower.for_loop k l) run small =
         starts (init_leads (test_led below k (body_leads below k)) (value_crossed l _ _ run small))
     statement_starts below (lower.for_of_loop k) run small =
-        starts (lead_behind [] (λ events outcome here. body.in_for_of here) (turn_led below k (body_leads below k) run (omega arith)))
+        starts (lead_after [] (λ events outcome here. body.in_for_of here) (turn_led below k (body_leads below k) run (omega arith)))
     statement_starts below (lower.for_in_loop k) run small =
-        starts (lead_behind [] (λ events outcome here. body.in_for_in here) (test_led below k (body_leads below k) _ _ run small))
+        starts (lead_after [] (λ events outcome here. body.in_for_in here) (test_led below k (body_leads below k) _ _ run small))
     statement_starts {exits} below (lower.label_statement {label = label} l) run small =
         starts (lead_out (caught-catches label) refl (labeled-leads exits label) []
         (λ events inner outer here e. body.in_label here e) (list_leads below l _ _ run small))
     statement_starts below (lower.try_statement l) run small = starts (try_leads (list_leads below l _ _ run small))
     statement_starts below (lower.scope_statement l) run small =
-        starts (lead_behind [] (λ events outcome here. body.in_scope here) (list_leads below l _ _ run small))
+        starts (lead_after [] (λ events outcome here. body.in_scope here) (list_leads below l _ _ run small))
     statement_starts below (lower.pruned_scope_statement l) run small =
-        starts (lead_behind [] (λ events outcome here. body.in_pruned_scope here) (list_leads below l _ _ run small))
+        starts (lead_after [] (λ events outcome here. body.in_pruned_scope here) (list_leads below l _ _ run small))
 
     alternate_leads : {exits : Exits} {alternate : Alternate} {start : ℕ} → Below table env bound
         → LowersAlternate table env exits alternate start → Led table exits start bound (RunsAlternate env alternate)
     alternate_leads below lower.absent events end run small = leads body.absent refl run small refl
     alternate_leads below (lower.present l) events end run small =
-        lead_behind [] (λ events outcome here. body.present here) (list_leads below l _ _ run small)
+        lead_after [] (λ events outcome here. body.present here) (list_leads below l _ _ run small)
 
     cases_lead : {exits : Exits} {cases : Cases} {start : ℕ} {choices : List Choice} → Below table env bound
         → LowersCases table env exits cases start choices → Led table exits start bound (RunsCases env cases)

@@ -20,7 +20,7 @@ use Rattle.rc_replay.proofs.FollowsSize.{size, size_at, entered, from_equal}
 use Rattle.rc_replay.proofs.ExitsLemmas.{caught_unlabeled-over, turn_leads, out_leads}
 use Rattle.rc_replay.proofs.PositionsToValue.{Crosses, stays, passes, shortens, Decides, stays_in_test, decides_true}
 use Rattle.rc_replay.proofs.PositionsToValue.{decides_false, decided, value_crossed}
-use Rattle.rc_replay.proofs.PartLeads.{Leads, ends_here, leads, Led, Below, lead_events, lead_behind}
+use Rattle.rc_replay.proofs.PartLeads.{Leads, ends_here, leads, Led, Below, lead_events, lead_after}
 
 module _ {table : Table} {env : Environment} {bound : ℕ} {exits : Exits} {label : Option ReactiveLabel}
     {parts : LoopParts} where
@@ -36,7 +36,7 @@ module _ {table : Table} {env : Environment} {bound : ℕ} {exits : Exits} {labe
           → events ≡ front ++ back → Leads table exits bound (RunsLoop env label parts AtBody) events end
       out {front = front} {outcome = outcome} true again here n run small e =
           let to = from_equal (turn_leads exits label turn outcome again) run small in
-          lead_events e (lead_behind front (λ events outcome after. next_turn here again after refl)
+          lead_events e (lead_after front (λ events outcome after. next_turn here again after refl)
           (below.turn lowered _ _ to.0 to.1))
       out {outcome = outcome} false left here n run small e =
           let to = from_equal (out_leads exits label turn outcome left) run small in
@@ -57,7 +57,7 @@ module _ {table : Table} {env : Environment} {bound : ℕ} {exits : Exits} {labe
       leads (test_fails here past refl) refl run small (e ∙ sym (append_assoc front (Arm false ∷ []) back))
   test_leads inner (decides_true {front = front} {back} here past run small e) =
       lead_events (e ∙ sym (append_assoc front (Arm true ∷ []) back))
-      (lead_behind (front ++ Arm true ∷ []) (λ events outcome after.
+      (lead_after (front ++ Arm true ∷ []) (λ events outcome after.
       test_holds here past after (append_assoc front (Arm true ∷ []) events)) (inner _ _ run small))
 
   -- from the start of a turn on, where nothing comes before the test
@@ -67,7 +67,7 @@ module _ {table : Table} {env : Environment} {bound : ℕ} {exits : Exits} {labe
   unfolding size
   nothing_leads e tested rests small = ends_here (nothing_before e (in_test value_stopped)) refl
   nothing_leads e tested (goes_on run) small =
-      lead_behind [] (λ events outcome after. nothing_before e after) (tested _ _ run (omega arith))
+      lead_after [] (λ events outcome after. nothing_before e after) (tested _ _ run (omega arith))
 
   -- past the value before the test
   past_value : {value : Value} {test : ℕ} {events : List Event} {end : End} → parts.before ≡ Some value
@@ -77,10 +77,10 @@ module _ {table : Table} {env : Environment} {bound : ℕ} {exits : Exits} {labe
       subst (λ z. Leads table exits bound (RunsLoop env label parts AtTurn) events z) (sym q) (ends_here (in_before e here) refl)
   past_value e tested (passes {front = front} here run small q) =
       lead_events q
-      (lead_behind front (λ events outcome after. past_before e here refl after refl) (tested _ _ run small))
+      (lead_after front (λ events outcome after. past_before e here refl after refl) (tested _ _ run small))
   past_value e tested (shortens {front = front} here run small q) =
       lead_events q
-      (lead_behind front (λ events outcome after. past_before e here refl after refl) (tested _ _ run small))
+      (lead_after front (λ events outcome after. past_before e here refl after refl) (tested _ _ run small))
 
   some_leads : {value : Value} {test start : ℕ} {events : List Event} {end : End} → parts.before ≡ Some value
       → LowersValue table env false value test test start → Led table exits test bound (RunsLoop env label parts AtTest)

@@ -73,13 +73,13 @@ module _ {table : Table} {bound : ℕ} where
   cross_events {done} {short} {R} {end = end} e d = subst (λ v. Crosses table done short bound R v end) (sym e) d
 
   -- events come before those of the part
-  cross_behind : {done short : ℕ} {R S : ValueRuns} {events : List Event} {end : End} (before : List Event)
+  cross_after : {done short : ℕ} {R S : ValueRuns} {events : List Event} {end : End} (before : List Event)
       → ((events : List Event) (progress : Progress) → R events progress → S (before ++ events) progress)
       → Crosses table done short bound R events end → Crosses table done short bound S (before ++ events) end
-  cross_behind {events = events} before put (stays here e) = stays (put events Inside here) e
-  cross_behind before put (passes {front = front} {back} here run small e) =
+  cross_after {events = events} before put (stays here e) = stays (put events Inside here) e
+  cross_after before put (passes {front = front} {back} here run small e) =
       passes (put front Done here) run small (ap (λ v. before ++ v) e ∙ sym (append_assoc before front back))
-  cross_behind before put (shortens {front = front} {back} here run small e) =
+  cross_after before put (shortens {front = front} {back} here run small e) =
       shortens (put front Short here) run small (ap (λ v. before ++ v) e ∙ sym (append_assoc before front back))
 
   -- the same for a part whose short end is the end of the whole
@@ -103,13 +103,13 @@ module _ {table : Table} {bound : ℕ} where
       → Crossed table next done short bound S
       → Crosses table next (if of_test then short else next) bound R events end
       → Crosses table done short bound T events end
-  rows_cross of_test behind within rest (stays here e) = stays (within _ _ here (inside_stays of_test)) e
-  rows_cross of_test behind within rest (passes {front = front} here run small e) =
-      cross_events e (cross_behind front (λ events progress after. behind _ _ _ _ here (done_goes_past of_test) after)
+  rows_cross of_test following within rest (stays here e) = stays (within _ _ here (inside_stays of_test)) e
+  rows_cross of_test following within rest (passes {front = front} here run small e) =
+      cross_events e (cross_after front (λ events progress after. following _ _ _ _ here (done_goes_past of_test) after)
       (rest _ _ run small))
-  rows_cross false behind within rest (shortens {front = front} here run small e) =
-      cross_events e (cross_behind front (λ events progress after. behind _ _ _ _ here refl after) (rest _ _ run small))
-  rows_cross true behind within rest (shortens here run small e) = shortens (within _ _ here refl) run small e
+  rows_cross false following within rest (shortens {front = front} here run small e) =
+      cross_events e (cross_after front (λ events progress after. following _ _ _ _ here refl after) (rest _ _ run small))
+  rows_cross true following within rest (shortens here run small e) = shortens (within _ _ here refl) run small e
 
 module _ {table : Table} {env : Environment} {bound : ℕ} where
   visible_crossed : {is_test : Bool} {value : InstructionValue} {done short : ℕ} {events : List Event} {end : End}
@@ -200,7 +200,7 @@ module _ {table : Table} {env : Environment} {bound : ℕ} where
     value_crossed (silent s) events end run small = passes (quiet_value s) run small refl
     value_crossed (visible s found) events end run small = let at = entered found run small in visible_crossed s at.0 at.1
     value_crossed (sequence l) events end run small =
-        cross_behind [] (λ events progress here. in_sequence here) (rows_crossed l _ _ run small)
+        cross_after [] (λ events progress here. in_sequence here) (rows_crossed l _ _ run small)
     value_crossed (conditional c a found l) events end run small =
         conditional_crosses (value_crossed c) (value_crossed a) (decided found (value_crossed l _ _ run small))
     value_crossed (logical r found l) events end run small =
@@ -214,7 +214,7 @@ module _ {table : Table} {env : Environment} {bound : ℕ} where
         → LowersRows table env is_test rows value done short start
         → Crossed table start done short bound (RunsRows env is_test rows value)
     rows_crossed (no_rows l) events end run small =
-        cross_behind [] (λ events progress here. past_rows here) (value_crossed l _ _ run small)
+        cross_after [] (λ events progress here. past_rows here) (value_crossed l _ _ run small)
     rows_crossed {is_test = is_test} (one_row {target = target} {own = own} {value = value} {rest = rest} l m) events
         end run small =
         rows_cross (is_row_of_test env is_test target own rest value) (λ first second row progress here past after.
@@ -226,4 +226,4 @@ module _ {table : Table} {env : Environment} {bound : ℕ} where
         → Crossed table start done short bound (RunsRow env is_test id value)
     row_crossed (unset u) events end run small = passes (unset_row u) run small refl
     row_crossed (set s l) events end run small =
-        cross_behind [] (λ events progress here. set_row s here) (value_crossed l _ _ run small)
+        cross_after [] (λ events progress here. set_row s here) (value_crossed l _ _ run small)

@@ -85,22 +85,22 @@ module _ {env : Environment} {is_test : Bool} {value : ReactiveValue} {after : A
       {a b c : Layout} (of_test : Bool) → of_test ≡ ends_test env is_test (is_last rest) row value
       → x ≡ after_row after next of_test → LaysRows env is_test rest value after a b next
       → LaysRow env false row x b c start → LaysRows env is_test (row ∷ rest) value after a c start
-  rows_step {row} {rest} {next = next} {start} {b = b} {c} of_test is p behind one =
+  rows_step {row} {rest} {next = next} {start} {b = b} {c} of_test is p following one =
       let own : LaysRow env false row (after_row after next of_test) b c start =
       subst (λ x. LaysRow env false row x b c start) p one in
-      let same : ends_test env is_test (is_last (instructions_of behind.rows_plain))
+      let same : ends_test env is_test (is_last (instructions_of following.rows_plain))
       (record { id = row.id; lvalue = row.lvalue; value = value_of own.plain; span = row.span })
-      (value_of behind.plain) ≡ ends_test env is_test (is_last rest) row value =
-      λ i. ends_test env is_test (is_last (behind.same_rows i))
-      (record { id = row.id; lvalue = row.lvalue; value = own.same i; span = row.span }) (behind.same i) in
-      let decided : of_test ≡ is_row_of_test env is_test row.lvalue own.plain behind.rows_plain behind.plain =
-      is ∙ sym same ∙ sym (row_of_test env is_test row.lvalue own.plain behind.rows_plain behind.plain) in
+      (value_of following.plain) ≡ ends_test env is_test (is_last rest) row value =
+      λ i. ends_test env is_test (is_last (following.same_rows i))
+      (record { id = row.id; lvalue = row.lvalue; value = own.same i; span = row.span }) (following.same i) in
+      let decided : of_test ≡ is_row_of_test env is_test row.lvalue own.plain following.rows_plain following.plain =
+      is ∙ sym same ∙ sym (row_of_test env is_test row.lvalue own.plain following.rows_plain following.plain) in
       record {
-        rows_plain = Row row.id row.lvalue own.plain row.span behind.rows_plain;
-        plain = behind.plain;
+        rows_plain = Row row.id row.lvalue own.plain row.span following.rows_plain;
+        plain = following.plain;
         same_rows = λ i. record { id = row.id; lvalue = row.lvalue; value = own.same i; span = row.span }
-            ∷ behind.same_rows i;
-        same = behind.same;
+            ∷ following.same_rows i;
+        same = following.same;
         lays = lays_more (λ table h. one_row h.0 (subst (λ t. LowersRow table env false row.id own.plain next
-            (if t then after.short else next) start) decided h.1)) (lays_both behind.lays own.lays);
+            (if t then after.short else next) start) decided h.1)) (lays_both following.lays own.lays);
       }

@@ -79,7 +79,7 @@ module _ {table : Table} where
   past_row short true Short p run = absurd (let bad : ⊥ = cc in bad)
   past_row short true Inside p run = absurd (let bad : ⊥ = cc in bad)
 
-  -- a row in which the run stays, or out of which it goes by the short end of its sequence
+  -- a row that the run stays in, or leaves by the short end of its sequence
   in_row : {done short next : ℕ} {events : List Event} {end : End} {row : Progress} (of_test : Bool)
       → goes_past_row of_test row ≡ false → AfterValue table done short row events end
       → AfterValue table next (if of_test then short else next) row events end

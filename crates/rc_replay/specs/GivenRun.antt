@@ -1,4 +1,4 @@
--- The run that a given list of events with its end stands for.
+-- The run that a given list of events with its end represents.
 use Rattle.std.specs.Prelude.{List, map}
 use Rattle.rc_replay.specs.declared.given.Event.{Event as GivenEvent}
 use Rattle.rc_replay.specs.declared.given.Event.TheVariants as given
@@ -7,7 +7,7 @@ use Rattle.rc_replay.specs.declared.given.End.TheVariants as ends
 use Rattle.rc_replay.specs.declared.given.GivenRun.{GivenRun}
 use Rattle.rc_runs.specs.Event.{Event, Did, Arm, Chose, Threw, End, Open, Returned, Thrown}
 
--- the event of runs that a given one stands for
+-- the event of runs that a given one represents
 abbrev pub event_of : GivenEvent → Event
 event_of (given.Did value) = Did value
 event_of (given.Arm taken) = Arm taken
@@ -18,7 +18,7 @@ event_of given.Threw = Threw
 abbrev pub events_of : GivenRun → List Event
 events_of run = map event_of run.events
 
--- the end of runs that a given one stands for
+-- the end of runs that a given one represents
 abbrev pub run_end : GivenEnd → End
 run_end ends.Open = Open
 run_end (ends.Returned place) = Returned place

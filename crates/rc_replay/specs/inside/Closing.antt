@@ -17,7 +17,7 @@ pub record Adds (property : ℕ → Type 0) (old new : List ℕ) : Type 0 where
   pub all : (at : ℕ) → property at → has new at ≡ true
 
 module _ (table : List Position) where
-  -- no number is above the one that stands for those without a position
+  -- no number is above the one that represents those without a position
   abbrev pub AreWithin : List ℕ → Type 0
   AreWithin here = (at : ℕ) → has here at ≡ true → at ≤ length table
 

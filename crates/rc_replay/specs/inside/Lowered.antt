@@ -101,7 +101,7 @@ module _ (table : Table) (env : Environment) where
       absent : {exits : Exits} → LowersAlternate exits Absent exits.normal
       present : {exits body start : _} → LowersList exits body start → LowersAlternate exits (Present body) start
 
-    -- the cases of a switch, each of which falls into the next one, and their choices
+    -- the cases of a switch, where each falls into the next one, and their choices
     pub data LowersCases : Exits → Cases → ℕ → List Choice → Type 0 where
       no_cases : {exits : Exits} → LowersCases exits NoCases exits.normal []
       one_case : {exits test body rest next start choices : _} → LowersCases exits rest next choices →

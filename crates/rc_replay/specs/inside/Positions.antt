@@ -32,7 +32,7 @@ pub data IsChoice : List Choice → Option Place → ℕ → Type 0 where
 abbrev pub Table : Type 0
 Table = ℕ → Option Position
 
--- the position that the program's own stands for
+-- the position that the program's own represents
 abbrev pub position_of : LaidPosition → Position
 position_of (laid.Passes next) = Passes next
 position_of (laid.Computes value next) = Computes value.now next
@@ -42,7 +42,7 @@ position_of (laid.Attempts next handler) = Attempts next handler
 position_of (laid.Ends end) = Ends (run_end end)
 position_of laid.Stops = Stops
 
--- the table that a list of the program's own positions stands for
+-- the table that a list of the program's own positions represents
 abbrev pub table_of : List LaidPosition → Table
 table_of positions number = option_map position_of (slice_get positions number)
 
