@@ -24,17 +24,18 @@ use Rattle.rc_replay.proofs.LayoutLemmas.{lays_more, lays_none, lays_both}
 
 module _ {env : Environment} where
   -- an optional block
-  pub alternate_absent : {exits : LaidExits} {around : Around} {a : Layout}
-      → LaysAlternate env exits around None a a exits.normal
+  pub alternate_absent : {exits : LaidExits} {around : Around} {given : Option ReactiveBlock} {a : Layout} → given ≡ None
+      → LaysAlternate env exits around given a a exits.normal
   unfolding returning_alternate
-  alternate_absent = record { plain = Absent; same = refl; lays = lays_none (λ table. lower.absent) }
+  alternate_absent is = record { plain = Absent; same = sym is; lays = lays_none (λ table. lower.absent) }
 
-  pub alternate_present : {exits : LaidExits} {around : Around} {block : ReactiveBlock} {start : ℕ} {a b : Layout}
-      → LaysPart env exits around block a b start → LaysAlternate env exits around (Some block) a b start
+  pub alternate_present : {exits : LaidExits} {around : Around} {given : Option ReactiveBlock} {block : ReactiveBlock}
+      {start : ℕ} {a b : Layout} → given ≡ Some block → LaysPart env exits around block a b start
+      → LaysAlternate env exits around given a b start
   unfolding returning_alternate
-  alternate_present l = record {
+  alternate_present is l = record {
     plain = Present l.plain;
-    same = λ i. Some (record { statements = l.same i });
+    same = (λ i. Some (record { statements = l.same i })) ∙ sym is;
     lays = lays_more (λ table h. lower.present h) l.lays;
   }
 

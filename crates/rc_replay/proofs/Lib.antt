@@ -26,3 +26,4 @@ pub mod LoopLays
 mod CasesLays
 mod LoopStatementLays
 mod BlockLays
+mod BodyReplay

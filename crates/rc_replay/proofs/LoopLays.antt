@@ -13,7 +13,7 @@ use Rattle.rc_replay.specs.declared.layout.After.{After}
 use Rattle.rc_replay.specs.declared.layout.Layout.{Layout}
 use Rattle.rc_replay.specs.declared.positions.Position.TheVariants as laid
 use Rattle.rc_replay.specs.inside.Exits.{in_loop}
-use Rattle.rc_replay.specs.inside.LaidBody.{LaysPart, LaysLoop}
+use Rattle.rc_replay.specs.inside.LaidBody.{BeginsBefore, LaysBefore, LaysPart, LaysLoop}
 use Rattle.rc_replay.specs.inside.LaidExits.{exits_of, laid_loop}
 use Rattle.rc_replay.specs.inside.Layout.{HasList, one_has, Lays, LaysValue, Has, Reserves, both}
 use Rattle.rc_replay.specs.inside.LoweredValue.{LowersValue}
@@ -59,18 +59,6 @@ lays_filled {a} {b} {c} {d} {turn} {next} {F} r l labels positions = record {
       ap table r.at ∙ here,
       l.laid table (subst (λ n. HasList table n l.added) start rest),
     )
-
--- the value before the test of a loop, or the test where there is none
-abbrev pub BeginsBefore : Environment → Table → Option Value → ℕ → ℕ → Type 0
-BeginsBefore env table None tested start = start ≡ tested
-BeginsBefore env table (Some value) tested start = LowersValue table env false value tested tested start
-
--- the value before the test is laid out, if there is one
-pub record LaysBefore (env : Environment) (before : Option ReactiveValue) (tested : ℕ) (old new : Layout) (start : ℕ) :
-    Type 0 where
-  pub plain : Option Value
-  pub same : option_map value_of plain ≡ before
-  pub lays : Lays old new (λ table. BeginsBefore env table plain tested start)
 
 pub before_none : {env : Environment} {tested : ℕ} {a : Layout} → LaysBefore env None tested a a tested
 before_none = record { plain = None; same = refl; lays = lays_none (λ table. refl) }

@@ -1,5 +1,7 @@
 //! Runs that are replayed.
 
+mod bodies;
 mod build;
+mod events;
 mod graphs;
 mod runs;

@@ -1,5 +1,5 @@
 -- What the statements of a body add to the table of its positions.
-use Rattle.std.specs.Prelude.{◌≡◌, ℕ, zero, suc, Bool, List, Option, None, slice_get, option_map}
+use Rattle.std.specs.Prelude.{◌≡◌, ℕ, zero, suc, Bool, false, List, Option, None, Some, slice_get, option_map}
 use Rattle.std.specs.Option.{option_map_or}
 use Rattle.rc_names.specs.Numbers.{BlockId, EvaluationOrder}
 use Rattle.rc_hir.specs.Model.{Environment, Place}
@@ -21,7 +21,8 @@ use Rattle.rc_replay.specs.inside.EarlyReturn.{stored_in}
 use Rattle.rc_replay.specs.inside.LaidExits.{exits_of, part_exits}
 use Rattle.rc_replay.specs.inside.Layout.{Lays}
 use Rattle.rc_replay.specs.inside.Lowered.{LowersList, LowersStatement, LowersAlternate, LowersCases, LowersLoop}
-use Rattle.rc_replay.specs.inside.Positions.{Choice}
+use Rattle.rc_replay.specs.inside.LoweredValue.{LowersValue}
+use Rattle.rc_replay.specs.inside.Positions.{Choice, Table}
 
 -- statements are laid out, the first of them after one that stores that place, if it stores one
 pub record LaysList (env : Environment) (stored : Option Place) (exits : LaidExits) (statements : List ReactiveStatement)
@@ -72,6 +73,18 @@ pub record LaysCases (env : Environment) (exits : LaidExits) (around : Around) (
   pub default : has_default (returning_cases env plain) ≡ defaults
   pub lays : Lays old new (λ table.
       LowersCases table env (part_exits exits around old.labels) (returning_cases env plain) start choices)
+
+-- the value before the test of a loop, or the test where there is none
+abbrev pub BeginsBefore : Environment → Table → Option Value → ℕ → ℕ → Type 0
+BeginsBefore env table None tested start = start ≡ tested
+BeginsBefore env table (Some value) tested start = LowersValue table env false value tested tested start
+
+-- the value before the test is laid out, if there is one
+pub record LaysBefore (env : Environment) (before : Option ReactiveValue) (tested : ℕ) (old new : Layout) (start : ℕ) :
+    Type 0 where
+  pub plain : Option Value
+  pub same : option_map value_of plain ≡ before
+  pub lays : Lays old new (λ table. BeginsBefore env table plain tested start)
 
 -- so is a loop
 pub record LaysLoop (env : Environment) (exits : LaidExits) (label : Option ReactiveLabel) (before : Option ReactiveValue)

@@ -1,6 +1,7 @@
 //! Runs of graphs, and runs that differ from one.
 
 use super::build::{debugger, is_run, place};
+use super::events::{no_events, one_event, two_events};
 use super::graphs::{
     array, call, call_in_a_try, cycle_with_a_throw, debugger_forever, debugger_in_an_arm,
     debugger_repeated, into_nowhere, returns_in_a_scope, silent_cycle, two_cases,
@@ -10,34 +11,6 @@ use rc_names::List;
 use rc_replay::{End, Event, GivenRun, has_throw};
 use std::alloc::{AllocError, Global};
 use std::test::Fail;
-
-/// A run without events.
-fn no_events(alloc: Global, end: End) -> GivenRun {
-    GivenRun {
-        events: List::new(alloc),
-        end,
-    }
-}
-
-/// A run with one event.
-fn one_event(alloc: Global, event: Event, end: End) -> Result<GivenRun, AllocError> {
-    let mut events = List::new(alloc);
-    events.push(event)?;
-    Ok(GivenRun { events, end })
-}
-
-/// A run with two events.
-fn two_events(
-    alloc: Global,
-    first: Event,
-    second: Event,
-    end: End,
-) -> Result<GivenRun, AllocError> {
-    let mut events = List::new(alloc);
-    events.push(first)?;
-    events.push(second)?;
-    Ok(GivenRun { events, end })
-}
 
 /// A run that does `count` times what a `debugger` statement does.
 fn repeated(alloc: Global, count: u32, end: End) -> Result<GivenRun, AllocError> {
