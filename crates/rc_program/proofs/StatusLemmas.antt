@@ -6,7 +6,6 @@ use Rattle.std.proofs.KnownBytes.{Consumes-all}
 use Rattle.serde_json.specs.Data.{Data}
 use Rattle.serde_json.specs.Read.{read}
 use Rattle.rc_doc.specs.declared.document.Doc.{Doc}
-use Rattle.rc_doc.specs.Document.{doc_of}
 use Rattle.rc_hir.specs.Model.{Environment}
 use Rattle.rc_pipe.specs.Headline.{IsAnswer}
 use Rattle.rc_pipe.specs.declared.pipeline.Pruned.{Pruned}
@@ -14,7 +13,10 @@ use Rattle.rc_program.specs.declared.command.Command.{Command}
 use Rattle.rc_program.specs.declared.status.Status.{Status}
 use Rattle.rc_program.specs.declared.status.Status.TheVariants.{Done, Usage, NotJson, NotDoc, Refused, ReadFault}
 use Rattle.rc_program.specs.declared.status.Status.TheVariants.{WriteFault, TooLarge, NoMemory, TooManySlots}
+use Rattle.rc_program.specs.declared.given.Given.{Given}
+use Rattle.rc_program.specs.declared.given.Form.{Form}
 use Rattle.rc_program.specs.Device.{IsReadToEnd, most_bytes}
+use Rattle.rc_program.specs.Given.{read_in_form}
 use Rattle.rc_program.specs.Command.{AreWords, IsCommand, Made, Origin, Read, origin_of}
 use Rattle.rc_program.specs.DueStatus.{CanFailToRead, CanReplace, IsAnswerable, IsDue, IsDueFor, IsDueForBytes}
 use Rattle.rc_program.specs.DueStatus.{IsDueForDoc, IsDueFrom, IsJson, IsJsonOfDoc, IsJsonOfOther, IsNoJson}
@@ -68,121 +70,126 @@ module _ (bytes : List ℕ) where
       cc
 
   -- a value that is a document is no other value
-  no_other : (doc : Doc) → IsJsonOfDoc bytes doc → IsJsonOfOther bytes → ⊥
-  no_other doc j other =
+  no_other : (form : Form) (given : Given) → IsJsonOfDoc form bytes given → IsJsonOfOther form bytes → ⊥
+  no_other form given j other =
       let same = one_value j.value other.value j.json other.json in
-      let some : doc_of other.value ≡ Some doc = rw same at j.document in
-      let none : doc_of other.value ≡ None = other.other in
+      let some : read_in_form form other.value ≡ Some given = rw same at j.document in
+      let none : read_in_form form other.value ≡ None = other.other in
       cc
 
   -- the bytes are JSON of one document
-  one_document : (doc doc' : Doc) → IsJsonOfDoc bytes doc → IsJsonOfDoc bytes doc' → doc ≡ doc'
-  one_document doc doc' j j' =
+  one_document : (form : Form) (given given' : Given) → IsJsonOfDoc form bytes given → IsJsonOfDoc form bytes given'
+      → given ≡ given'
+  one_document form given given' j j' =
       let same = one_value j.value j'.value j.json j'.json in
-      let some : doc_of j'.value ≡ Some doc = rw same at j.document in
-      let some' : doc_of j'.value ≡ Some doc' = j'.document in
+      let some : read_in_form form j'.value ≡ Some given = rw same at j.document in
+      let some' : read_in_form form j'.value ≡ Some given' = j'.document in
       cc
 
+module _ (form : Form) (bytes : List ℕ) where
   -- bytes that are due a status by themselves are due no other one by themselves, and are JSON of no document
-  one_by_bytes : (due due' : Status) → IsDueForBytes bytes due → IsDueForBytes bytes due' → due ≡ due'
+  one_by_bytes : (due due' : Status) → IsDueForBytes form bytes due → IsDueForBytes form bytes due' → due ≡ due'
   one_by_bytes TooLarge due' d d' = search (rules, no_value, no_other)
   one_by_bytes NotJson due' d d' = search (rules, no_value, no_other)
   one_by_bytes NotDoc due' d d' = search (rules, no_value, no_other)
   one_by_bytes _ due' d d' = absurd d
 
-  no_document : (due : Status) (doc : Doc) → IsDueForBytes bytes due → length bytes ≤ most_bytes
-      → IsJsonOfDoc bytes doc → ⊥
-  no_document TooLarge doc d size j = omega (arith, d, size)
-  no_document NotJson doc d size j = no_value j.value d.1 j.json
-  no_document NotDoc doc d size j = no_other doc j d.1
-  no_document _ doc d size j = absurd d
+  no_document : (due : Status) (given : Given) → IsDueForBytes form bytes due → length bytes ≤ most_bytes
+      → IsJsonOfDoc form bytes given → ⊥
+  no_document TooLarge given d size j = omega (arith, d, size)
+  no_document NotJson given d size j = no_value bytes j.value d.1 j.json
+  no_document NotDoc given d size j = no_other bytes form given j d.1
+  no_document _ given d size j = absurd d
 
   -- bytes have one due status
-  pub due_once : (command : Command) (due due' : Status) → IsDue command bytes due → IsDue command bytes due'
-      → due ≡ due'
+  pub due_once : (command : Command) (due due' : Status) → IsDue command form bytes due
+      → IsDue command form bytes due' → due ≡ due'
   due_once command due due' (inl d) (inl d') = one_by_bytes due due' d d'
-  due_once command due due' (inl d) (inr r') = absurd (no_document due r'.doc d r'.size r'.json)
-  due_once command due due' (inr r) (inl d') = absurd (no_document due' r.doc d' r.size r.json)
+  due_once command due due' (inl d) (inr r') = absurd (no_document due r'.given d r'.size r'.json)
+  due_once command due due' (inr r) (inl d') = absurd (no_document due' r.given d' r.size r.json)
   due_once command due due' (inr r) (inr r') =
-      one_by_doc command r.doc due due' r.due
-      (subst (λ doc. IsDueForDoc command doc due') (one_document r'.doc r.doc r'.json r.json) r'.due)
+      one_by_doc command r.given.doc due due' r.due
+      (subst (λ given. IsDueForDoc command given.doc due') (one_document bytes form r'.given r.given r'.json r.json)
+      r'.due)
 
   -- a source whose bytes are known gave all of them if none is left
   all_read : (taken : List ℕ) (left' : Option (List ℕ)) → IsReadToEnd (Some bytes) left' taken → taken ≡ bytes
   all_read taken left' whole = Consumes-all (Some bytes) left' taken [] taken whole.taken whole.end refl
 
   -- if more bytes were taken than a document may have, the source has more
-  due_of_many : (left' : Option (List ℕ)) → HasTakenTooMany (Some bytes) left' → IsDueForBytes bytes TooLarge
+  due_of_many : (left' : Option (List ℕ)) → HasTakenTooMany (Some bytes) left' → IsDueForBytes form bytes TooLarge
   due_of_many None took = absurd took.taken
   due_of_many (Some rest) took = omega (arith, took.number.0, length-append took.bytes rest, ap length took.taken)
 
   -- if the bytes were read to the end, the status that is due for them is due for the source
-  due_of_read : (left' : Option (List ℕ)) (status : Status) → HasReadDue (Some bytes) left' status
-      → IsDueForBytes bytes status
+  due_of_read : (left' : Option (List ℕ)) (status : Status) → HasReadDue form (Some bytes) left' status
+      → IsDueForBytes form bytes status
   due_of_read left' status reads = let whole = all_read reads.bytes left' reads.whole in rw whole at reads.due
 
 -- a document that is made is due one status, and so are the bytes of a source that tells them
 one_due : (command : Command) (origin : Origin) (left : Option (List ℕ)) (due due' : Status)
     → IsDueFrom command origin left due → IsDueFrom command origin left due' → due ≡ due'
-one_due command Read left due due' d d' =
+one_due command (Read form) left due due' d d' =
     let same : Some d.0 ≡ Some d'.0 = sym d.1 ∙ d'.1 in
     let bytes : d'.0 ≡ d.0 = cc in
-    due_once d.0 command due due' d.2 (rw bytes at d'.2)
-one_due command (Made doc) left due due' d d' = one_by_doc command doc due due' d d'
+    due_once form d.0 command due due' d.2 (rw bytes at d'.2)
+one_due command (Made given) left due due' d d' = one_by_doc command given.doc due due' d d'
 
 -- a document for which a text is written with this status is due it
-due_of_text : (command : Command) (doc : Doc) (status : Status) (text : List ℕ) → IsTextFor command doc status text
-    → IsDueForDoc command doc status
-due_of_text command doc Done text it = (answerable doc it.answered it.pruned it.answer, it.fits)
-due_of_text command doc Refused text it = it.no_answer
-due_of_text command doc _ text it = absurd it
+due_of_text : (command : Command) (given : Given) (status : Status) (text : List ℕ)
+    → IsTextFor command given status text → IsDueForDoc command given.doc status
+due_of_text command given Done text it = (answerable given.doc it.answered it.pruned it.answer, it.fits)
+due_of_text command given Refused text it = it.no_answer
+due_of_text command given _ text it = absurd it
 
 module _ (left left' : Option (List ℕ)) (due : Status) where
   -- a status that is due for the document that was had is due where that comes from
-  due_of_document : (command : Command) (origin : Origin) (doc : Doc) (status : Status)
-      → IsDueFrom command origin left due → HasDocument origin left left' doc → IsDueForDoc command doc status
-      → IsDueFrom command origin left status
-  due_of_document command Read doc status told had d =
-      let loaded : HasLoaded (Some told.0) left' doc = rw told.1 at had in
-      let whole = all_read told.0 loaded.bytes left' loaded.whole in (
+  due_of_document : (command : Command) (origin : Origin) (given : Given) (status : Status)
+      → IsDueFrom command origin left due → HasDocument origin left left' given
+      → IsDueForDoc command given.doc status → IsDueFrom command origin left status
+  due_of_document command (Read form) given status told had d =
+      let loaded : HasLoaded form (Some told.0) left' given = rw told.1 at had in
+      let whole = all_read form told.0 loaded.bytes left' loaded.whole in (
         told.0,
         told.1,
         inr (record {
           size = rw whole at loaded.whole.size;
-          doc = doc;
+          given = given;
           json = rw whole at loaded.document;
           due = d;
         }),
       )
-  due_of_document command (Made made) doc status told had d =
-      subst (λ it. IsDueForDoc command it status) had.0 d
+  due_of_document command (Made made) given status told had d =
+      subst (λ it. IsDueForDoc command it.doc status) had.0 d
 
   -- a status that stops the reading is due for the bytes
   due_of_stop : (command : Command) (origin : Origin) (status : Status) → IsDueFrom command origin left due
-      → ((bytes : List ℕ) → HasStoppedReading (Some bytes) left' status → IsDueForBytes bytes status)
+      → ((form : Form) (bytes : List ℕ) → HasStoppedReading form (Some bytes) left' status
+      → IsDueForBytes form bytes status)
       → HasNoDocument origin left left' status → IsDueFrom command origin left status
-  due_of_stop command Read status told gives stopped = (told.0, told.1, inl (gives told.0 (rw told.1 at stopped)))
-  due_of_stop command (Made doc) status told gives stopped = absurd stopped
+  due_of_stop command (Read form) status told gives stopped =
+      (told.0, told.1, inl (gives form told.0 (rw told.1 at stopped)))
+  due_of_stop command (Made given) status told gives stopped = absurd stopped
 
   -- reading fails only where a document is read
   read_failed : (origin : Origin) {rose : Type 0} → HasNoDocument origin left left' ReadFault → rose
       → CanFailToRead origin rose
-  read_failed Read stopped rose = rose
-  read_failed (Made doc) stopped rose = absurd stopped
+  read_failed (Read form) stopped rose = rose
+  read_failed (Made given) stopped rose = absurd stopped
 
   module _ (command : Command) (told : IsDueFor command left due) where
     -- a status that is due for the document that was had is the one that is due
-    due_for_had : (doc : Doc) (status : Status) → HasDocument (origin_of command) left left' doc
-        → IsDueForDoc command doc status → status ≡ due
-    due_for_had doc status had d =
+    due_for_had : (given : Given) (status : Status) → HasDocument (origin_of command) left left' given
+        → IsDueForDoc command given.doc status → status ≡ due
+    due_for_had given status had d =
         one_due command (origin_of command) left status due
-        (due_of_document command (origin_of command) doc status told had d) told
+        (due_of_document command (origin_of command) given status told had d) told
 
     -- a status with which a text is written is due
     printed_is_due : (status : Status) {Writes : List ℕ → Type 0} → HasPrinted command status Writes left left'
         → status ≡ due
     printed_is_due status p =
-        due_for_had p.doc status p.document (due_of_text command p.doc status p.text p.answered)
+        due_for_had p.given status p.document (due_of_text command p.given status p.text p.answered)
 
     -- a text that was written in part is excused by a fault of the sink
     written_in_part : (status : Status) {Writes : List ℕ → Type 0} (source_rose sink_rose : Type 0)
@@ -193,7 +200,8 @@ module _ (left left' : Option (List ℕ)) (due : Status) where
     written_in_part _ source_rose sink_rose p rose = absurd p.answered
 
     stop_is_due : (status : Status)
-        → ((bytes : List ℕ) → HasStoppedReading (Some bytes) left' status → IsDueForBytes bytes status)
+        → ((form : Form) (bytes : List ℕ) → HasStoppedReading form (Some bytes) left' status
+        → IsDueForBytes form bytes status)
         → HasNoDocument (origin_of command) left left' status → status ≡ due
     stop_is_due status gives stopped =
         one_due command (origin_of command) left status due
@@ -210,11 +218,11 @@ module _ (left left' : Option (List ℕ)) (due : Status) where
         inl (printed_is_due Refused o)
     answers_due written written' source_rose sink_rose Usage o read_fault write_fault = absurd o
     answers_due written written' source_rose sink_rose NotJson o read_fault write_fault =
-        inl (stop_is_due NotJson (λ bytes stopped. due_of_read bytes left' NotJson stopped) o.0)
+        inl (stop_is_due NotJson (λ form bytes stopped. due_of_read form bytes left' NotJson stopped) o.0)
     answers_due written written' source_rose sink_rose NotDoc o read_fault write_fault =
-        inl (stop_is_due NotDoc (λ bytes stopped. due_of_read bytes left' NotDoc stopped) o.0)
+        inl (stop_is_due NotDoc (λ form bytes stopped. due_of_read form bytes left' NotDoc stopped) o.0)
     answers_due written written' source_rose sink_rose TooLarge o read_fault write_fault =
-        inl (stop_is_due TooLarge (λ bytes stopped. due_of_many bytes left' stopped) o.0)
+        inl (stop_is_due TooLarge (λ form bytes stopped. due_of_many form bytes left' stopped) o.0)
     answers_due written written' source_rose sink_rose ReadFault o read_fault write_fault =
         inr (read_failed (origin_of command) o.0 (read_fault refl))
     answers_due written written' source_rose sink_rose WriteFault o read_fault write_fault =
@@ -222,7 +230,7 @@ module _ (left left' : Option (List ℕ)) (due : Status) where
         inr (subst (λ status. CanReplace (CanFailToRead (origin_of command) source_rose) sink_rose status WriteFault) same
         (written_in_part o.0 (CanFailToRead (origin_of command) source_rose) sink_rose o.1 (write_fault refl)))
     answers_due written written' source_rose sink_rose TooManySlots o read_fault write_fault =
-        inl (due_for_had o.0.doc TooManySlots o.0.document o.0.much)
+        inl (due_for_had o.0.given TooManySlots o.0.document o.0.much)
     answers_due written written' source_rose sink_rose NoMemory o read_fault write_fault = inr tt
 
 -- where nothing is excused but want of memory, the due text is written or memory ran out

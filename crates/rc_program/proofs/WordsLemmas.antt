@@ -4,7 +4,7 @@ use Rattle.std.proofs.Common.{ap, sym, ◌∙◌, arith}
 use Rattle.std.proofs.lemmas.Fmt.{decimal_injective}
 use Rattle.rc_gen.specs.Generated.{most_units}
 use Rattle.rc_program.specs.declared.command.Command.{Command}
-use Rattle.rc_program.specs.declared.command.Command.TheVariants.{Tree, Fates, Slots, Generate}
+use Rattle.rc_program.specs.declared.command.Command.TheVariants.{Tree, Fates, Slots, Replay, Generate}
 use Rattle.rc_program.specs.Command.{AreWords, IsCommand, IsInRange, words_of}
 
 -- a word of a list, and the number of the first letter of the first one
@@ -19,6 +19,7 @@ same_command : (one other : Command) → words_of one ≡ words_of other → IsI
 same_command Tree Tree same range range' = refl
 same_command Fates Fates same range range' = refl
 same_command Slots Slots same range range' = refl
+same_command Replay Replay same range range' = refl
 same_command (Generate m) (Generate n) same range range' =
     ap Generate (decimal_injective m n (omega (arith, range.1)) (omega (arith, range'.1)) (ap (word 1) same))
 same_command Tree Fates same range range' = absurd (let e : 116 ≡ 102 = ap letter same in omega arith)
@@ -27,12 +28,20 @@ same_command Fates Tree same range range' = absurd (let e : 102 ≡ 116 = ap let
 same_command Fates Slots same range range' = absurd (let e : 102 ≡ 115 = ap letter same in omega arith)
 same_command Slots Tree same range range' = absurd (let e : 115 ≡ 116 = ap letter same in omega arith)
 same_command Slots Fates same range range' = absurd (let e : 115 ≡ 102 = ap letter same in omega arith)
+same_command Replay Tree same range range' = absurd (let e : 114 ≡ 116 = ap letter same in omega arith)
+same_command Replay Fates same range range' = absurd (let e : 114 ≡ 102 = ap letter same in omega arith)
+same_command Replay Slots same range range' = absurd (let e : 114 ≡ 115 = ap letter same in omega arith)
+same_command Tree Replay same range range' = absurd (let e : 116 ≡ 114 = ap letter same in omega arith)
+same_command Fates Replay same range range' = absurd (let e : 102 ≡ 114 = ap letter same in omega arith)
+same_command Slots Replay same range range' = absurd (let e : 115 ≡ 114 = ap letter same in omega arith)
 same_command Tree (Generate n) same range range' = absurd (let e : 1 ≡ 2 = ap length same in omega arith)
 same_command Fates (Generate n) same range range' = absurd (let e : 1 ≡ 2 = ap length same in omega arith)
 same_command Slots (Generate n) same range range' = absurd (let e : 1 ≡ 2 = ap length same in omega arith)
+same_command Replay (Generate n) same range range' = absurd (let e : 1 ≡ 2 = ap length same in omega arith)
 same_command (Generate m) Tree same range range' = absurd (let e : 2 ≡ 1 = ap length same in omega arith)
 same_command (Generate m) Fates same range range' = absurd (let e : 2 ≡ 1 = ap length same in omega arith)
 same_command (Generate m) Slots same range range' = absurd (let e : 2 ≡ 1 = ap length same in omega arith)
+same_command (Generate m) Replay same range range' = absurd (let e : 2 ≡ 1 = ap length same in omega arith)
 
 -- words name one command
 pub one_command : (words : List (List ℕ)) (one other : Command) → IsCommand words one → IsCommand words other
@@ -45,14 +54,16 @@ pub one_or_two : (words : List (List ℕ)) → AreWords words → (length words 
 one_or_two words (Tree, is) = inl (ap length is.same)
 one_or_two words (Fates, is) = inl (ap length is.same)
 one_or_two words (Slots, is) = inl (ap length is.same)
+one_or_two words (Replay, is) = inl (ap length is.same)
 one_or_two words (Generate n, is) = inr (ap length is.same)
 
 -- a command of one word
 pub alone : (first : List ℕ) → AreWords (first ∷ [])
-    → (first ≡ codes "tree") ⊎ ((first ≡ codes "fates") ⊎ (first ≡ codes "slots"))
+    → (first ≡ codes "tree") ⊎ ((first ≡ codes "fates") ⊎ ((first ≡ codes "slots") ⊎ (first ≡ codes "replay")))
 alone first (Tree, is) = inl (ap (word 0) is.same)
 alone first (Fates, is) = inr (inl (ap (word 0) is.same))
-alone first (Slots, is) = inr (inr (ap (word 0) is.same))
+alone first (Slots, is) = inr (inr (inl (ap (word 0) is.same)))
+alone first (Replay, is) = inr (inr (inr (ap (word 0) is.same)))
 alone first (Generate n, is) = absurd (let e : 1 ≡ 2 = ap length is.same in omega arith)
 
 -- a command of a word and a number
@@ -61,6 +72,7 @@ pub with_number : (first second : List ℕ) → AreWords (first ∷ (second ∷ 
 with_number first second (Tree, is) = absurd (let e : 2 ≡ 1 = ap length is.same in omega arith)
 with_number first second (Fates, is) = absurd (let e : 2 ≡ 1 = ap length is.same in omega arith)
 with_number first second (Slots, is) = absurd (let e : 2 ≡ 1 = ap length is.same in omega arith)
+with_number first second (Replay, is) = absurd (let e : 2 ≡ 1 = ap length is.same in omega arith)
 with_number first second (Generate n, is) =
     (ap (word 0) is.same, (n, is.in_range.0, is.in_range.1, ap (word 1) is.same))
 

@@ -9,7 +9,6 @@ use Rattle.rc_tree.specs.Model.{ReactiveFunction}
 use Rattle.rc_pipe.specs.Headline.{HasAnswer, IsAccepted, IsAnswer}
 use Rattle.rc_pipe.specs.declared.pipeline.Pruned.{Pruned}
 use Rattle.rc_doc.specs.declared.document.Doc.{Doc}
-use Rattle.rc_doc.specs.Document.{doc_of}
 use Rattle.rc_program.specs.declared.status.Status.{Status}
 use Rattle.rc_program.specs.declared.status.Status.TheVariants.{Done, NotJson, NotDoc, Refused, ReadFault, WriteFault}
 use Rattle.rc_program.specs.declared.status.Status.TheVariants.{TooLarge, NoMemory, TooManySlots}
@@ -17,6 +16,9 @@ use Rattle.rc_program.specs.declared.command.Command.{Command}
 use Rattle.rc_program.specs.declared.command.Command.TheVariants.{Slots}
 use Rattle.rc_program.specs.Command.{Made, Origin, Read, origin_of}
 use Rattle.rc_program.specs.Device.{most_bytes}
+use Rattle.rc_program.specs.Given.{read_in_form}
+use Rattle.rc_program.specs.declared.given.Given.{Given}
+use Rattle.rc_program.specs.declared.given.Form.{Form}
 
 -- the bytes are JSON of this value
 pub record IsJson (bytes : List ℕ) (value : Data) : Type 0 where
@@ -27,17 +29,17 @@ pub record IsJson (bytes : List ℕ) (value : Data) : Type 0 where
 abbrev pub IsNoJson : List ℕ → Type 0
 IsNoJson bytes = IsUtf8 bytes → read bytes ≡ None
 
--- the bytes are JSON of this document
-pub record IsJsonOfDoc (bytes : List ℕ) (doc : Doc) : Type 0 where
+-- the bytes are JSON of a document of this form
+pub record IsJsonOfDoc (form : Form) (bytes : List ℕ) (given : Given) : Type 0 where
   pub value : Data
   pub json : IsJson bytes value
-  pub document : doc_of value ≡ Some doc
+  pub document : read_in_form form value ≡ Some given
 
--- the bytes are JSON of a value that is no document
-pub record IsJsonOfOther (bytes : List ℕ) : Type 0 where
+-- the bytes are JSON of a value that is no document of this form
+pub record IsJsonOfOther (form : Form) (bytes : List ℕ) : Type 0 where
   pub value : Data
   pub json : IsJson bytes value
-  pub other : doc_of value ≡ None
+  pub other : read_in_form form value ≡ None
 
 -- the document's graph is accepted and has an answer
 pub record IsAnswerable (doc : Doc) : Type 0 where
@@ -65,29 +67,29 @@ IsDueForDoc command doc Done = IsAnswerable doc × ¬ IsTooMuchFor command doc
 IsDueForDoc command doc TooManySlots = IsTooMuchFor command doc
 IsDueForDoc command doc _ = ⊥
 
--- The status that is due for bytes that are too many, or that are JSON of no document, by each command.
-abbrev pub IsDueForBytes : List ℕ → Status → Type 0
-IsDueForBytes bytes TooLarge = most_bytes < length bytes
-IsDueForBytes bytes NotJson = (length bytes ≤ most_bytes) × IsNoJson bytes
-IsDueForBytes bytes NotDoc = (length bytes ≤ most_bytes) × IsJsonOfOther bytes
-IsDueForBytes bytes _ = ⊥
+-- The status that is due for bytes that are too many, or that are JSON of no document of this form.
+abbrev pub IsDueForBytes : Form → List ℕ → Status → Type 0
+IsDueForBytes form bytes TooLarge = most_bytes < length bytes
+IsDueForBytes form bytes NotJson = (length bytes ≤ most_bytes) × IsNoJson bytes
+IsDueForBytes form bytes NotDoc = (length bytes ≤ most_bytes) × IsJsonOfOther form bytes
+IsDueForBytes form bytes _ = ⊥
 
--- the bytes are JSON of a document for which the status is due
-pub record IsDueForRead (command : Command) (bytes : List ℕ) (status : Status) : Type 0 where
+-- the bytes are JSON of a document of this form for which the status is due
+pub record IsDueForRead (command : Command) (form : Form) (bytes : List ℕ) (status : Status) : Type 0 where
   pub size : length bytes ≤ most_bytes
-  pub doc : Doc
-  pub json : IsJsonOfDoc bytes doc
-  pub due : IsDueForDoc command doc status
+  pub given : Given
+  pub json : IsJsonOfDoc form bytes given
+  pub due : IsDueForDoc command given.doc status
 
--- The status that is due for the bytes of a source by a command.
-abbrev pub IsDue : Command → List ℕ → Status → Type 0
-IsDue command bytes status = IsDueForBytes bytes status ⊎ IsDueForRead command bytes status
+-- The status that is due for the bytes of a source by a command that reads a document of this form.
+abbrev pub IsDue : Command → Form → List ℕ → Status → Type 0
+IsDue command form bytes status = IsDueForBytes form bytes status ⊎ IsDueForRead command form bytes status
 
 -- The due status, by where the document comes from: from the bytes of a source, if they can be named, or from the
 -- generator.
 abbrev pub IsDueFrom : Command → Origin → Option (List ℕ) → Status → Type 0
-IsDueFrom command Read left status = (bytes : List ℕ) × (left ≡ Some bytes) × IsDue command bytes status
-IsDueFrom command (Made doc) left status = IsDueForDoc command doc status
+IsDueFrom command (Read form) left status = (bytes : List ℕ) × (left ≡ Some bytes) × IsDue command form bytes status
+IsDueFrom command (Made given) left status = IsDueForDoc command given.doc status
 
 -- The status that is due for a command.
 abbrev pub IsDueFor : Command → Option (List ℕ) → Status → Type 0
@@ -95,8 +97,8 @@ IsDueFor command = IsDueFrom command (origin_of command)
 
 -- A fault of the source may come for a document that is read, where the count rose.
 abbrev pub CanFailToRead : Origin → Type 0 → Type 0
-CanFailToRead Read rose = rose
-CanFailToRead (Made doc) rose = ⊥
+CanFailToRead (Read form) rose = rose
+CanFailToRead (Made given) rose = ⊥
 
 -- A status that may come instead of the due one: `NoMemory`, or the fault of a device whose count rose. The sink's
 -- fault may come only for a document, since nothing else is written.

@@ -6,6 +6,8 @@ pub mod ValueLines
 pub mod Lines
 pub mod FunctionLines
 pub mod SlotLines
+pub mod Given
+pub mod ReplayLines
 pub mod FaultLine
 pub mod Code
 pub mod Counts

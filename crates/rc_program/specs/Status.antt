@@ -9,10 +9,12 @@ use Rattle.rc_program.specs.declared.command.Command.{Command}
 use Rattle.rc_program.specs.declared.status.Status.{Status}
 use Rattle.rc_program.specs.declared.status.Status.TheVariants.{Done, Usage, NotJson, NotDoc, Refused, ReadFault}
 use Rattle.rc_program.specs.declared.status.Status.TheVariants.{WriteFault, TooLarge, NoMemory, TooManySlots}
-use Rattle.rc_program.specs.Command.{AreWords, IsCommand, Made, Origin, Read, origin_of, text_of}
+use Rattle.rc_program.specs.Command.{AreWords, IsCommand, IsTextOf, Made, Origin, Read, origin_of}
 use Rattle.rc_program.specs.FaultLine.{fault_line, fault_name}
 use Rattle.rc_program.specs.Device.{most_bytes, HasTaken, IsReadToEnd, HasAppendedPrefix}
 use Rattle.rc_program.specs.DueStatus.{IsAnswerable, IsDueForBytes, IsJsonOfDoc, IsTooMuchFor}
+use Rattle.rc_program.specs.declared.given.Given.{Given}
+use Rattle.rc_program.specs.declared.given.Form.{Form}
 
 -- more bytes were taken than a document may have, by at most one buffer
 abbrev pub HasTakenTooMany : Option (List ℕ) → Option (List ℕ) → Type 0
@@ -23,43 +25,43 @@ abbrev pub HasTakenSome : Option (List ℕ) → Option (List ℕ) → Type 0
 HasTakenSome = HasTaken (λ count. count ≤ most_bytes)
 
 -- bytes for which this status is due were read to their end
-pub record HasReadDue (left left' : Option (List ℕ)) (status : Status) : Type 0 where
+pub record HasReadDue (form : Form) (left left' : Option (List ℕ)) (status : Status) : Type 0 where
   pub bytes : List ℕ
   pub whole : IsReadToEnd left left' bytes
-  pub due : IsDueForBytes bytes status
+  pub due : IsDueForBytes form bytes status
 
--- bytes that are JSON of this document were read to their end
-pub record HasLoaded (left left' : Option (List ℕ)) (doc : Doc) : Type 0 where
+-- bytes that are JSON of this document, in this form, were read to their end
+pub record HasLoaded (form : Form) (left left' : Option (List ℕ)) (given : Given) : Type 0 where
   pub bytes : List ℕ
   pub whole : IsReadToEnd left left' bytes
-  pub document : IsJsonOfDoc bytes doc
+  pub document : IsJsonOfDoc form bytes given
 
--- what each status says that comes while a document is read
-abbrev pub HasStoppedReading : Option (List ℕ) → Option (List ℕ) → Status → Type 0
-HasStoppedReading left left' NotJson = HasReadDue left left' NotJson
-HasStoppedReading left left' NotDoc = HasReadDue left left' NotDoc
-HasStoppedReading left left' ReadFault = HasTakenSome left left'
-HasStoppedReading left left' TooLarge = HasTakenTooMany left left'
-HasStoppedReading left left' _ = ⊥
+-- what each status says that comes while a document of this form is read
+abbrev pub HasStoppedReading : Form → Option (List ℕ) → Option (List ℕ) → Status → Type 0
+HasStoppedReading form left left' NotJson = HasReadDue form left left' NotJson
+HasStoppedReading form left left' NotDoc = HasReadDue form left left' NotDoc
+HasStoppedReading form left left' ReadFault = HasTakenSome left left'
+HasStoppedReading form left left' TooLarge = HasTakenTooMany left left'
+HasStoppedReading form left left' _ = ⊥
 
 -- this document was read, or it was made and nothing was read
-abbrev pub HasDocument : Origin → Option (List ℕ) → Option (List ℕ) → Doc → Type 0
-HasDocument Read left left' doc = HasLoaded left left' doc
-HasDocument (Made made) left left' doc = (doc ≡ made) × (left' ≡ left)
+abbrev pub HasDocument : Origin → Option (List ℕ) → Option (List ℕ) → Given → Type 0
+HasDocument (Read form) left left' given = HasLoaded form left left' given
+HasDocument (Made made) left left' given = (given ≡ made) × (left' ≡ left)
 
 -- there is no document, for the reason of this status; one that is made is always there
 abbrev pub HasNoDocument : Origin → Option (List ℕ) → Option (List ℕ) → Status → Type 0
-HasNoDocument Read left left' status = HasStoppedReading left left' status
+HasNoDocument (Read form) left left' status = HasStoppedReading form left left' status
 HasNoDocument (Made made) left left' status = ⊥
 
 -- the text is that of the command for a function that is an answer for this document, by the headline
-pub record IsAnswerText (command : Command) (doc : Doc) (text : List ℕ) : Type 0 where
+pub record IsAnswerText (command : Command) (given : Given) (text : List ℕ) : Type 0 where
   pub pruned : Pruned
   -- the environment after the passes
   pub answered : Environment
-  pub answer : IsAnswer doc.hir doc.env answered pruned
-  pub fits : ¬ IsTooMuchFor command doc
-  pub same : text ≡ text_of command doc.hir answered pruned
+  pub answer : IsAnswer given.doc.hir given.doc.env answered pruned
+  pub fits : ¬ IsTooMuchFor command given.doc
+  pub says : IsTextOf command given answered pruned text
 
 -- the text is the line of a fault with which this document's graph is refused; the fault has a line
 pub record IsRefusalText (doc : Doc) (text : List ℕ) : Type 0 where
@@ -70,25 +72,25 @@ pub record IsRefusalText (doc : Doc) (text : List ℕ) : Type 0 where
   pub line : text ≡ fault_line fault
 
 -- the text that is written for this document if the program ends with that status
-abbrev pub IsTextFor : Command → Doc → Status → List ℕ → Type 0
-IsTextFor command doc Done text = IsAnswerText command doc text
-IsTextFor command doc Refused text = IsRefusalText doc text
-IsTextFor command doc _ text = ⊥
+abbrev pub IsTextFor : Command → Given → Status → List ℕ → Type 0
+IsTextFor command given Done text = IsAnswerText command given text
+IsTextFor command given Refused text = IsRefusalText given.doc text
+IsTextFor command given _ text = ⊥
 
 -- there was a document, and the text of the command for it with that status was written in this way
 pub record HasPrinted (command : Command) (status : Status) (Writes : List ℕ → Type 0) (left left' : Option (List ℕ))
     : Type 0 where
-  pub doc : Doc
+  pub given : Given
   pub text : List ℕ
-  pub document : HasDocument (origin_of command) left left' doc
-  pub answered : IsTextFor command doc status text
+  pub document : HasDocument (origin_of command) left left' given
+  pub answered : IsTextFor command given status text
   pub written : Writes text
 
 -- there was a document whose answer has more than the command's text can say
 pub record HasTooMuch (command : Command) (left left' : Option (List ℕ)) : Type 0 where
-  pub doc : Doc
-  pub document : HasDocument (origin_of command) left left' doc
-  pub much : IsTooMuchFor command doc
+  pub given : Given
+  pub document : HasDocument (origin_of command) left left' given
+  pub much : IsTooMuchFor command given.doc
 
 -- The facts that each status gives of the bytes taken from the source and of those given to the sink, for a command.
 abbrev pub IsOutcomeOf : Command → Option (List ℕ) → Option (List ℕ) → Option (List ℕ) → Option (List ℕ) → Status

@@ -1,23 +1,25 @@
 //! The answer for a document: the text of a command, or the line of a fault.
 
 ghost use Rattle.std.specs.Prelude.{◌≡◌, ◌≤◌, ◌^◌, ◌↔◌, IsTrue, MatchResult};
-ghost use Rattle.rc_program.specs.Command.{text_of};
 ghost use Rattle.rc_program.specs.DueStatus.{Exceeds, IsTooMuchFor};
+ghost use Rattle.rc_program.specs.ReplayLines.{AnswersBody, replay_lines};
 ghost use Rattle.rc_program.specs.SlotLines.{slot_lines};
 ghost use Rattle.rc_program.specs.Status.{IsTextFor};
+ghost use Rattle.rc_program.specs.inside.Replay.{AnswersGraph, HasBodyLine, IsTextAfter};
 ghost use Rattle.rc_program.specs.inside.Stop.{HasNoText};
 ghost use Rattle.rc_slots.specs.Slots.{slots_of};
 ghost use Rattle.rc_tree.specs.TreeNames.{TreeInTables};
 
 use crate::command::Command;
+use crate::given::Given;
 use crate::note::{Note, note_fault, note_nesting};
-use crate::printing::{count_lines, fates_alone, fault_line, lines, slot_lines};
+use crate::printing::{count_lines, fates_alone, fault_line, lines, replay_lines, slot_lines};
 use crate::status::Status;
 use crate::stop::Stop;
-use rc_doc::Doc;
 use rc_hir::{Environment, Fault};
 use rc_names::Text;
 use rc_pipe::{Pruned, build_and_prune_within};
+use rc_replay::{GivenRun, has_throw, replay_body, replay_graph};
 use rc_slots::{SlotFault, plan_slots};
 use rc_tree::ReactiveFunction;
 use std::alloc::Global;
@@ -38,35 +40,38 @@ pub struct Answer {
 pub fn answer_for(
     alloc: Global,
     command: Command,
-    mut doc: Doc,
+    mut given: Given,
     note: &mut Note,
     stack: usize,
 ) -> Result<Answer, Stop>
-    ensures { MatchResult result (λ answer. IsTextFor command doc answer.status answer.text) (HasNoText (IsTooMuchFor command doc)) }
+    ensures { MatchResult result (λ answer. IsTextFor command given answer.status answer.text)
+        (HasNoText (IsTooMuchFor command given.doc)) }
 {
-    let answer = graph_answer(alloc, command, &mut doc, note, stack)?;
-    forget(doc);
+    let answer = graph_answer(alloc, command, &mut given, note, stack)?;
+    forget(given);
     Ok(answer)
 }
 
 fn graph_answer(
     alloc: Global,
     command: Command,
-    doc: &mut Doc,
+    given: &mut Given,
     note: &mut Note,
     stack: usize,
 ) -> Result<Answer, Stop>
-    ensures { MatchResult result (λ answer. IsTextFor command doc.old answer.status answer.text)
-        (HasNoText (IsTooMuchFor command doc.old)) }
+    ensures { MatchResult result (λ answer. IsTextFor command given.old answer.status answer.text)
+        (HasNoText (IsTooMuchFor command given.old.doc)) }
 {
-    match build_and_prune_within(alloc, &doc.hir, &mut doc.env, stack) {
-        Ok(pruned) => pruned_answer(alloc, command, doc, pruned),
+    // The passes change the environment, and a run of the graph is one with its environment as handed in.
+    let in_graph = replay_in_graph(alloc, command, given)?;
+    match build_and_prune_within(alloc, &given.doc.hir, &mut given.doc.env, stack) {
+        Ok(pruned) => pruned_answer(alloc, command, in_graph, given, pruned),
         Err(fault) => {
             if is_want_of_memory(&fault) {
-                note_nesting(alloc, note, &doc.hir.body, stack);
+                note_nesting(alloc, note, &given.doc.hir.body, stack);
                 return Err(Stop::NoMemory);
             }
-            note_fault(alloc, note, &fault, doc);
+            note_fault(alloc, note, &fault, &given.doc);
             Ok(Answer {
                 text: fault_line(alloc, &fault)?,
                 status: Status::Refused,
@@ -75,15 +80,36 @@ fn graph_answer(
     }
 }
 
-/// The text for a pruned function, which is left to the system too.
-fn pruned_answer(alloc: Global, command: Command, doc: &Doc, pruned: Pruned) -> Result<Answer, Stop>
-    requires { TreeInTables pruned.func doc.now.env }
-    ensures { MatchResult result
-        (λ answer. (answer.status ≡ Status.Done) × ¬ Exceeds command doc.now.env pruned
-        × (answer.text ≡ text_of command doc.now.hir doc.now.env pruned))
-        (HasNoText (Exceeds command doc.now.env pruned)) }
+/// Whether the run is one of the graph, for the command that asks it.
+fn replay_in_graph(alloc: Global, command: Command, given: &Given) -> Result<bool, Stop>
+    ensures { MatchResult result (AnswersGraph command given.now) (λ stop. stop ≡ Stop.NoMemory) }
 {
-    let text = text_of(alloc, command, doc, &pruned)?;
+    match command {
+        Command::Replay => {
+            match replay_graph(alloc, &given.doc.hir, &given.doc.env, &given.run) {
+                Ok(found) => Ok(found),
+                Err(_) => Err(Stop::NoMemory),
+            }
+        }
+        Command::Tree | Command::Fates | Command::Slots | Command::Generate(_) => Ok(false),
+    }
+}
+
+/// The text for a pruned function, which is left to the system too.
+fn pruned_answer(
+    alloc: Global,
+    command: Command,
+    in_graph: bool,
+    given: &Given,
+    pruned: Pruned,
+) -> Result<Answer, Stop>
+    requires { TreeInTables pruned.func given.now.doc.env }
+    ensures { MatchResult result
+        (λ answer. (answer.status ≡ Status.Done) × ¬ Exceeds command given.now.doc.env pruned
+        × IsTextAfter command in_graph given.now pruned answer.text)
+        (HasNoText (Exceeds command given.now.doc.env pruned)) }
+{
+    let text = text_of(alloc, command, in_graph, given, &pruned)?;
     forget(pruned);
     Ok(Answer {
         text,
@@ -91,19 +117,62 @@ fn pruned_answer(alloc: Global, command: Command, doc: &Doc, pruned: Pruned) -> 
     })
 }
 
-/// The text of a command for a document and its answer.
-fn text_of(alloc: Global, command: Command, doc: &Doc, pruned: &Pruned) -> Result<Text, Stop>
-    requires { TreeInTables pruned.now.func doc.now.env }
+/// The text of a command for a document and its answer. For a replay, `in_graph` is the answer on the graph.
+fn text_of(
+    alloc: Global,
+    command: Command,
+    in_graph: bool,
+    given: &Given,
+    pruned: &Pruned,
+) -> Result<Text, Stop>
+    requires { TreeInTables pruned.now.func given.now.doc.env }
     ensures { MatchResult result
-        (λ text. ¬ Exceeds command doc.now.env pruned.now
-        × (text ≡ text_of command doc.now.hir doc.now.env pruned.now))
-        (HasNoText (Exceeds command doc.now.env pruned.now)) }
+        (λ text. ¬ Exceeds command given.now.doc.env pruned.now
+        × IsTextAfter command in_graph given.now pruned.now text)
+        (HasNoText (Exceeds command given.now.doc.env pruned.now)) }
 {
     match command {
         Command::Tree => Ok(lines(alloc, &pruned.func, &pruned.fates)?),
         Command::Fates => Ok(fates_alone(alloc, &pruned.fates)?),
-        Command::Slots => slot_text(alloc, &pruned.func, &doc.env),
-        Command::Generate(_) => Ok(count_lines(alloc, &doc.hir, &pruned.func, &pruned.fates)?),
+        Command::Slots => slot_text(alloc, &pruned.func, &given.doc.env),
+        Command::Replay => {
+            replay_text(alloc, in_graph, &pruned.func, &given.doc.env, &given.run)
+        }
+        Command::Generate(_) => {
+            Ok(count_lines(alloc, &given.doc.hir, &pruned.func, &pruned.fates)?)
+        }
+    }
+}
+
+/// The lines of a replay: the answer on the graph, and the one on a function's body.
+fn replay_text(
+    alloc: Global,
+    in_graph: bool,
+    func: &ReactiveFunction,
+    env: &Environment,
+    run: &GivenRun,
+) -> Result<Text, Stop>
+    ensures { MatchResult result (HasBodyLine func.now env.now run.now in_graph) (λ stop. stop ≡ Stop.NoMemory) }
+{
+    let in_body = replay_in_body(alloc, func, env, run)?;
+    Ok(replay_lines(alloc, in_graph, in_body)?)
+}
+
+/// Whether the run is one of a function's body; none if it has a throw.
+fn replay_in_body(
+    alloc: Global,
+    func: &ReactiveFunction,
+    env: &Environment,
+    run: &GivenRun,
+) -> Result<Option<bool>, Stop>
+    ensures { MatchResult result (AnswersBody func.now env.now run.now) (λ stop. stop ≡ Stop.NoMemory) }
+{
+    if has_throw(run) {
+        return Ok(None);
+    }
+    match replay_body(alloc, func, env, run) {
+        Ok(found) => Ok(Some(found)),
+        Err(_) => Err(Stop::NoMemory),
     }
 }
 

@@ -19,6 +19,8 @@ pub enum Command {
     Fates,
     /// The slots of the scope blocks in a memo cache.
     Slots,
+    /// Whether the run beside a document is one of its graph, and of the answered body.
+    Replay,
     /// Counts of the generated document of that number of units, and of its answer.
     Generate(u32),
 }
@@ -46,6 +48,8 @@ fn command_alone(word: &Text) -> Option<Command>
         Some(Command::Fates)
     } else if is_word(word, "slots") {
         Some(Command::Slots)
+    } else if is_word(word, "replay") {
+        Some(Command::Replay)
     } else {
         None
     }

@@ -1,18 +1,20 @@
-//! The document of a command: either the bytes are read to their end, parsed and read as a document, or it is
-//! generated.
+//! The document of a command: either the bytes are read to their end, parsed and read as a document, with a run beside
+//! it where the command asks for one, or it is generated.
 
 ghost use Rattle.std.specs.Prelude.{◌≡◌, ◌≤◌, IsErrOf, MatchResult, length};
 ghost use Rattle.serde_json.specs.View.{view};
 ghost use Rattle.rc_program.specs.Command.{IsInRange, IsMade, Read, origin_of};
 ghost use Rattle.rc_program.specs.Device.{HasRisen, most_bytes};
 ghost use Rattle.rc_program.specs.DueStatus.{IsJson, IsJsonOfDoc};
+ghost use Rattle.rc_program.specs.declared.given.Form.{Form as ReadForm};
 ghost use Rattle.rc_program.specs.inside.Stop.{IsDocumentOrStop, IsReadOrStop, IsStopFor};
 
 use crate::command::Command;
 use crate::device::Source;
+use crate::given::{Form, Given, read_given, without_run};
 use crate::note::{Note, note_no_doc, note_no_json};
 use crate::stop::Stop;
-use rc_doc::{Doc, read_doc};
+use rc_doc::Refusal;
 use rc_gen::generate;
 use serde_json::Value;
 use std::alloc::Global;
@@ -39,7 +41,7 @@ pub fn document_of<S: Source>(
     command: Command,
     source: &mut S,
     note: &mut Note,
-) -> Result<Doc, Stop>
+) -> Result<Given, Stop>
     requires { IsInRange command }
     ensures outcome { IsDocumentOrStop (origin_of command) (S.left source.old) (S.left source.new) result }
     ensures later { S.faults source.old ≤ S.faults source.new }
@@ -47,21 +49,27 @@ pub fn document_of<S: Source>(
     ensures untouched { IsMade (origin_of command) → source.new ≡ source.old }
 {
     match command {
-        Command::Tree | Command::Fates | Command::Slots => load(alloc, source, note),
-        Command::Generate(units) => Ok(generate(alloc, units)?),
+        Command::Tree | Command::Fates | Command::Slots => load(alloc, Form::Alone, source, note),
+        Command::Replay => load(alloc, Form::WithRun, source, note),
+        Command::Generate(units) => Ok(without_run(alloc, generate(alloc, units)?)),
     }
 }
 
-/// Returns the document that a source gives. Stops with `ReadFault` if a call of the source fails, `TooLarge` if there
-/// are too many bytes, `NotJson` or `NotDoc` if they are no JSON or no document, which it notes, and `NoMemory` when
-/// out of memory.
-fn load<S: Source>(alloc: Global, source: &mut S, note: &mut Note) -> Result<Doc, Stop>
-    ensures outcome { IsDocumentOrStop Read (S.left source.old) (S.left source.new) result }
+/// Returns the document of that form that a source gives. Stops with `ReadFault` if a call of the source fails,
+/// `TooLarge` if there are too many bytes, `NotJson` or `NotDoc` if they are no JSON or no document of the form, which
+/// it notes, and `NoMemory` when out of memory.
+fn load<S: Source>(
+    alloc: Global,
+    form: Form,
+    source: &mut S,
+    note: &mut Note,
+) -> Result<Given, Stop>
+    ensures outcome { IsDocumentOrStop (Read form) (S.left source.old) (S.left source.new) result }
     ensures later { S.faults source.old ≤ S.faults source.new }
     ensures cause { IsErrOf result Stop.ReadFault → HasRisen (S.faults source.old) (S.faults source.new) }
 {
     let bytes = read_to_end(alloc, source)?;
-    document(alloc, bytes, note)
+    document(alloc, form, bytes, note)
 }
 
 /// The bytes of a source, up to its end. It stops as soon as there are more than a document may have.
@@ -85,27 +93,28 @@ fn read_to_end<S: Source>(alloc: Global, source: &mut S) -> Result<Vec<u8>, Stop
     Err(Stop::TooLarge)
 }
 
-/// The document whose JSON the bytes are.
-fn document(alloc: Global, mut bytes: Vec<u8>, note: &mut Note) -> Result<Doc, Stop>
+/// The document of that form whose JSON the bytes are.
+fn document(alloc: Global, form: Form, mut bytes: Vec<u8>, note: &mut Note) -> Result<Given, Stop>
     requires { length bytes.items ≤ most_bytes }
-    ensures { MatchResult result (IsJsonOfDoc bytes.items) (IsStopFor bytes.items) }
+    ensures { MatchResult result (IsJsonOfDoc form bytes.items) (IsStopFor form bytes.items) }
 {
     // The room for bytes has doubled on the way, and most memory is taken while their value is made.
     bytes.shrink_to_fit();
     let is_left = bytes.len() <= LEFT_BYTES;
     let value = parse(alloc, bytes.as_slice(), note)?;
     let text = if_kept(bytes);
-    match read_doc(alloc, &value)? {
-        Some(doc) => {
+    match read_given(alloc, form, &value) {
+        Ok(given) => {
             if is_left {
                 forget(value);
             }
-            Ok(doc)
+            Ok(given)
         }
-        None => {
-            note_no_doc(alloc, note, &value, &text);
+        Err(Refusal::NotDoc) => {
+            note_no_doc(alloc, note, form, value, &text);
             Err(Stop::NotDoc)
         }
+        Err(Refusal::Memory) => Err(Stop::NoMemory),
     }
 }
 
@@ -121,7 +130,8 @@ fn if_kept(bytes: Vec<u8>) -> Option<Vec<u8>> {
 /// The value whose JSON the bytes are.
 fn parse(alloc: Global, bytes: &[u8], note: &mut Note) -> Result<Value, Stop>
     requires { length bytes.now ≤ most_bytes }
-    ensures { MatchResult result (λ value. IsJson bytes.now (view value)) (IsStopFor bytes.now) }
+    ensures { MatchResult result (λ value. IsJson bytes.now (view value))
+        (λ stop. (form : ReadForm) → IsStopFor form bytes.now stop) }
 {
     match Value::from_slice(alloc, bytes) {
         Ok(value) => Ok(value),

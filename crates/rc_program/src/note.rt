@@ -1,8 +1,10 @@
 //! What standard error says beyond the status: where bytes are no document, or why a graph is refused. A note that
 //! finds no memory is left out.
 
+use crate::given::Form;
 use crate::json_mistake::json_mistake;
 use crate::nesting::nesting;
+use crate::run_mistake::run_mistake;
 use rc_doc::Doc;
 use rc_hir::{Fault, Hir};
 use rc_misread::misread_words;
@@ -22,9 +24,35 @@ pub fn note_no_json(alloc: Global, note: &mut Note, bytes: &[u8], error: &serde_
 }
 
 /// Notes the parts of a value that aren't read, what was expected, and where they are in the text, if that is still there.
-pub fn note_no_doc(alloc: Global, note: &mut Note, value: &Value, text: &Option<Vec<u8>>) {
-    if let Ok(words) = misread_words(alloc, value, text.as_ref().map(Vec::as_slice)) {
+pub fn note_no_doc(
+    alloc: Global,
+    note: &mut Note,
+    form: Form,
+    value: Value,
+    text: &Option<Vec<u8>>,
+) {
+    if let Ok(words) = misread(alloc, form, value, text.as_ref().map(Vec::as_slice)) {
         *note = words;
+    }
+}
+
+/// The parts of a value that aren't read. Where a run is asked for, that is looked at once the rest is a document.
+fn misread(
+    alloc: Global,
+    form: Form,
+    mut value: Value,
+    text: Option<&[u8]>,
+) -> Result<Option<Text>, AllocError> {
+    if form == Form::Alone {
+        return misread_words(alloc, &value, text);
+    }
+    let run = match value.as_object_mut() {
+        Some(members) => members.remove("run"),
+        None => None,
+    };
+    match misread_words(alloc, &value, text)? {
+        Some(words) => Ok(Some(words)),
+        None => Ok(Some(run_mistake(alloc, run.as_ref())?)),
     }
 }
 

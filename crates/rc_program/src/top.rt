@@ -78,8 +78,8 @@ fn run<S: Source, K: Sink>(
     let Some(command) = command_of(words) else {
         return Err(Stop::Usage);
     };
-    let doc = document_of(alloc, command, source, note)?;
-    let answer = answer_for(alloc, command, doc, note, stack)?;
+    let given = document_of(alloc, command, source, note)?;
+    let answer = answer_for(alloc, command, given, note, stack)?;
     match write_lines(sink, &answer.text) {
         Ok(()) => Ok(answer.status),
         Err(_) => Err(Stop::WriteFault),

@@ -1,6 +1,5 @@
 -- What holds where a step of the program stops it: the status of the reason, and the facts of the status.
 use Rattle.std.specs.Prelude.{ℕ, List, Option, Result, Ok, Err, ⊤}
-use Rattle.rc_doc.specs.declared.document.Doc.{Doc}
 use Rattle.rc_program.specs.declared.stop.Stop.{Stop}
 use Rattle.rc_program.specs.declared.stop.Stop.TheVariants as stops
 use Rattle.rc_program.specs.declared.status.Status.{Status}
@@ -10,6 +9,8 @@ use Rattle.rc_program.specs.Command.{Origin}
 use Rattle.rc_program.specs.Device.{IsReadToEnd}
 use Rattle.rc_program.specs.DueStatus.{IsDueForBytes}
 use Rattle.rc_program.specs.Status.{HasDocument, HasNoDocument, HasTakenSome, HasTakenTooMany}
+use Rattle.rc_program.specs.declared.given.Given.{Given}
+use Rattle.rc_program.specs.declared.given.Form.{Form}
 
 -- the status of a program that stopped
 abbrev pub status_of : Stop → Status
@@ -28,9 +29,9 @@ status_from (Ok status) = status
 status_from (Err stop) = status_of stop
 
 -- a step over these bytes stopped with the status that is due for them, or ran out of memory
-abbrev pub IsStopFor : List ℕ → Stop → Type 0
-IsStopFor bytes stops.NoMemory = ⊤
-IsStopFor bytes stop = IsDueForBytes bytes (status_of stop)
+abbrev pub IsStopFor : Form → List ℕ → Stop → Type 0
+IsStopFor form bytes stops.NoMemory = ⊤
+IsStopFor form bytes stop = IsDueForBytes form bytes (status_of stop)
 
 -- Reading to the end gave these bytes, or stopped for this reason.
 abbrev pub IsReadOrStop : {X : Type 0} → (X → List ℕ) → Option (List ℕ) → Option (List ℕ) → Result X Stop → Type 0
@@ -41,8 +42,8 @@ IsReadOrStop bytes_of left left' (Err stops.NoMemory) = ⊤
 IsReadOrStop bytes_of left left' (Err _) = ⊥
 
 -- The document from there was had, or the program stopped for this reason.
-abbrev pub IsDocumentOrStop : Origin → Option (List ℕ) → Option (List ℕ) → Result Doc Stop → Type 0
-IsDocumentOrStop origin left left' (Ok doc) = HasDocument origin left left' doc
+abbrev pub IsDocumentOrStop : Origin → Option (List ℕ) → Option (List ℕ) → Result Given Stop → Type 0
+IsDocumentOrStop origin left left' (Ok given) = HasDocument origin left left' given
 IsDocumentOrStop origin left left' (Err stops.NoMemory) = ⊤
 IsDocumentOrStop origin left left' (Err stop) = HasNoDocument origin left left' (status_of stop)
 
