@@ -5,6 +5,7 @@ mod commands;
 mod devices;
 mod library;
 mod lines;
+mod replays;
 mod want_of_memory;
 
 /// A function that returns its one parameter.

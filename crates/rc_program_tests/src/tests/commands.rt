@@ -41,7 +41,7 @@ fn bytes(alloc: Global, text: &str) -> Result<List<u8>, AllocError> {
 
 /// Whether the program ends with that status for these words, and writes that text. Where the document is left out, a
 /// read fails.
-fn ends(
+pub fn ends(
     alloc: Global,
     line: &[&str],
     document: Option<&str>,
@@ -70,7 +70,7 @@ fn ends(
 fn other_words_read_and_write_nothing(rt: HostRuntime) -> Result<(), Fail> {
     let alloc = rt.alloc();
     let alone = [
-        "", "Tree", "tree ", " tree", "fate", "slot", "gen", "gen 1", "1", "--help",
+        "", "Tree", "tree ", " tree", "fate", "slot", "replays", "gen", "gen 1", "1", "--help",
     ];
     for word in alone {
         assert!(rt;
@@ -108,7 +108,7 @@ fn other_words_read_and_write_nothing(rt: HostRuntime) -> Result<(), Fail> {
             "gen '{number}'"
         );
     }
-    for word in ["tree", "fates", "slots", "", "Gen", "1"] {
+    for word in ["tree", "fates", "slots", "replay", "", "Gen", "1"] {
         assert!(rt;
             ends(alloc, &[word, "1"], None, Status::Usage, "")?,
             "'{word}' and a number"
