@@ -1,8 +1,8 @@
 """Runs drawn from the edges of a document's own graph, as documents of `rc replay`.
 
-A run goes on from the entry along edges that chance chooses, and ends at a return, at a throw, or where it has become
-long. Each is a run of the graph, and without a row that throws it is one of the answered body too. The same run with one
-event changed may be one or not, and then of both.
+A run goes on from the entry along edges that chance chooses, and ends at a return, at a throw, or where it is long.
+Each is a run of the graph, and without a row that throws it is one of the answered body too. The same run with one event
+changed may be one of both or of none.
 """
 import json, random
 
@@ -30,7 +30,8 @@ def moves(terminal):
     """The moves from a terminal, each as its events and its block."""
     kind = terminal["k"]
     if kind in ("If", "Branch"):
-        return [([{"k": "Arm", "v": True}], terminal["consequent"]), ([{"k": "Arm", "v": False}], terminal["alternate"])]
+        arms = (True, terminal["consequent"]), (False, terminal["alternate"])
+        return [([{"k": "Arm", "v": taken}], block) for taken, block in arms]
     if kind == "MaybeThrow":
         handler = terminal.get("handler")
         return [([], terminal["continuation"])] + ([(["Threw"], handler)] if handler is not None else [])
@@ -80,12 +81,17 @@ def agree(printed, due):
                        b"graph no\nbody skipped\n")
 
 
+def text_with(document, run):
+    """The text of a document with a run in it."""
+    return json.dumps({**document, "run": run}).encode()
+
+
 def texts(name, text):
-    """The runs of a document: a name, a text, what is due, and how it holds."""
+    """The runs of a document: the name of each with its text, with what must be printed, and with how that is held."""
     document, chance = json.loads(text), random.Random(name)
     for index in range(RUNS):
         run = drawn(document, chance)
         body = b"skipped" if "Threw" in run["events"] else b"yes"
-        yield f"run {index}", json.dumps({**document, "run": run}).encode(), b"graph yes\nbody " + body + b"\n", bytes.__eq__
+        yield f"run {index}", text_with(document, run), b"graph yes\nbody " + body + b"\n", bytes.__eq__
         if run["events"]:
-            yield f"changed run {index}", json.dumps({**document, "run": changed(run, chance)}).encode(), b"", agree
+            yield f"changed run {index}", text_with(document, changed(run, chance)), b"", agree
