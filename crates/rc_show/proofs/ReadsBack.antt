@@ -2,17 +2,22 @@
 use Rattle.std.proofs.Common.{◌≡◌, ℕ, ◌<◌, ◌^◌, Bool, true, false, Option, None, Some, arith, refl}
 use Rattle.std.proofs.lemmas.Bool.Decides.{nat_tests}
 use Rattle.serde_json.specs.Data.{string}
+use Rattle.rc_names.specs.declared.numbers.Id.{Id}
 use Rattle.rc_names.specs.declared.span.Span.{Span}
 use Rattle.rc_hir.specs.Model.{Effect, Place}
 use Rattle.rc_hir.specs.declared.place.Effect.TheVariants as effects
 use Rattle.rc_names.specs.Numbers.{to_id}
+use Rattle.rc_doc.specs.Numbers.{id_of}
 use Rattle.rc_doc.specs.Places.{effect_of, place_of, span_of}
 use Rattle.rc_doc.specs.Reading.{number_of}
-use Rattle.rc_show.specs.Showing.{number_data, IsReadAgain}
+use Rattle.rc_show.specs.Showing.{id_data, number_data, IsReadAgain}
 use Rattle.rc_show.specs.ShownParts.Places.{effect_name, is_short, long_form, place_data, span_data}
 
 pub number_again : (n : ℕ) → n < 2 ^ 32 → number_of (number_data n) ≡ Some n
 number_again n h = grind (arith, nat_tests)
+
+pub id_again : {K : Type 0} (x : Id K) → number_of (number_data x.0) ≡ Some x.0 → id_of (id_data x) ≡ Some x
+id_again x h = rw h refl
 
 pub span_again : (s : Span) → s.start < 2 ^ 32 → s.end < 2 ^ 32 → span_of (span_data s) ≡ Some s
 unfolding span_of

@@ -8,8 +8,8 @@ use Rattle.serde_json.specs.Data.{Data, array, boolean, object, string}
 use Rattle.serde_json.specs.Data.{Items, no_items, item, Members, no_members, member}
 use Rattle.serde_json.specs.View.{items_of}
 use Rattle.rc_show.specs.Showing.{add, number_data}
-use Rattle.rc_show.specs.inside.Sending.{LogsAll, Sends, SendsFields, SendsItems}
-use Rattle.rc_show.specs.inside.Sending.{events_of, fields_events, items_events}
+use Rattle.rc_show.specs.Sending.{LogsAll, Sends, SendsFields, SendsItems}
+use Rattle.rc_show.specs.Sending.{events_of, fields_events, items_events}
 
 none_sent : (log : Log) → LogsAll [] log log
 none_sent None = tt

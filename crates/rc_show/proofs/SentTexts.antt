@@ -22,7 +22,7 @@ use Rattle.serde_json.specs.Written.{outline, items_outline, members_outline, co
 use Rattle.serde_json.proofs.Texts.{print-outline}
 use Rattle.serde_json.specs.Read.{read}
 use Rattle.serde_json.proofs.FreeTexts.{tokens_by}
-use Rattle.rc_show.specs.inside.Sending.{Sends, events_of, items_events, fields_events}
+use Rattle.rc_show.specs.Sending.{Sends, events_of, items_events, fields_events}
 use Rattle.rc_show.specs.Showing.{add}
 use Rattle.rc_show.specs.inside.Plain.{is_plain, items_plain, fields_plain}
 use Rattle.rc_show.proofs.PlainValues.{are_small, items_small, fields_small, fields_parts, read_back}

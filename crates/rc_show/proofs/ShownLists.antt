@@ -1,13 +1,16 @@
 -- Sending the entries of a list one after the other.
-use Rattle.std.proofs.Common.{◌≡◌, ℕ, ◌+◌, ◌<◌, ◌≤◌, List, [], ◌∷◌, ◌++◌, Option, None, Some, option_and_then}
+use Rattle.std.proofs.Common.{◌≡◌, ℕ, ◌+◌, ◌<◌, ◌≤◌, ◌^◌, List, [], ◌∷◌, ◌++◌, Option, None, Some, option_and_then}
+use Rattle.std.proofs.Common.{arith, nat_lt, true, suc}
+use Rattle.std.proofs.lemmas.Bool.Decides.{nat_tests}
 use Rattle.std.proofs.Common.{option_map, length, get_or, take, map, refl, subst, sym, ap, ◌∙◌}
 use Rattle.std.proofs.lemmas.List.{map-append, take_all, take_more}
 use Rattle.serde.specs.Event.{Log, Logs, seq_begins, seq_ends}
 use Rattle.serde_json.specs.Data.{Data}
+use Rattle.serde_json.specs.Events.{items_len}
 use Rattle.serde_json.specs.View.{items_of}
-use Rattle.rc_doc.specs.Reading.{all_items, list_of}
+use Rattle.rc_doc.specs.Reading.{all_items, array_len, list_of, table_of}
 use Rattle.rc_show.specs.Showing.{list_data}
-use Rattle.rc_show.specs.inside.Sending.{Sends, SendsItems}
+use Rattle.rc_show.specs.Sending.{Sends, SendsItems}
 use Rattle.rc_show.proofs.SendingLemmas.{array_sent, last_item_sent, no_items_sent}
 
 -- The entries are sent, and their printing forms read as these again.
@@ -58,3 +61,15 @@ module _ {X : Type 0} (reads : Data → Option X) (shows : X → Data) where
       → SentSoFar reads shows (take i ys) first last → list_of reads (list_data shows xs) ≡ Some xs
   all_again xs ys i first last same le so_far =
       subst (λ zs. all_items reads (items_of (map shows zs)) ≡ Some zs) (take_all i ys le ∙ same) so_far.again
+
+items_len-map : {X : Type 0} (shows : X → Data) (xs : List X) → items_len (items_of (map shows xs)) ≡ length xs
+items_len-map shows [] = refl
+items_len-map shows (x ∷ xs) = ap suc (items_len-map shows xs)
+
+-- a list that fits a table reads as that table
+pub table_again : {X : Type 0} (reads : Data → Option X) (shows : X → Data) (xs : List X) → length xs < 2 ^ 32
+    → list_of reads (list_data shows xs) ≡ Some xs → table_of reads (list_data shows xs) ≡ Some xs
+table_again reads shows xs fits h =
+    let few : nat_lt (array_len (list_data shows xs)) (2 ^ 32) ≡ true =
+    rw (items_len-map shows xs) (grind (arith, nat_tests, fits)) in
+    rw few h

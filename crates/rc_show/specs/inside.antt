@@ -1,3 +1,2 @@
 -- What private functions say of each other.
 pub mod Plain
-pub mod Sending

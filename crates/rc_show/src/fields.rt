@@ -1,16 +1,18 @@
 //! Sending a printing form part by part: `Show` for types, and `Fields` for the fields of an object.
 
-ghost use Rattle.std.specs.Prelude.{◌≡◌, Option, OnOk, Some, codes, ⊤};
+ghost use Rattle.std.specs.Prelude.{◌≡◌, Option, OnOk, Some, codes, refl, ⊤};
 ghost use Rattle.serde_json.specs.Data.{Data, Members, boolean, no_members, object, string};
-ghost use Rattle.rc_doc.specs.Reading.{flag_of, list_of, number_of, text_of};
-ghost use Rattle.rc_show.specs.Showing.{add, add_some, list_data, number_data, IsReadAgain, tagged, variant_data};
-ghost use Rattle.rc_show.specs.inside.Sending.{Sends, SendsFields};
+ghost use Rattle.rc_doc.specs.Numbers.{id_of};
+ghost use Rattle.rc_doc.specs.Reading.{flag_of, list_of, number_of, table_of, text_of};
+ghost use Rattle.rc_show.specs.Showing.{add, add_some, id_data, list_data, number_data, IsReadAgain, NeverNull};
+ghost use Rattle.rc_show.specs.Showing.{tagged, variant_data};
+ghost use Rattle.rc_show.specs.Sending.{Sends, SendsFields};
 
-use rc_names::{List, Text};
+use rc_names::{Boxed, Id, List, Name, Table, Text};
 use serde::Serializer;
 
 /// A type that has a printing form.
-pub(crate) trait Show: Sized {
+pub trait Show: Sized {
     /// The value of this type that a document's JSON value gives, if it gives one.
     ghost reads: { Data → Option Self };
 
@@ -21,6 +23,9 @@ pub(crate) trait Show: Sized {
     fn send<S: Serializer>(&self, out: &mut S) -> Result<(), S::Error>
         ensures sends { OnOk result (Sends (shows self.now) (S.written out.old) (S.written out.new)) }
         ensures again { OnOk result (Self.reads (shows self.now) ≡ Some self.now) };
+
+    /// No printing form is null, which would read as a field that is left out.
+    ghost not_null: { NeverNull shows };
 }
 
 impl Show for u32 {
@@ -32,6 +37,8 @@ impl Show for u32 {
     fn send<S: Serializer>(&self, out: &mut S) -> Result<(), S::Error> {
         out.u64(u64::from(*self))
     }
+
+    ghost not_null = { λ x. refl };
 }
 
 impl Show for bool {
@@ -43,6 +50,8 @@ impl Show for bool {
     fn send<S: Serializer>(&self, out: &mut S) -> Result<(), S::Error> {
         out.bool(*self)
     }
+
+    ghost not_null = { λ x. refl };
 }
 
 impl Show for Text {
@@ -54,6 +63,33 @@ impl Show for Text {
     fn send<S: Serializer>(&self, out: &mut S) -> Result<(), S::Error> {
         out.str(self.as_str())
     }
+
+    ghost not_null = { λ x. refl };
+}
+
+impl<K> Show for Id<K> {
+    ghost reads = { id_of };
+
+    ghost shows = { id_data };
+
+    #[tactic(auto, using(crate::proofs::ReadsBack::id_again))]
+    fn send<S: Serializer>(&self, out: &mut S) -> Result<(), S::Error> {
+        self.0.send(out)
+    }
+
+    ghost not_null = { λ x. refl };
+}
+
+/// Sends items as a list, which read as these again. Fails only when the serializer does.
+fn send_items<S: Serializer, T: Show>(out: &mut S, items: &[T]) -> Result<(), S::Error>
+    ensures sends { OnOk result (Sends (list_data T.shows items.now) (S.written out.old) (S.written out.new)) }
+    ensures again { OnOk result (list_of T.reads (list_data T.shows items.now) ≡ Some items.now) }
+{
+    out.begin_seq(None)?;
+    for item in items {
+        item.send(out)?;
+    }
+    out.end_seq()
 }
 
 impl<T: Show> Show for List<T> {
@@ -62,16 +98,41 @@ impl<T: Show> Show for List<T> {
     ghost shows = { list_data T.shows };
 
     fn send<S: Serializer>(&self, out: &mut S) -> Result<(), S::Error> {
-        out.begin_seq(None)?;
-        for x in self.as_slice() {
-            x.send(out)?;
-        }
-        out.end_seq()
+        send_items(out, self.as_slice())
     }
+
+    ghost not_null = { λ x. refl };
+}
+
+impl<I: Name, T: Show> Show for Table<I, T> {
+    ghost reads = { table_of T.reads };
+
+    ghost shows = { list_data T.shows };
+
+    #[tactic(auto, using(crate::proofs::ShownLists::table_again))]
+    fn send<S: Serializer>(&self, out: &mut S) -> Result<(), S::Error> {
+        // Its number of entries has 32 bits.
+        let _entries = self.len();
+        send_items(out, self.as_slice())
+    }
+
+    ghost not_null = { λ x. refl };
+}
+
+impl<T: Show> Show for Boxed<T> {
+    ghost reads = { T.reads };
+
+    ghost shows = { T.shows };
+
+    fn send<S: Serializer>(&self, out: &mut S) -> Result<(), S::Error> {
+        self.get().send(out)
+    }
+
+    ghost not_null = { T.not_null };
 }
 
 /// The fields of an object, in the order in which they are sent.
-pub(crate) trait Fields: Sized + Drop {
+pub trait Fields: Sized + Drop {
     /// The fields.
     ghost members: { Self → Members };
 
@@ -134,7 +195,7 @@ pub(crate) trait Fields: Sized + Drop {
 
 /// No fields.
 #[derive(Drop)]
-pub(crate) struct NoFields;
+pub struct NoFields;
 
 impl Fields for NoFields {
     ghost members = { λ _. no_members };
@@ -149,7 +210,7 @@ impl Fields for NoFields {
 
 /// Fields, and one more.
 #[derive(Drop)]
-pub(crate) struct With<'a, F, T> {
+pub struct With<'a, F, T> {
     before: F,
     name: &'a str,
     value: &'a T,
@@ -176,7 +237,7 @@ impl<F: Fields, T: Show> Fields for With<'_, F, T> {
 
 /// Fields, and one more if it isn't `None`.
 #[derive(Drop)]
-pub(crate) struct WithSome<'a, F, T> {
+pub struct WithSome<'a, F, T> {
     before: F,
     name: &'a str,
     value: &'a Option<T>,
@@ -204,7 +265,7 @@ impl<F: Fields, T: Show> Fields for WithSome<'_, F, T> {
 
 /// Fields, and the name of a variant.
 #[derive(Drop)]
-pub(crate) struct Tagged<'a, F> {
+pub struct Tagged<'a, F> {
     before: F,
     variant: &'a str,
 }
@@ -224,7 +285,7 @@ impl<F: Fields> Fields for Tagged<'_, F> {
 }
 
 /// Sends a variant whose one field has no name of its own. Fails only when the serializer does.
-pub(crate) fn send_variant<S: Serializer, T: Show>(
+pub fn send_variant<S: Serializer, T: Show>(
     out: &mut S,
     name: &str,
     content: &T,

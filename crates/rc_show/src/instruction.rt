@@ -5,7 +5,7 @@ mod expressions;
 mod objects;
 mod variables;
 
-ghost use Rattle.std.specs.Prelude.{◌≡◌, ◌++◌, IfOk, OnOk, false, string_bytes};
+ghost use Rattle.std.specs.Prelude.{◌≡◌, ◌++◌, IfOk, OnOk, false, string_bytes, refl};
 ghost use Rattle.serde_json.specs.View.{view};
 ghost use Rattle.serde_json.specs.Written.{compact_text, has_float};
 ghost use Rattle.rc_doc.specs.Kinds.{instruction_value_of};
@@ -225,4 +225,6 @@ impl Show for InstructionValue {
             } => calls::finish_memoize(out, *manual_memo_id, decl, *pruned, span),
         }
     }
+
+    ghost not_null = { λ x. refl };
 }

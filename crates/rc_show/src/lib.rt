@@ -10,6 +10,7 @@ mod place;
 mod shown;
 mod text;
 
+pub use fields::{Fields, NoFields, Show, Tagged, With, WithSome, send_variant};
 pub use instruction::{value_json, value_text, write_value};
 pub use place::{is_short, place_json, write_place};
 pub use text::{write_number, write_quoted};

@@ -3,6 +3,8 @@
 ghost use Rattle.rc_doc.specs.Parts.{binding_of, jsx_attribute_of, jsx_tag_of, lowered_function_of, primitive_value_of};
 ghost use Rattle.rc_show.specs.ShownParts.{binding_data, jsx_attribute_data, jsx_tag_data, lowered_function_data};
 ghost use Rattle.rc_show.specs.ShownParts.{primitive_value_data};
+ghost use Rattle.rc_show.specs.NotNull.{no_null_binding, no_null_jsx_attribute, no_null_jsx_tag};
+ghost use Rattle.rc_show.specs.NotNull.{no_null_lowered_function, no_null_primitive_value};
 
 use crate::fields::{Fields, NoFields, Show, send_variant};
 use rc_hir::{JsxAttribute, JsxTag, LoweredFunction, NonLocalBinding, PrimitiveValue};
@@ -23,6 +25,8 @@ impl Show for PrimitiveValue {
             PrimitiveValue::String(text) => send_variant(out, "String", text),
         }
     }
+
+    ghost not_null = { no_null_primitive_value };
 }
 
 impl Show for NonLocalBinding {
@@ -46,6 +50,8 @@ impl Show for NonLocalBinding {
             }
         }
     }
+
+    ghost not_null = { no_null_binding };
 }
 
 impl Show for JsxTag {
@@ -60,6 +66,8 @@ impl Show for JsxTag {
             JsxTag::Builtin(name) => send_variant(out, "Builtin", name),
         }
     }
+
+    ghost not_null = { no_null_jsx_tag };
 }
 
 impl Show for JsxAttribute {
@@ -85,6 +93,8 @@ impl Show for JsxAttribute {
             }
         }
     }
+
+    ghost not_null = { no_null_jsx_attribute };
 }
 
 impl Show for LoweredFunction {
@@ -96,4 +106,6 @@ impl Show for LoweredFunction {
     fn send<S: Serializer>(&self, out: &mut S) -> Result<(), S::Error> {
         NoFields.with("func", &self.func.0).send(out)
     }
+
+    ghost not_null = { no_null_lowered_function };
 }

@@ -1,6 +1,6 @@
 //! The printing form of patterns, and of the parts that they share with literals.
 
-ghost use Rattle.std.specs.Prelude.{◌≡◌};
+ghost use Rattle.std.specs.Prelude.{◌≡◌, refl};
 ghost use Rattle.rc_doc.specs.Patterns.{element_of, kind_of, lvalue_of, lvalue_pattern_of, object_property_of};
 ghost use Rattle.rc_doc.specs.Patterns.{pattern_element_of, pattern_of, property_key_of, property_literal_of};
 ghost use Rattle.rc_doc.specs.Patterns.{property_of};
@@ -8,6 +8,9 @@ ghost use Rattle.rc_show.specs.ShownParts.Patterns.{element_data, kind_data, kin
 ghost use Rattle.rc_show.specs.ShownParts.Patterns.{lvalue_pattern_data, object_property_data, pattern_data};
 ghost use Rattle.rc_show.specs.ShownParts.Patterns.{pattern_element_data, property_data, property_key_data};
 ghost use Rattle.rc_show.specs.ShownParts.Patterns.{property_literal_data};
+ghost use Rattle.rc_show.specs.NotNull.{no_null_element, no_null_lvalue, no_null_lvalue_pattern};
+ghost use Rattle.rc_show.specs.NotNull.{no_null_object_property, no_null_pattern, no_null_pattern_element};
+ghost use Rattle.rc_show.specs.NotNull.{no_null_property, no_null_property_key, no_null_property_literal};
 
 use crate::fields::{Fields, NoFields, Show, send_variant};
 use rc_hir::{
@@ -40,6 +43,8 @@ impl Show for InstructionKind {
     fn send<S: Serializer>(&self, out: &mut S) -> Result<(), S::Error> {
         out.str(kind_name(*self))
     }
+
+    ghost not_null = { λ x. refl };
 }
 
 impl Show for LValue {
@@ -54,6 +59,8 @@ impl Show for LValue {
             .with("place", &self.place)
             .send(out)
     }
+
+    ghost not_null = { no_null_lvalue };
 }
 
 impl Show for PropertyLiteral {
@@ -68,6 +75,8 @@ impl Show for PropertyLiteral {
             PropertyLiteral::Number(name) => send_variant(out, "Number", name),
         }
     }
+
+    ghost not_null = { no_null_property_literal };
 }
 
 impl Show for ObjectPropertyKey {
@@ -84,6 +93,8 @@ impl Show for ObjectPropertyKey {
             ObjectPropertyKey::Computed(place) => send_variant(out, "Computed", place),
         }
     }
+
+    ghost not_null = { no_null_property_key };
 }
 
 impl Show for ObjectProperty {
@@ -98,6 +109,8 @@ impl Show for ObjectProperty {
             .with("place", &self.place)
             .send(out)
     }
+
+    ghost not_null = { no_null_object_property };
 }
 
 impl Show for ObjectPropertyOrSpread {
@@ -112,6 +125,8 @@ impl Show for ObjectPropertyOrSpread {
             ObjectPropertyOrSpread::Spread(spread) => send_variant(out, "Spread", spread),
         }
     }
+
+    ghost not_null = { no_null_property };
 }
 
 impl Show for ArrayPatternElement {
@@ -127,6 +142,8 @@ impl Show for ArrayPatternElement {
             ArrayPatternElement::Hole => out.str("Hole"),
         }
     }
+
+    ghost not_null = { no_null_pattern_element };
 }
 
 impl Show for ArrayElement {
@@ -142,6 +159,8 @@ impl Show for ArrayElement {
             ArrayElement::Hole => out.str("Hole"),
         }
     }
+
+    ghost not_null = { no_null_element };
 }
 
 impl Show for Pattern {
@@ -161,6 +180,8 @@ impl Show for Pattern {
             }
         }
     }
+
+    ghost not_null = { no_null_pattern };
 }
 
 impl Show for LValuePattern {
@@ -175,4 +196,6 @@ impl Show for LValuePattern {
             .with("pattern", &self.pattern)
             .send(out)
     }
+
+    ghost not_null = { no_null_lvalue_pattern };
 }

@@ -1,13 +1,14 @@
 //! The printing form of spans, of places in the shortest of their forms, and of the types that have one place.
 
-ghost use Rattle.std.specs.Prelude.{◌≡◌, ◌++◌, IfOk, OnOk, Some, false, string_bytes};
+ghost use Rattle.std.specs.Prelude.{◌≡◌, ◌++◌, IfOk, OnOk, Some, false, string_bytes, refl};
 ghost use Rattle.serde_json.specs.View.{view};
 ghost use Rattle.serde_json.specs.Written.{compact_text, has_float};
 ghost use Rattle.rc_doc.specs.Places.{argument_of, place_of, span_of, spread_of};
 ghost use Rattle.rc_show.specs.Showing.{IsReadAgain};
 ghost use Rattle.rc_show.specs.ShownParts.Places.{argument_data, effect_name, is_short, long_form, place_data};
 ghost use Rattle.rc_show.specs.ShownParts.Places.{span_data, span_items, spread_data};
-ghost use Rattle.rc_show.specs.inside.Sending.{Sends, SendsItems};
+ghost use Rattle.rc_show.specs.Sending.{Sends, SendsItems};
+ghost use Rattle.rc_show.specs.NotNull.{no_null_argument, no_null_place, no_null_spread};
 
 use crate::fields::{Fields, NoFields, Show, send_variant};
 use crate::shown::{to_json, to_text};
@@ -30,6 +31,8 @@ impl Show for Span {
         self.end.send(out)?;
         out.end_seq()
     }
+
+    ghost not_null = { λ x. refl };
 }
 
 fn effect_name(effect: Effect) -> &'static str
@@ -92,6 +95,8 @@ impl Show for Place {
             send_long_form(out, self)
         }
     }
+
+    ghost not_null = { no_null_place };
 }
 
 impl Show for SpreadPattern {
@@ -103,6 +108,8 @@ impl Show for SpreadPattern {
     fn send<S: Serializer>(&self, out: &mut S) -> Result<(), S::Error> {
         NoFields.with("place", &self.place).send(out)
     }
+
+    ghost not_null = { no_null_spread };
 }
 
 impl Show for PlaceOrSpread {
@@ -117,6 +124,8 @@ impl Show for PlaceOrSpread {
             PlaceOrSpread::Spread(spread) => send_variant(out, "Spread", spread),
         }
     }
+
+    ghost not_null = { no_null_argument };
 }
 
 /// Returns the shortest form of a place, which reads as that place again. It has no float, so its text is its compact

@@ -4,7 +4,7 @@ ghost use Rattle.std.specs.Prelude.{◌≡◌, IfOk, OnOk, Some, string_bytes, t
 ghost use Rattle.serde_json.specs.View.{view};
 ghost use Rattle.serde_json.specs.Written.{compact_text};
 ghost use Rattle.rc_show.specs.inside.Plain.{is_plain};
-ghost use Rattle.rc_show.specs.inside.Sending.{Sends};
+ghost use Rattle.rc_show.specs.Sending.{Sends};
 
 use crate::fields::Show;
 use serde::{Described, Serialize, Serializer};

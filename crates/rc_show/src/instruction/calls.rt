@@ -3,7 +3,7 @@
 ghost use Rattle.std.specs.Prelude.{OnOk};
 ghost use Rattle.rc_hir.specs.declared.instruction.InstructionValue.TheVariants as kinds;
 ghost use Rattle.rc_show.specs.ShownKinds.{IsReadBack, value_data};
-ghost use Rattle.rc_show.specs.inside.Sending.{Sends};
+ghost use Rattle.rc_show.specs.Sending.{Sends};
 
 use crate::fields::{Fields, NoFields};
 use rc_hir::{LoweredFunction, Place, PlaceOrSpread};

@@ -1,7 +1,7 @@
 use Rattle.std.proofs.Common.{subst}
 use Rattle.std.proofs.lemmas.Result.{on_ok_weaker}
 use Rattle.serde_json.specs.Data.{string}
-use Rattle.rc_show.specs.inside.Sending.{Sends}
+use Rattle.rc_show.specs.Sending.{Sends}
 use Rattle.rc_show.proofs.SendingLemmas.{array_sent, first_item_sent, flag_sent, text_sent}
 use Rattle.rc_show.proofs.place.send_long_form.Goals as goal
 
