@@ -1,0 +1,10 @@
+pub mod Model
+pub mod Values
+pub mod Blocks
+pub mod Order
+pub mod ShownGraph
+pub mod ShownEnvironment
+pub mod ShownFlat
+pub mod ReadingFlat
+pub mod Tables
+pub mod inside

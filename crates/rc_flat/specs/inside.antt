@@ -1,0 +1,2 @@
+-- What private functions say of each other.
+pub mod Assembly
