@@ -43,12 +43,12 @@ def moves(terminal):
     return [([], terminal[STRAIGHT[kind]])] if kind in STRAIGHT else []
 
 
-def drawn(document, chance):
-    """A run of the document's graph."""
+def drawn(document, choose, most=MOVES):
+    """A run of the document's graph, of at most so many moves, each of which is chosen from the ways and the events."""
     hir, identifiers = document["hir"], document["env"].get("identifiers", [])
     blocks = {block["id"] if block.get("key") is None else block["key"]: block for block in hir["body"]["blocks"]}
     rows, events, key = hir.get("instructions", []), [], hir["body"]["entry"]
-    for _ in range(MOVES):
+    for _ in range(most):
         block = blocks[key]
         listed = [rows[index] for index in block.get("instructions", [])]
         events += [{"k": "Did", "v": row["value"]} for row in listed if not is_silent(row, identifiers)]
@@ -59,7 +59,7 @@ def drawn(document, chance):
         ways = moves(terminal)
         if not ways:
             break
-        step, key = chance.choice(ways)
+        step, key = choose(ways, events)
         events += step
     return {"events": events, "end": "Open"}
 
@@ -90,8 +90,16 @@ def texts(name, text):
     """The runs of a document: the name of each with its text, with what must be printed, and with how that is held."""
     document, chance = json.loads(text), random.Random(name)
     for index in range(RUNS):
-        run = drawn(document, chance)
+        run = drawn(document, lambda ways, _: chance.choice(ways))
         body = b"skipped" if "Threw" in run["events"] else b"yes"
         yield f"run {index}", text_with(document, run), b"graph yes\nbody " + body + b"\n", bytes.__eq__
         if run["events"]:
             yield f"changed run {index}", text_with(document, changed(run, chance)), b"", agree
+
+
+def long(text, count):
+    """The text of a document with a run that takes each first way, and after that many events each last one."""
+    document = json.loads(text)
+    run = drawn(document, lambda ways, events: ways[0] if len(events) < count else ways[-1], 10 * count)
+    assert len(run["events"]) >= count
+    return text_with(document, run)
