@@ -1638,7 +1638,7 @@ export namespace Printed {
   /** A break out of a statement. */
   export interface ReactiveTerminal_Break {
     k: "Break";
-    /** The label of the statement. */
+    /** The block of the graph that it leads to; the statement's label has the same number. */
     target: BlockId;
     /** How it is found. */
     target_kind: ReactiveTerminalTargetKind;
@@ -1649,7 +1649,7 @@ export namespace Printed {
   /** The next turn of a loop. */
   export interface ReactiveTerminal_Continue {
     k: "Continue";
-    /** The label of the loop. */
+    /** The number of the loop's label. */
     target: BlockId;
     /** How it is found. */
     target_kind: ReactiveTerminalTargetKind;
