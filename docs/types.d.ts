@@ -1,7 +1,8 @@
 // The types of the documents and answers of rc. tools/form/write makes this file.
 //
 // A document may leave out a field that is empty, false or null, or spell it out. An answer has one form: it leaves out
-// a field that would be null, and no other. So there are two types of each part, for what rc reads and what it prints.
+// a field that would be null, and no other. So there are two types of each part, for what is read and what is printed.
+// No command of rc prints an answer as JSON yet.
 
 export type Document = Read.Document;
 export type Answer = Printed.Answer;
@@ -1403,7 +1404,7 @@ export namespace Read {
   }
 }
 
-/** What rc prints. */
+/** The printing form. */
 export namespace Printed {
   /** Start and end in the source. */
   export type Span = [start: number, end: number];

@@ -60,7 +60,7 @@ def span():
 
 
 class Schema:
-    """The schema of what rc prints, where it is exact: no field is left out or null but those that are none, and places
+    """The schema of the printing form, where it is exact: no field is left out or null but those that are none, and places
     are in their shortest form. Else that of what rc reads."""
 
     def __init__(self, is_exact):
@@ -128,7 +128,7 @@ def document():
 
 
 def answer():
-    """The schema of an answer, as rc prints it."""
+    """The schema of an answer in its printing form."""
     head = {
         "$id": "urn:rc:answer:0.1", "title": "An answer of rc",
         "$comment": "tools/form/write makes this file. What a schema can't say: keys are in byte order; a block of a "

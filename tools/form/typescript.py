@@ -8,7 +8,8 @@ HEAD = """\
 // The types of the documents and answers of rc. tools/form/write makes this file.
 //
 // A document may leave out a field that is empty, false or null, or spell it out. An answer has one form: it leaves out
-// a field that would be null, and no other. So there are two types of each part, for what rc reads and what it prints.
+// a field that would be null, and no other. So there are two types of each part, for what is read and what is printed.
+// No command of rc prints an answer as JSON yet.
 
 export type Document = Read.Document;
 export type Answer = Printed.Answer;
@@ -56,7 +57,7 @@ def union(name, parts):
 
 
 class Types:
-    """The types of what rc prints, where they are exact, or else of what it reads."""
+    """The types of the printing form, where they are exact, or else of what rc reads."""
 
     def __init__(self, is_exact):
         self.is_exact = is_exact
@@ -98,5 +99,5 @@ class Types:
 def text():
     """The whole file."""
     read = Types(is_exact=False).namespace("Read", "What rc reads.", type_table.document())
-    printed = Types(is_exact=True).namespace("Printed", "What rc prints.", type_table.answer())
+    printed = Types(is_exact=True).namespace("Printed", "The printing form.", type_table.answer())
     return "\n".join([HEAD, f"{read}\n", f"{printed}\n"])
