@@ -1,7 +1,6 @@
 pub mod Model
 pub mod Values
 pub mod Blocks
-pub mod Order
 pub mod ShownGraph
 pub mod ShownEnvironment
 pub mod ShownFlat

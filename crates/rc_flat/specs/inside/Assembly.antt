@@ -1,6 +1,6 @@
 -- The function of two tables, which are read from the last entry to the first, and each entry from its end to its
 -- start. Each number is that of the part that waits longest, which it takes; the part of an entry then waits itself.
-use Rattle.std.specs.Prelude.{◌≡◌, ℕ, ◌+◌, ◌==◌, List, [], ◌∷◌, Option, Some, None, Result, Ok, Err, length}
+use Rattle.std.specs.Prelude.{ℕ, ◌+◌, ◌==◌, List, [], ◌∷◌, Option, Some, None, length}
 use Rattle.std.specs.Prelude.{if◌then◌else◌}
 use Rattle.serde_json.specs.Data.{Data}
 use Rattle.rc_tree.specs.Model.{ReactiveBlock, ReactiveFunction, ReactiveInstruction, ReactiveStatement}
@@ -10,8 +10,6 @@ use Rattle.rc_tree.specs.declared.terminal.ReactiveSwitchCase.{roll-ReactiveSwit
 use Rattle.rc_tree.specs.declared.terminal.ReactiveTerminal.TheVariants as tree
 use Rattle.rc_tree.specs.declared.value.ReactiveValue.TheVariants as values
 use Rattle.rc_doc.specs.Reading.{◌>>=◌}
-use Rattle.rc_doc.specs.declared.refusal.Refusal.{Refusal}
-use Rattle.rc_doc.specs.declared.refusal.Refusal.TheVariants.{Memory, NotDoc}
 use Rattle.rc_flat.specs.Model.{FlatFunction, FlatInstruction, FlatStatement, FlatSwitchCase, FlatTerminal}
 use Rattle.rc_flat.specs.Model.{FlatValue, NestedValue}
 use Rattle.rc_flat.specs.ReadingFlat.{flat_function_of}
@@ -28,19 +26,6 @@ Found = TheFound
 -- a reading of a part, with the parts that still wait
 abbrev pub Taking : Type 0 → Type 0
 Taking X = Found → Option (X × Found)
-
--- a call returns the part that the reading gives and leaves what still waits, refuses if the reading gives none, or
--- runs out of memory
-abbrev pub Takes : {X : Type 0} → Result X Refusal → Option (X × Found) → Found → Type 0
-Takes (Ok x) reading left = reading ≡ Some (x, left)
-Takes (Err NotDoc) reading left = reading ≡ None
-Takes (Err Memory) reading left = Unit {0}
-
--- the same for a reading that gives no part
-abbrev pub Leaves : {X : Type 0} → Result X Refusal → Option Found → Found → Type 0
-Leaves (Ok x) reading left = reading ≡ Some left
-Leaves (Err NotDoc) reading left = reading ≡ None
-Leaves (Err Memory) reading left = Unit {0}
 
 -- the last item, and those before it
 abbrev pub take_last : {X : Type 0} → List X → Option (X × List X)
