@@ -1,7 +1,7 @@
 //! The bytes of stack that nesting takes: the builder gives up before the stack does.
 //!
 //! Each level of a tree takes stack here and in every later call that goes down the tree. A level of each kind counts
-//! as more than was measured of the whole program on x86-64 (`docs/BENCHMARKS.md`, "Depth").
+//! as more than was measured of the whole program on x86-64 (`docs/BENCHMARKS.md`, "Stack").
 
 ghost use Rattle.std.specs.Prelude.{◌≡◌, ◌<◌, ◌+◌, IfOk, IfErr};
 

@@ -270,6 +270,8 @@ fn prune_block_if(
 }
 
 /// Moves the statements that are done, from `start` on, back into a `Label`.
+// Not inlined, so that a level of nested statements has no room for what this needs.
+#[inline(never)]
 fn refill(
     terminal: &mut ReactiveTerminal,
     done: &mut List<ReactiveStatement>,

@@ -228,6 +228,8 @@ impl<'a> RowReader<'a> {
     }
 
     /// Adds the operands of an instruction that are recorded.
+    // Not inlined, so that a level of nested values has no room for operands.
+    #[inline(never)]
     #[tactic(auto, unfolding(crate::specs::RowEvents::recorded_operands))]
     fn add_recorded(
         &self,

@@ -25,6 +25,8 @@ use rc_tree::{
 use std::alloc::AllocError;
 
 /// Returns the scope blocks around the inside of a block of this scope. Fails only when out of memory.
+// Not inlined, so that a level of nested statements has no room for what this needs; so the two below.
+#[inline(never)]
 fn inside_of(
     reader: &RowReader<'_>,
     around: &List<ScopeId>,
@@ -55,6 +57,7 @@ fn add_each_within(
 }
 
 /// Adds that a returned name escapes, and that it has the scope blocks around. Fails only when out of memory.
+#[inline(never)]
 fn add_returned(
     reader: &RowReader<'_>,
     recording: &mut Recording,
@@ -71,6 +74,7 @@ fn add_returned(
 }
 
 /// Adds what a scope reassigns. Fails only when out of memory.
+#[inline(never)]
 #[tactic(auto, using(crate::proofs::TellsLemmas::tells_nothing))]
 fn add_reassigned(
     reader: &RowReader<'_>,

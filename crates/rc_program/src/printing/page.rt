@@ -75,6 +75,8 @@ impl Page {
     }
 
     /// Writes the compact text of an instruction's printing form.
+    // Not inlined, so that a level of nested values has no room for what a text needs.
+    #[inline(never)]
     pub fn base_value(&mut self, value: &InstructionValue) -> Result<(), AllocError>
         ensures { OnOk result (self.new ≡ self.old ++ compact_text (value_data value.now)) }
     {
