@@ -50,8 +50,8 @@ impl<'g> Builder<'g> {
 
     /// Marks a block as used, and the scope that it opens.
     ///
-    /// `Malformed`: it leads to a block that ends in `Unreachable` (`Dead`), is used already (`Twice`), or opens a scope
-    /// that is used already (`ScopeTwice`).
+    /// `Malformed`: it leads to a block that ends in `Unreachable` (`Dead`), is used already (`Twice`), or opens a
+    /// scope that is used already (`ScopeTwice`).
     pub fn mark_block(&mut self, key: BlockId, found: FoundBlock<'_>) -> Result<(), Fault>
         requires can { CanMark self.old.hir.now self.old.marks key found.block.now }
         requires placed { place_of self.old.hir.now key ≡ Some found.place }

@@ -164,8 +164,8 @@ impl LoopTerminal {
 }
 
 impl<'g> Builder<'g> {
-    /// Builds the loop that a terminal is: its values, and then its body inside the loop's frame; returns where the list
-    /// goes on.
+    /// Builds the loop that a terminal is: its values, and then its body inside the loop's frame; returns where the
+    /// list goes on.
     ///
     /// `Malformed`, `Todo`, `BadName`: as for its values and its body.
     // Not inlined, so that the frames of other statements have no room for its parts.
@@ -195,8 +195,8 @@ impl<'g> Builder<'g> {
     }
 
     /// Builds the values of the loop that a terminal is. The faults are those of `build_values`.
-    // Not inlined, so that the frames of nested loops have no room for the parts of the terminal; and boxed, so that they
-    // have little for the values.
+    // Not inlined, so that the frames of nested loops have no room for the parts of the terminal; and boxed, so that
+    // they have little for the values.
     #[inline(never)]
     fn build_values_of(
         &mut self,

@@ -28,8 +28,8 @@ pub struct ShortArm {
 }
 
 impl<'g> Builder<'g> {
-    /// Builds the short arm of a value terminal, if it has one and the value doesn't answer a test; returns the arm that is
-    /// left to the test, where the value after the terminal leaves one open or this one does.
+    /// Builds the short arm of a value terminal, if it has one and the value doesn't answer a test; returns the arm
+    /// that is left to the test, where the value after the terminal leaves one open or this one does.
     ///
     /// `Malformed`, `BadName`: as for a silent arm.
     pub fn build_short_arm(
@@ -148,8 +148,8 @@ impl<'g> Builder<'g> {
         Ok(())
     }
 
-    /// Refuses rows of the block under the key that aren't silent, in an arm that must be. `Malformed` with `LoudArm`: one
-    /// isn't; otherwise as for a row.
+    /// Refuses rows of the block under the key that aren't silent, in an arm that must be. `Malformed` with `LoudArm`:
+    /// one isn't; otherwise as for a row.
     fn check_silent_rows(
         &self,
         arm: BlockId,

@@ -1,5 +1,5 @@
--- The entries that an early return adds to the environment: five identifiers with their types, a block, and the entries of
--- its scope.
+-- The entries that an early return adds to the environment: five identifiers with their types, a block, and the entries
+-- of its scope.
 use Rattle.std.specs.Prelude.{◌+◌, ◌*◌, ◌^◌, ℕ, Bool, List, [], ◌∷◌, ◌++◌, Option, None, Some, codes, decimal}
 use Rattle.std.specs.Prelude.{length, nat_lt, slice_get, slice_set, ◌&&◌, option_map}
 use Rattle.rc_early.specs.declared.early_return.EarlyReturn.{EarlyReturn}

@@ -21,15 +21,16 @@ use rc_hir::{Environment, Fault};
 use rc_tree::ReactiveFunction;
 use std::alloc::Global;
 
-/// Makes each `Return` in a scope block a store to a new variable and a jump to a new label, at which the outermost scope
-/// block around it ends. A scope block whose scope has an early return already is passed over with all that it holds.
+/// Makes each `Return` in a scope block a store to a new variable and a jump to a new label, at which the outermost
+/// scope block around it ends. A scope block whose scope has an early return already is passed over with all that it
+/// holds.
 ///
 /// The runs of the body are the same, where its numbers are in their tables, and the next block of the environment is
 /// above its labels, the targets of its jumps, and the labels of early returns.
 ///
-/// `NoIds` comes where the first `Return` of an outermost scope block finds no room for five identifiers, five types and
-/// a block, and `BadName` where the scope of such a block is outside its table. After both the environment is as before.
-/// `NoMemory` means out of memory; numbers that were in their tables still are.
+/// `NoIds` comes where the first `Return` of an outermost scope block finds no room for five identifiers, five types
+/// and a block, and `BadName` where the scope of such a block is outside its table. After both the environment is as
+/// before. `NoMemory` means out of memory; numbers that were in their tables still are.
 pub fn propagate_early_returns(
     alloc: Global,
     func: &mut ReactiveFunction,

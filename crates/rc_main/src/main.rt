@@ -1,5 +1,5 @@
-//! `rc`: reads a document from standard input, or makes one, and prints the tree of its graph, the fates of its scopes or
-//! counts, or the reason why the graph is refused.
+//! `rc`: reads a document from standard input, or makes one, and prints the tree of its graph, the fates of its scopes
+//! or counts, or the reason why the graph is refused.
 //!
 //! It is the whole of this crate's public surface: the words, standard input, standard output, standard error and the
 //! exit status. What it calls is public in `rc_program`.
@@ -31,8 +31,8 @@ fn run(rt: &HostRuntime, note: &mut Note) -> Result<Status, Status> {
     Ok(program(rt.alloc(), &words, &mut source, &mut sink, note, stack))
 }
 
-/// The bytes of stack that the nesting of a document may take, by the limits that the system tells; `NoMemory` when out of
-/// memory.
+/// The bytes of stack that the nesting of a document may take, by the limits that the system tells; `NoMemory` when out
+/// of memory.
 fn stack_limit(rt: &HostRuntime) -> Result<usize, Status> {
     match fs::read_to_string(rt, "/proc/self/limits") {
         Ok(limits) => Ok(stack_for_nesting(&limits)),

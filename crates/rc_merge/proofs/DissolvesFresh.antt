@@ -1,5 +1,5 @@
--- A scope that gave way recomputes only where the scope around it does: the two had the same inputs, and merging changes
--- no dependencies.
+-- A scope that gave way recomputes only where the scope around it does: the two had the same inputs, and merging
+-- changes no dependencies.
 use Rattle.std.proofs.Common.{◌≡◌, List, [], ◌∷◌, None, true, map, refl, sym, ap}
 use Rattle.std.proofs.Common.{subst}
 use Rattle.rc_hir.specs.Model.{Environment}

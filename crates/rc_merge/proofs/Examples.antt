@@ -1,5 +1,5 @@
--- Two scope blocks with the store of a constant between them: the second depends on the copy of what the first declares,
--- and joins it. Where the copy is used after the second, it doesn't.
+-- Two scope blocks with the store of a constant between them: the second depends on the copy of what the first
+-- declares, and joins it. Where the copy is used after the second, it doesn't.
 use Rattle.std.proofs.Common.{◌≡◌, ℕ, List, [], ◌∷◌, true, false, None, Some, Ok, refl}
 use Rattle.rc_hir.specs.Model.{DeclarationEntry, Environment, Identifier, InstructionValue, Place, ReactiveScope}
 use Rattle.rc_hir.specs.Model.{ReactiveScopeDependency}

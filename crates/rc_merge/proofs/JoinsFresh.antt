@@ -1,5 +1,5 @@
--- Through the whole tree: a scope that joined a head recomputes only where the head does, in each legal render, where no
--- copied name is written by two rows.
+-- Through the whole tree: a scope that joined a head recomputes only where the head does, in each legal render, where
+-- no copied name is written by two rows.
 use Rattle.std.proofs.Common.{◌≡◌, ◌∙◌, List, [], ◌∷◌, Option, None, Some, true, map, refl, sym, ap}
 use Rattle.std.proofs.Common.{subst}
 use Rattle.rc_hir.specs.Model.{Environment, InstructionValue, Place}

@@ -1,5 +1,5 @@
--- The walk of merging follows its rules: the nearest scope block around is set aside and found again, an answer is that of
--- the rule, and a list becomes what it becomes step by step.
+-- The walk of merging follows its rules: the nearest scope block around is set aside and found again, an answer is that
+-- of the rule, and a list becomes what it becomes step by step.
 use Rattle.std.proofs.Common.{◌≡◌, ◌∙◌, ◌↔◌, ◌⊎◌, ◌-◌, Bool, true, false, List, [], ◌∷◌, ◌++◌, Option, None, Some}
 use Rattle.std.proofs.Common.{Result, Ok, Err, IsNone, IfSome, IfNone, IfErr, OnOk, inl, inr, refl, sym, ap, subst}
 use Rattle.std.proofs.Common.{length, take, unwrap_or, arith}

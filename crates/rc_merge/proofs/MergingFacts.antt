@@ -18,7 +18,8 @@ use Rattle.rc_tree.specs.declared.fate.Fate.TheVariants.{DissolvedInto}
 use Rattle.rc_tree.specs.declared.fate.ScopeFate.{ScopeFate}
 use Rattle.rc_tree.specs.declared.statement.ReactiveStatement.TheVariants as reactive
 
--- a fact of what parts have: of two parts exactly where it is one of each, and of a scope block also with another inside
+-- a fact of what parts have: of two parts exactly where it is one of each, and of a scope block also with another
+-- inside
 pub record IsOfParts {A : Type 0} (Known : A → Type 0) (a : Contributions A) : Type 0 where
   pub nothing : Known a.joining.nothing
   pub both : (x y : A) → Known x → Known y → Known (a.joining.both x y)
@@ -29,7 +30,8 @@ pub record IsOfParts {A : Type 0} (Known : A → Type 0) (a : Contributions A) :
   pub inside_pruned : (of : ScopeId) (x : A) → Known (a.pruned_scope of x) → Known x
   pub around_pruned : (of : ScopeId) (x y : A) → Known (a.pruned_scope of x) → Known y → Known (a.pruned_scope of y)
 
--- a fact of states that says nothing of the scope block around: a scope block that gives way keeps it, and so does a list
+-- a fact of states that says nothing of the scope block around: a scope block that gives way keeps it, and so does a
+-- list
 pub record IsOfStates {A : Type 0} (env : Environment) (uses : LastUses) (Stays : Progress → Type 0) (Known : A → Type 0)
     (a : Contributions A) : Type 0 where
   pub around : (met : Progress) (scope : Option ScopeId) → Stays met → Stays (record met { around = scope })

@@ -1,6 +1,7 @@
 -- Two passes whose rules agree rebuild a tree to the same one, where no scope has two scope blocks.
 --
--- By induction over the tree. Each rule is asked to agree on states that are alike, and takes away or leaves scope blocks.
+-- By induction over the tree. Each rule is asked to agree on states that are alike, and takes away or leaves scope
+-- blocks.
 use Rattle.std.proofs.Common.{◌≡◌, ◌≤◌, ◌∙◌, List, [], ◌∷◌, ◌++◌, Option, None, Some, Result, Ok, Err, arith, map, refl}
 use Rattle.std.proofs.Common.{sym, ap, subst}
 use Rattle.std.proofs.lemmas.List.{append-nil}

@@ -1,4 +1,5 @@
--- Inputs that are the same are equal, and the second of two lists that are the same has no input but those of the first.
+-- Inputs that are the same are equal, and the second of two lists that are the same has no input but those of the
+-- first.
 use Rattle.std.proofs.Common.{◌≡◌, List, true, ap, subst, sym}
 use Rattle.std.proofs.lemmas.Bool.{and_parts}
 use Rattle.std.specs.Bool.{Decides, beq}

@@ -28,8 +28,8 @@ module _ (env : Environment) where
   abbrev pub RecomputesWith : Render → ScopeId → ScopeId → Type 0
   RecomputesWith render scope other = Recomputes env render scope → Recomputes env render other
 
-  -- if no copied name is written by two rows, then in each legal render a scope that joined a head recomputes only where
-  -- the head does
+  -- if no copied name is written by two rows, then in each legal render a scope that joined a head recomputes only
+  -- where the head does
   abbrev pub JoinsFresh : ReactiveBlock → List ScopeFate → Type 0
   JoinsFresh body log = HasCopiesOnce env body → (render : Render) → IsLegal env body render
       → (scope head : ScopeId) → IsMergedInto log scope head → RecomputesWith render scope head

@@ -189,8 +189,8 @@ impl Declared {
         Declared::new(known, entries.as_slice())
     }
 
-    /// Adds declarations, each under its key, and drops those whose last use is below an id then. Fails only when out of
-    /// memory.
+    /// Adds declarations, each under its key, and drops those whose last use is below an id then. Fails only when out
+    /// of memory.
     pub fn grow(
         self,
         known: &Known<'_>,

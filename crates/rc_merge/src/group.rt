@@ -93,8 +93,8 @@ impl Group {
         Ok(are_used_below(known, scope.range.end, self.names.as_slice()))
     }
 
-    /// Returns whether a scope recomputes only where the head does, by one of the three conditions. Fails only when out of
-    /// memory.
+    /// Returns whether a scope recomputes only where the head does, by one of the three conditions. Fails only when out
+    /// of memory.
     fn invalidates(
         &self,
         known: &Known<'_>,
@@ -158,7 +158,8 @@ impl Group {
         })
     }
 
-    /// Returns the group with the statements of a block in it, after the rows that passed. Fails only when out of memory.
+    /// Returns the group with the statements of a block in it, after the rows that passed. Fails only when out of
+    /// memory.
     pub fn swallow(self, known: &Known<'_>, block: ReactiveScopeBlock) -> Result<Group, AllocError>
         requires { IsHeld known.now.env.now (uses_of known.now.uses.now) self }
         ensures held { IfOk result (IsHeld known.now.env.now (uses_of known.now.uses.now)) }

@@ -46,8 +46,8 @@ impl<'a> Known<'a> {
     }
 }
 
-/// Returns whether the value of an identifier is a new one each time that it is computed; false if a number is outside its
-/// table.
+/// Returns whether the value of an identifier is a new one each time that it is computed; false if a number is outside
+/// its table.
 pub(crate) fn always_invalidates(env: &Environment, id: IdentifierId) -> bool
     ensures { result ≡ spec.always_invalidates env.now id }
 {

@@ -1,5 +1,5 @@
-//! Scope blocks that invalidate together: which lists of dependencies are the same, what merging makes of a tree and of its
-//! scopes, and that no part of a merged scope is stale.
+//! Scope blocks that invalidate together: which lists of dependencies are the same, what merging makes of a tree and of
+//! its scopes, and that no part of a merged scope is stale.
 #![tactic(auto)]
 
 mod declared;

@@ -1,7 +1,7 @@
 //! Scope blocks that invalidate together become one.
 //!
-//! Each list is merged after the insides of its statements. A scope block with the inputs of the nearest one around it is
-//! replaced by its statements, before the list that it is in is merged.
+//! Each list is merged after the insides of its statements. A scope block with the inputs of the nearest one around it
+//! is replaced by its statements, before the list that it is in is merged.
 //!
 //! After oxc's merge_reactive_scopes_that_invalidate_together.
 
@@ -35,12 +35,12 @@ use rc_tree::{
 use rc_walk::{OverStatements, StatementTransform, transform_reactive_function};
 use std::alloc::{AllocError, Global};
 
-/// Merges scope blocks that invalidate together: one that recomputes only where the one before it in its list does joins
-/// that one, with the rows between them; and one with the inputs of the nearest scope block around it gives way to its
-/// statements.
+/// Merges scope blocks that invalidate together: one that recomputes only where the one before it in its list does
+/// joins that one, with the rows between them; and one with the inputs of the nearest scope block around it gives way
+/// to its statements.
 ///
-/// The numbers of the tree stay, and so does everything in it outside its scopes. Of the environment only scopes change,
-/// and none of their dependencies.
+/// The numbers of the tree stay, and so does everything in it outside its scopes. Of the environment only scopes
+/// change, and none of their dependencies.
 ///
 /// `BadName` comes where a nested function is outside its table. `NoMemory` means out of memory, and is the only fault
 /// where every number is in its table. After a fault the environment is as before, and the body has no stated content.

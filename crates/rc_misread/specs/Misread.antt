@@ -1,5 +1,5 @@
--- Where a value that isn't read is at fault. The way there goes from the whole value from part to part, each time to the
--- first part, in the order of the fields, that isn't read as it is asked, until every part of it is read.
+-- Where a value that isn't read is at fault. The way there goes from the whole value from part to part, each time to
+-- the first part, in the order of the fields, that isn't read as it is asked, until every part of it is read.
 use Rattle.std.specs.Prelude.{◌≡◌, ℕ, ◌+◌, true, false, List, [], ◌∷◌, ◌++◌, Option, Some, None, map, is_some}
 use Rattle.std.specs.Prelude.{if◌then◌else◌, option_and_then, unwrap_or}
 use Rattle.serde_json.specs.Data.{Data, null, boolean, number, string, array, object, Items, no_items, item}

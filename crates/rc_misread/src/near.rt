@@ -1,6 +1,7 @@
 //! Words that are near to a text.
 
-/// The first of these words that is one edit away from a text, or that differs from it in capitals and underscores alone.
+/// The first of these words that is one edit away from a text, or that differs from it in capitals and underscores
+/// alone.
 pub(crate) fn nearest(words: &[&'static str], text: &str) -> Option<&'static str> {
     for word in words {
         let (known, text) = (word.as_bytes(), text.as_bytes());

@@ -34,8 +34,8 @@ module _ {spelled pruned : PassState} {decisions : Decisions} (parts : IsPrunedW
   abbrev passes : IsPruned spelled pruned
   passes = parts.passes
 
-  -- a scope of the spelled tree has its fate by the first rule that gives it one, and a block at the end exactly where it
-  -- is kept
+  -- a scope of the spelled tree has its fate by the first rule that gives it one, and a block at the end exactly where
+  -- it is kept
   by_rule : (scope : ScopeId) → Contains (scopes_in spelled.func.body) scope
       → IsFateBy (fate_rules passes) scope (fate_by decisions.log scope)
       × IsLeftExactly scope (fate_by decisions.log scope) pruned.func.body

@@ -1,5 +1,5 @@
--- Where no scope has a block, the pass on dependencies leaves the environment as it is, if all operands can be read: each
--- dependency stays, since no block of its scope ends.
+-- Where no scope has a block, the pass on dependencies leaves the environment as it is, if all operands can be read:
+-- each dependency stays, since no block of its scope ends.
 use Rattle.std.proofs.Common.{◌≡◌, ◌∙◌, ◌+◌, ℕ, zero, suc, Bool, true, false, List, [], ◌∷◌, ◌++◌, Option, None, Some}
 use Rattle.std.proofs.Common.{Result, Ok, Err, All, IsOk, ap, arith, if◌then◌else◌, refl, slice_get, sym}
 use Rattle.std.proofs.lemmas.List.Elements.{All-weaker}

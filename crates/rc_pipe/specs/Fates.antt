@@ -1,6 +1,6 @@
 -- The fates of the scope blocks of a spelled tree. Each pass has a rule, which is judged on the function and the
--- environment that the pass received. The first rule that applies, in the order of the passes, gives the fate, and a scope
--- is kept where none does.
+-- environment that the pass received. The first rule that applies, in the order of the passes, gives the fate, and a
+-- scope is kept where none does.
 use Rattle.std.specs.Prelude.{◌≡◌, ◌↔◌, List, All, Contains, map}
 use Rattle.std.specs.List.Sorted.{IsStrictlyIncreasing}
 use Rattle.rc_names.specs.Numbers.{ScopeId}

@@ -59,7 +59,8 @@ pub record IsAnswer (hir : HirFunction) (env answered : Environment) (pruned : P
   pub needed : All (λ entry. entry.fate ≡ NotEscaping → (name : DeclarationId)
       → ¬ IsNeededOutput env spelled entry.scope name) pruned.fates
   -- where no copied name is written by two rows, a scope that is merged into a head recomputes only where the head
-  -- does, in every legal render of the tree that merging received; scopes recompute by the dependencies that it received
+  -- does, in every legal render of the tree that merging received; scopes recompute by the dependencies that it
+  -- received
   pub joins_fresh : JoinsFresh passes.others.used.env passes.others.used.func.body pruned.fates
   -- under the same premise, a scope recomputes wherever one of its parts would have: a scope that is merged into it, by
   -- one such fate or by several that follow each other

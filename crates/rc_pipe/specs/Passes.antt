@@ -79,8 +79,8 @@ abbrev pub EndsOutside : Environment → ReactiveBlock → EvaluationOrder → S
 EndsOutside env body id scope = IsLastOutside env (scopes_in body) (visits_of env.functions body) id scope
 
 -- the passes after the one on escaping scopes, up to early returns: dependencies that aren't reactive are gone, the
--- function lost its unused scopes, those that invalidate together are merged, and those that always invalidate are gone;
--- the log has what was decided
+-- function lost its unused scopes, those that invalidate together are merged, and those that always invalidate are
+-- gone; the log has what was decided
 pub record HasOthersPruned (escaping pruned : PassState) (log : List ScopeFate) : Type 0 where
   pub reactive : PassState
   pub dependencies : AfterDependencies escaping reactive
@@ -94,8 +94,8 @@ pub record HasOthersPruned (escaping pruned : PassState) (log : List ScopeFate) 
   pub invalidating : AfterInvalidating merged pruned always_invalidating
   pub told : log ≡ unused ++ (joined ++ always_invalidating)
 
--- the passes lead from the spelled function and its environment to the pruned ones, by the states in between and by what
--- each pass decided
+-- the passes lead from the spelled function and its environment to the pruned ones, by the states in between and by
+-- what each pass decided
 pub record IsPruned (spelled pruned : PassState) : Type 0 where
   pub labeled : PassState
   pub labels : AfterLabels spelled labeled

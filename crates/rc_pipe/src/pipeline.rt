@@ -30,8 +30,8 @@ pub struct Pruned {
 /// Builds the one tree that a graph spells and prunes it: its unused labels, its scopes that don't escape, the
 /// dependencies of scopes that aren't reactive, and its unused scopes; merges its scopes that invalidate together;
 /// prunes those that always invalidate; and makes each `Return` in a scope block a store and a jump out of the
-/// outermost scope block around it. Returns it with the fate of each scope of the spelled tree. The environment gets the
-/// dependencies that stay, the merged scopes, and the early returns with their variables and labels.
+/// outermost scope block around it. Returns it with the fate of each scope of the spelled tree. The environment gets
+/// the dependencies that stay, the merged scopes, and the early returns with their variables and labels.
 ///
 /// Returns the first of these faults that has its cause:
 ///
@@ -44,9 +44,9 @@ pub struct Pruned {
 /// - `Uninitialised`: the memo record needs a node of a name that has none yet; the fault names the first such name;
 /// - `NoScopeNode`: a scope of a node of the memo record has no record; the fault names the lowest such scope.
 ///
-/// Returns `NoMemory` whenever it runs out of memory: stack is memory, and each level of nesting takes some. This is for
-/// a stack of 8 MiB. After any other fault the environment is as before. Whatever it
-/// returns, no table of the environment is shorter than before, so every number that was in its table still is.
+/// Returns `NoMemory` whenever it runs out of memory: stack is memory, and each level of nesting takes some. This is
+/// for a stack of 8 MiB. After any other fault the environment is as before. Whatever it returns, no table of the
+/// environment is shorter than before, so every number that was in its table still is.
 pub fn build_and_prune(
     alloc: Global,
     hir: &HirFunction,
@@ -67,8 +67,8 @@ pub fn build_and_prune(
     build_and_prune_within(alloc, hir, env, USUAL_STACK)
 }
 
-/// The same where nesting may take that many bytes of stack. A graph that nests deeper is refused with `NoMemory` before
-/// any call goes down its tree.
+/// The same where nesting may take that many bytes of stack. A graph that nests deeper is refused with `NoMemory`
+/// before any call goes down its tree.
 pub fn build_and_prune_within(
     alloc: Global,
     hir: &HirFunction,

@@ -1,5 +1,5 @@
--- Each document has one due status, and so has each list of bytes. So the facts that a status gives of a document that is
--- made, or of a source with known bytes, determine when the status comes.
+-- Each document has one due status, and so has each list of bytes. So the facts that a status gives of a document that
+-- is made, or of a source with known bytes, determine when the status comes.
 use Rattle.std.proofs.Common.{◌≡◌, ◌↔◌, ◌≤◌, ℕ, ◌⊎◌, inl, inr, List, [], length, length-append, Option, Some, None, refl, ap}
 use Rattle.std.proofs.Common.{subst, sym, arith, rules, ◌∙◌}
 use Rattle.std.proofs.KnownBytes.{Consumes-all}

@@ -33,8 +33,8 @@ pub struct Answer {
 }
 
 /// Returns the text of the command for the document, or the line of the fault with which its graph is refused, which it
-/// notes. Nesting may take that many bytes of stack. Stops with `TooManySlots` where the text would be that of more slots than numbers of 32 bits count, and with
-/// `NoMemory` when out of memory.
+/// notes. Nesting may take that many bytes of stack. Stops with `TooManySlots` where the text would be that of more
+/// slots than numbers of 32 bits count, and with `NoMemory` when out of memory.
 ///
 /// The process ends once the text is written, so the graph isn't freed part by part: the system takes it back.
 pub fn answer_for(

@@ -14,8 +14,8 @@ struct Levels<'g> {
 }
 
 /// Returns how many levels deep the blocks of a graph nest at most. The fallthrough of a terminal is as deep as the
-/// terminal, and another block to which it leads is a level deeper, where there is a fallthrough. Fails only when out of
-/// memory.
+/// terminal, and another block to which it leads is a level deeper, where there is a fallthrough. Fails only when out
+/// of memory.
 pub fn nesting(alloc: Global, graph: &Hir) -> Result<usize, AllocError> {
     let mut levels = Levels {
         graph,

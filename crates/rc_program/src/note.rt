@@ -23,7 +23,8 @@ pub fn note_no_json(alloc: Global, note: &mut Note, bytes: &[u8], error: &serde_
     }
 }
 
-/// Notes the parts of a value that aren't read, what was expected, and where they are in the text, if that is still there.
+/// Notes the parts of a value that aren't read, what was expected, and where they are in the text, if that is still
+/// there.
 pub fn note_no_doc(
     alloc: Global,
     note: &mut Note,

@@ -5,8 +5,8 @@ use rc_pipe::USUAL_STACK;
 /// What is left of the stack for all else.
 const RESERVE: usize = 256 * 1024;
 
-/// Returns the bytes of stack that nesting may take, by the text of `/proc/self/limits`. A quarter of the stack is left to
-/// words and environment, and 256 KiB to all else. Where the text tells no limit, that of 8 MiB is taken.
+/// Returns the bytes of stack that nesting may take, by the text of `/proc/self/limits`. A quarter of the stack is left
+/// to words and environment, and 256 KiB to all else. Where the text tells no limit, that of 8 MiB is taken.
 pub fn stack_for_nesting(limits: &str) -> usize {
     match soft_limit(limits) {
         Some("unlimited") => usize::MAX,

@@ -1,6 +1,7 @@
 //! Replay of a run of a function's body.
 //!
-//! The table begins with the position that nothing follows. The statements come after it, from the last one to the first.
+//! The table begins with the position that nothing follows. The statements come after it, from the last one to the
+//! first.
 
 ghost use Rattle.std.specs.Prelude.{◌≡◌, ◌↔◌, false, IsTrue, IfErr, IfOk};
 ghost use Rattle.rc_hir.specs.declared.fault.Fault.TheVariants.{NoMemory};

@@ -304,8 +304,8 @@ impl<'t> Layout<'t> {
         Ok(start)
     }
 
-    /// Lays out the turns of a loop: its body, its test, and the value before the test, if there is one. The number where
-    /// the turns begin is known to the body before the position is.
+    /// Lays out the turns of a loop: its body, its test, and the value before the test, if there is one. The number
+    /// where the turns begin is known to the body before the position is.
     #[cycle(lay_statement)]
     fn turns(
         &mut self,

@@ -112,8 +112,8 @@ fn is_unset(id: EvaluationOrder) -> bool
 }
 
 impl<'t> Layout<'t> {
-    /// Lays out a value, which is the test of an optional or not, and returns the number of its first position. Fails only
-    /// when out of memory.
+    /// Lays out a value, which is the test of an optional or not, and returns the number of its first position. Fails
+    /// only when out of memory.
     #[cycle(lay_value)]
     pub fn value(
         &mut self,

@@ -30,8 +30,8 @@ pub(crate) struct Around {
     pub continue_to: Option<usize>,
 }
 
-/// Where a statement goes on, and where its unlabeled jumps lead. A throw statement in a protected block doesn't end the
-/// run.
+/// Where a statement goes on, and where its unlabeled jumps lead. A throw statement in a protected block doesn't end
+/// the run.
 #[derive(Clone, Copy, Debug, PartialEq, Eq)]
 pub(crate) struct Exits {
     pub normal: usize,

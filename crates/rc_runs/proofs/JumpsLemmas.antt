@@ -1,8 +1,8 @@
 -- The statements of a jump, and the block to which their completion leads.
 --
 -- `break_jumps` and `continue_jumps` give the block from the resolution of a break or a continue. What a resolution
--- says of the frames is shown for jumps from anywhere inside: with marks alone in between or not, with a loop or a mark in
--- between or not.
+-- says of the frames is shown for jumps from anywhere inside: with marks alone in between or not, with a loop or a mark
+-- in between or not.
 use Rattle.std.proofs.Common.{◌≡◌, List, [], ◌∷◌, Bool, true, false, ◌||◌, ◌&&◌, if◌then◌else◌, Option, Some, refl}
 use Rattle.std.proofs.Common.{ap, ◌∙◌, subst}
 use Rattle.std.proofs.lemmas.Bool.{or_parts}
@@ -55,7 +55,8 @@ falls_behind true next (frame_kinds.Scope block) frames falls e other q = absurd
 falls_behind true next (frame_kinds.Loop block again) frames falls e other q = absurd (let bad : ⊥ = cc in bad)
 falls_behind false next frame frames falls e other q = absurd (let bad : ⊥ = cc in bad)
 
--- the facts that the resolution of a break to the block gives, from further inside; `taken`: a loop or a mark is in between
+-- the facts that the resolution of a break to the block gives, from further inside; `taken`: a loop or a mark is in
+-- between
 abbrev Says : Bool → Option BlockId → List Frame → BlockId → BreakResult → Type 0
 Says taken next frames key FallsOff = next ≡ Some key
 Says taken next frames key (Breaks Implicit) = next ≡ Some key

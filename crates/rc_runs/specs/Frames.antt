@@ -1,6 +1,6 @@
 -- Frames: which blocks a jump can name, where falling off leads, and how a break or a continue is resolved. The
--- innermost frame is the first. Each switch puts a mark outside the frames of its cases, whether it has a frame of its own
--- or not: no jump names a mark, and it says that an unlabeled break would leave the switch.
+-- innermost frame is the first. Each switch puts a mark outside the frames of its cases, whether it has a frame of its
+-- own or not: no jump names a mark, and it says that an unlabeled break would leave the switch.
 use Rattle.std.specs.Prelude.{Bool, true, false, List, [], ◌∷◌, Option, Some, None, if◌then◌else◌, ◌||◌, ◌&&◌}
 use Rattle.rc_names.specs.Numbers.{BlockId, same_id}
 use Rattle.rc_tree.specs.Model.{ReactiveTerminalTargetKind}
@@ -81,7 +81,8 @@ resolve_from innermost taken (frame ∷ frames) key =
 abbrev pub resolve_break : List Frame → BlockId → BreakResult
 resolve_break frames key = resolve_from true false frames key
 
--- the kind of a continue of a loop; `innermost`: marks alone are inside the loop's frame, `in_loop`: a loop is inside it
+-- the kind of a continue of a loop; `innermost`: marks alone are inside the loop's frame, `in_loop`: a loop is inside
+-- it
 abbrev pub continue_kind : Bool → Bool → ReactiveTerminalTargetKind
 continue_kind innermost in_loop = if in_loop then Labeled else (if innermost then Implicit else Unlabeled)
 

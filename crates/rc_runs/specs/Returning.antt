@@ -1,5 +1,6 @@
--- Early returns in a body. A labeled break to the label of a scope's early return, directly after the row that stores what
--- is returned, ends the run as a return of what was stored. `returning` writes that return in the place of each such break.
+-- Early returns in a body. A labeled break to the label of a scope's early return, directly after the row that stores
+-- what is returned, ends the run as a return of what was stored. `returning` writes that return in the place of each
+-- such break.
 use Rattle.std.specs.Prelude.{Bool, false, Option, None, Some, if◌then◌else◌}
 use Rattle.std.specs.List.{list_any}
 use Rattle.std.specs.Option.{option_map_or}

@@ -28,8 +28,8 @@ has_one_default (case ∷ cases) = not (is_default case && list_any is_default c
 abbrev pub tests_past : BlockId → List Case → Bool
 tests_past fallthrough cases = list_any (λ case. not (is_default case) && leads_past fallthrough case) cases
 
--- the context of a case with these kept cases after it, in the marked context of the switch: falling off reaches the next
--- of them, and each has a frame
+-- the context of a case with these kept cases after it, in the marked context of the switch: falling off reaches the
+-- next of them, and each has a frame
 abbrev pub case_context : List Case → ListContext → ListContext
 case_context [] context = context
 case_context (case ∷ later) context = inside true (frame_kinds.Case case.block) (case_context later context)

@@ -3,8 +3,8 @@
 -- A value terminal is a row of the value in which it is, and the value goes on at the fallthrough.
 -- A block that may throw names the current handler, or none, and the value goes on at its continuation.
 --
--- The indices are: a block, the context of the value, the value, its end, and the used blocks in the order in which they
--- are marked.
+-- The indices are: a block, the context of the value, the value, its end, and the used blocks in the order in which
+-- they are marked.
 use Rattle.std.specs.Prelude.{◌≡◌, true, false, List, [], ◌∷◌, ◌++◌, Option, Some, None, if◌then◌else◌}
 use Rattle.rc_names.specs.Numbers.{BlockId, EvaluationOrder}
 use Rattle.rc_names.specs.declared.span.Span.{Span}

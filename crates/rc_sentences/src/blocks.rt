@@ -90,8 +90,8 @@ fn put_uses(
     Ok(())
 }
 
-/// Whether the terminal at a position is a `Branch` that names a block of what is around it: the body or the fallthrough
-/// of a loop, or the arm that an optional shares with another one.
+/// Whether the terminal at a position is a `Branch` that names a block of what is around it: the body or the
+/// fallthrough of a loop, or the arm that an optional shares with another one.
 fn is_named_around(graph: &Graph<'_>, place: usize, block: BlockId) -> bool {
     let Some(Terminal::Branch { .. }) = graph.terminal_at(place) else {
         return false;

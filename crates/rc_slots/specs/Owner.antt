@@ -6,7 +6,8 @@ use Rattle.rc_slots.specs.declared.owner.SlotPart.TheVariants.{Dependency, Decla
 use Rattle.rc_slots.specs.declared.plan.ScopeSlots.{ScopeSlots}
 use Rattle.rc_slots.specs.declared.plan.SlotPlan.{SlotPlan}
 
--- the slot is that of an entry of the scope block's lists: of dependencies first, then of declarations, then of reassignments
+-- the slot is that of an entry of the scope block's lists: of dependencies first, then of declarations, then of
+-- reassignments
 abbrev pub HasSlot : ScopeSlots → SlotPart → ℕ → Type 0
 HasSlot entry (Dependency place) slot = (place < entry.dependencies) × (slot ≡ entry.first + place)
 HasSlot entry (Declaration place) slot =

@@ -1,5 +1,5 @@
--- The scopes of the scope blocks of a tree, at every depth, in the order in which the read walk enters the blocks. A pruned
--- block isn't a scope block.
+-- The scopes of the scope blocks of a tree, at every depth, in the order in which the read walk enters the blocks. A
+-- pruned block isn't a scope block.
 use Rattle.std.specs.Prelude.{List, [], ◌∷◌}
 use Rattle.rc_names.specs.Numbers.{ScopeId}
 use Rattle.rc_tree.specs.Collected.{Contributions, collected}

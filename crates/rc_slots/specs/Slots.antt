@@ -1,4 +1,5 @@
--- The slots of scope blocks: one for each entry of the scope's three lists, and those of one block after those of another.
+-- The slots of scope blocks: one for each entry of the scope's three lists, and those of one block after those of
+-- another.
 use Rattle.std.specs.Prelude.{◌≡◌, ◌+◌, ℕ, List, [], ◌∷◌, length, map, Option, Some, None, slice_get}
 use Rattle.std.specs.List.{find}
 use Rattle.std.specs.Option.{is_none}
@@ -24,7 +25,8 @@ abbrev pub BeginAt : ℕ → List ScopeSlots → Type 0
 BeginAt first [] = Unit {0}
 BeginAt first (entry ∷ entries) = (entry.first ≡ first) × BeginAt (first + size entry) entries
 
--- A plan: the first slot of each entry is the number of slots of all earlier entries, and the total is the number of all.
+-- A plan: the first slot of each entry is the number of slots of all earlier entries, and the total is the number of
+-- all.
 pub record IsPlan (plan : SlotPlan) : Type 0 where
   pub firsts : BeginAt 0 plan.scopes
   pub total : plan.total ≡ sizes plan.scopes

@@ -60,8 +60,8 @@ impl ScopeSlots {
 }
 
 impl SlotPlan {
-    /// Adds the slots of a scope block after all others. Returns `TooMany` if there are more than 4,294,967,295 then, and
-    /// `NoMemory` when out of memory.
+    /// Adds the slots of a scope block after all others. Returns `TooMany` if there are more than 4,294,967,295 then,
+    /// and `NoMemory` when out of memory.
     fn add(&mut self, lengths: ScopeLengths) -> Result<(), SlotFault>
         ensures scopes { OnOk result (self.new.scopes
             ≡ self.old.scopes ++ spec.slots_from self.old.total lengths ∷ []) }
@@ -80,8 +80,8 @@ impl SlotPlan {
     }
 }
 
-/// Numbers the slots of scope blocks with lists of these lengths. Returns `TooMany` if there are more than 4,294,967,295
-/// slots, and `NoMemory` when out of memory.
+/// Numbers the slots of scope blocks with lists of these lengths. Returns `TooMany` if there are more than
+/// 4,294,967,295 slots, and `NoMemory` when out of memory.
 pub fn number_slots(alloc: Global, all: &[ScopeLengths]) -> Result<SlotPlan, SlotFault>
     ensures slots { IfOk result (λ plan. plan ≡ spec.numbered all.now) }
     ensures plan { IfOk result spec.IsPlan }

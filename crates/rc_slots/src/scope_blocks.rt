@@ -15,8 +15,8 @@ use rc_tree::{
 use rc_walk::{ReactiveFunctionVisitor, visit_reactive_function};
 use std::alloc::Global;
 
-/// The scope of each scope block of the function, in the order in which the read walk enters the blocks. Fails only when
-/// out of memory.
+/// The scope of each scope block of the function, in the order in which the read walk enters the blocks. Fails only
+/// when out of memory.
 #[tactic(auto, using(crate::proofs::WalkLemmas::walk_lists))]
 pub(crate) fn scopes_entered(
     alloc: Global,

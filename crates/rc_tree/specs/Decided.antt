@@ -1,7 +1,7 @@
 -- What passes decided of scope blocks: a list of scopes with their fates, in the order in which the blocks end.
 --
--- The scope blocks after a pass are those before it without the decided ones. Nothing is said of the order of those that
--- are left, since a pass may move a block.
+-- The scope blocks after a pass are those before it without the decided ones. Nothing is said of the order of those
+-- that are left, since a pass may move a block.
 use Rattle.std.specs.Prelude.{◌≡◌, ◌⊎◌, ◌≤◌, All, List, ◌++◌, map}
 use Rattle.rc_names.specs.Numbers.{ScopeId, times}
 use Rattle.rc_tree.specs.ScopesIn.{scopes_in}

@@ -1,5 +1,5 @@
--- The scopes of the scope blocks of a tree, at every depth, in the order in which the blocks end. A pruned block isn't a
--- scope block.
+-- The scopes of the scope blocks of a tree, at every depth, in the order in which the blocks end. A pruned block isn't
+-- a scope block.
 use Rattle.std.specs.Prelude.{List, [], ◌∷◌, ◌++◌}
 use Rattle.std.specs.List.{IsDistinct}
 use Rattle.rc_names.specs.Numbers.{ScopeId, same_id}

@@ -30,8 +30,8 @@ pub struct ReactiveSwitchCase {
     pub block: Option<ReactiveBlock>,
 }
 
-/// A statement that was a terminal of the graph. The values of loops are boxed, since each terminal takes the room of the
-/// largest.
+/// A statement that was a terminal of the graph. The values of loops are boxed, since each terminal takes the room of
+/// the largest.
 #[cycle(tree)]
 #[derive(Drop)]
 pub enum ReactiveTerminal {

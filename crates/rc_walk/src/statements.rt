@@ -40,8 +40,8 @@ fn let_go(_statement: ReactiveStatement) -> Result<(), AllocError>
 }
 
 /// Puts a replacement in the place of the statement at an index. The list of the replacement has the statements after
-/// that one then, reversed. The only error is out of memory; then the replacement is gone, and so is a statement at that
-/// index or after it: those before it stay, and those after it are in the other list.
+/// that one then, reversed. The only error is out of memory; then the replacement is gone, and so is a statement at
+/// that index or after it: those before it stay, and those after it are in the other list.
 #[inline(never)]
 pub fn replace_at(
     statements: &mut List<ReactiveStatement>,

@@ -79,8 +79,8 @@ pub record IsValueOf (hir : HirFunction) (env : Environment) (key : BlockId) (te
   pub at_end : end.last ≡ terminal
   pub spelled : (context : ValueContext) → SpellsValue hir env key context value end (key ∷ [])
 
--- what is built of rows with these numbers, whose ids are set: the last row is the value, which ends with that block and
--- terminal
+-- what is built of rows with these numbers, whose ids are set: the last row is the value, which ends with that block
+-- and terminal
 pub record IsValueOfRows (hir : HirFunction) (env : Environment) (numbers : List InstructionId) (key : BlockId)
     (terminal : Terminal) (built : BuiltValue) : Type 0 where
   pub rows : List Instruction

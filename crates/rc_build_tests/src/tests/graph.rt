@@ -1,7 +1,7 @@
 //! A graph with a switch of two cases and a `for..of`, and its environment.
 //!
-//! Block 0 has a row and ends in the switch, whose cases are the blocks 1 and 2. The loop is at the fallthrough, block 3:
-//! its init is block 4, its test block 5 and its body block 6. Block 7 returns.
+//! Block 0 has a row and ends in the switch, whose cases are the blocks 1 and 2. The loop is at the fallthrough, block
+//! 3: its init is block 4, its test block 5 and its body block 6. Block 7 returns.
 
 use rc_hir::{
     BasicBlock, Case, Effect, Environment, GotoVariant, Hir, HirFunction, HirType, Identifier,

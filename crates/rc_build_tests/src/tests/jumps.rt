@@ -341,8 +341,8 @@ fn returned(alloc: Global, graph: Graph) -> Result<ReactiveStatement, AllocError
     statement(alloc, terminal, None)
 }
 
-/// The tree of the graph, where the break that leaves a loop from a switch, or a switch from the case before its last, is
-/// of that kind.
+/// The tree of the graph, where the break that leaves a loop from a switch, or a switch from the case before its last,
+/// is of that kind.
 fn tree(alloc: Global, graph: Graph, kind: Kind) -> Result<ReactiveFunction, AllocError> {
     let mut statements = List::new(alloc);
     statements.push(outer(alloc, graph, kind)?)?;

@@ -96,8 +96,8 @@ fn key_of(block: &Value) -> Option<u32> {
         .or(block.get("id").and_then(number))
 }
 
-/// A hash of all keys of the blocks. A document may choose its keys freely: who wants keys that collide under a seed has
-/// to choose them by the seed, and here each of them changes it.
+/// A hash of all keys of the blocks. A document may choose its keys freely: who wants keys that collide under a seed
+/// has to choose them by the seed, and here each of them changes it.
 fn seed_of(blocks: &[Value]) -> Seed {
     let mut keys = DefaultHasher::new();
     for block in blocks {

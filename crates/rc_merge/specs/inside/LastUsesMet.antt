@@ -1,5 +1,5 @@
--- The last uses as the walk meets them: those of places, and for each function the last row that names it, which uses the
--- places in the function's context.
+-- The last uses as the walk meets them: those of places, and for each function the last row that names it, which uses
+-- the places in the function's context.
 use Rattle.std.specs.Prelude.{Bool, false, List, [], ◌∷◌, Option, None, Some, Ok, nat_lt, not, slice_get}
 use Rattle.std.specs.Prelude.{if◌then◌else◌}
 use Rattle.indexmap.specs.IndexMap.{insert_entry}

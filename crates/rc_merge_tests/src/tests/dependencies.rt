@@ -1,5 +1,5 @@
-//! Which lists of dependencies are equal. A list is written in a short form: a letter for each name, and a quote after it for
-//! the property `a` of its value.
+//! Which lists of dependencies are equal. A list is written in a short form: a letter for each name, and a quote after
+//! it for the property `a` of its value.
 
 use rc_hir::{DependencyPathEntry, Environment, Fault, PropertyLiteral, ReactiveScopeDependency};
 use rc_merge::are_equal_dependencies;

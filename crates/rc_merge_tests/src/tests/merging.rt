@@ -8,8 +8,8 @@ use rc_tree::{Fate, ReactiveFunction, ReactiveStatement, ScopeFate};
 use std::alloc::{AllocError, Global};
 use std::test::Fail;
 
-/// Three scopes side by side, which depend on nothing. The name 2 is used last below the end of the second one, the name
-/// 4 below that of the third, and the name 3 at that end.
+/// Three scopes side by side, which depend on nothing. The name 2 is used last below the end of the second one, the
+/// name 4 below that of the third, and the name 3 at that end.
 const SCOPES: [Made<'static>; 3] = [
     Made {
         end: 4,

@@ -1,5 +1,5 @@
--- What determines the results of several passes: a test by what it decides, a rebuilt block by the rules, and a function
--- with a kept header by its body.
+-- What determines the results of several passes: a test by what it decides, a rebuilt block by the rules, and a
+-- function with a kept header by its body.
 use Rattle.std.proofs.Common.{◌≡◌, ◌∙◌, ◌↔◌, Bool, true, false, Result, Ok, ap, refl, sym}
 use Rattle.rc_hir.specs.Model.{Fault}
 use Rattle.rc_tree.specs.Model.{ReactiveBlock}

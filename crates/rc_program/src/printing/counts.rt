@@ -22,8 +22,8 @@ pub enum FateKind {
     AlwaysInvalidating,
 }
 
-/// The counts of a graph's blocks, of the statements of its answer, and of the scopes with each kind of fate. Fails only
-/// when out of memory.
+/// The counts of a graph's blocks, of the statements of its answer, and of the scopes with each kind of fate. Fails
+/// only when out of memory.
 pub fn count_lines(
     alloc: Global,
     hir: &HirFunction,

@@ -58,8 +58,8 @@ module _ (table : List Position) where
     pub back : (events : List Event) (end : End) → Begins here events end → Begins old events end
     pub led : LeadInto here here
 
-  -- The events so far lead to these positions: the whole run is one from the first position on exactly where the rest is
-  -- one from these.
+  -- The events so far lead to these positions: the whole run is one from the first position on exactly where the rest
+  -- is one from these.
   pub record Following (start : ℕ) (all : List Event) (here : List ℕ) (rest : List Event) (end : End) : Type 0 where
     pub within : AreWithin here
     pub forth : Path table start all end → Begins here rest end

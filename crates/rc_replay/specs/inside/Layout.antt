@@ -22,8 +22,8 @@ pub data HasList (table : Table) : ℕ → List LaidPosition → Type 0 where
   one_has : {start position rest : _} → table start ≡ Some (position_of position) → HasList table (start + 1) rest →
       HasList table start (position ∷ rest)
 
--- More positions were added, and those that were there stayed, with the labels. What is laid out holds of each table that
--- has the new positions.
+-- More positions were added, and those that were there stayed, with the labels. What is laid out holds of each table
+-- that has the new positions.
 pub record Lays (old new : Layout) (fact : Table → Type 0) : Type 0 where
   pub added : List LaidPosition
   pub labels : new.labels ≡ old.labels

@@ -1,5 +1,5 @@
--- The moves from one position to another, and the paths along them. All numbers without a position count as one, which is
--- the length of the table.
+-- The moves from one position to another, and the paths along them. All numbers without a position count as one, which
+-- is the length of the table.
 use Rattle.std.specs.Prelude.{◌≡◌, ◌⊎◌, ◌++◌, ℕ, true, false, List, [], ◌∷◌, Some, length, min}
 use Rattle.rc_replay.specs.declared.positions.Position.{Position as LaidPosition}
 use Rattle.rc_replay.specs.declared.positions.Shown.{Shown}
@@ -47,8 +47,8 @@ pub record Steps (table : List LaidPosition) (at : ℕ) (events : List Event) (t
 abbrev pub EndsAt : List LaidPosition → ℕ → End → Type 0
 EndsAt table at end = (end ≡ Open) ⊎ (table_of table at ≡ Some (Ends end))
 
--- a path from the position with a number on: along moves with these events together, up to where a run may end with this
--- end
+-- a path from the position with a number on: along moves with these events together, up to where a run may end with
+-- this end
 pub data Path (table : List LaidPosition) : ℕ → List Event → End → Type 0 where
   ends : {at end : _} → EndsAt table at end → Path table at [] end
   goes : {at to step events all end : _} → Steps table at step to → Path table to events end → all ≡ step ++ events

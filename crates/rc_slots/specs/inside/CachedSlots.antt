@@ -26,7 +26,8 @@ abbrev pub has_value : Option ℕ → ℕ → Bool
 has_value None value = false
 has_value (Some kept) value = nat_eq kept value
 
--- The item in the slots of an entry with this many dependencies. There is none if there are no slots or the first is empty.
+-- The item in the slots of an entry with this many dependencies. There is none if there are no slots or the first is
+-- empty.
 abbrev pub item_in : ℕ → List (Option ℕ) → Option ScopeValues
 item_in dependencies [] = None
 item_in dependencies (None ∷ slots) = None

@@ -63,8 +63,8 @@ pub record Refines {S R T St : Type 0} (rules : Rules S) (v : RewriteSteps (T ×
   pub block : (r : R) (s : S) (x : ReactiveBlock)
       → BlockAgrees (world r) (rules.block x.statements s) (v.leave_block (world r s) x)
 
--- a call rebuilds a block by the rules from the state `start`, and leaves the world that represents the last state; or it
--- returns a rule's fault, or runs out of memory
+-- a call rebuilds a block by the rules from the state `start`, and leaves the world that represents the last state; or
+-- it returns a rule's fault, or runs out of memory
 abbrev pub RebuildsTo : {S W : Type 0} → Rules S → (S → W) → ReactiveBlock → S → ReactiveBlock → W
     → Result (Unit {0}) Fault → Type 0
 RebuildsTo {S = S} rules world before start after left result =

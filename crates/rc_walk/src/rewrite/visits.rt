@@ -13,8 +13,8 @@ use rc_names::{EvaluationOrder, List};
 use rc_tree::ReactiveValue;
 use std::alloc::Global;
 
-/// Visits the operands of an instruction. They are listed, since the transform, which its hooks change, lends those of a
-/// nested function.
+/// Visits the operands of an instruction. They are listed, since the transform, which its hooks change, lends those of
+/// a nested function.
 pub(crate) fn visit_operands<T: ReactiveFunctionTransform>(
     alloc: Global,
     transform: &mut T,

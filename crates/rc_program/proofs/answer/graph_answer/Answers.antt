@@ -1,5 +1,5 @@
--- The text of an answer is that of the command. A graph that is refused, but not for memory, has no answer, and its fault
--- has a line.
+-- The text of an answer is that of the command. A graph that is refused, but not for memory, has no answer, and its
+-- fault has a line.
 use Rattle.std.proofs.Common.{◌≡◌, refl, Err, true, false}
 use Rattle.std.proofs.lemmas.Result.{MatchResult-weaker}
 use Rattle.rc_hir.specs.declared.fault.Fault.TheVariants as faults

@@ -60,8 +60,8 @@ pub const COMPONENT: &str =
 "value":{"identifier":21,"scope":1}}]}],
 "shapes":[{"hook":true}],"config":{},"next_block":19}}"#;
 
-/// An operand of scope 0 is visited at 5, outside the block of that scope. No identifier has a name, the scope depends on
-/// nothing, and there is no function.
+/// An operand of scope 0 is visited at 5, outside the block of that scope. No identifier has a name, the scope depends
+/// on nothing, and there is no function.
 pub const OUTSIDE: &str = r#"{"hir":{"params":[{"k":"Place","v":0}],"body":{"entry":0,"blocks":[
 {"id":0,"terminal":{"k":"Scope","fallthrough":2,"block":1,"scope":0,"id":1}},
 {"id":1,"instructions":[0],"terminal":{"k":"Goto","variant":"Break","block":2,"id":3}},
