@@ -1,8 +1,8 @@
 mod KindsReadBack
 mod PartsReadBack
-mod PlainForms
+pub mod PlainForms
 mod PlainValues
 pub mod ReadsBack
-mod SendingLemmas
-mod SentTexts
-mod ShownLists
+pub mod SendingLemmas
+pub mod SentTexts
+pub mod ShownLists

@@ -28,15 +28,15 @@ use Rattle.rc_show.specs.ShownParts.Patterns.{pattern_data, pattern_element_data
 use Rattle.rc_show.specs.ShownParts.Patterns.{property_literal_data}
 use Rattle.rc_show.specs.ShownParts.Places.{argument_data, is_short, long_form, place_data, span_items, spread_data}
 
-abbrev IsPlain : {X : Type 0} → (X → Data) → X → Type 0
+abbrev pub IsPlain : {X : Type 0} → (X → Data) → X → Type 0
 IsPlain shows x = is_plain (shows x) ≡ true
 
-plain_list : {X : Type 0} (shows : X → Data) → ((x : X) → IsPlain shows x) → (xs : List X)
+pub plain_list : {X : Type 0} (shows : X → Data) → ((x : X) → IsPlain shows x) → (xs : List X)
     → IsPlain (list_data shows) xs
 plain_list shows each [] = refl
 plain_list shows each (x ∷ xs) = rw (each x) (plain_list shows each xs)
 
-plain_text : (text : List ℕ) → IsPlain string text
+pub plain_text : (text : List ℕ) → IsPlain string text
 plain_text text = refl
 
 plain_span_items : (span : Option Span) → items_plain (span_items span) ≡ true
@@ -52,7 +52,7 @@ unfolding place_data add add_some
 plain_place place = plain_choice (is_short place) (number_data place.identifier.0) (long_form place) refl
     (plain_span_items place.span)
 
-plain_spread : (x : SpreadPattern) → IsPlain spread_data x
+pub plain_spread : (x : SpreadPattern) → IsPlain spread_data x
 unfolding spread_data add add_some
 plain_spread x = rw (plain_place x.place) refl
 
@@ -65,7 +65,7 @@ plain_lvalue : (x : LValue) → IsPlain lvalue_data x
 unfolding lvalue_data add add_some
 plain_lvalue x = rw (plain_place x.place) refl
 
-plain_property_literal : (x : PropertyLiteral) → IsPlain property_literal_data x
+pub plain_property_literal : (x : PropertyLiteral) → IsPlain property_literal_data x
 unfolding property_literal_data add add_some
 plain_property_literal (literals.String name) = refl
 plain_property_literal (literals.Number name) = refl

@@ -15,11 +15,11 @@ none_sent : (log : Log) → LogsAll [] log log
 none_sent None = tt
 none_sent (Some before) = ap Some (sym (append-nil before))
 
-one_sent : (e : Event) (old new : Log) → Logs old new e → LogsAll (e ∷ []) old new
+pub one_sent : (e : Event) (old new : Log) → Logs old new e → LogsAll (e ∷ []) old new
 one_sent e None new h = tt
 one_sent e (Some before) new h = h
 
-joined : (es fs : List Event) (old mid new : Log) → LogsAll es old mid → LogsAll fs mid new → LogsAll (es ++ fs) old new
+pub joined : (es fs : List Event) (old mid new : Log) → LogsAll es old mid → LogsAll fs mid new → LogsAll (es ++ fs) old new
 joined es fs None mid new h k = tt
 joined es fs (Some before) mid new h k = subst (λ log. LogsAll fs log new) h k ∙ ap Some (append_assoc before es fs)
 
@@ -35,7 +35,7 @@ pub text_sent : (text : List ℕ) (old new : Log) → Logs old new (event.text t
 unfolding Sends
 text_sent text old new h = one_sent _ old new h
 
-fields_events-add : (name : List ℕ) (d : Data) (fields : Members)
+pub fields_events-add : (name : List ℕ) (d : Data) (fields : Members)
     → fields_events (add name d fields) ≡ fields_events fields ++ (event.field_key name AsIs ∷ events_of d)
 unfolding add
 fields_events-add name d no_members = ap (λ es. event.field_key name AsIs ∷ es) (append-nil (events_of d))

@@ -35,19 +35,24 @@ module _ {X : Type 0} (reads : Data → Option X) (shows : X → Data) where
   pub none_sent : (log : Log) → SentSoFar reads shows [] log log
   none_sent log = record { sends = no_items_sent log; again = refl }
 
+  -- one more entry is sent
+  pub one_more : (xs : List X) (x : X) (old mid new : Log) → SentSoFar reads shows xs old mid → Sends (shows x) mid new
+      → reads (shows x) ≡ Some x → SentSoFar reads shows (xs ++ x ∷ []) old new
+  one_more xs x old mid new so_far sends again =
+      let both : map shows (xs ++ x ∷ []) ≡ map shows xs ++ shows x ∷ [] = map-append shows xs (x ∷ []) in
+      record {
+        sends = subst (λ ds. SendsItems (items_of ds) old new) (sym both)
+            (last_item_sent (map shows xs) (shows x) old mid new so_far.sends sends);
+        again = ap (λ ds. all_items reads (items_of ds)) both
+            ∙ all_items-append (map shows xs) (shows x) x again ∙ rw so_far.again refl;
+      }
+
   pub next_sent : (xs : List X) (i : ℕ) (x : X) (old mid new : Log) → i < length xs → x ≡ get_or xs i x
       → SentSoFar reads shows (take i xs) old mid → Sends (shows x) mid new → reads (shows x) ≡ Some x
       → SentSoFar reads shows (take (i + 1) xs) old new
   next_sent xs i x old mid new lt is so_far sends again =
       let more : take (i + 1) xs ≡ take i xs ++ x ∷ [] = take_more xs i x lt ∙ ap (λ y. take i xs ++ y ∷ []) (sym is) in
-      let both : map shows (take i xs ++ x ∷ []) ≡ map shows (take i xs)
-      ++ shows x ∷ [] = map-append shows (take i xs) (x ∷ []) in
-      rw more (record {
-        sends = subst (λ ds. SendsItems (items_of ds) old new) (sym both)
-            (last_item_sent (map shows (take i xs)) (shows x) old mid new so_far.sends sends);
-        again = ap (λ ds. all_items reads (items_of ds)) both
-            ∙ all_items-append (map shows (take i xs)) (shows x) x again ∙ rw so_far.again refl;
-      })
+      rw more (one_more (take i xs) x old mid new so_far sends again)
 
   pub all_sent : (xs ys : List X) (i : ℕ) (old first last new : Log) → ys ≡ xs → length ys ≤ i
       → Logs old first (seq_begins None) → SentSoFar reads shows (take i ys) first last → Logs last new seq_ends
