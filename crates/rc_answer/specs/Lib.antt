@@ -1,0 +1,5 @@
+pub mod ShownFates
+pub mod ReadingFates
+pub mod AnswerJson
+pub mod NotNull
+pub mod inside
