@@ -1,8 +1,10 @@
 -- Readings of a list from its last item on, with one item taken off the end at a time.
-use Rattle.std.proofs.Common.{◌≡◌, ◌∙◌, List, [], ◌∷◌, ◌++◌, Option, Some, None, refl, ap}
+use Rattle.std.proofs.Common.{◌≡◌, ◌∙◌, List, [], ◌∷◌, ◌++◌, Option, Some, None, Result, Err, refl, ap, sym, reverse}
 use Rattle.std.specs.Prelude.{option_map}
-use Rattle.std.proofs.lemmas.List.{append_assoc, append-nil}
-use Rattle.rc_doc.specs.Reading.{◌>>=◌}
+use Rattle.std.proofs.lemmas.List.{append_assoc, append-nil, reverse-append}
+use Rattle.rc_doc.specs.Reading.{◌>>=◌, IsRead}
+use Rattle.rc_doc.specs.declared.refusal.Refusal.{Refusal}
+use Rattle.rc_doc.specs.declared.refusal.Refusal.TheVariants.{Memory, NotDoc}
 use Rattle.rc_flat.specs.inside.Assembly.{Found, from_last, Taking, through}
 
 -- with these items at the end
@@ -67,6 +69,21 @@ module _ {A X : Type 0} (read : A → Taking X) where
       ap (λ z. before later (from_last read z found)) is
       ∙ ap (before later) (last_first xs a found ∙ ap (λ o. o >>= last_then xs) h)
 
+  -- a call reads the last item, and puts it to the end of a list
+  pub read_put : (all xs : List A) (a : A) (later new : List X) (x : X) (found left : Found) → all ≡ xs ++ a ∷ []
+      → read a found ≡ Some (x, left) → new ≡ later ++ x ∷ []
+      → before (reverse new) (from_last read xs left) ≡ before (reverse later) (from_last read all found)
+  read_put all xs a later new x found left is h put =
+      rw (put, reverse-append later (x ∷ []))
+      (sym (read_goes_on all xs a (reverse later) x found left is h))
+
+  -- a call refuses the last item
+  pub read_fails : (all xs : List A) (a : A) (later : List X) (refusal : Refusal) (found : Found)
+      (whole : Option (List X × Found)) → all ≡ xs ++ a ∷ [] → IsRead {X = X × Found} (Err refusal) (read a found)
+      → before later (from_last read all found) ≡ whole → IsRead {X = List X × Found} (Err refusal) whole
+  read_fails all xs a later NotDoc found whole is h so_far = sym so_far ∙ read_refused all xs a later found is h
+  read_fails all xs a later Memory found whole is h so_far = tt
+
 module _ {A : Type 0} (step : A → Found → Option Found) where
   some_again : (o : Option Found) → o ≡ (o >>= (λ found. Some found))
   some_again None = refl
@@ -91,3 +108,10 @@ module _ {A : Type 0} (step : A → Found → Option Found) where
       → through step all found ≡ None
   steps_refused all xs a found is h =
       ap (λ z. through step z found) is ∙ (last_step xs a found ∙ ap (λ o. o >>= through step xs) h)
+
+  -- a call refuses the last entry
+  pub step_fails : (all xs : List A) (a : A) (refusal : Refusal) (found : Found) (whole : Option Found)
+      → all ≡ xs ++ a ∷ [] → IsRead {X = Found} (Err refusal) (step a found) → through step all found ≡ whole
+      → IsRead {X = Found} (Err refusal) whole
+  step_fails all xs a NotDoc found whole is h so_far = sym so_far ∙ steps_refused all xs a found is h
+  step_fails all xs a Memory found whole is h so_far = tt

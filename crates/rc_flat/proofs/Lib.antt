@@ -1,4 +1,6 @@
+mod KeyLemmas
 mod QueueLemmas
+mod FoundLemmas
 mod FromLast
 pub mod Again
 pub mod NeverNull

@@ -1,4 +1,4 @@
--- The last item of a list.
+-- The last item of a list, which has waited longest in a queue.
 use Rattle.std.proofs.Common.{◌≡◌, List, [], ◌∷◌, ◌++◌, Some, refl}
 use Rattle.rc_flat.specs.inside.Assembly.{take_last}
 
@@ -6,3 +6,7 @@ pub last_taken : {X : Type 0} (xs : List X) (x : X) → take_last (xs ++ x ∷ [
 last_taken [] x = refl
 last_taken (y ∷ []) x = refl
 last_taken (y ∷ z ∷ zs) x = rw (last_taken (z ∷ zs) x) refl
+
+pub oldest_taken : {X : Type 0} (all later : List X) (oldest : X) → all ≡ later ++ oldest ∷ []
+    → take_last all ≡ Some (oldest, later)
+oldest_taken all later oldest is = rw is (last_taken later oldest)

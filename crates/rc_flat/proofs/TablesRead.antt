@@ -1,6 +1,6 @@
 -- Tables that assemble to a function are that function's. So a JSON value gives exactly the function that its tables
 -- assemble to.
-use Rattle.std.proofs.Common.{◌≡◌, ◌∙◌, ◌↔◌, ℕ, ◌+◌, List, [], ◌∷◌, ◌++◌, Some, refl, sym, ap, subst}
+use Rattle.std.proofs.Common.{◌≡◌, ◌∙◌, ◌↔◌, ℕ, ◌+◌, List, [], ◌∷◌, ◌++◌, Option, Some, refl, sym, ap, subst}
 use Rattle.std.proofs.Common.{arith}
 use Rattle.std.specs.Prelude.{length}
 use Rattle.std.proofs.lemmas.List.{append_assoc, append-nil, length-append}
@@ -153,3 +153,8 @@ given d func = (
       record { flat = flat; reads = e; tables = is_flat func flat r })),
   (λ gives. rw gives.reads (assembles func gives.flat gives.tables)),
 )
+
+-- what a call answers that found what the tables assemble to
+pub answered : (d : Data) (found : Option ReactiveFunction) → function_of d ≡ found → (func : ReactiveFunction)
+    → (found ≡ Some func) ↔ GivesFunction d func
+answered d found is func = ((λ h. (given d func).0 (is ∙ h)), (λ gives. sym is ∙ (given d func).1 gives))

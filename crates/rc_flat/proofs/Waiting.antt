@@ -87,7 +87,7 @@ there : {X : Type 0} (x : X) (xs : List X) → take_last (x ∷ xs) ≡ None →
 there x [] h = cc
 there x (y ∷ ys) h = there y ys (none_before (take_last (y ∷ ys)) x h)
 
-empty : {X : Type 0} (xs : List X) → take_last xs ≡ None → xs ≡ []
+pub empty : {X : Type 0} (xs : List X) → take_last xs ≡ None → xs ≡ []
 empty [] h = refl
 empty (x ∷ xs) h = absurd (there x xs h)
 

@@ -1,12 +1,13 @@
 //! Rows and values. A nested value is named by its index in the table of nested values.
 
 use rc_hir::{InstructionValue, LogicalOperator, Place};
-use rc_names::{EvaluationOrder, List, Span};
+use rc_names::{Boxed, EvaluationOrder, List, Span};
 
-/// A value in its place: an instruction itself, and any other value by its number.
+/// A value in its place: an instruction itself, and any other value by its number. An instruction is boxed, since each
+/// value takes the room of the largest.
 #[derive(Drop)]
 pub enum FlatValue {
-    Instruction(InstructionValue),
+    Instruction(Boxed<InstructionValue>),
     Nested(u32),
 }
 
