@@ -1,0 +1,5 @@
+//! Tests of functions as two tables.
+#![tactic(auto)]
+
+#[cfg(test)]
+mod tests;
