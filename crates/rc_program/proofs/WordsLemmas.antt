@@ -1,7 +1,8 @@
 -- The words of commands.
-use Rattle.std.proofs.Common.{◌≡◌, ◌⊎◌, inl, inr, ℕ, ◌<◌, ◌≤◌, List, [], ◌∷◌, length, get_or, codes, decimal, refl}
-use Rattle.std.proofs.Common.{ap, sym, ◌∙◌, arith}
-use Rattle.std.proofs.lemmas.Fmt.{decimal_injective}
+use Rattle.std.proofs.Common.{◌≡◌, ◌⊎◌, inl, inr, ℕ, ◌<◌, ◌≤◌, ◌==◌, List, [], ◌∷◌, length, get_or, codes, decimal, refl}
+use Rattle.std.proofs.Common.{ap, sym, ◌∙◌, arith, if◌then◌else◌}
+use Rattle.std.proofs.lemmas.Fmt.{decimal_is_IsNumeral}
+use Rattle.std.specs.Str.Parse.{digits_value}
 use Rattle.rc_gen.specs.Generated.{most_units}
 use Rattle.rc_program.specs.declared.command.Command.{Command}
 use Rattle.rc_program.specs.declared.command.Command.TheVariants.{Tree, Fates, Slots, Replay, Generate}
@@ -14,40 +15,27 @@ word i words = get_or words i []
 abbrev letter : List (List ℕ) → ℕ
 letter words = get_or (word 0 words) 0 0
 
--- no two commands have the same words
-same_command : (one other : Command) → words_of one ≡ words_of other → IsInRange one → IsInRange other → one ≡ other
-same_command Tree Tree same range range' = refl
-same_command Fates Fates same range range' = refl
-same_command Slots Slots same range range' = refl
-same_command Replay Replay same range range' = refl
-same_command (Generate m) (Generate n) same range range' =
-    ap Generate (decimal_injective m n (omega (arith, range.1)) (omega (arith, range'.1)) (ap (word 1) same))
-same_command Tree Fates same range range' = absurd (let e : 116 ≡ 102 = ap letter same in omega arith)
-same_command Tree Slots same range range' = absurd (let e : 116 ≡ 115 = ap letter same in omega arith)
-same_command Fates Tree same range range' = absurd (let e : 102 ≡ 116 = ap letter same in omega arith)
-same_command Fates Slots same range range' = absurd (let e : 102 ≡ 115 = ap letter same in omega arith)
-same_command Slots Tree same range range' = absurd (let e : 115 ≡ 116 = ap letter same in omega arith)
-same_command Slots Fates same range range' = absurd (let e : 115 ≡ 102 = ap letter same in omega arith)
-same_command Replay Tree same range range' = absurd (let e : 114 ≡ 116 = ap letter same in omega arith)
-same_command Replay Fates same range range' = absurd (let e : 114 ≡ 102 = ap letter same in omega arith)
-same_command Replay Slots same range range' = absurd (let e : 114 ≡ 115 = ap letter same in omega arith)
-same_command Tree Replay same range range' = absurd (let e : 116 ≡ 114 = ap letter same in omega arith)
-same_command Fates Replay same range range' = absurd (let e : 102 ≡ 114 = ap letter same in omega arith)
-same_command Slots Replay same range range' = absurd (let e : 115 ≡ 114 = ap letter same in omega arith)
-same_command Tree (Generate n) same range range' = absurd (let e : 1 ≡ 2 = ap length same in omega arith)
-same_command Fates (Generate n) same range range' = absurd (let e : 1 ≡ 2 = ap length same in omega arith)
-same_command Slots (Generate n) same range range' = absurd (let e : 1 ≡ 2 = ap length same in omega arith)
-same_command Replay (Generate n) same range range' = absurd (let e : 1 ≡ 2 = ap length same in omega arith)
-same_command (Generate m) Tree same range range' = absurd (let e : 2 ≡ 1 = ap length same in omega arith)
-same_command (Generate m) Fates same range range' = absurd (let e : 2 ≡ 1 = ap length same in omega arith)
-same_command (Generate m) Slots same range range' = absurd (let e : 2 ≡ 1 = ap length same in omega arith)
-same_command (Generate m) Replay same range range' = absurd (let e : 2 ≡ 1 = ap length same in omega arith)
+-- the command of words that are those of a command
+abbrev named : List (List ℕ) → Command
+named words =
+    if letter words == 116 then Tree else
+    if letter words == 102 then Fates else
+    if letter words == 115 then Slots else
+    if letter words == 114 then Replay else
+    Generate (digits_value 10 (word 1 words))
+
+named_again : (command : Command) → IsInRange command → named (words_of command) ≡ command
+named_again Tree range = refl
+named_again Fates range = refl
+named_again Slots range = refl
+named_again Replay range = refl
+named_again (Generate units) range = ap Generate (decimal_is_IsNumeral units (omega (arith, range.1))).1
 
 -- words name one command
 pub one_command : (words : List (List ℕ)) (one other : Command) → IsCommand words one → IsCommand words other
     → one ≡ other
 one_command words one other is is' =
-    same_command one other (sym is.same ∙ is'.same) is.in_range is'.in_range
+    sym (named_again one is.in_range) ∙ ap named (sym is.same ∙ is'.same) ∙ named_again other is'.in_range
 
 -- a command has one word or two
 pub one_or_two : (words : List (List ℕ)) → AreWords words → (length words ≡ 1) ⊎ (length words ≡ 2)
