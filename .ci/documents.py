@@ -1,6 +1,7 @@
 """Writes large documents into a folder, each with the text that it prints: usage documents.py FOLDER.
 
-They are made here and not stored. The text is made from the rules of the printed lines (docs/RULES.md).
+They are made here and not stored. The text is made from the rules of the printed lines (docs/RULES.md). The largest has
+its answer as JSON too, which is made from the form of answers (docs/ANSWER.md).
 """
 import json, sys
 
@@ -148,14 +149,50 @@ def scopes_of_one_function(count=5_000):
     return document, HEAD.format("null", 0) + printed + "\n"
 
 
+# The most bytes that a document may have.
+MOST_BYTES = 16_777_216
+# Fields of an answer that has nothing there.
+EMPTY = {"config": {"enable_forest": False, "enable_preserve_existing_memoization_guarantees": False}, "functions": [],
+         "scopes": [], "shapes": []}
+
+
+def rows(count=175_000):
+    """Rows without operands, each with an identifier of its own."""
+    document, end = straight(0, count + 1), {"k": "Return", "value": 0, "id": count + 1}
+    numbers = range(1, count + 1)
+    document["hir"]["instructions"] = [{"id": at, "lvalue": at, "value": {"k": "Debugger"}} for at in numbers]
+    document["hir"]["body"]["blocks"] = [{"id": 0, "instructions": list(range(count)), "terminal": end}]
+    return document, end
+
+
+def largest():
+    """A document of as many bytes as it may have, of which the last are spaces, with its text and its answer."""
+    document, end = rows()
+    listed = document["hir"]["instructions"]
+    lines = [f'  {row["id"]} {row["lvalue"]} = {{"k":"Debugger"}}' for row in listed]
+    printed = HEAD.format("null", 0) + "\n".join(lines) + f'\n  return 0 id {end["id"]}\nfates\n'
+    statements = [*({"k": "Instruction", "v": row} for row in listed), {"k": "Terminal", "v": {"terminal": end}}]
+    func = {"blocks": [statements], "values": [], "params": document["hir"]["params"], "directives": [],
+            "generator": False, "is_async": False}
+    answer = {"env": {**document["env"], **EMPTY}, "fates": [], "func": func}
+    return shown(document).ljust(MOST_BYTES), printed, shown(answer) + "\n"
+
+
 DOCUMENTS = {"text": text, "levels": levels, "identifiers": many_identifiers, "one_function": one_function,
              "loaded_context": loaded_context,
              "function_of_scopes": function_of_scopes, "in_no_order": function_of_scopes_in_no_order,
              "scopes_of_one_function": scopes_of_one_function}
 
+
+
+def put(name, content):
+    with open(f"{sys.argv[1]}/{name}", "w") as file:
+        file.write(content)
+
+
 for name, make in DOCUMENTS.items():
     document, printed = make()
-    with open(f"{sys.argv[1]}/{name}.json", "w") as file:
-        json.dump(document, file)
-    with open(f"{sys.argv[1]}/{name}.txt", "w") as file:
-        file.write(printed)
+    put(f"{name}.json", json.dumps(document))
+    put(f"{name}.txt", printed)
+for end, content in zip(("json", "txt", "answer"), largest()):
+    put(f"largest.{end}", content)
