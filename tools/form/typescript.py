@@ -9,7 +9,7 @@ HEAD = """\
 //
 // A document may leave out a field that is empty, false or null, or spell it out. An answer has one form: it leaves out
 // a field that would be null, and no other. So there are two types of each part, for what is read and what is printed.
-// No command of rc prints an answer as JSON yet.
+// `rc json` prints an answer; docs/ANSWER.md says how its two tables of blocks and values are read.
 
 export type Document = Read.Document;
 export type Answer = Printed.Answer;
