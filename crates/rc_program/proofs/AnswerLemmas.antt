@@ -11,7 +11,7 @@ use Rattle.rc_runs.specs.Event.{End, Event, has_throw}
 use Rattle.rc_program.specs.declared.command.Command.{Command}
 use Rattle.rc_program.specs.declared.status.Status.{Status}
 use Rattle.rc_program.specs.declared.status.Status.TheVariants.{Done, Refused}
-use Rattle.rc_program.specs.declared.command.Command.TheVariants.{Tree, Fates, Slots, Replay, Generate}
+use Rattle.rc_program.specs.declared.command.Command.TheVariants.{Tree, Fates, Slots, Json, Replay, Generate}
 use Rattle.rc_program.specs.declared.given.Given.{Given}
 use Rattle.rc_program.specs.declared.stop.Stop.{Stop}
 use Rattle.rc_program.specs.declared.stop.Stop.TheVariants as stops
@@ -62,6 +62,7 @@ module _ (given : Given) (pruned : Pruned) (answered : Environment)
   text_after Tree in_graph text graph it = it
   text_after Fates in_graph text graph it = it
   text_after Slots in_graph text graph it = it
+  text_after Json in_graph text graph it = it
   text_after (Generate units) in_graph text graph it = it
   text_after Replay in_graph text graph it = record {
     in_graph = in_graph;

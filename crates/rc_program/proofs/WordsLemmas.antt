@@ -5,7 +5,8 @@ use Rattle.std.proofs.lemmas.Fmt.{decimal_is_IsNumeral}
 use Rattle.std.specs.Str.Parse.{digits_value}
 use Rattle.rc_gen.specs.Generated.{most_units}
 use Rattle.rc_program.specs.declared.command.Command.{Command}
-use Rattle.rc_program.specs.declared.command.Command.TheVariants.{Tree, Fates, Slots, Replay, Generate}
+use Rattle.rc_program.specs.declared.command.Command.TheVariants.{Tree, Fates, Slots, Json, Replay}
+use Rattle.rc_program.specs.declared.command.Command.TheVariants.{Generate}
 use Rattle.rc_program.specs.Command.{AreWords, IsCommand, IsInRange, words_of}
 
 -- a word of a list, and the number of the first letter of the first one
@@ -21,6 +22,7 @@ named words =
     if letter words == 116 then Tree else
     if letter words == 102 then Fates else
     if letter words == 115 then Slots else
+    if letter words == 106 then Json else
     if letter words == 114 then Replay else
     Generate (digits_value 10 (word 1 words))
 
@@ -28,6 +30,7 @@ named_again : (command : Command) → IsInRange command → named (words_of comm
 named_again Tree range = refl
 named_again Fates range = refl
 named_again Slots range = refl
+named_again Json range = refl
 named_again Replay range = refl
 named_again (Generate units) range = ap Generate (decimal_is_IsNumeral units (omega (arith, range.1))).1
 
@@ -42,16 +45,19 @@ pub one_or_two : (words : List (List ℕ)) → AreWords words → (length words 
 one_or_two words (Tree, is) = inl (ap length is.same)
 one_or_two words (Fates, is) = inl (ap length is.same)
 one_or_two words (Slots, is) = inl (ap length is.same)
+one_or_two words (Json, is) = inl (ap length is.same)
 one_or_two words (Replay, is) = inl (ap length is.same)
 one_or_two words (Generate n, is) = inr (ap length is.same)
 
 -- a command of one word
 pub alone : (first : List ℕ) → AreWords (first ∷ [])
-    → (first ≡ codes "tree") ⊎ ((first ≡ codes "fates") ⊎ ((first ≡ codes "slots") ⊎ (first ≡ codes "replay")))
+    → (first ≡ codes "tree") ⊎ ((first ≡ codes "fates") ⊎ ((first ≡ codes "slots") ⊎ ((first ≡ codes "json")
+    ⊎ (first ≡ codes "replay"))))
 alone first (Tree, is) = inl (ap (word 0) is.same)
 alone first (Fates, is) = inr (inl (ap (word 0) is.same))
 alone first (Slots, is) = inr (inr (inl (ap (word 0) is.same)))
-alone first (Replay, is) = inr (inr (inr (ap (word 0) is.same)))
+alone first (Json, is) = inr (inr (inr (inl (ap (word 0) is.same))))
+alone first (Replay, is) = inr (inr (inr (inr (ap (word 0) is.same))))
 alone first (Generate n, is) = absurd (let e : 1 ≡ 2 = ap length is.same in omega arith)
 
 -- a command of a word and a number
@@ -60,6 +66,7 @@ pub with_number : (first second : List ℕ) → AreWords (first ∷ (second ∷ 
 with_number first second (Tree, is) = absurd (let e : 2 ≡ 1 = ap length is.same in omega arith)
 with_number first second (Fates, is) = absurd (let e : 2 ≡ 1 = ap length is.same in omega arith)
 with_number first second (Slots, is) = absurd (let e : 2 ≡ 1 = ap length is.same in omega arith)
+with_number first second (Json, is) = absurd (let e : 2 ≡ 1 = ap length is.same in omega arith)
 with_number first second (Replay, is) = absurd (let e : 2 ≡ 1 = ap length is.same in omega arith)
 with_number first second (Generate n, is) =
     (ap (word 0) is.same, (n, is.in_range.0, is.in_range.1, ap (word 1) is.same))

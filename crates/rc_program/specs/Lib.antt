@@ -2,6 +2,7 @@ pub mod Device
 pub mod Memory
 pub mod Blank
 pub mod LineText
+pub mod JsonLine
 pub mod ValueLines
 pub mod Lines
 pub mod FunctionLines

@@ -13,7 +13,9 @@ ghost use Rattle.rc_tree.specs.TreeNames.{TreeInTables};
 use crate::command::Command;
 use crate::given::Given;
 use crate::note::{Note, note_fault, note_nesting};
-use crate::printing::{count_lines, fates_alone, fault_line, lines, replay_lines, slot_lines};
+use crate::printing::{
+    count_lines, fates_alone, fault_line, json_line, lines, replay_lines, slot_lines,
+};
 use crate::status::Status;
 use crate::stop::Stop;
 use rc_hir::{Environment, Fault};
@@ -91,7 +93,8 @@ fn replay_in_graph(alloc: Global, command: Command, given: &Given) -> Result<boo
                 Err(_) => Err(Stop::NoMemory),
             }
         }
-        Command::Tree | Command::Fates | Command::Slots | Command::Generate(_) => Ok(false),
+        Command::Tree | Command::Fates | Command::Slots | Command::Json | Command::Generate(_) =>
+            Ok(false),
     }
 }
 
@@ -135,6 +138,7 @@ fn text_of(
         Command::Tree => Ok(lines(alloc, &pruned.func, &pruned.fates)?),
         Command::Fates => Ok(fates_alone(alloc, &pruned.fates)?),
         Command::Slots => slot_text(alloc, &pruned.func, &given.doc.env),
+        Command::Json => Ok(json_line(alloc, &given.doc.env, pruned)?),
         Command::Replay => {
             replay_text(alloc, in_graph, &pruned.func, &given.doc.env, &given.run)
         }

@@ -19,6 +19,8 @@ pub enum Command {
     Fates,
     /// The slots of the scope blocks in a memo cache.
     Slots,
+    /// The whole answer as JSON.
+    Json,
     /// Whether the run beside a document is one of its graph, and of the answered body.
     Replay,
     /// Counts of the generated document of that number of units, and of its answer.
@@ -48,6 +50,8 @@ fn command_alone(word: &Text) -> Option<Command>
         Some(Command::Fates)
     } else if is_word(word, "slots") {
         Some(Command::Slots)
+    } else if is_word(word, "json") {
+        Some(Command::Json)
     } else if is_word(word, "replay") {
         Some(Command::Replay)
     } else {

@@ -7,6 +7,7 @@ ghost use Rattle.rc_program.specs.Code.{code_of};
 const USAGE: &str = "usage: rc tree < DOCUMENT
 rc:        rc fates < DOCUMENT
 rc:        rc slots < DOCUMENT
+rc:        rc json < DOCUMENT
 rc:        rc replay < DOCUMENT
 rc:        rc gen N
 rc: the document is read from standard input; no word names it. N is a number from 1 to 2000";

@@ -25,6 +25,34 @@ const MERGED: &str = r#"{"hir":{"params":[{"k":"Place","v":0}],"body":{"entry":0
 {"range":{"start":5,"end":8},"dependencies":[{"identifier":2}],
 "declarations":[{"key":3,"value":{"identifier":3,"scope":1}}]}],"config":{},"next_block":5}}"#;
 
+/// The lines of the answer for it, which is one line.
+const MERGED_ANSWER: &str = r#"{"env":{"config":{"enable_forest":false,
+"enable_preserve_existing_memoization_guarantees":false},"functions":[],"identifiers":[{"declaration_id":0,"type_":0},
+{"declaration_id":1,"scope":0,"type_":1},{"declaration_id":2,"type_":1},{"declaration_id":3,"scope":1,"type_":1},
+{"declaration_id":4,"type_":0}],"next_block":5,"scopes":[
+{"declarations":[{"key":3,"value":{"identifier":3,"scope":1}}],
+"dependencies":[{"identifier":0,"path":[],"reactive":false}],"merged":[1],"range":{"end":8,"start":1},
+"reassignments":[]},
+{"declarations":[{"key":3,"value":{"identifier":3,"scope":1}}],
+"dependencies":[{"identifier":2,"path":[],"reactive":false}],"merged":[],"range":{"end":8,"start":5},
+"reassignments":[]}],
+"shapes":[],"types":["Other",{"k":"Object","shape":"Array"}]},
+"fates":[{"fate":"Kept","scope":0},{"fate":{"k":"MergedInto","v":0},"scope":1}],
+"func":{"blocks":[[{"k":"Scope","v":{"instructions":1,"scope":0}},
+{"k":"Terminal","v":{"terminal":{"id":8,"k":"Return","value":3}}}],
+[{"k":"Instruction","v":{"id":2,"lvalue":1,
+"value":{"elements":[{"k":"Place","v":[0,"Read",true]}],"k":"ArrayExpression"}}},
+{"k":"Instruction","v":{"id":4,"lvalue":4,"value":{"k":"StoreLocal","lvalue":{"kind":"Const","place":2},"value":1}}},
+{"k":"Instruction","v":{"id":6,"lvalue":3,"value":{"elements":[{"k":"Place","v":2}],"k":"ArrayExpression"}}}]],
+"directives":[],"generator":false,"is_async":false,"params":[{"k":"Place","v":0}],"values":[]}}"#;
+
+/// The lines of the answer for `DOCUMENT`.
+const ANSWER: &str = r#"{"env":{"config":{"enable_forest":false,
+"enable_preserve_existing_memoization_guarantees":false},"functions":[],"identifiers":[{"declaration_id":0,"type_":0}],
+"next_block":1,"scopes":[],"shapes":[],"types":["Other"]},"fates":[],
+"func":{"blocks":[[{"k":"Terminal","v":{"terminal":{"id":1,"k":"Return","value":0}}}]],"directives":[],
+"generator":false,"is_async":false,"params":[{"k":"Place","v":0}],"values":[]}}"#;
+
 /// A command line of these words.
 fn words(alloc: Global, line: &[&str]) -> Result<Words, AllocError> {
     let mut words = List::new(alloc);
@@ -53,7 +81,7 @@ pub fn ends(
         failing.push(0)?;
     }
     let mut source = MemorySource::new(bytes(alloc, document.unwrap_or(""))?, failing);
-    let mut sink = MemorySink::new(alloc, 1000, 10, List::new(alloc))?;
+    let mut sink = MemorySink::new(alloc, 2000, 10, List::new(alloc))?;
     let words = words(alloc, line)?;
     let status = program(
         alloc,
@@ -70,7 +98,8 @@ pub fn ends(
 fn other_words_read_and_write_nothing(rt: HostRuntime) -> Result<(), Fail> {
     let alloc = rt.alloc();
     let alone = [
-        "", "Tree", "tree ", " tree", "fate", "slot", "replays", "gen", "gen 1", "1", "--help",
+        "", "Tree", "tree ", " tree", "fate", "slot", "JSON", "replays", "gen", "gen 1", "1",
+        "--help",
     ];
     for word in alone {
         assert!(rt;
@@ -108,7 +137,7 @@ fn other_words_read_and_write_nothing(rt: HostRuntime) -> Result<(), Fail> {
             "gen '{number}'"
         );
     }
-    for word in ["tree", "fates", "slots", "replay", "", "Gen", "1"] {
+    for word in ["tree", "fates", "slots", "json", "replay", "", "Gen", "1"] {
         assert!(rt;
             ends(alloc, &[word, "1"], None, Status::Usage, "")?,
             "'{word}' and a number"
@@ -141,6 +170,28 @@ fn slots_are_printed_for_each_scope_block(rt: HostRuntime) -> Result<(), Fail> {
     assert!(rt; ends(alloc, &["slots"], Some(DOCUMENT), Status::Done, "total 0\n")?);
     assert!(rt; ends(alloc, &["slots"], None, Status::ReadFault, "")?);
     assert!(rt; ends(alloc, &["slots"], Some("{}"), Status::NotDoc, "")?);
+    Ok(())
+}
+
+/// Lines as one line.
+fn joined(alloc: Global, lines: &str) -> Result<String, AllocError> {
+    let mut text = String::new(alloc);
+    for line in lines.lines() {
+        text.push_str(line)?;
+    }
+    text.push('\n')?;
+    Ok(text)
+}
+
+#[test]
+fn an_answer_is_printed_as_json(rt: HostRuntime) -> Result<(), Fail> {
+    let alloc = rt.alloc();
+    let merged = joined(alloc, MERGED_ANSWER)?;
+    assert!(rt; ends(alloc, &["json"], Some(MERGED), Status::Done, &merged)?);
+    let plain = joined(alloc, ANSWER)?;
+    assert!(rt; ends(alloc, &["json"], Some(DOCUMENT), Status::Done, &plain)?);
+    assert!(rt; ends(alloc, &["json"], None, Status::ReadFault, "")?);
+    assert!(rt; ends(alloc, &["json"], Some("{}"), Status::NotDoc, "")?);
     Ok(())
 }
 
