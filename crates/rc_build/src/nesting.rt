@@ -10,13 +10,13 @@ use std::alloc::AllocError;
 /// What nesting may take of a stack of 8 MiB: a quarter is left to words and environment, and 256 KiB to all else.
 pub const USUAL_STACK: usize = (6 * 1024 - 256) * 1024;
 
-/// What a part of a statement takes: 609 bytes at most were measured, of a `Switch`.
+/// What a part of a statement takes; a `Switch` takes most.
 pub const STATEMENT_LEVEL: usize = 640;
 
-/// What a value in a value takes: 1,236 bytes at most were measured, of `Logical`.
+/// What a value in a value takes; a `Logical` takes most.
 pub const VALUE_LEVEL: usize = 1_300;
 
-/// What a row of a value takes, since the rest of the value is inside its sequence: 289 bytes were measured.
+/// What a row of a value takes, since the rest of the value is inside its sequence.
 pub const ROW_LEVEL: usize = 320;
 
 /// What is left of a stack inside a level that takes that much. The only error is out of memory: the stack has less.

@@ -45,8 +45,6 @@ pub fn row_with_id(
 ///
 /// - `Malformed` with `UnsetId`: one has no id.
 /// - `BadName`: one isn't there.
-// Not inlined, so that the frames of nested values have no room for a row.
-#[inline(never)]
 pub fn sequence_rows(
     alloc: Global,
     hir: &HirFunction,

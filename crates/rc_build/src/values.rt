@@ -320,8 +320,6 @@ impl<'g> Builder<'g> {
     ///
     /// - `Malformed` with `Handler`: it names a handler that isn't the current one.
     /// - `Malformed`, `BadName`: as for a block of a value.
-    // Not inlined, so that the frames of nested values have no room for its rows.
-    #[inline(never)]
     fn build_throwing(
         &mut self,
         key: BlockId,
