@@ -1,0 +1,6 @@
+//! Names in the order of their numbers.
+#![tactic(auto)]
+
+mod order;
+
+pub use order::in_order;
