@@ -16,5 +16,9 @@ mod row_users;
 mod walk_state;
 
 pub use memoized_names::memoized;
-pub use not_escaping::{decide_non_escaping_scopes, flag_memoizations, prune_non_escaping_scopes};
+pub use not_escaping::outputs::outputs;
+pub use not_escaping::{
+    ExplainedEscape, decide_non_escaping_scopes, explain_non_escaping_scopes, flag_memoizations,
+    prune_non_escaping_scopes,
+};
 pub use rc_memo::{DeclSet, MemoNode, MemoRecord, MemoizationLevel, collect, join_aliases};

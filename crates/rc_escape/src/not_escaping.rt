@@ -9,12 +9,13 @@ ghost use Rattle.rc_escape.specs.NotEscaping.{HasDecidedNotEscaping, IsNeededOut
 ghost use Rattle.rc_escape.specs.NotEscaping.{IsWithoutNotEscaping};
 ghost use Rattle.std.specs.List.{IsDistinct};
 ghost use Rattle.rc_names.specs.Numbers.{DeclarationId as Declaration, same_id, ScopeId as Scope};
+ghost use Rattle.rc_order.specs.Order.{AreInOrder};
 ghost use Rattle.rc_runs.specs.Erase.{erased};
 ghost use Rattle.rc_tree.specs.ScopesIn.{scopes_in};
 ghost use Rattle.rc_tree.specs.TreeNames.{TreeInTables};
 
 mod met;
-mod outputs;
+pub(crate) mod outputs;
 mod rows;
 mod transform;
 
@@ -25,10 +26,20 @@ use crate::not_escaping::met::Met;
 use crate::not_escaping::transform::PruneScopesTransform;
 use rc_hir::{Environment, Fault};
 use rc_memo::collect_rows;
-use rc_names::List;
+use rc_names::{DeclarationId, List};
+use rc_order::in_order;
 use rc_tree::{ReactiveFunction, ScopeFate};
 use rc_walk::rewrite::transform_reactive_function;
 use std::alloc::Global;
+
+/// What the pass decided, and which names it found memoized.
+#[derive(Debug, Drop)]
+pub struct ExplainedEscape {
+    /// The scope of each block that gave way, with its fate, in the order in which the blocks ended.
+    pub log: List<ScopeFate>,
+    /// The memoized names by rising number, each once.
+    pub memoized: List<DeclarationId>,
+}
 
 /// Replaces each scope block whose scope has an output, none of them memoized, and no early return, by its statements.
 /// Sets the flag of each `FinishMemoize` whose name has a scope that gave way before it, or whose name has no scope and
@@ -84,6 +95,34 @@ pub fn decide_non_escaping_scopes(
     let set = deciding_names(alloc, func, env)?;
     let log = rebuild(alloc, func, env, &set)?;
     Ok(log)
+}
+
+/// Does what `decide_non_escaping_scopes` does, and returns besides which names are memoized: those of the memo record
+/// of the function as handed in.
+///
+/// Fails as `prune_non_escaping_scopes` does.
+pub fn explain_non_escaping_scopes(
+    alloc: Global,
+    func: &mut ReactiveFunction,
+    env: &Environment,
+) -> Result<ExplainedEscape, Fault>
+    ensures ok { IfOk result (λ it. HasDecidedNotEscaping env.now func.old func.new.body it.log) }
+    ensures memoized { IfOk result (λ it. (is : HasDecidedNotEscaping env.now func.old func.new.body it.log)
+        × AreInOrder is.without.set it.memoized) }
+    ensures header { func.new ≡ record func.old { body = func.new.body } }
+    ensures needed { OnOk result ((scope : Scope) (name : Declaration) → Contains (scopes_in func.old.body) scope
+        → IsNeededOutput env.now func.old scope name → Contains (scopes_in func.new.body) scope) }
+    ensures kept_erased { OnOk result (erased func.new ≡ erased func.old) }
+    ensures known { OnOk result (TreeInTables func.old env.now → TreeInTables func.new env.now) }
+    ensures scopes_once { OnOk result (IsDistinct same_id (scopes_in func.old.body)
+        → IsDistinct same_id (scopes_in func.new.body)) }
+
+    ensures refused { IfErr result (IsEscapeFault env.now func.old) }
+{
+    let set = deciding_names(alloc, func, env)?;
+    let memoized = in_order(alloc, set.as_slice())?;
+    let log = rebuild(alloc, func, env, &set)?;
+    Ok(ExplainedEscape { log, memoized })
 }
 
 /// Does what `prune_non_escaping_scopes` does to a function in which no scope has a block: sets the flags. The memo

@@ -167,15 +167,15 @@ module _ (env : Environment) (set : List DeclarationId) where
   }
 
   -- the log and the scopes that a rebuilt body has
-  scopes_left : (before after : ReactiveBlock) (is : IsRebuiltFor env set before after)
+  pub scopes_left : (before after : ReactiveBlock) (is : IsRebuiltFor env set before after)
       → (is.left.log ≡ dissolved_fates env set (scopes_in before))
       × (scopes_in after ≡ staying_scopes env set (scopes_in before))
   unfolding Leaves
   scopes_left before after is = subst (λ e. Leaves (scopes_in before) nothing_met (having scopes_in e)) is.rebuilt
       (rebuilt_holds rules Leaves scope_parts scope_parts lists_monoid all_leave before nothing_met)
 
--- a body that is rebuilt for the memoized names is the one without the blocks that compute none of them
-pub decided_not_escaping : (env : Environment) (func : ReactiveFunction) (set : List DeclarationId)
+-- a body that is rebuilt for the memoized names is the one without the blocks that compute none of them, by these names
+abbrev pub decided_not_escaping : (env : Environment) (func : ReactiveFunction) (set : List DeclarationId)
     (after : ReactiveBlock) → AreMemoized env func set → (is : IsRebuiltFor env set func.body after)
     → HasDecidedNotEscaping env func after is.left.log
 decided_not_escaping env func set after memoized is =

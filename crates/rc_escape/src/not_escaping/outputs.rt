@@ -1,6 +1,6 @@
-//! Whether the block of a scope gives way.
+//! The outputs of a scope, and whether its block gives way.
 
-ghost use Rattle.std.specs.Prelude.{◌≡◌};
+ghost use Rattle.std.specs.Prelude.{◌≡◌, ◌++◌, map, IfOk, OnOk};
 ghost use Rattle.std.specs.List.{list_any};
 ghost use Rattle.rc_escape.specs.Flags as flags;
 ghost use Rattle.rc_escape.specs.Outputs as spec;
@@ -9,8 +9,67 @@ ghost use Rattle.rc_hir.specs.Environment.{declaration_of};
 ghost use Rattle.rc_names.specs.Numbers.{is_among};
 
 use crate::DeclSet;
-use rc_hir::{Environment, ReactiveScope};
-use rc_names::{DeclarationId, IdentifierId, ScopeId};
+use rc_hir::{DeclarationEntry, Environment, ReactiveScope};
+use rc_names::{DeclarationId, IdentifierId, List, ScopeId};
+use std::alloc::{AllocError, Global};
+
+/// Returns the outputs of a scope: the declarations of the names that it declares, and then those of the names that it
+/// reassigns, each as often as it is listed. A scope outside the table has none. The only error is out of memory.
+pub fn outputs(
+    alloc: Global,
+    env: &Environment,
+    scope: ScopeId,
+) -> Result<List<DeclarationId>, AllocError>
+    ensures { IfOk result (λ names. names ≡ spec.outputs env.now scope) }
+{
+    match env.scopes.get(scope) {
+        Some(known) => outputs_of(alloc, env, known),
+        None => Ok(List::new(alloc)),
+    }
+}
+
+/// Returns the outputs of a scope of the table. The only error is out of memory.
+fn outputs_of(
+    alloc: Global,
+    env: &Environment,
+    scope: &ReactiveScope,
+) -> Result<List<DeclarationId>, AllocError>
+    ensures { IfOk result (λ names. names ≡ spec.outputs_of env.now scope.now) }
+{
+    let mut names = List::new(alloc);
+    add_declared(&mut names, env, scope.declarations.as_slice())?;
+    add_reassigned(&mut names, env, scope.reassignments.as_slice())?;
+    Ok(names)
+}
+
+/// Adds the declarations of the names that a scope declares. The only error is out of memory.
+fn add_declared(
+    names: &mut List<DeclarationId>,
+    env: &Environment,
+    entries: &[DeclarationEntry],
+) -> Result<(), AllocError>
+    ensures { OnOk result (names.new
+        ≡ names.old ++ map (λ entry. declaration_of env.now entry.value.identifier) entries.now) }
+{
+    for entry in entries {
+        names.push(declaration_of(env, entry.value.identifier))?;
+    }
+    Ok(())
+}
+
+/// Adds the declarations of the names that a scope reassigns. The only error is out of memory.
+fn add_reassigned(
+    names: &mut List<DeclarationId>,
+    env: &Environment,
+    numbers: &[IdentifierId],
+) -> Result<(), AllocError>
+    ensures { OnOk result (names.new ≡ names.old ++ map (declaration_of env.now) numbers.now) }
+{
+    for number in numbers {
+        names.push(declaration_of(env, *number))?;
+    }
+    Ok(())
+}
 
 /// Returns the declaration of an identifier.
 pub fn declaration_of(env: &Environment, number: IdentifierId) -> DeclarationId
