@@ -7,3 +7,4 @@ pub mod RulesLemmas
 pub mod StayingBlocks
 pub mod LeftScopes
 pub mod DecidedScopes
+pub mod CausesLemmas

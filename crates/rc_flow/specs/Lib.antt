@@ -5,4 +5,5 @@ pub mod ReactiveDependencies
 pub mod ValueSteps
 pub mod Unmemoized
 pub mod AlwaysInvalidating
+pub mod InvalidatingCauses
 pub mod inside

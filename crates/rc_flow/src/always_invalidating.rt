@@ -9,20 +9,23 @@
 mod marks;
 mod steps;
 
-ghost use Rattle.std.specs.Prelude.{◌≡◌, IfErr, IfOk, OnOk};
+ghost use Rattle.std.specs.Prelude.{◌≡◌, map, All, Contains, IfErr, IfOk, OnOk};
 ghost use Rattle.rc_hir.specs.declared.fault.Fault.TheVariants as faults;
+ghost use Rattle.rc_names.specs.Numbers.{ScopeId as Scope};
 ghost use Rattle.rc_runs.specs.Erase.{erased};
 ghost use Rattle.rc_tree.specs.Decided.{IsDecidedBy};
 ghost use Rattle.rc_tree.specs.ScopesIn.{HasScopesOnce};
 ghost use Rattle.rc_tree.specs.TreeNames.{TreeInTables, names_in};
-ghost use Rattle.rc_flow.specs.AlwaysInvalidating.{IsWithoutInvalidating, LeavesOthers, PrunesInvalidating};
-ghost use Rattle.rc_flow.specs.AlwaysInvalidating.{invalidating_rule};
+ghost use Rattle.rc_flow.specs.AlwaysInvalidating.{IsInvalidating, IsWithoutInvalidating, LeavesOthers};
+ghost use Rattle.rc_flow.specs.AlwaysInvalidating.{PrunesInvalidating, invalidating_rule};
+ghost use Rattle.rc_flow.specs.InvalidatingCauses.{IsInvalidatingCause};
 ghost use Rattle.rc_flow.specs.ValueSteps.{value_steps_in};
 ghost use Rattle.rc_flow.specs.inside.DroppingSteps as spec;
 ghost use Rattle.rc_flow.specs.inside.Marks.{marks_of};
 
 use crate::always_invalidating::marks::Marks;
 use crate::always_invalidating::steps::value_steps_in;
+use crate::invalidating_cause::InvalidatingCause;
 use rc_hir::{Environment, Fault};
 use rc_names::List;
 use rc_tree::{
@@ -79,6 +82,7 @@ pub fn decide_always_invalidating_scopes(
         unmemoized: _,
         mut dropped,
         decided,
+        causes: _,
     } = marks;
     dropped.reverse();
     let mut walk = OverStatements {
@@ -87,6 +91,24 @@ pub fn decide_always_invalidating_scopes(
     };
     transform_reactive_function(alloc, func, &mut walk, &mut dropped)?;
     Ok(decided)
+}
+
+/// Returns what makes scopes always invalidate: a scope of which a block ends, with the first of its dependencies whose
+/// value is new in every render and kept by no scope there. Each scope that always invalidates is among them. The only
+/// fault is out of memory.
+pub fn invalidating_causes(
+    alloc: Global,
+    func: &ReactiveFunction,
+    env: &Environment,
+) -> Result<List<InvalidatingCause>, Fault>
+    ensures told { IfOk result (All (IsInvalidatingCause env.now func.now.body)) }
+    ensures each { IfOk result (λ causes. (scope : Scope) → IsInvalidating env.now func.now.body scope
+        → Contains (map (λ cause. cause.scope) causes) scope) }
+
+    ensures refused { IfErr result (λ fault. fault ≡ faults.NoMemory) }
+{
+    let marks = marks_of(alloc, env, &func.body)?;
+    Ok(marks.causes)
 }
 
 /// The two sets after all the statements, with the answers for the scope blocks. The only error is out of memory.

@@ -7,6 +7,7 @@ mod always_invalidating;
 mod collect_visitor;
 mod collected;
 mod flows;
+mod invalidating_cause;
 mod reactive_dependencies;
 mod spread;
 mod step;
@@ -16,7 +17,8 @@ mod types;
 mod value_step;
 
 pub use always_invalidating::{
-    decide_always_invalidating_scopes, prune_always_invalidating_scopes,
+    decide_always_invalidating_scopes, invalidating_causes, prune_always_invalidating_scopes,
 };
 pub use collected::collect_reactive_identifiers;
+pub use invalidating_cause::InvalidatingCause;
 pub use reactive_dependencies::prune_non_reactive_dependencies;

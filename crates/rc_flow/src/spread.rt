@@ -115,7 +115,7 @@ fn has_any(set: &KeySet<IdentifierId>, names: &[IdentifierId]) -> bool
 }
 
 /// Whether a dependency of the scope is in the set.
-pub fn depends_on(scope: &ReactiveScope, set: &KeySet<IdentifierId>) -> bool
+fn depends_on(scope: &ReactiveScope, set: &KeySet<IdentifierId>) -> bool
     ensures { result ≡ spec.depends_on scope.now set.now }
 {
     let mut dependencies = scope.dependencies.as_slice().iter();

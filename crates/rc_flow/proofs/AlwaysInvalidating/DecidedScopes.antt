@@ -13,7 +13,7 @@ use Rattle.rc_flow.proofs.AlwaysInvalidating.LeftScopes.{invalidates, invalidate
 use Rattle.rc_flow.specs.AlwaysInvalidating.{invalidating_rule, IsInvalidating, PrunesInvalidating, always_invalidating}
 use Rattle.rc_flow.specs.AlwaysInvalidating.{dropped_scopes}
 
-same_scopes : (scopes : List ScopeId) → decided (always_invalidating scopes) ≡ scopes
+pub same_scopes : (scopes : List ScopeId) → decided (always_invalidating scopes) ≡ scopes
 same_scopes [] = refl
 same_scopes (x ∷ xs) = ap (λ rest. x ∷ rest) (same_scopes xs)
 

@@ -108,6 +108,28 @@ module _ (env : Environment) (steps : List ValueStep) where
           )
       by in_rest false is enough = somewhere k (Ends other) rest scope (in_rest (omega (arith, enough)))
 
+-- a scope that always invalidates is among those of the blocks that are dropped by the answers
+pub drops_invalidating : (env : Environment) (body : ReactiveBlock) (answers : List Bool)
+    → AreAnswers env (value_steps_in body) 0 (value_steps_in body) answers → (scope : ScopeId)
+    → IsInvalidating env body scope → Contains (dropped_scopes (ended (value_steps_in body)) answers) scope
+drops_invalidating env body answers right scope all = by (times scope (staying scopes answers)) refl
+  where
+    steps : List ValueStep
+    steps = value_steps_in body
+
+    scopes : List ScopeId
+    scopes = ended steps
+
+    by : (n : ℕ) → times scope (staying scopes answers) ≡ n → Contains (dropped_scopes scopes answers) scope
+    by zero none =
+        let some = at_least_once scope scopes (subst (λ l. Contains l scope) (sym (same_ends body)) all.has_block) in
+        let parts = stays_or_dropped scope scopes answers in
+        from_times scope (dropped_scopes scopes answers) (omega (arith, some, none, parts))
+    by (suc n) there =
+        let it = one_stays env steps 0 steps answers right scope (omega (arith, there)) in
+        let same : it.0 ≡ 0 + it.0 = omega arith in
+        absurd (it.2 (moved env steps same (all.unmemoized it.0 it.1)))
+
 module _ (env : Environment) (before after : ReactiveBlock) (is : IsWithoutInvalidating env before after) where
   abbrev steps : List ValueStep
   steps = value_steps_in before

@@ -2,9 +2,10 @@
 -- was decided is what they say.
 use Rattle.std.proofs.Common.{◌≡◌, ◌∙◌, ◌≤◌, ◌+◌, ◌⊎◌, ◌↔◌, ℕ, Bool, true, false, List, [], ◌∷◌, ◌++◌, inl, inr, Option}
 use Rattle.std.proofs.Common.{None, Some, slice_get, refl, sym, ap, subst, true≢false, arith, append_assoc, append-nil}
-use Rattle.std.proofs.Common.{if◌then◌else◌}
+use Rattle.std.proofs.Common.{◌||◌, if◌then◌else◌, is_some}
+use Rattle.std.specs.List.{find, list_any}
 use Rattle.rc_hir.specs.Model.{Environment, ReactiveScope}
-use Rattle.rc_names.specs.Numbers.{IdentifierId, ScopeId}
+use Rattle.rc_names.specs.Numbers.{IdentifierId, ScopeId, is_among}
 use Rattle.rc_tree.specs.Model.{ReactiveBlock}
 use Rattle.rc_flow.specs.declared.always_invalidating.marks.Marks.{Marks}
 use Rattle.rc_flow.specs.declared.value_step.ValueStep.{ValueStep}
@@ -14,31 +15,42 @@ use Rattle.rc_flow.specs.Unmemoized.{AreAnswers, no_more, makes, copies, ends, I
 use Rattle.rc_flow.specs.Unmemoized.{outside, passed_on, dropped}
 use Rattle.rc_flow.specs.AlwaysInvalidating.{always_invalidating, dropped_scopes, IsRebuiltBy, PrunesInvalidating}
 use Rattle.rc_flow.specs.ValueSteps.{value_steps_in}
-use Rattle.rc_flow.specs.inside.Marks.{after_step, after_steps, ended as after_block, ended_if}
+use Rattle.rc_flow.specs.inside.Marks.{after_step, after_steps, ended as after_block, ended_by, first_dependency}
 use Rattle.rc_flow.specs.inside.Marks.{marks_of, no_marks}
-use Rattle.rc_flow.specs.inside.Spread.{Names, depends_on}
+use Rattle.rc_flow.specs.inside.Spread.{Names}
 use Rattle.rc_flow.proofs.AlwaysInvalidating.EndedScopes.{ended, same_ends}
 use Rattle.rc_flow.proofs.ListLemmas.{StandsAt, by_place, first_at, one_at, rest_at, stands_whole}
-use Rattle.rc_flow.proofs.SetLemmas.{In, among_some, depends_any, insert_cases, insert_new, insert_old, some_among}
+use Rattle.rc_flow.proofs.SetLemmas.{In, among_some, insert_cases, insert_new, insert_old, some_among}
 use Rattle.rc_flow.proofs.AlwaysInvalidating.GrowingSets.{copy_cases, copy_old, copy_new, among_cases, among_old}
 use Rattle.rc_flow.proofs.AlwaysInvalidating.GrowingSets.{among_new, outputs_in}
 
 -- the answer for a scope that was looked up
 abbrev answer_for : Option ReactiveScope → Names → Bool
 answer_for None set = false
-answer_for (Some scope) set = depends_on scope set
+answer_for (Some scope) set = is_some (first_dependency scope set)
+
+-- a first one is found where there is one
+found_any : {X : Type 0} (p : X → Bool) (xs : List X) → is_some (find p xs) ≡ list_any p xs
+found_any p [] = refl
+found_any p (x ∷ xs) = by (p x) (found_any p xs)
+  where
+    by : (b : Bool) → is_some (find p xs) ≡ list_any p xs
+        → is_some (if b then Some x else find p xs) ≡ (b || list_any p xs)
+    by true rest = refl
+    by false rest = rest
 
 answer_cases : (o : Option ReactiveScope) (set : Names) → answer_for o set ≡ true
     → (a : IdentifierId) × In a (dependencies_if o) × In a set
 answer_cases None set h = absurd (true≢false (sym h))
 answer_cases (Some scope) set h =
-    some_among set (dependencies_if (Some scope)) (sym (depends_any scope set) ∙ h)
+    some_among set (dependencies_if (Some scope))
+    (sym (found_any (is_among set) (dependencies_if (Some scope))) ∙ h)
 
 answer_new : (o : Option ReactiveScope) (set : Names) (a : IdentifierId) → In a (dependencies_if o) → In a set
     → answer_for o set ≡ true
 answer_new None set a h k = absurd (true≢false (sym h))
 answer_new (Some scope) set a h k =
-    depends_any scope set ∙ among_some set (dependencies_if (Some scope)) a h k
+    found_any (is_among set) (dependencies_if (Some scope)) ∙ among_some set (dependencies_if (Some scope)) a h k
 
 -- an output that is always new comes in where a dependency is in the set
 abbrev FromEnd : Option ReactiveScope → Marks → IdentifierId → Type 0
@@ -49,68 +61,69 @@ FromEnd o s n =
 module _ (scope : ScopeId) where
   ended_always : (o : Option ReactiveScope) (s : Marks) → (after_block scope o s).always ≡ s.always
   ended_always None s = refl
-  ended_always (Some known) s = by (depends_on known s.unmemoized)
+  ended_always (Some known) s = by (first_dependency known s.unmemoized)
     where
-      by : (b : Bool) → (ended_if b scope known s).always ≡ s.always
-      by true = refl
-      by false = refl
+      by : (found : Option IdentifierId) → (ended_by found scope known s).always ≡ s.always
+      by (Some dependency) = refl
+      by None = refl
 
   ended_dropped : (o : Option ReactiveScope) (s : Marks)
       → (after_block scope o s).dropped ≡ s.dropped ++ answer_for o s.unmemoized ∷ []
   ended_dropped None s = refl
-  ended_dropped (Some known) s = by (depends_on known s.unmemoized)
+  ended_dropped (Some known) s = by (first_dependency known s.unmemoized)
     where
-      by : (b : Bool) → (ended_if b scope known s).dropped ≡ s.dropped ++ b ∷ []
-      by true = refl
-      by false = refl
+      by : (found : Option IdentifierId) → (ended_by found scope known s).dropped ≡ s.dropped ++ is_some found ∷ []
+      by (Some dependency) = refl
+      by None = refl
 
   -- one decision more where the answer is true, and then those that come later
   ended_decided : (o : Option ReactiveScope) (s : Marks) (later : List ScopeId)
       → (after_block scope o s).decided ++ always_invalidating later
       ≡ s.decided ++ always_invalidating (if answer_for o s.unmemoized then scope ∷ later else later)
   ended_decided None s later = refl
-  ended_decided (Some known) s later = by (depends_on known s.unmemoized)
+  ended_decided (Some known) s later = by (first_dependency known s.unmemoized)
     where
-      by : (b : Bool) → (ended_if b scope known s).decided ++ always_invalidating later
-          ≡ s.decided ++ always_invalidating (if b then scope ∷ later else later)
-      by true = append_assoc s.decided (always_invalidating (scope ∷ [])) (always_invalidating later)
-      by false = refl
+      by : (found : Option IdentifierId) → (ended_by found scope known s).decided ++ always_invalidating later
+          ≡ s.decided ++ always_invalidating (if is_some found then scope ∷ later else later)
+      by (Some dependency) = append_assoc s.decided (always_invalidating (scope ∷ [])) (always_invalidating later)
+      by None = refl
 
   ended_cases : (o : Option ReactiveScope) (s : Marks) (n : IdentifierId) → In n (after_block scope o s).unmemoized
       → In n s.unmemoized ⊎ FromEnd o s n
   ended_cases None s n h = inl h
-  ended_cases (Some known) s n h = by (depends_on known s.unmemoized) refl h
+  ended_cases (Some known) s n h = by (first_dependency known s.unmemoized) refl h
     where
-      by : (b : Bool) → depends_on known s.unmemoized ≡ b → In n (ended_if b scope known s).unmemoized
-          → In n s.unmemoized ⊎ FromEnd (Some known) s n
-      by true e k =
+      by : (found : Option IdentifierId) → first_dependency known s.unmemoized ≡ found
+          → In n (ended_by found scope known s).unmemoized → In n s.unmemoized ⊎ FromEnd (Some known) s n
+      by (Some dependency) e k =
           let there = subst (In n) (outputs_in known s.always s.unmemoized) k in
           elim (among_cases s.always (outputs_if (Some known)) s.unmemoized n there) [
             | inl o ↦ inl o
-            | inr p ↦ let it = answer_cases (Some known) s.unmemoized e in inr (it.0, it.1, it.2, p.0, p.1)
+            | inr p ↦
+                let it = answer_cases (Some known) s.unmemoized (ap is_some e) in inr (it.0, it.1, it.2, p.0, p.1)
           ]
-      by false e k = inl k
+      by None e k = inl k
 
   ended_old : (o : Option ReactiveScope) (s : Marks) (n : IdentifierId) → In n s.unmemoized
       → In n (after_block scope o s).unmemoized
   ended_old None s n h = h
-  ended_old (Some known) s n h = by (depends_on known s.unmemoized)
+  ended_old (Some known) s n h = by (first_dependency known s.unmemoized)
     where
-      by : (b : Bool) → In n (ended_if b scope known s).unmemoized
-      by true = subst (In n) (sym (outputs_in known s.always s.unmemoized))
+      by : (found : Option IdentifierId) → In n (ended_by found scope known s).unmemoized
+      by (Some dependency) = subst (In n) (sym (outputs_in known s.always s.unmemoized))
           (among_old s.always (outputs_if (Some known)) s.unmemoized n h)
-      by false = h
+      by None = h
 
   ended_new : (o : Option ReactiveScope) (s : Marks) (n : IdentifierId) → FromEnd o s n
       → In n (after_block scope o s).unmemoized
   ended_new None s n f = absurd (true≢false (sym f.1))
   ended_new (Some known) s n f =
-      by (depends_on known s.unmemoized) (answer_new (Some known) s.unmemoized f.0 f.1 f.2)
+      by (first_dependency known s.unmemoized) (answer_new (Some known) s.unmemoized f.0 f.1 f.2)
     where
-      by : (b : Bool) → b ≡ true → In n (ended_if b scope known s).unmemoized
-      by true e = subst (In n) (sym (outputs_in known s.always s.unmemoized))
+      by : (found : Option IdentifierId) → is_some found ≡ true → In n (ended_by found scope known s).unmemoized
+      by (Some dependency) e = subst (In n) (sym (outputs_in known s.always s.unmemoized))
           (among_new s.always (outputs_if (Some known)) s.unmemoized n f.3 f.4)
-      by false e = absurd (true≢false (sym e))
+      by None e = absurd (true≢false (sym e))
 
 module _ (env : Environment) where
   abbrev next : ValueStep → Marks → Marks
@@ -209,14 +222,14 @@ module _ (env : Environment) where
           (fits.always n).1 (subst (λ q. Always q n) here always),
         )))
 
-    fits_next : (k : ℕ) (step : ValueStep) (s : Marks) → slice_get steps k ≡ Some step → Fits k s
+    pub fits_next : (k : ℕ) (step : ValueStep) (s : Marks) → slice_get steps k ≡ Some step → Fits k s
         → Fits (k + 1) (next step s)
     fits_next k step s at fits = record {
       always = λ n. (always_now k step s n at fits, now_always k (k + 1) step s n at fits refl);
       unmemoized = λ n. (unmemoized_now k step s n at fits, now_unmemoized k (k + 1) step s n at fits refl);
     }
 
-    fits_start : Fits 0 no_marks
+    pub fits_start : Fits 0 no_marks
     fits_start = record {
       always = λ n. ((λ h. absurd (true≢false (sym h))), (λ r. absurd (none_always n r)));
       unmemoized = λ n. ((λ h. absurd (true≢false (sym h))), (λ r. absurd (none_unmemoized n r)));

@@ -1,6 +1,7 @@
 -- The two sets of names as they grow over the steps, the answers for the scope blocks that have ended, and what was
--- decided of their scopes.
+-- decided of their scopes, with the causes.
 use Rattle.std.specs.Prelude.{Bool, true, false, List, [], ◌∷◌, ◌++◌, Option, None, Some, slice_get, if◌then◌else◌}
+use Rattle.std.specs.List.{find}
 use Rattle.indexmap.specs.IndexSet.{insert_key}
 use Rattle.rc_hir.specs.Model.{DeclarationEntry, Environment, ReactiveScope}
 use Rattle.rc_names.specs.Numbers.{IdentifierId, ScopeId, is_among, same_id}
@@ -8,11 +9,12 @@ use Rattle.rc_tree.specs.declared.fate.Fate.TheVariants.{AlwaysInvalidating}
 use Rattle.rc_flow.specs.declared.always_invalidating.marks.Marks.{Marks}
 use Rattle.rc_flow.specs.declared.value_step.ValueStep.{ValueStep}
 use Rattle.rc_flow.specs.declared.value_step.ValueStep.TheVariants.{Makes, Copies, Ends}
-use Rattle.rc_flow.specs.inside.Spread.{Names, depends_on}
+use Rattle.rc_flow.specs.Reached.{dependency_names}
+use Rattle.rc_flow.specs.inside.Spread.{Names}
 
 -- no names and no blocks yet
 abbrev pub no_marks : Marks
-no_marks = record { always = []; unmemoized = []; dropped = []; decided = [] }
+no_marks = record { always = []; unmemoized = []; dropped = []; decided = []; causes = [] }
 
 -- the set with one more name
 abbrev pub with_name : IdentifierId → Names → Names
@@ -63,14 +65,24 @@ with_answer answer s = record s { dropped = s.dropped ++ answer ∷ [] }
 abbrev pub with_decision : ScopeId → Marks → Marks
 with_decision scope s = record s { decided = s.decided ++ record { scope = scope; fate = AlwaysInvalidating } ∷ [] }
 
+-- a cause more
+abbrev pub with_cause : ScopeId → IdentifierId → Marks → Marks
+with_cause scope dependency s =
+    record s { causes = s.causes ++ record { scope = scope; dependency = dependency } ∷ [] }
+
+-- the first dependency of the scope that is in the set
+abbrev pub first_dependency : ReactiveScope → Names → Option IdentifierId
+first_dependency scope set = find (is_among set) (dependency_names scope)
+
 -- after the end of a block of a scope that was looked up
-abbrev pub ended_if : Bool → ScopeId → ReactiveScope → Marks → Marks
-ended_if true scope known s = with_unkept known (with_decision scope (with_answer true s))
-ended_if false scope known s = with_answer false s
+abbrev pub ended_by : Option IdentifierId → ScopeId → ReactiveScope → Marks → Marks
+ended_by (Some dependency) scope known s =
+    with_unkept known (with_cause scope dependency (with_decision scope (with_answer true s)))
+ended_by None scope known s = with_answer false s
 
 abbrev pub ended : ScopeId → Option ReactiveScope → Marks → Marks
 ended scope None s = with_answer false s
-ended scope (Some known) s = ended_if (depends_on known s.unmemoized) scope known s
+ended scope (Some known) s = ended_by (first_dependency known s.unmemoized) scope known s
 
 abbrev pub after_end : Environment → ScopeId → Marks → Marks
 after_end env scope s = ended scope (slice_get env.scopes scope.0) s

@@ -3,7 +3,7 @@
 ghost use Rattle.std.specs.Prelude.{◌≡◌, OnOk};
 ghost use Rattle.rc_flow.specs.inside.Marks as spec;
 
-use crate::spread::depends_on;
+use crate::invalidating_cause::InvalidatingCause;
 use crate::value_step::ValueStep;
 use rc_hir::{DeclarationEntry, Environment, ReactiveScope};
 use rc_names::{IdentifierId, KeySet, List, ScopeId};
@@ -11,13 +11,15 @@ use rc_tree::{Fate, ScopeFate};
 use std::alloc::{AllocError, Global};
 
 /// The names of values that are new each time, and of those that no scope keeps. For each scope block that has ended,
-/// whether it depends on one of the latter; and the scopes of those that do, with their fate.
+/// whether it depends on one of the latter; and the scopes of those that do, with their fate, and with the first such
+/// dependency.
 #[derive(Drop)]
 pub struct Marks {
     pub always: KeySet<IdentifierId>,
     pub unmemoized: KeySet<IdentifierId>,
     pub dropped: List<bool>,
     pub decided: List<ScopeFate>,
+    pub causes: List<InvalidatingCause>,
 }
 
 impl Marks {
@@ -30,6 +32,7 @@ impl Marks {
             unmemoized: KeySet::new(alloc),
             dropped: List::new(alloc),
             decided: List::new(alloc),
+            causes: List::new(alloc),
         }
     }
 
@@ -80,11 +83,13 @@ impl Marks {
         let Some(known) = env.scopes.get(scope) else {
             return self.dropped.push(false);
         };
-        let dropped = depends_on(known, &self.unmemoized);
+        let cause = first_dependency(known, &self.unmemoized);
+        let dropped = cause.is_some();
         self.dropped.push(dropped)?;
-        if dropped {
+        if let Some(dependency) = cause {
             let fate = Fate::AlwaysInvalidating;
             self.decided.push(ScopeFate { scope, fate })?;
+            self.causes.push(InvalidatingCause { scope, dependency })?;
             self.leave_unkept(known)?;
         }
         Ok(())
@@ -98,6 +103,15 @@ impl Marks {
         add_declared(&mut self.unmemoized, always, scope.declarations.as_slice())?;
         add_reassigned(&mut self.unmemoized, always, scope.reassignments.as_slice())
     }
+}
+
+/// The first dependency of the scope that is in the set.
+fn first_dependency(scope: &ReactiveScope, set: &KeySet<IdentifierId>) -> Option<IdentifierId>
+    ensures { result ≡ spec.first_dependency scope.now set.now }
+{
+    let dependencies = scope.dependencies.as_slice().iter();
+    let mut names = dependencies.map(|dependency| dependency.identifier);
+    names.find(|name| set.contains(*name))
 }
 
 /// Puts the declared names into the set that are among the others.
