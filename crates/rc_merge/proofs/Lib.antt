@@ -31,6 +31,10 @@ pub mod WholeLists
 pub mod ListLemmas
 pub mod RulesAgree
 pub mod WentLemmas
+mod ByNumberLemmas
+mod ToldLemmas
+mod MergedInto
+pub mod ExplainedByWent
 pub mod WentKeeps
 pub mod WentKnown
 pub mod MergeLemmas

@@ -1,7 +1,7 @@
 -- One open group gives what the definition by places gives.
 use Rattle.std.proofs.Common.{◌≡◌, ◌∙◌, List, [], ◌∷◌, ◌++◌, Option, None, Some, Bool, true, false, refl, sym}
-use Rattle.std.proofs.Common.{ap, append_assoc, subst}
-use Rattle.std.proofs.lemmas.List.{append-nil}
+use Rattle.std.proofs.Common.{ap, append_assoc, map, option_map, subst}
+use Rattle.std.proofs.lemmas.List.{append-nil, map-append}
 use Rattle.std.specs.Option.{option_map_or}
 use Rattle.std.specs.Prelude.{slice_set, if◌then◌else◌}
 use Rattle.rc_hir.specs.Model.{Environment, ReactiveScope}
@@ -12,6 +12,7 @@ use Rattle.rc_merge.proofs.RestLemmas.{none_pulled}
 use Rattle.rc_merge.proofs.RowsLemmas.{IsItemOf, passing, ending, noted_copies, seen, value_item}
 use Rattle.rc_merge.proofs.WholeLists.{begins_whole, closed_whole, own_other, set_again, set_own, swallowed_whole}
 use Rattle.rc_merge.proofs.WholeLists.{waits_whole, whole, whole_open}
+use Rattle.rc_merge.specs.Explained.{Joined, joined_by, joined_in}
 use Rattle.rc_merge.specs.Groups.{copies_at, group_at, head_after, head_at, joins_at, joins_if, names_at, notes}
 use Rattle.rc_merge.specs.Joining.{Copies, begins, grown, joins, with_copy}
 use Rattle.rc_merge.specs.LastUses.{LastUses}
@@ -19,11 +20,15 @@ use Rattle.rc_merge.specs.MergedList.{Rest, filled, joined_at, merged_list, met_
 use Rattle.rc_merge.specs.MergedList.{rest_by, scopes_after, scopes_at, told_of}
 use Rattle.rc_merge.specs.Places.{Item, Passed, Block, Other, NumberedScope, item_of, items_before, items_of, no_scope}
 use Rattle.rc_merge.specs.Places.{scope_at}
+use Rattle.rc_merge.specs.declared.facts.MergedFacts.{MergedFacts}
+use Rattle.rc_merge.specs.declared.tables.Log.{Log}
 use Rattle.rc_merge.specs.inside.ListSteps.{Going, Open, begin_if, block_of, close, closed, join_if}
-use Rattle.rc_merge.specs.inside.ListSteps.{joins_open, merged_fate, put_back, row_statements, starting, step}
+use Rattle.rc_merge.specs.inside.ListSteps.{joined_open, joins_open, merged_fate, put_back, row_statements}
+use Rattle.rc_merge.specs.inside.ListSteps.{starting, step}
 use Rattle.rc_merge.specs.inside.ListSteps.{step_other, step_passing, step_row, step_scope, steps}
-use Rattle.rc_merge.specs.inside.ListSteps.{went}
+use Rattle.rc_merge.specs.inside.ListSteps.{told_open, went, with_fate}
 use Rattle.rc_merge.specs.inside.Rows.{CopyPairs, copies_of, copy_of_row, row_passes}
+use Rattle.rc_merge.specs.inside.Told.{facts_of}
 use Rattle.rc_tree.specs.Unrolled.{UnrolledStatement}
 use Rattle.rc_tree.specs.Model.{ReactiveInstruction, ReactiveScopeBlock, ReactiveStatement}
 use Rattle.rc_tree.specs.declared.fate.ScopeFate.{ScopeFate}
@@ -42,8 +47,19 @@ abbrev pub AreOnce : List ScopeId → Type 0
 AreOnce [] = Unit {0}
 AreOnce (scope ∷ scopes) = (In scope scopes → ⊥) × AreOnce scopes
 
-module _ (env : Environment) (uses : LastUses) (scopes : List ReactiveScope) (pairs : CopyPairs)
-    (log : List ScopeFate) where
+-- one scope more whose facts are told
+told_more : (tell : Joined → MergedFacts) (merged : Option (List MergedFacts)) (joined : List Joined) (one : Joined)
+    → option_map (λ told. told ++ tell one ∷ []) (option_map (λ told. told ++ map tell joined) merged)
+    ≡ option_map (λ told. told ++ map tell (joined ++ one ∷ [])) merged
+told_more tell None joined one = refl
+told_more tell (Some told) joined one = ap Some (append_assoc told (map tell joined) (tell one ∷ [])
+    ∙ ap (λ more. told ++ more) (sym (map-append tell joined (one ∷ []))))
+
+none_told : (merged : Option (List MergedFacts)) → merged ≡ option_map (λ told. told ++ []) merged
+none_told None = refl
+none_told (Some told) = ap Some (sym (append-nil told))
+
+module _ (env : Environment) (uses : LastUses) (scopes : List ReactiveScope) (pairs : CopyPairs) (log : Log) where
   abbrev start : Copies
   start = copies_of pairs
 
@@ -55,6 +71,20 @@ module _ (env : Environment) (uses : LastUses) (scopes : List ReactiveScope) (pa
 
   abbrev rest_here : List UnrolledStatement → List Item → Rest
   rest_here = rest_at env uses start scopes
+
+  abbrev joined_here : List Item → List Joined
+  joined_here = joined_in env uses start
+
+  -- the log with these fates and the facts of these scopes
+  abbrev log_with : List ScopeFate → List Joined → Log
+  log_with fates joined = record {
+    fates = log.fates ++ fates;
+    merged = option_map (λ told. told ++ map (facts_of env uses) joined) log.merged;
+  }
+
+  -- the log after the items
+  abbrev logged : List Item → Log
+  logged before = log_with (joined_at env uses start scopes before) (joined_here before)
 
   abbrev item : UnrolledStatement → Item
   item = item_of env scopes
@@ -77,7 +107,7 @@ module _ (env : Environment) (uses : LastUses) (scopes : List ReactiveScope) (pa
   record Fits (before : List Item) (ahead : List ScopeId) (g : Going) : Type 0 where
     group : OpenFits before ahead g.scopes g.open_group
     copies : copies_of g.copies ≡ copies_at env uses start before
-    told : g.log ≡ log ++ joined_at env uses start scopes before
+    told : g.log ≡ logged before
 
   -- rows are noted exactly where there is a head
   notes_none : (before : List Item) → head_here before ≡ None → notes env uses before ≡ false
@@ -224,15 +254,21 @@ module _ (env : Environment) (uses : LastUses) (scopes : List ReactiveScope) (pa
     told_if joined is = ap (λ b. joined_at env uses start scopes before ++ told_of env uses start scopes b scope group)
         (sym is)
 
+    joined_if : (joined : Bool) → joining ≡ joined
+        → joined_here before ++ joined_by env uses joined (head_here before) scope (names_at before)
+        (copies_at env uses start before) ≡ joined_here next
+    joined_if joined is = ap (λ b. joined_here before ++ joined_by env uses b (head_here before) scope (names_at before)
+        (copies_at env uses start before)) (sym is)
+
     -- the scopes ahead are as they were, where none joins
     ahead_apart : joining ≡ false → Ahead next (blocks_in us)
     ahead_apart is n m = ap (λ t. own_at t n) (sym (table_if false is)) ∙ ahead n (there m)
 
     -- a block that joins none: it begins a group, or is done
     begin_step : (opens : Bool) → begins env scope.own ≡ opens → joining ≡ false → (g : Going) (done : List ReactiveStatement)
-        (now : List ReactiveScope) (copies : CopyPairs) (told : List ScopeFate) → now ≡ table before
+        (now : List ReactiveScope) (copies : CopyPairs) (told : Log) → now ≡ table before
         → copies_of copies ≡ copies_at env uses start before
-        → told ≡ log ++ joined_at env uses start scopes before
+        → told ≡ logged before
         → done ++ reactive.Scope (filled block (pulled_of rest)) ∷ rest.staying
         ≡ whole g.open_group g.done (met_block false block rest)
         → Stepped before (layer.Scope block) (Block scope) us g (begin_if env uses opens block
@@ -269,11 +305,12 @@ module _ (env : Environment) (uses : LastUses) (scopes : List ReactiveScope) (pa
         copied true = same_copies
         copied false = same_copies
 
-        told_all : told ≡ log ++ joined_at env uses start scopes next
-        told_all = same_told ∙ ap (λ l. log ++ l)
-            (sym (append-nil (joined_at env uses start scopes before)) ∙ told_if false apart)
+        told_all : told ≡ logged next
+        told_all = same_told ∙ (λ i. log_with
+            ((sym (append-nil (joined_at env uses start scopes before)) ∙ told_if false apart) i)
+            ((sym (append-nil (joined_here before)) ∙ joined_if false apart) i))
 
-        told_now : (b : Bool) → (after b).log ≡ log ++ joined_at env uses start scopes next
+        told_now : (b : Bool) → (after b).log ≡ logged next
         told_now true = told_all
         told_now false = told_all
 
@@ -289,7 +326,7 @@ module _ (env : Environment) (uses : LastUses) (scopes : List ReactiveScope) (pa
     -- where no group is open
     alone_step : (g : Going) → head_here before ≡ None → g.scopes ≡ table before
         → copies_of g.copies ≡ copies_at env uses start before
-        → g.log ≡ log ++ joined_at env uses start scopes before
+        → g.log ≡ logged before
         → Stepped before (layer.Scope block) (Block scope) us (record g { open_group = None })
         (step_scope env uses None block (record g { open_group = None }))
     alone_step g none same_table same_copies same_told =
@@ -305,7 +342,7 @@ module _ (env : Environment) (uses : LastUses) (scopes : List ReactiveScope) (pa
     -- where a group is open
     module _ (g : Going) (o : Open) (is_open : IsOpen before (block.scope ∷ blocks_in us) g.scopes o)
         (same_copies : copies_of g.copies ≡ copies_at env uses start before)
-        (same_told : g.log ≡ log ++ joined_at env uses start scopes before) where
+        (same_told : g.log ≡ logged before) where
       abbrev before_step : Going
       before_step = record g { open_group = Some o }
 
@@ -348,12 +385,35 @@ module _ (env : Environment) (uses : LastUses) (scopes : List ReactiveScope) (pa
           (λ e. is_open.apart (there (subst (λ k. In k (blocks_in us)) e m)))
           ∙ ahead n (there m)
 
+      grown_fates : joining ≡ true
+          → joined_at env uses start scopes before ++ merged_fate block.scope o.head.number ∷ []
+          ≡ joined_at env uses start scopes next
+      grown_fates is = ap (λ (head : NumberedScope). joined_at env uses start scopes before
+          ++ merged_fate block.scope head.number ∷ []) (sym (grown_group is)) ∙ told_if true is
+
+      -- the scope that joins, as the code has it
+      abbrev joined_now : Joined
+      joined_now = joined_open g.copies o (scope_at g.scopes block.scope)
+
+      grown_joined : joining ≡ true → joined_here before ++ joined_now ∷ [] ≡ joined_here next
+      grown_joined is = (λ i. joined_here before
+          ++ record { head = o.head; next = here_scope i; names = is_open.names i; copies = same_copies i } ∷ [])
+          ∙ (λ i. joined_here before ++ joined_by env uses true (sym is_open.head i) scope (names_at before)
+          (copies_at env uses start before))
+          ∙ joined_if true is
+
       grown_told : joining ≡ true
-          → g.log ++ merged_fate block.scope o.head.number ∷ [] ≡ log ++ joined_at env uses start scopes next
-      grown_told is = ap (λ l. l ++ merged_fate block.scope o.head.number ∷ []) same_told
-          ∙ append_assoc log (joined_at env uses start scopes before) (merged_fate block.scope o.head.number ∷ [])
-          ∙ ap (λ l. log ++ l) (ap (λ (head : NumberedScope). joined_at env uses start scopes before
-          ++ merged_fate block.scope head.number ∷ []) (sym (grown_group is)) ∙ told_if true is)
+          → with_fate (merged_fate block.scope o.head.number)
+          (told_open env uses g.copies o (scope_at g.scopes block.scope) g.log) ≡ logged next
+      grown_told is =
+          ap (λ l. with_fate (merged_fate block.scope o.head.number)
+          (told_open env uses g.copies o (scope_at g.scopes block.scope) l)) same_told
+          ∙ (λ i. record {
+            fates = append_assoc log.fates (joined_at env uses start scopes before)
+                (merged_fate block.scope o.head.number ∷ []) i;
+            merged = told_more (facts_of env uses) log.merged (joined_here before) joined_now i;
+          })
+          ∙ (λ i. log_with (grown_fates is i) (grown_joined is i))
 
       grown_whole : g.done ++ reactive.Scope (block_of o.head.number (inside_now ++ pulled_of rest)) ∷ rest.staying
           ≡ whole (Some o) g.done (met_block true block rest)
@@ -440,7 +500,7 @@ module _ (env : Environment) (uses : LastUses) (scopes : List ReactiveScope) (pa
     list : after.done ≡ whole g.open_group g.done (rest_here us before)
     table : after.scopes ≡ table (items_before env scopes us before)
     copies : copies_of after.copies ≡ copies_at env uses start (items_before env scopes us before)
-    told : after.log ≡ log ++ joined_at env uses start scopes (items_before env scopes us before)
+    told : after.log ≡ logged (items_before env scopes us before)
 
   ends : (us : List UnrolledStatement) (before : List Item) (g : Going) → AreOnce (blocks_in us)
       → Ahead before (blocks_in us) → Fits before (blocks_in us) g → Ended before us g (close (steps env uses g us))
@@ -465,7 +525,7 @@ module _ (env : Environment) (uses : LastUses) (scopes : List ReactiveScope) (pa
     pub list : after.done ≡ merged_list env uses start scopes us
     pub table : after.scopes ≡ table (items_of env scopes us)
     pub copies : copies_of after.copies ≡ copies_at env uses start (items_of env scopes us)
-    pub told : after.log ≡ log ++ joined_at env uses start scopes (items_of env scopes us)
+    pub told : after.log ≡ logged (items_of env scopes us)
 
   pub went_merges : (us : List UnrolledStatement) → AreOnce (blocks_in us)
       → Went us (went env uses us scopes pairs log)
@@ -473,6 +533,6 @@ module _ (env : Environment) (uses : LastUses) (scopes : List ReactiveScope) (pa
       let end = ends us [] (starting env uses scopes pairs log) once (λ n m. refl) (record {
         group = (refl, refl);
         copies = refl;
-        told = sym (append-nil log);
+        told = λ i. record { fates = sym (append-nil log.fates) i; merged = none_told log.merged i };
       }) in
       record { list = end.list; table = end.table; copies = end.copies; told = end.told }

@@ -24,6 +24,7 @@ use Rattle.rc_tree.specs.inside.RuleFaults.{FaultsOnly}
 use Rattle.rc_tree.specs.inside.StatementsRefine.{StatementsRefine}
 use Rattle.rc_merge.specs.LastUses.{LastUses}
 use Rattle.rc_merge.specs.Merged.{gives_way}
+use Rattle.rc_merge.specs.declared.facts.MergedFacts.{MergedFacts}
 use Rattle.rc_merge.specs.declared.merge.Merging.{Merging}
 use Rattle.rc_merge.specs.declared.tables.Tables.{Tables}
 use Rattle.rc_merge.specs.inside.MergeSteps.{AreRebuilt, at, dissolved_if, last_around, merge_steps, outside_inside}
@@ -132,18 +133,20 @@ module _ (env : Environment) (uses : LastUses) where
 
 -- a call with the result of the walk rebuilds the body by the rules, and its only fault is out of memory
 module _ {T : Type 0} (env_of : T → Environment) (uses_in : T → LastUses) (functions : T → List HirFunction) (t : T)
-    (w : T × Merging) (start : Merging) (scopes : List ReactiveScope) (begins : start ≡ at [] (none_met scopes))
+    (w : T × Merging) (start : Merging) (scopes : List ReactiveScope) (merged : Option (List MergedFacts))
+    (begins : start ≡ at [] (none_met scopes merged))
     (before after : ReactiveBlock) (result : Result (Unit {0}) Fault)
     (walk : IsStep (rewrite_block (over_statements (λ it. merge_steps (env_of it) (uses_in it))) functions (t, start)
     before) result (w, after)) where
-  rebuilds : RebuildsTo (went_rules (env_of t) (uses_in t)) (λ s. (t, at [] s)) before (none_met scopes) after w result
+  rebuilds : RebuildsTo (went_rules (env_of t) (uses_in t)) (λ s. (t, at [] s)) before (none_met scopes merged) after w
+      result
   rebuilds = statements_rebuilt (went_rules (env_of t) (uses_in t)) (λ it. merge_steps (env_of it) (uses_in it)) at
       outside_inside (over_statements_no_deeper (λ it. merge_steps (env_of it) (uses_in it))) functions t
-      (merging_follows (env_of t) (uses_in t)) [] (none_met scopes) before after w result
+      (merging_follows (env_of t) (uses_in t)) [] (none_met scopes merged) before after w result
       (subst (λ (start : Merging). IsStep (rewrite_block (over_statements (λ it. merge_steps (env_of it) (uses_in it)))
       functions (t, start) before) result (w, after)) begins walk)
 
-  pub walk_rebuilds : OnOk result (AreRebuilt (env_of t) (uses_in t) before scopes after w.1.tables)
+  pub walk_rebuilds : OnOk result (AreRebuilt (env_of t) (uses_in t) merged before scopes after w.1.tables)
   walk_rebuilds = on_ok_weaker result
       (λ h. record {
         around = h.0.around;
@@ -157,8 +160,9 @@ module _ {T : Type 0} (env_of : T → Environment) (uses_in : T → LastUses) (f
   walk_refused = IfErr-weaker result _ _ (λ fault. memory fault) rebuilds.1
     where
       memory : (fault : Fault) → (fault ≡ NoMemory)
-          ⊎ (rebuilt_block (went_rules (env_of t) (uses_in t)) before (none_met scopes) ≡ Err fault) → fault ≡ NoMemory
+          ⊎ (rebuilt_block (went_rules (env_of t) (uses_in t)) before (none_met scopes merged) ≡ Err fault)
+          → fault ≡ NoMemory
       memory fault (inl e) = e
       memory fault (inr e) = absurd (subst (λ r. IfErr r (λ fault. ⊥)) e
           (rebuilt_faults (λ fault. ⊥) (went_rules (env_of t) (uses_in t)) (never (env_of t) (uses_in t)) before
-          (none_met scopes)))
+          (none_met scopes merged)))

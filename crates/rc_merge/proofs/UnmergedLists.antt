@@ -5,18 +5,18 @@ use Rattle.std.specs.List.{list_any}
 use Rattle.std.specs.Prelude.{◌||◌}
 use Rattle.rc_hir.specs.Model.{Environment, ReactiveScope}
 use Rattle.rc_merge.specs.LastUses.{LastUses}
+use Rattle.rc_merge.specs.declared.tables.Log.{Log}
 use Rattle.rc_merge.specs.inside.ListSteps.{Going, close, is_scope, step, step_row, steps, went}
 use Rattle.rc_merge.specs.inside.Rows.{CopyPairs, row_passes}
 use Rattle.rc_tree.specs.Unrolled.{UnrolledStatement}
 use Rattle.rc_tree.specs.Model.{ReactiveInstruction, ReactiveStatement}
-use Rattle.rc_tree.specs.declared.fate.ScopeFate.{ScopeFate}
 use Rattle.rc_tree.specs.declared.statement.ReactiveStatement.{out-ReactiveStatement, roll-ReactiveStatement}
 use Rattle.rc_tree.specs.declared.statement.ReactiveStatement.{roll-out-ReactiveStatement}
 use Rattle.rc_tree.specs.declared.statement.ReactiveStatement.TheOpen as layer
 use Rattle.rc_tree.specs.declared.statement.ReactiveStatement.TheVariants as reactive
 
 module _ (env : Environment) (uses : LastUses) (scopes : List ReactiveScope) (copies : CopyPairs)
-    (log : List ScopeFate) where
+    (log : Log) where
   -- these statements are done, and no group is open
   abbrev done_only : List ReactiveStatement → Going
   done_only done =

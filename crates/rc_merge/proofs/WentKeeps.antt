@@ -12,7 +12,7 @@ use Rattle.rc_merge.specs.Places.{scope_at}
 use Rattle.rc_merge.specs.inside.ListSteps.{Going, Open, begin_if, block_of, close, closed, grown_if, join_if, joins_open}
 use Rattle.rc_merge.specs.inside.ListSteps.{merged_fate}
 use Rattle.rc_merge.specs.inside.ListSteps.{row_statements, starting, stay_if, step, step_passing, step_row, step_scope}
-use Rattle.rc_merge.specs.inside.ListSteps.{steps, swallowed}
+use Rattle.rc_merge.specs.inside.ListSteps.{steps, swallowed, told_open, with_fate}
 use Rattle.rc_merge.specs.inside.Rows.{row_passes}
 use Rattle.rc_merge.specs.inside.WentRules.{Met, gone_if, left_scope, went_rules}
 use Rattle.rc_runs.proofs.EraseLemmas.{erase_kept, erase_laws, erase_measure, scope_left}
@@ -89,7 +89,8 @@ module _ {L : Type 0} (m : List ReactiveStatement → L)
   join_adds true opens o block g =
       ap m (stay_adds opens (record g {
         open_group = Some (swallowed (grown_if env uses true o (scope_at g.scopes block.scope)) block);
-        log = g.log ++ merged_fate block.scope o.head.number ∷ [];
+        log = with_fate (merged_fate block.scope o.head.number)
+            (told_open env uses g.copies o (scope_at g.scopes block.scope) g.log);
       })) ∙ swallowed_adds (grown_if env uses true o (scope_at g.scopes block.scope)) block g.done
   join_adds false opens o block g = ap m (begin_adds opens block (close (record g { open_group = Some o })))
 

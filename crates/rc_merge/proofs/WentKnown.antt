@@ -19,9 +19,10 @@ use Rattle.rc_merge.specs.Joining.{begins}
 use Rattle.rc_merge.specs.LastUses.{LastUses}
 use Rattle.rc_merge.specs.Merged.{gives_way}
 use Rattle.rc_merge.specs.Places.{no_scope, scope_at}
+use Rattle.rc_merge.specs.declared.facts.MergedFacts.{MergedFacts}
 use Rattle.rc_merge.specs.inside.ListSteps.{Going, Open, begin_if, block_of, close, closed, grown_if, join_if, joins_open}
 use Rattle.rc_merge.specs.inside.ListSteps.{put_back, row_statements, starting, stay_if, step, step_passing}
-use Rattle.rc_merge.specs.inside.ListSteps.{step_row, step_scope, steps, taken_in}
+use Rattle.rc_merge.specs.inside.ListSteps.{step_row, step_scope, steps, taken_in, told}
 use Rattle.rc_merge.specs.inside.Rows.{row_passes}
 use Rattle.rc_merge.specs.inside.WentRules.{Met, gone_if, left_scope, none_met, went_list, went_rules}
 use Rattle.rc_runs.proofs.AllLemmas.{All-left, All-right}
@@ -180,7 +181,8 @@ module _ (P : Name → Type 0) where
         → GoingHolds (join_if env uses joins opens o block (record g { open_group = Some o }))
     join_holds true opens o block g holds group one =
         let next = scope_at g.scopes block.scope in
-        stay_holds opens (taken_in env uses true (grown_if env uses true o next) block (record g { open_group = Some o }))
+        stay_holds opens (taken_in env uses true (grown_if env uses true o next) block
+        (told env uses o block (record g { open_group = Some o })))
         (record {
           long = holds.long;
           scopes = holds.scopes;
@@ -289,45 +291,48 @@ module _ (P : Name → Type 0) where
     }
 
 -- numbers of the tree and of the environment that are in their tables stay there
-pub known_by_went : (old new : ReactiveFunction) (env after : Environment) (uses : LastUses) (ended : Met)
+pub known_by_went : (old new : ReactiveFunction) (env after : Environment) (uses : LastUses)
+    (merged : Option (List MergedFacts)) (ended : Met)
     → new ≡ record old { body = new.body }
-    → rebuilt_block (went_rules env uses) old.body (none_met env.scopes) ≡ Ok (ended, new.body)
+    → rebuilt_block (went_rules env uses) old.body (none_met env.scopes merged) ≡ Ok (ended, new.body)
     → after ≡ record env { scopes = ended.scopes } → TreeInTables old env → TreeInTables new after
-known_by_went old new env after uses ended header is environment known =
+known_by_went old new env after uses merged ended header is environment known =
     let P = IsInTable (lengths env 0) in
-    let start : Stays P env uses (none_met env.scopes) =
+    let start : Stays P env uses (none_met env.scopes merged) =
     record { long = refl; scopes = scopes_known env known.environment } in
     let facts = rebuilt_facts (went_rules env uses) (Stays P env uses) (PartHolds P) names_of_parts lists_monoid
-    (keeps P env uses) old.body (none_met env.scopes) ended new.body is known.body start in
+    (keeps P env uses) old.body (none_met env.scopes merged) ended new.body is known.body start in
     let same : ended.scopes ≡ after.scopes = sym (ap (λ (e : Environment). e.scopes) environment) in
     tables_known env after (environment ∙ ap (λ scopes. record env { scopes = scopes }) same)
     (ap (λ (scopes : List ReactiveScope). length scopes) (sym same) ∙ facts.0.long)
     (subst (λ scopes. All P (flat_map scope_names scopes)) same facts.0.scopes) old new header known facts.1
 
 -- so do the numbers of a graph
-pub names_by_went : (old new : ReactiveFunction) (env after : Environment) (uses : LastUses) (ended : Met)
-    → rebuilt_block (went_rules env uses) old.body (none_met env.scopes) ≡ Ok (ended, new.body)
+pub names_by_went : (old new : ReactiveFunction) (env after : Environment) (uses : LastUses)
+    (merged : Option (List MergedFacts)) (ended : Met)
+    → rebuilt_block (went_rules env uses) old.body (none_met env.scopes merged) ≡ Ok (ended, new.body)
     → after ≡ record env { scopes = ended.scopes } → TreeInTables old env
     → (graph : HirFunction) → NamesInTables graph env → NamesInTables graph after
-names_by_went old new env after uses ended is environment known graph names =
+names_by_went old new env after uses merged ended is environment known graph names =
     let P = IsInTable (lengths env 0) in
-    let start : Stays P env uses (none_met env.scopes) =
+    let start : Stays P env uses (none_met env.scopes merged) =
     record { long = refl; scopes = scopes_known env known.environment } in
     let facts = rebuilt_facts (went_rules env uses) (Stays P env uses) (PartHolds P) names_of_parts lists_monoid
-    (keeps P env uses) old.body (none_met env.scopes) ended new.body is known.body start in
+    (keeps P env uses) old.body (none_met env.scopes merged) ended new.body is known.body start in
     let same : ended.scopes ≡ after.scopes = sym (ap (λ (e : Environment). e.scopes) environment) in
     graph_known env after (environment ∙ ap (λ scopes. record env { scopes = scopes }) same)
     (ap (λ (scopes : List ReactiveScope). length scopes) (sym same) ∙ facts.0.long)
     (subst (λ scopes. All P (flat_map scope_names scopes)) same facts.0.scopes) graph names
 
 -- there are as many scopes as before
-pub long_by_went : (env : Environment) (uses : LastUses) (before after : ReactiveBlock) (ended : Met)
-    → rebuilt_block (went_rules env uses) before (none_met env.scopes) ≡ Ok (ended, after)
+pub long_by_went : (env : Environment) (uses : LastUses) (merged : Option (List MergedFacts))
+    (before after : ReactiveBlock) (ended : Met)
+    → rebuilt_block (went_rules env uses) before (none_met env.scopes merged) ≡ Ok (ended, after)
     → length ended.scopes ≡ length env.scopes
-long_by_went env uses before after ended is =
+long_by_went env uses merged before after ended is =
     let Any : Name → Type 0 = λ name. Unit {0} in
-    let start : Stays Any env uses (none_met env.scopes) =
+    let start : Stays Any env uses (none_met env.scopes merged) =
     record { long = refl; scopes = λ place other below. tt } in
     let facts = rebuilt_facts (went_rules env uses) (Stays Any env uses) (PartHolds Any) names_of_parts lists_monoid
-    (keeps Any env uses) before (none_met env.scopes) ended after is (λ place other below. tt) start in
+    (keeps Any env uses) before (none_met env.scopes merged) ended after is (λ place other below. tt) start in
     facts.0.long

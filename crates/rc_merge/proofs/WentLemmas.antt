@@ -12,6 +12,7 @@ use Rattle.rc_merge.proofs.RestLemmas.{rolled_back}
 use Rattle.rc_merge.proofs.RulesAgree.{Agrees, AtMost, Once, RulesAgree, rebuilt_agree}
 use Rattle.rc_merge.specs.LastUses.{LastUses, last_uses_in}
 use Rattle.rc_merge.specs.Merged.{Merges, Progress, dissolved_if, gives_way, merging_rules, met_scope}
+use Rattle.rc_merge.specs.declared.facts.MergedFacts.{MergedFacts}
 use Rattle.rc_merge.specs.inside.WentRules.{Met, gone_if, left_scope, none_met, progress_of}
 use Rattle.rc_merge.specs.inside.WentRules.{went_rules}
 use Rattle.rc_tree.proofs.AloneLemmas.{alone-Instruction, alone-PrunedScope, alone-Scope, alone-Terminal}
@@ -29,7 +30,7 @@ use Rattle.rc_tree.specs.declared.statement.ReactiveStatement.{out-ReactiveState
 use Rattle.rc_tree.specs.declared.statement.ReactiveStatement.TheOpen as layer
 use Rattle.rc_tree.specs.declared.statement.ReactiveStatement.TheVariants as reactive
 
-abbrev list_scopes : List ReactiveStatement → List ScopeId
+abbrev pub list_scopes : List ReactiveStatement → List ScopeId
 list_scopes = collected_list scope_parts
 
 -- the scope blocks that a list itself has are among those at every depth of it
@@ -85,7 +86,8 @@ once_rest x xs once scope =
     let b = once scope in
     omega (arith, a, b)
 
-blocks_once : (us : List UnrolledStatement) → Once (list_scopes (map roll-ReactiveStatement us)) → AreOnce (blocks_in us)
+pub blocks_once : (us : List UnrolledStatement) → Once (list_scopes (map roll-ReactiveStatement us))
+    → AreOnce (blocks_in us)
 blocks_once [] once = tt
 blocks_once (layer.Instruction row ∷ us) once =
     blocks_once us (once_rest (roll-ReactiveStatement (layer.Instruction row)) (map roll-ReactiveStatement us) once)
@@ -108,7 +110,7 @@ blocks_once (layer.Scope block ∷ us) once = (
 
 module _ (env : Environment) (uses : LastUses) where
   -- the definition's state is what the state stands for
-  abbrev AreAlike : Met → Progress → Type 0
+  abbrev pub AreAlike : Met → Progress → Type 0
   AreAlike met progress = progress ≡ progress_of met
 
   abbrev BothAgree : List ScopeId → Met × List ReactiveStatement → Progress × List ReactiveStatement → Type 0
@@ -156,7 +158,7 @@ module _ (env : Environment) (uses : LastUses) where
           around = met.around;
           scopes = sym went.table i;
           copies = sym went.copies i;
-          log = sym went.told i;
+          log = (sym went.told i).fates;
         },
         sym went.list,
         λ scope.
@@ -165,7 +167,7 @@ module _ (env : Environment) (uses : LastUses) where
             omega (arith, a, b),
       )
 
-  agree : RulesAgree (went_rules env uses) (merging_rules env uses) AreAlike
+  pub agree : RulesAgree (went_rules env uses) (merging_rules env uses) AreAlike
   agree = record {
     row = λ x met progress alike. kept [] (reactive.Instruction x) met progress alike
         (alone-Instruction scope_parts lists_monoid x);
@@ -276,22 +278,23 @@ module _ (env : Environment) (uses : LastUses) where
       (rebuilt_holds (went_rules env uses) Returns scope_parts scope_parts lists_monoid all_return before start)
 
 -- where the tree was rebuilt so, it was merged
-pub merges_by_went : (before after : ReactiveBlock) (old new : Environment) (ended : Met) → HasScopesOnce before
-    → rebuilt_block (went_rules old (last_uses_in old before)) before (none_met old.scopes) ≡ Ok (ended, after)
-    → new ≡ record old { scopes = ended.scopes } → Merges before old after new ended.log
-merges_by_went before after old new ended once is environment =
+pub merges_by_went : (before after : ReactiveBlock) (old new : Environment) (merged : Option (List MergedFacts))
+    (ended : Met) → HasScopesOnce before
+    → rebuilt_block (went_rules old (last_uses_in old before)) before (none_met old.scopes merged) ≡ Ok (ended, after)
+    → new ≡ record old { scopes = ended.scopes } → Merges before old after new ended.log.fates
+merges_by_went before after old new merged ended once is environment =
     let uses = last_uses_in old before in
     let same : ended.scopes ≡ new.scopes = sym (ap (λ (env : Environment). env.scopes) environment) in
-    let around = around_stays old uses before after (none_met old.scopes) ended is in
+    let around = around_stays old uses before after (none_met old.scopes merged) ended is in
     record {
       copies = (progress_of ended).copies;
-      rebuilt = went_agrees old uses before after (none_met old.scopes) ended once is
+      rebuilt = went_agrees old uses before after (none_met old.scopes merged) ended once is
           ∙ (λ i. Ok (
             record {
               around = around i;
               scopes = same i;
               copies = (progress_of ended).copies;
-              log = ended.log;
+              log = ended.log.fates;
             },
             after,
           ));

@@ -5,6 +5,7 @@ pub mod Joining
 pub mod Groups
 pub mod MergedList
 pub mod Merged
+pub mod Explained
 pub mod Writes
 pub mod Renders
 pub mod Freshness

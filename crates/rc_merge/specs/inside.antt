@@ -3,6 +3,7 @@ pub mod SortedInputs
 pub mod LastUsesMet
 pub mod MetUses
 pub mod Rows
+pub mod Told
 pub mod ListSteps
 pub mod OpenGroups
 pub mod WentRules

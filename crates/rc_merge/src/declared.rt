@@ -2,9 +2,10 @@
 //! amortised constant time.
 
 ghost use Rattle.std.specs.Prelude.{◌≡◌, ◌≤◌, ◌++◌, ◌∷◌, [], length, map, nat_eq, slice_set, None, Some, IfOk, OnOk};
-ghost use Rattle.std.specs.List.{filter, position};
+ghost use Rattle.std.specs.List.{cons_option, filter, filter_map, position};
 ghost use Rattle.rc_hir.specs.Model.{Environment as Tables};
 ghost use Rattle.rc_names.specs.Numbers.{same_id};
+ghost use Rattle.rc_merge.specs.Explained as explained;
 ghost use Rattle.rc_merge.specs.Inputs as inputs;
 ghost use Rattle.rc_merge.specs.Joining as spec;
 ghost use Rattle.rc_merge.specs.LastUses.{LastUses};
@@ -331,13 +332,82 @@ impl Declared {
         ensures { result ≡ spec.is_there (spec.source_of known.now.env.now (copies_of copies.now)
             (current self.now) name) }
     {
-        if self.declares(known, name) {
-            return true;
-        }
-        match copies.get(name) {
-            Some(source) => self.declares(known, *source),
+        match self.source_of(known, copies, name) {
+            Some(_) => true,
             None => false,
         }
+    }
+
+    /// Returns the declared name that a name is or copies, if there is one.
+    fn source_of(
+        &self,
+        known: &Known<'_>,
+        copies: &Copies,
+        name: DeclarationId,
+    ) -> Option<DeclarationId>
+        requires { IsIndexed known.now.env.now (uses_of known.now.uses.now) self.now }
+        ensures { result ≡ spec.source_of known.now.env.now (copies_of copies.now) (current self.now) name }
+    {
+        if self.declares(known, name) {
+            return Some(name);
+        }
+        match copies.get(name) {
+            Some(source) if self.declares(known, *source) => Some(*source),
+            _ => None,
+        }
+    }
+
+    /// Returns the declared names that the dependencies are or copy. Fails only when out of memory.
+    pub fn sources_of(
+        &self,
+        known: &Known<'_>,
+        copies: &Copies,
+        dependencies: &[ReactiveScopeDependency],
+    ) -> Result<List<DeclarationId>, AllocError>
+        requires { IsIndexed known.now.env.now (uses_of known.now.uses.now) self.now }
+        ensures { IfOk result (λ sources. sources ≡ filter_map
+            (explained.source_by known.now.env.now (copies_of copies.now) (current self.now)) dependencies.now) }
+    {
+        let mut sources = List::new(known.alloc);
+        for dependency in dependencies {
+            push_source(self.source_for(known, copies, dependency), &mut sources)?;
+        }
+        Ok(sources)
+    }
+
+    fn source_for(
+        &self,
+        known: &Known<'_>,
+        copies: &Copies,
+        dependency: &ReactiveScopeDependency,
+    ) -> Option<DeclarationId>
+        requires { IsIndexed known.now.env.now (uses_of known.now.uses.now) self.now }
+        ensures { result ≡ explained.source_by known.now.env.now (copies_of copies.now) (current self.now)
+            dependency.now }
+    {
+        let name = declaration_of(known.env, dependency.identifier);
+        self.source_of(known, copies, name)
+    }
+
+    /// Returns the names that are declared. Fails only when out of memory.
+    pub fn outputs(&self, known: &Known<'_>) -> Result<List<DeclarationId>, AllocError>
+        ensures { IfOk result (λ names. names ≡ map (spec.declared_name known.now.env.now) (current self.now)) }
+    {
+        let entries = current_entries(known.alloc, self.end, self.slots.as_slice())?;
+        names_of(known, entries.as_slice())
+    }
+}
+
+/// Adds a source, if there is one. Fails only when out of memory.
+fn push_source(
+    source: Option<DeclarationId>,
+    sources: &mut List<DeclarationId>,
+) -> Result<(), AllocError>
+    ensures { OnOk result (sources.new ≡ sources.old ++ cons_option source []) }
+{
+    match source {
+        Some(source) => sources.push(source),
+        None => Ok(()),
     }
 }
 

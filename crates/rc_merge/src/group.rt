@@ -2,14 +2,20 @@
 
 ghost use Rattle.std.specs.Prelude.{◌≡◌, ◌++◌, ◌&&◌, [], IfOk, OnOk};
 ghost use Rattle.std.specs.Prelude as lists;
+ghost use Rattle.std.specs.Option.{unwrap_or};
+ghost use Rattle.rc_names.specs.Numbers.{ScopeId as ScopeNumber};
 ghost use Rattle.rc_tree.specs.declared.statement.ReactiveStatement.TheVariants as reactive;
+ghost use Rattle.rc_merge.specs.Explained as explained;
+ghost use Rattle.rc_merge.specs.declared.facts.MergeCondition.TheVariants as conditions;
 ghost use Rattle.rc_merge.specs.Joining as spec;
 ghost use Rattle.rc_merge.specs.inside.OpenGroups.{IsHeld, begun, opened};
 ghost use Rattle.rc_merge.specs.inside.LastUsesMet.{uses_of};
 ghost use Rattle.rc_merge.specs.inside.ListSteps as steps;
 ghost use Rattle.rc_merge.specs.inside.Rows.{copies_of};
+ghost use Rattle.rc_merge.specs.inside.Told as told;
 
 use crate::declared::Declared;
+use crate::facts::{MergeCondition, MergedFacts, noted_uses, pairs_of};
 use crate::known::Known;
 use crate::rows::{Copies, add_names};
 use crate::sorted_inputs::have_equal_inputs;
@@ -87,22 +93,22 @@ impl Group {
         if !reassign_nothing(&self.head, scope) {
             return Ok(false);
         }
-        if !self.invalidates(known, copies, scope)? {
+        if self.condition(known, copies, scope)?.is_none() {
             return Ok(false);
         }
         Ok(are_used_below(known, scope.range.end, self.names.as_slice()))
     }
 
-    /// Returns whether a scope recomputes only where the head does, by one of the three conditions. Fails only when out
-    /// of memory.
-    fn invalidates(
+    /// Returns the first of the three conditions by which a scope recomputes only where the head does, if one of them
+    /// holds. Fails only when out of memory.
+    fn condition(
         &self,
         known: &Known<'_>,
         copies: &Copies,
         scope: &ReactiveScope,
-    ) -> Result<bool, AllocError>
+    ) -> Result<Option<MergeCondition>, AllocError>
         requires { IsHeld known.now.env.now (uses_of known.now.uses.now) self.now }
-        ensures { IfOk result (λ with_head. with_head ≡ spec.invalidates_with known.now.env.now
+        ensures { IfOk result (λ condition. condition ≡ told.first_condition known.now.env.now
             (copies_of copies.now) (opened self.now).head.own scope.now) }
     {
         let dependencies = &scope.dependencies;
@@ -112,15 +118,83 @@ impl Group {
             dependencies,
             known.env,
         )? {
-            return Ok(true);
+            return Ok(Some(MergeCondition::Same));
         }
         if self.declared.are_inputs_of(known, dependencies)? {
-            return Ok(true);
+            return Ok(Some(MergeCondition::Outputs));
         }
-        Ok(
-            self.declared
-                .are_sources_of(known, copies, dependencies.as_slice()),
-        )
+        if self
+            .declared
+            .are_sources_of(known, copies, dependencies.as_slice())
+        {
+            return Ok(Some(MergeCondition::Sources));
+        }
+        Ok(None)
+    }
+
+    /// Returns the facts of a scope that joins the group. Fails only when out of memory.
+    pub fn facts(
+        &self,
+        known: &Known<'_>,
+        copies: &Copies,
+        number: ScopeId,
+        scope: &ReactiveScope,
+    ) -> Result<MergedFacts, AllocError>
+        requires { IsHeld known.now.env.now (uses_of known.now.uses.now) self.now }
+        ensures { IfOk result (λ facts. facts ≡ told.facts_of known.now.env.now (uses_of known.now.uses.now)
+            (steps.joined_open copies.now (opened self.now) (record { number = number; own = scope.now }))) }
+    {
+        let condition = self.holding_condition(known, copies, scope)?;
+        Ok(MergedFacts {
+            scope: number,
+            into: self.number,
+            condition,
+            head: pairs_of(known.alloc, known.env, self.head.dependencies.as_slice())?,
+            outputs: self.declared.outputs(known)?,
+            next: pairs_of(known.alloc, known.env, scope.dependencies.as_slice())?,
+            sources: self.sources(known, copies, condition, scope)?,
+            uses: noted_uses(known, self.names.as_slice())?,
+            end: scope.range.end,
+        })
+    }
+
+    /// Returns the first of the three conditions that holds where one does, and else the last one. Fails only when out
+    /// of memory.
+    fn holding_condition(
+        &self,
+        known: &Known<'_>,
+        copies: &Copies,
+        scope: &ReactiveScope,
+    ) -> Result<MergeCondition, AllocError>
+        requires { IsHeld known.now.env.now (uses_of known.now.uses.now) self.now }
+        ensures { IfOk result (λ condition. condition
+            ≡ explained.condition_of known.now.env.now (opened self.now).head.own scope.now) }
+    {
+        let condition = self.condition(known, copies, scope)?;
+        Ok(condition_or_last(condition))
+    }
+
+    /// Returns the values of the head that the dependencies are or copy, where the third condition holds. Fails only
+    /// when out of memory.
+    fn sources(
+        &self,
+        known: &Known<'_>,
+        copies: &Copies,
+        condition: MergeCondition,
+        scope: &ReactiveScope,
+    ) -> Result<List<DeclarationId>, AllocError>
+        requires { IsHeld known.now.env.now (uses_of known.now.uses.now) self.now }
+        ensures { IfOk result (λ sources. (number : ScopeNumber) → sources ≡ told.sources_by known.now.env.now condition
+            (steps.joined_open copies.now (opened self.now) (record { number = number; own = scope.now }))) }
+    {
+        match condition {
+            MergeCondition::Same => Ok(List::new(known.alloc)),
+            MergeCondition::Outputs => Ok(List::new(known.alloc)),
+            MergeCondition::Sources => {
+                self.declared
+                    .sources_of(known, copies, scope.dependencies.as_slice())
+            }
+        }
     }
 
     /// Returns the group whose head has grown by a scope. Fails only when out of memory.
@@ -218,6 +292,16 @@ fn push_rows(
         statements.push(ReactiveStatement::Instruction(row))?;
     }
     Ok(())
+}
+
+/// Returns the condition, and the last one in place of none.
+fn condition_or_last(condition: Option<MergeCondition>) -> MergeCondition
+    ensures { result ≡ unwrap_or condition conditions.Sources }
+{
+    match condition {
+        Some(condition) => condition,
+        None => MergeCondition::Sources,
+    }
 }
 
 /// Returns whether neither scope reassigns a name.

@@ -3,6 +3,7 @@
 #![tactic(auto)]
 
 mod declared;
+mod facts;
 mod find_last_usage;
 mod group;
 mod input;
@@ -15,5 +16,9 @@ mod rows;
 mod sorted_inputs;
 mod tables;
 
+pub use facts::{DepPair, MergeCondition, MergedFacts, NotedUse, pairs_of};
 pub use inputs::are_equal_dependencies;
-pub use merge::{decide_merged_scopes, merge_reactive_scopes_that_invalidate_together};
+pub use merge::{
+    ExplainedMerging, decide_merged_scopes, explain_merged_scopes,
+    merge_reactive_scopes_that_invalidate_together,
+};

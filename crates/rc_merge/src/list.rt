@@ -1,6 +1,6 @@
 //! A list of statements, merged from its first to its last with one group that is open.
 
-ghost use Rattle.std.specs.Prelude.{◌≡◌, true, map, None as Nothing, Some as Just, IfOk};
+ghost use Rattle.std.specs.Prelude.{◌≡◌, true, map, None as Nothing, Some as Just, IfOk, OnOk};
 ghost use Rattle.std.specs.List.{list_any};
 ghost use Rattle.std.specs.Option.{option_map};
 ghost use Rattle.rc_tree.specs.declared.statement.ReactiveStatement.{out-ReactiveStatement};
@@ -10,7 +10,9 @@ ghost use Rattle.rc_merge.specs.inside.LastUsesMet.{uses_of};
 ghost use Rattle.rc_merge.specs.inside.ListSteps as steps;
 ghost use Rattle.rc_merge.specs.inside.OpenGroups.{IsHeld, IsHeldIf, going, opened};
 ghost use Rattle.rc_merge.specs.inside.Rows as rows;
+ghost use Rattle.rc_merge.specs.inside.Told as told;
 
+use crate::facts::MergedFacts;
 use crate::group::Group;
 use crate::known::{Known, always_invalidates};
 use crate::rows::row_passes;
@@ -279,6 +281,7 @@ fn take_in(
         (uses_of known.now.uses.now) true opens (opened group) block
         (going (record { done = done; group = Just group }) tables.old)) }
 {
+    tell(known, tables, &group, block.scope)?;
     let grown = grow(known, tables, group, block.scope)?;
     tables.decide(block.scope, Fate::MergedInto(grown.number()))?;
     let group = grown.swallow(known, block)?;
@@ -308,6 +311,43 @@ fn joins(
     match tables.scopes.get(number) {
         Some(scope) => group.joins(known, &tables.copies, scope),
         None => group.joins(known, &tables.copies, &no_scope(known.alloc)),
+    }
+}
+
+/// Tells the facts of a scope that joins a group, where they are asked for. Fails only when out of memory.
+fn tell(
+    known: &Known<'_>,
+    tables: &mut Tables,
+    group: &Group,
+    number: ScopeId,
+) -> Result<(), AllocError>
+    requires { IsHeld known.now.env.now (uses_of known.now.uses.now) group.now }
+    ensures { OnOk result (tables.new ≡ record tables.old {
+      log = steps.told_open known.now.env.now (uses_of known.now.uses.now) tables.old.copies (opened group.now)
+          (places.scope_at tables.old.scopes number) tables.old.log;
+    }) }
+{
+    if tables.log.merged.is_none() {
+        return Ok(());
+    }
+    let facts = facts_of(known, tables, group, number)?;
+    tables.tell(facts)
+}
+
+/// Returns the facts of a scope that joins a group. Fails only when out of memory.
+fn facts_of(
+    known: &Known<'_>,
+    tables: &Tables,
+    group: &Group,
+    number: ScopeId,
+) -> Result<MergedFacts, AllocError>
+    requires { IsHeld known.now.env.now (uses_of known.now.uses.now) group.now }
+    ensures { IfOk result (λ facts. facts ≡ told.facts_of known.now.env.now (uses_of known.now.uses.now)
+        (steps.joined_open tables.now.copies (opened group.now) (places.scope_at tables.now.scopes number))) }
+{
+    match tables.scopes.get(number) {
+        Some(scope) => group.facts(known, &tables.copies, number, scope),
+        None => group.facts(known, &tables.copies, number, &no_scope(known.alloc)),
     }
 }
 

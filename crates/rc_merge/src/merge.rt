@@ -6,6 +6,7 @@
 //! After oxc's merge_reactive_scopes_that_invalidate_together.
 
 ghost use Rattle.std.specs.Prelude.{◌≡◌, ◌⊎◌, [], IfErr, IfOk, OnOk};
+ghost use Rattle.std.specs.Option.{unwrap_or};
 ghost use Rattle.rc_hir.specs.KeptNumbers.{KeepsNumbers};
 ghost use Rattle.rc_hir.specs.Model.{HirFunction as Graph};
 ghost use Rattle.rc_hir.specs.Names.{NamesInTables};
@@ -14,6 +15,7 @@ ghost use Rattle.rc_runs.specs.Erase.{erased};
 ghost use Rattle.rc_tree.specs.Decided.{IsDecidedBy};
 ghost use Rattle.rc_tree.specs.ScopesIn.{HasScopesOnce};
 ghost use Rattle.rc_tree.specs.TreeNames.{TreeInTables, TreeNamesOutside};
+ghost use Rattle.rc_merge.specs.Explained.{AreExplained};
 ghost use Rattle.rc_merge.specs.Freshness.{DissolvesFresh, JoinsFresh, PartsFresh};
 ghost use Rattle.rc_merge.specs.Merged as spec;
 ghost use Rattle.rc_merge.specs.Nested.{DissolvesExactly};
@@ -21,11 +23,12 @@ ghost use Rattle.rc_merge.specs.inside.LastUsesMet.{uses_of};
 ghost use Rattle.rc_merge.specs.inside.MergeSteps as steps;
 ghost use Rattle.rc_merge.specs.inside.WentRules as rules;
 
+use crate::facts::MergedFacts;
 use crate::known::Known;
 use crate::last_uses::last_uses_in;
 use crate::list::merge_list;
 use crate::sorted_inputs::have_equal_inputs;
-use crate::tables::{Tables, no_scope};
+use crate::tables::{Log, Tables, no_scope};
 use rc_hir::{Environment, Fault, ReactiveScope};
 use rc_names::{CloneIn, DeclarationId, EvaluationOrder, Keyed, List, ScopeId, Table};
 use rc_tree::{
@@ -34,6 +37,7 @@ use rc_tree::{
 };
 use rc_walk::{OverStatements, StatementTransform, transform_reactive_function};
 use std::alloc::{AllocError, Global};
+use std::mem;
 
 /// Merges scope blocks that invalidate together: one that recomputes only where the one before it in its list does
 /// joins that one, with the rows between them; and one with the inputs of the nearest scope block around it gives way
@@ -96,12 +100,89 @@ pub fn decide_merged_scopes(
         ⊎ TreeNamesOutside func.old env.old fault) }
     ensures sound { TreeInTables func.old env.old → IfErr result (λ fault. fault ≡ faults.NoMemory) }
 {
-    let uses = last_uses_in(alloc, func, env)?;
-    let scopes = env.scopes.clone_in(alloc)?;
-    let tables = merge_body(alloc, func, env, &uses, scopes)?;
+    let tables = merge_function(alloc, func, env, None)?;
     let Tables { scopes, log, .. } = tables;
     env.scopes = scopes;
-    Ok(log)
+    Ok(log.fates)
+}
+
+/// What merging decided, with the facts of each scope that joined another, and what the scopes were before.
+#[derive(Drop)]
+pub struct ExplainedMerging {
+    pub log: List<ScopeFate>,
+    pub merged: List<MergedFacts>,
+    pub received: Table<ScopeId, ReactiveScope>,
+}
+
+/// The same, and returns besides what the rule read of each scope that joined another, in the order in which they
+/// joined, and the scopes as they were.
+pub fn explain_merged_scopes(
+    alloc: Global,
+    func: &mut ReactiveFunction,
+    env: &mut Environment,
+) -> Result<ExplainedMerging, Fault>
+    ensures ok { HasScopesOnce func.old.body
+        → IfOk result (λ it. spec.Merges func.old.body env.old func.new.body env.new it.log) }
+    ensures decided { HasScopesOnce func.old.body → IfOk result (λ it.
+        IsDecidedBy (spec.merging_rule env.old func.old.body) func.old.body func.new.body it.log) }
+    ensures joins { HasScopesOnce func.old.body → IfOk result (λ it. JoinsFresh env.old func.old.body it.log) }
+    ensures parts { HasScopesOnce func.old.body → IfOk result (λ it. PartsFresh env.old func.old.body it.log) }
+    ensures dissolves { HasScopesOnce func.old.body → IfOk result (λ it. DissolvesFresh env.old it.log) }
+    ensures exactly { HasScopesOnce func.old.body → IfOk result (λ it. DissolvesExactly env.old func.old.body it.log) }
+    ensures told { HasScopesOnce func.old.body
+        → IfOk result (λ it. AreExplained env.old func.old.body it.log it.merged) }
+    ensures received { IfOk result (λ it. it.received ≡ env.old.scopes) }
+    ensures header { func.new ≡ record func.old { body = func.new.body } }
+    ensures kept_erased { IfOk result (λ it. erased func.new ≡ erased func.old) }
+    ensures known { IfOk result (λ it. TreeInTables func.old env.old → TreeInTables func.new env.new) }
+    ensures kept_numbers { KeepsNumbers env.old env.new }
+    ensures known_names { TreeInTables func.old env.old
+        → (graph : Graph) → NamesInTables graph env.old → NamesInTables graph env.new }
+    ensures scopes_once { IfOk result (λ it. HasScopesOnce func.old.body → HasScopesOnce func.new.body) }
+
+    ensures refused { IfErr result (λ fault. env.new ≡ env.old) }
+    ensures named { IfErr result (λ fault. (fault ≡ faults.NoMemory)
+        ⊎ TreeNamesOutside func.old env.old fault) }
+    ensures sound { TreeInTables func.old env.old → IfErr result (λ fault. fault ≡ faults.NoMemory) }
+{
+    let tables = merge_function(alloc, func, env, Some(List::new(alloc)))?;
+    let Tables { scopes, log, .. } = tables;
+    let received = mem::replace(&mut env.scopes, scopes);
+    let Log { fates, merged } = log;
+    Ok(ExplainedMerging {
+        log: fates,
+        merged: told_facts(alloc, merged),
+        received,
+    })
+}
+
+/// Returns the facts that were told; none, where none were asked for.
+fn told_facts(alloc: Global, merged: Option<List<MergedFacts>>) -> List<MergedFacts>
+    ensures { result ≡ unwrap_or merged [] }
+{
+    match merged {
+        Some(merged) => merged,
+        None => List::new(alloc),
+    }
+}
+
+/// Merges the body of a function, from a copy of the environment's scopes. The facts of each scope that joins another
+/// are added to the list, if there is one.
+fn merge_function(
+    alloc: Global,
+    func: &mut ReactiveFunction,
+    env: &Environment,
+    merged: Option<List<MergedFacts>>,
+) -> Result<Tables, Fault>
+    ensures merged { IfOk result (steps.HasMerged merged func.old func.new env.now) }
+    ensures header { func.new ≡ record func.old { body = func.new.body } }
+    ensures named { IfErr result (λ fault. (fault ≡ faults.NoMemory)
+        ⊎ TreeNamesOutside func.old env.now fault) }
+    ensures sound { TreeInTables func.old env.now → IfErr result (λ fault. fault ≡ faults.NoMemory) }
+{
+    let uses = last_uses_in(alloc, func, env)?;
+    let scopes = env.scopes.clone_in(alloc)?;
+    merge_body(alloc, func, env, &uses, scopes, merged)
 }
 
 /// Merges the body, from these scopes. The only fault is out of memory.
@@ -111,12 +192,14 @@ fn merge_body(
     env: &Environment,
     uses: &Keyed<DeclarationId, EvaluationOrder>,
     scopes: Table<ScopeId, ReactiveScope>,
+    merged: Option<List<MergedFacts>>,
 ) -> Result<Tables, Fault>
-    ensures rebuilt { IfOk result (steps.AreRebuilt env.now (uses_of uses.now) func.old.body scopes func.new.body) }
+    ensures rebuilt { IfOk result (steps.AreRebuilt env.now (uses_of uses.now) merged func.old.body scopes
+        func.new.body) }
     ensures header { func.new ≡ record func.old { body = func.new.body } }
     ensures refused { IfErr result (λ fault. fault ≡ faults.NoMemory) }
 {
-    let mut merging = Merging::new(alloc, scopes);
+    let mut merging = Merging::new(alloc, scopes, merged);
     let pass = MergeTransform {
         known: Known { alloc, env, uses },
     };
@@ -181,8 +264,12 @@ impl<'a> StatementTransform for MergeTransform<'a> {
 
 impl Merging {
     /// Nothing is decided yet. This takes no memory.
-    fn new(alloc: Global, scopes: Table<ScopeId, ReactiveScope>) -> Merging
-        ensures { result ≡ steps.at [] (rules.none_met scopes) }
+    fn new(
+        alloc: Global,
+        scopes: Table<ScopeId, ReactiveScope>,
+        merged: Option<List<MergedFacts>>,
+    ) -> Merging
+        ensures { result ≡ steps.at [] (rules.none_met scopes merged) }
     {
         Merging {
             around: None,
@@ -190,7 +277,10 @@ impl Merging {
             tables: Tables {
                 scopes,
                 copies: Keyed::new(alloc),
-                log: List::new(alloc),
+                log: Log {
+                    fates: List::new(alloc),
+                    merged,
+                },
             },
         }
     }

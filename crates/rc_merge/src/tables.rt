@@ -1,9 +1,11 @@
-//! What the pass writes: the scopes, the copies that rows make, and what was decided.
+//! What the pass writes: the scopes, the copies that rows make, what was decided, and the facts that are told of it.
 
-ghost use Rattle.std.specs.Prelude.{◌≡◌, ◌++◌, ◌∷◌, [], slice_set, OnOk};
+ghost use Rattle.std.specs.Prelude.{◌≡◌, slice_set, OnOk};
 ghost use Rattle.rc_merge.specs.Places as spec;
+ghost use Rattle.rc_merge.specs.inside.ListSteps as steps;
 ghost use Rattle.rc_merge.specs.inside.Rows as rows;
 
+use crate::facts::MergedFacts;
 use crate::rows::{Copies, note_copy};
 use rc_hir::{Environment, MutableRange, ReactiveScope};
 use rc_names::{EvaluationOrder, List, ScopeId, Table};
@@ -11,12 +13,19 @@ use rc_tree::{Fate, ReactiveInstruction, ScopeFate};
 use std::alloc::{AllocError, Global};
 use std::mem;
 
+/// What was decided, and the facts of each scope that merged, where they are asked for.
+#[derive(Drop)]
+pub(crate) struct Log {
+    pub fates: List<ScopeFate>,
+    pub merged: Option<List<MergedFacts>>,
+}
+
 /// What the pass writes.
 #[derive(Drop)]
 pub(crate) struct Tables {
     pub scopes: Table<ScopeId, ReactiveScope>,
     pub copies: Copies,
-    pub log: List<ScopeFate>,
+    pub log: Log,
 }
 
 impl Tables {
@@ -54,10 +63,20 @@ impl Tables {
     /// Lists the fate of a scope. Fails only when out of memory.
     pub fn decide(&mut self, scope: ScopeId, fate: Fate) -> Result<(), AllocError>
         ensures { OnOk result (self.new ≡ record self.old {
-          log = self.old.log ++ record { scope = scope; fate = fate } ∷ [];
+          log = steps.with_fate (record { scope = scope; fate = fate }) self.old.log;
         }) }
     {
-        self.log.push(ScopeFate { scope, fate })
+        self.log.fates.push(ScopeFate { scope, fate })
+    }
+
+    /// Tells the facts of a scope, where they are asked for. Fails only when out of memory.
+    pub fn tell(&mut self, facts: MergedFacts) -> Result<(), AllocError>
+        ensures { OnOk result (self.new ≡ record self.old { log = steps.with_facts facts self.old.log }) }
+    {
+        match &mut self.log.merged {
+            Some(merged) => merged.push(facts),
+            None => Ok(()),
+        }
     }
 }
 

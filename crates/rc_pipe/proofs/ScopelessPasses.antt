@@ -1,6 +1,6 @@
 -- Each pass after the escape pass leaves a tree without scope blocks as it is, with its environment, and decides
 -- nothing.
-use Rattle.std.proofs.Common.{◌≡◌, ◌∙◌, ◌||◌, ◌+◌, ℕ, false, List, [], ◌∷◌, Ok, refl, sym, ap, subst}
+use Rattle.std.proofs.Common.{◌≡◌, ◌∙◌, ◌||◌, ◌+◌, ℕ, false, List, [], ◌∷◌, None, Ok, refl, sym, ap, subst}
 use Rattle.std.specs.List.{IsDistinct, list_any}
 use Rattle.rc_hir.specs.Model.{Environment}
 use Rattle.rc_checks.proofs.MembershipCheck.WithoutBlocks.{inside_without_blocks}
@@ -77,11 +77,11 @@ module _ (env : Environment) (body : ReactiveBlock) (none : scopes_in body ≡ [
   -- no scope merges
   pub none_merged : Merges body env body env []
   none_merged =
-      let left = leaves_all _ _ rules body none (none_met env.scopes) refl in
-      merges_by_went body body env env (none_met env.scopes) (once body none)
+      let left = leaves_all _ _ rules body none (none_met env.scopes None) refl in
+      merges_by_went body body env env None (none_met env.scopes None) (once body none)
       (left.1 ∙ ap (λ (met : Met). Ok (met, body)) left.2) refl
     where
-      rules : LeavesRules (λ met. met ≡ none_met env.scopes) (went_rules env (last_uses_in env body))
+      rules : LeavesRules (λ met. met ≡ none_met env.scopes None) (went_rules env (last_uses_in env body))
       rules = record {
         row = λ x met is. (met, refl, is);
         terminal = λ x met is. (met, refl, is);

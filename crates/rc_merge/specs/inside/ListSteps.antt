@@ -1,5 +1,6 @@
 -- A list of statements, one after the other, with one group that is open.
 use Rattle.std.specs.Prelude.{Bool, true, false, List, [], ◌∷◌, ◌++◌, Option, None, Some, map, slice_set}
+use Rattle.std.specs.Option.{option_map}
 use Rattle.rc_hir.specs.Model.{Environment, ReactiveScope}
 use Rattle.rc_names.specs.Numbers.{DeclarationId, ScopeId}
 use Rattle.rc_tree.specs.Unrolled.{UnrolledStatement}
@@ -9,10 +10,14 @@ use Rattle.rc_tree.specs.declared.fate.ScopeFate.{ScopeFate}
 use Rattle.rc_tree.specs.declared.statement.ReactiveStatement.{roll-ReactiveStatement}
 use Rattle.rc_tree.specs.declared.statement.ReactiveStatement.TheOpen as layer
 use Rattle.rc_tree.specs.declared.statement.ReactiveStatement.TheVariants as reactive
+use Rattle.rc_merge.specs.Explained.{Joined}
 use Rattle.rc_merge.specs.Joining.{begins, grown, joins}
 use Rattle.rc_merge.specs.LastUses.{LastUses}
 use Rattle.rc_merge.specs.Places.{NumberedScope, no_scope, scope_at}
+use Rattle.rc_merge.specs.declared.facts.MergedFacts.{MergedFacts}
+use Rattle.rc_merge.specs.declared.tables.Log.{Log}
 use Rattle.rc_merge.specs.inside.Rows.{CopyPairs, copies_of, copy_of_row, names_of_row, noted, row_passes}
+use Rattle.rc_merge.specs.inside.Told.{facts_of}
 
 -- the group that is open: its head, what the head's block holds, and the rows that passed since, with their names
 pub record Open : Type 0 where
@@ -22,13 +27,13 @@ pub record Open : Type 0 where
   pub names : List DeclarationId
 
 -- the state within a list: the finished statements, the open group, the scopes (without the head's), the copies, and
--- the decisions
+-- the decisions with what is told of them
 pub record Going : Type 0 where
   pub done : List ReactiveStatement
   pub open_group : Option Open
   pub scopes : List ReactiveScope
   pub copies : CopyPairs
-  pub log : List ScopeFate
+  pub log : Log
 
 abbrev pub row_statements : List ReactiveInstruction → List ReactiveStatement
 row_statements rows = map (λ row. reactive.Instruction row) rows
@@ -78,6 +83,18 @@ swallowed o block = record {
 abbrev pub merged_fate : ScopeId → ScopeId → ScopeFate
 merged_fate scope head = record { scope = scope; fate = MergedInto head }
 
+-- a fate is decided
+abbrev pub with_fate : ScopeFate → Log → Log
+with_fate entry log = record log { fates = log.fates ++ entry ∷ [] }
+
+-- facts are told, where they are asked for
+abbrev pub with_facts : MergedFacts → Log → Log
+with_facts facts log = record log { merged = option_map (λ merged. merged ++ facts ∷ []) log.merged }
+
+-- a scope joins the head of the open group
+abbrev pub joined_open : CopyPairs → Open → NumberedScope → Joined
+joined_open copies o scope = record { head = o.head; next = scope; names = o.names; copies = copies_of copies }
+
 module _ (env : Environment) (uses : LastUses) where
   abbrev pub with_row : Open → ReactiveInstruction → Open
   with_row o row = record o { rows = o.rows ++ row ∷ []; names = o.names ++ names_of_row env row }
@@ -114,7 +131,7 @@ module _ (env : Environment) (uses : LastUses) where
   abbrev pub taken_in : Bool → Open → ReactiveScopeBlock → Going → Going
   taken_in opens o block g = stay_if opens (record g {
     open_group = Some (swallowed o block);
-    log = g.log ++ merged_fate block.scope o.head.number ∷ [];
+    log = with_fate (merged_fate block.scope o.head.number) g.log;
   })
 
   -- the head has grown where the scope joins
@@ -122,9 +139,17 @@ module _ (env : Environment) (uses : LastUses) where
   grown_if true o scope = record o { head = grown env uses o.head scope }
   grown_if false o scope = o
 
+  abbrev pub told_open : CopyPairs → Open → NumberedScope → Log → Log
+  told_open copies o scope = with_facts (facts_of env uses (joined_open copies o scope))
+
+  -- the facts of a scope that joins are told, as the head was before
+  abbrev pub told : Open → ReactiveScopeBlock → Going → Going
+  told o block g = record g { log = told_open g.copies o (scope_at g.scopes block.scope) g.log }
+
   -- a block joins the group, or closes it
   abbrev pub join_if : Bool → Bool → Open → ReactiveScopeBlock → Going → Going
-  join_if true opens o block g = taken_in opens (grown_if true o (scope_at g.scopes block.scope)) block g
+  join_if true opens o block g =
+      taken_in opens (grown_if true o (scope_at g.scopes block.scope)) block (told o block g)
   join_if false opens o block g = begin_if opens block (close g)
 
   abbrev pub joins_open : CopyPairs → Open → NumberedScope → Bool
@@ -152,9 +177,9 @@ module _ (env : Environment) (uses : LastUses) where
   steps g (statement ∷ statements) = steps (step g statement) statements
 
   -- a list that starts with these scopes, copies and decisions
-  abbrev pub starting : List ReactiveScope → CopyPairs → List ScopeFate → Going
+  abbrev pub starting : List ReactiveScope → CopyPairs → Log → Going
   starting scopes copies log = record { done = []; open_group = None; scopes = scopes; copies = copies; log = log }
 
   -- the whole list
-  abbrev pub went : List UnrolledStatement → List ReactiveScope → CopyPairs → List ScopeFate → Going
+  abbrev pub went : List UnrolledStatement → List ReactiveScope → CopyPairs → Log → Going
   went statements scopes copies log = close (steps (starting scopes copies log) statements)

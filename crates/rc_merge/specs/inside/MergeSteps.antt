@@ -7,15 +7,16 @@ use Rattle.rc_names.specs.Numbers.{ScopeId}
 use Rattle.rc_tree.specs.Rebuilt.{rebuilt_block}
 use Rattle.rc_tree.specs.Pruned.{emptied_scope}
 use Rattle.rc_tree.specs.StatementSteps.{StatementSteps}
-use Rattle.rc_tree.specs.Model.{ReactiveBlock, ReactiveScopeBlock, ReactiveStatement, Transformed}
+use Rattle.rc_tree.specs.Model.{ReactiveBlock, ReactiveFunction, ReactiveScopeBlock, ReactiveStatement, Transformed}
 use Rattle.rc_tree.specs.declared.fate.Fate.TheVariants.{DissolvedInto}
 use Rattle.rc_tree.specs.declared.hooks.Transformed.TheVariants.{Keep, ReplaceMany}
 use Rattle.rc_tree.specs.declared.statement.ReactiveStatement.{out-ReactiveStatement}
-use Rattle.rc_merge.specs.LastUses.{LastUses}
+use Rattle.rc_merge.specs.LastUses.{LastUses, last_uses_in}
 use Rattle.rc_merge.specs.Merged.{gives_way}
+use Rattle.rc_merge.specs.declared.facts.MergedFacts.{MergedFacts}
 use Rattle.rc_merge.specs.declared.merge.Merging.{Merging}
 use Rattle.rc_merge.specs.declared.tables.Tables.{Tables}
-use Rattle.rc_merge.specs.inside.ListSteps.{Going, went}
+use Rattle.rc_merge.specs.inside.ListSteps.{Going, went, with_fate}
 use Rattle.rc_merge.specs.inside.WentRules.{Met, none_met, went_rules}
 
 -- the walk's state at a state of the pass, with the scope blocks around that are set aside
@@ -49,7 +50,7 @@ outside_scope merging =
 abbrev pub with_dissolved : ScopeId → ScopeId → Merging → Merging
 with_dissolved scope parent merging = record merging {
   tables = record merging.tables {
-    log = merging.tables.log ++ record { scope = scope; fate = DissolvedInto parent } ∷ [];
+    log = with_fate (record { scope = scope; fate = DissolvedInto parent }) merging.tables.log;
   };
 }
 
@@ -90,10 +91,16 @@ module _ (env : Environment) (uses : LastUses) where
   }
 
   -- the body was rebuilt by the rules from these scopes, and these are the tables at the end
-  pub record AreRebuilt (before : ReactiveBlock) (scopes : List ReactiveScope) (after : ReactiveBlock)
-      (tables : Tables) : Type 0 where
+  pub record AreRebuilt (merged : Option (List MergedFacts)) (before : ReactiveBlock) (scopes : List ReactiveScope)
+      (after : ReactiveBlock) (tables : Tables) : Type 0 where
     pub around : Option ScopeId
-    pub rebuilt : rebuilt_block (went_rules env uses) before (none_met scopes) ≡ Ok (
+    pub rebuilt : rebuilt_block (went_rules env uses) before (none_met scopes merged) ≡ Ok (
       record { around = around; scopes = tables.scopes; copies = tables.copies; log = tables.log },
       after,
     )
+
+-- a function was rebuilt by the rules, with the last uses in its body, from the scopes of the environment
+pub record HasMerged (merged : Option (List MergedFacts)) (old new : ReactiveFunction) (env : Environment)
+    (tables : Tables) : Type 0 where
+  pub header : new ≡ record old { body = new.body }
+  pub are : AreRebuilt env (last_uses_in env old.body) merged old.body env.scopes new.body tables

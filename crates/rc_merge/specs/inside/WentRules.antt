@@ -1,15 +1,16 @@
 -- The rules of the pass where each list is merged with one open group, and copies are pairs.
-use Rattle.std.specs.Prelude.{Bool, true, false, List, [], ◌∷◌, ◌++◌, Option, None, Some, Ok, map}
+use Rattle.std.specs.Prelude.{Bool, true, false, List, [], ◌∷◌, Option, None, Some, Ok, map}
 use Rattle.rc_hir.specs.Model.{Environment, ReactiveScope}
 use Rattle.rc_names.specs.Numbers.{ScopeId}
 use Rattle.rc_merge.specs.LastUses.{LastUses}
 use Rattle.rc_merge.specs.Merged.{Progress, gives_way}
-use Rattle.rc_merge.specs.inside.ListSteps.{Going, went}
+use Rattle.rc_merge.specs.declared.facts.MergedFacts.{MergedFacts}
+use Rattle.rc_merge.specs.declared.tables.Log.{Log}
+use Rattle.rc_merge.specs.inside.ListSteps.{Going, went, with_fate}
 use Rattle.rc_merge.specs.inside.Rows.{CopyPairs, copies_of}
 use Rattle.rc_tree.specs.Rebuilt.{Rules}
 use Rattle.rc_tree.specs.Model.{ReactiveScopeBlock, ReactiveStatement}
 use Rattle.rc_tree.specs.declared.fate.Fate.TheVariants.{DissolvedInto}
-use Rattle.rc_tree.specs.declared.fate.ScopeFate.{ScopeFate}
 use Rattle.rc_tree.specs.declared.statement.ReactiveStatement.{out-ReactiveStatement}
 use Rattle.rc_tree.specs.declared.statement.ReactiveStatement.TheVariants as reactive
 
@@ -18,15 +19,17 @@ pub record Met : Type 0 where
   pub around : Option ScopeId
   pub scopes : List ReactiveScope
   pub copies : CopyPairs
-  pub log : List ScopeFate
+  pub log : Log
 
 -- the state of the definition that it represents
 abbrev pub progress_of : Met → Progress
 progress_of met =
-    record { around = met.around; scopes = met.scopes; copies = copies_of met.copies; log = met.log }
+    record { around = met.around; scopes = met.scopes; copies = copies_of met.copies; log = met.log.fates }
 
-abbrev pub none_met : List ReactiveScope → Met
-none_met scopes = record { around = None; scopes = scopes; copies = []; log = [] }
+-- the start, with what is told of scopes that merge
+abbrev pub none_met : List ReactiveScope → Option (List MergedFacts) → Met
+none_met scopes merged =
+    record { around = None; scopes = scopes; copies = []; log = record { fates = []; merged = merged } }
 
 -- after a list
 abbrev pub met_after : Option ScopeId → Going → Met
@@ -36,7 +39,7 @@ abbrev pub gone_if : Bool → ScopeId → ReactiveScopeBlock → Met → Met × 
 gone_if true parent block met = (
   record met {
     around = Some parent;
-    log = met.log ++ record { scope = block.scope; fate = DissolvedInto parent } ∷ [];
+    log = with_fate (record { scope = block.scope; fate = DissolvedInto parent }) met.log;
   },
   block.instructions.statements,
 )

@@ -2,8 +2,11 @@
 
 use crate::tests::trees::{Made, environment, function, load, nested_function, only, scope_around};
 use rc_hir::{DeclarationEntry, Environment, Fault, TableName};
-use rc_merge::{decide_merged_scopes, merge_reactive_scopes_that_invalidate_together};
-use rc_names::{List, ScopeId};
+use rc_merge::{
+    MergeCondition, MergedFacts, decide_merged_scopes, explain_merged_scopes,
+    merge_reactive_scopes_that_invalidate_together,
+};
+use rc_names::{DeclarationId, List, ScopeId};
 use rc_tree::{Fate, ReactiveFunction, ReactiveStatement, ScopeFate};
 use std::alloc::{AllocError, Global};
 use std::test::Fail;
@@ -119,6 +122,41 @@ fn merged_scopes_are_told(rt: HostRuntime) -> Result<(), Fail> {
         fate(2, Fate::MergedInto(ScopeId::new(0))),
     ];
     assert!(rt; are_decided(alloc, side_by_side(alloc)?, expected.as_slice())?);
+    Ok(())
+}
+
+/// Whether these are the declarations of these numbers.
+fn are_declarations(names: &[DeclarationId], numbers: &[u32]) -> bool {
+    names.len() == numbers.len()
+        && names
+            .iter()
+            .zip(numbers)
+            .all(|(name, number)| name.0 == *number)
+}
+
+/// Whether these are the facts of the third scope, where it joins the first, which has grown by the second.
+fn are_of_third(facts: &MergedFacts) -> bool {
+    facts.scope.0 == 2
+        && facts.into.0 == 0
+        && facts.condition == MergeCondition::Same
+        && are_declarations(facts.outputs.as_slice(), &[1, 3])
+        && facts.end.0 == 12
+}
+
+/// Whether the facts of two scopes are told, the last ones those of the third scope.
+fn explains_side_by_side(alloc: Global) -> Result<bool, Fault> {
+    let mut env = environment(alloc, SCOPES.as_slice())?;
+    let mut func = side_by_side(alloc)?;
+    let explained = explain_merged_scopes(alloc, &mut func, &mut env)?;
+    match explained.merged.get(1) {
+        Some(facts) => Ok(explained.merged.len() == 2 && are_of_third(facts)),
+        None => Ok(false),
+    }
+}
+
+#[test]
+fn the_head_is_told_as_grown_so_far(rt: HostRuntime) -> Result<(), Fail> {
+    assert!(rt; explains_side_by_side(rt.alloc())?);
     Ok(())
 }
 

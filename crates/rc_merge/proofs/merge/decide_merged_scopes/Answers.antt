@@ -5,16 +5,10 @@ use Rattle.rc_merge.proofs.DissolvesFresh.{dissolves_fresh}
 use Rattle.rc_merge.proofs.JoinsFresh.{joins_fresh, parts_fresh}
 use Rattle.rc_merge.proofs.MergedClauses.{is_merged, keeps_erased, keeps_known, keeps_names, keeps_numbers}
 use Rattle.rc_merge.proofs.MergingTells.{scopes_once}
-use Rattle.rc_merge.specs.inside.LastUsesMet.{uses_of}
 use Rattle.rc_merge.proofs.merge.decide_merged_scopes.Goals as goal
 
 pub returns-clause-ok : goal.returns-clause-ok
-returns-clause-ok c =
-    let env = c.args.env.now in
-    let tables = c.in_ok-tables.tables in
-    λ once. is_merged c.args.func.now c.merge_body.new.func env (record env { scopes = tables.scopes })
-    (uses_of c.in_ok-uses.uses) tables c.merge_body.ensures.header
-    (rw c.in_ok-scopes.ensures at c.in_ok-tables.ensures.rebuilt) refl c.in_ok-uses.ensures.uses once
+returns-clause-ok c = λ once. is_merged _ _ _ _ _ _ c.in_ok-tables.ensures.merged refl once
 
 pub returns-clause-decided : goal.returns-clause-decided
 returns-clause-decided c = λ once. merging_decided _ _ _ _ _ (returns-clause-ok c once)
@@ -35,33 +29,13 @@ pub returns-clause-scopes_once : goal.returns-clause-scopes_once
 returns-clause-scopes_once c = λ once. scopes_once _ _ _ _ _ (returns-clause-ok c once) once
 
 pub returns-clause-kept_erased : goal.returns-clause-kept_erased
-returns-clause-kept_erased c =
-    let env = c.args.env.now in
-    let tables = c.in_ok-tables.tables in
-    keeps_erased c.args.func.now c.merge_body.new.func env (record env { scopes = tables.scopes })
-    (uses_of c.in_ok-uses.uses) tables c.merge_body.ensures.header
-    (rw c.in_ok-scopes.ensures at c.in_ok-tables.ensures.rebuilt) refl
+returns-clause-kept_erased c = keeps_erased _ _ _ _ _ _ c.in_ok-tables.ensures.merged refl
 
 pub returns-clause-known : goal.returns-clause-known
-returns-clause-known c =
-    let env = c.args.env.now in
-    let tables = c.in_ok-tables.tables in
-    keeps_known c.args.func.now c.merge_body.new.func env (record env { scopes = tables.scopes })
-    (uses_of c.in_ok-uses.uses) tables c.merge_body.ensures.header
-    (rw c.in_ok-scopes.ensures at c.in_ok-tables.ensures.rebuilt) refl
+returns-clause-known c = keeps_known _ _ _ _ _ _ c.in_ok-tables.ensures.merged refl
 
 pub returns-clause-known_names : goal.returns-clause-known_names
-returns-clause-known_names c =
-    let env = c.args.env.now in
-    let tables = c.in_ok-tables.tables in
-    keeps_names c.args.func.now c.merge_body.new.func env (record env { scopes = tables.scopes })
-    (uses_of c.in_ok-uses.uses) tables c.merge_body.ensures.header
-    (rw c.in_ok-scopes.ensures at c.in_ok-tables.ensures.rebuilt) refl
+returns-clause-known_names c = keeps_names _ _ _ _ _ _ c.in_ok-tables.ensures.merged refl
 
 pub returns-clause-kept_numbers : goal.returns-clause-kept_numbers
-returns-clause-kept_numbers c =
-    let env = c.args.env.now in
-    let tables = c.in_ok-tables.tables in
-    keeps_numbers c.args.func.now c.merge_body.new.func env (record env { scopes = tables.scopes })
-    (uses_of c.in_ok-uses.uses) tables c.merge_body.ensures.header
-    (rw c.in_ok-scopes.ensures at c.in_ok-tables.ensures.rebuilt) refl
+returns-clause-kept_numbers c = keeps_numbers _ _ _ _ _ _ c.in_ok-tables.ensures.merged refl

@@ -9,7 +9,8 @@ pub returns-clause-rebuilt : goal.returns-clause-rebuilt
 returns-clause-rebuilt c =
     let left = c.transform_reactive_function.new in
     walk_rebuilds (λ it. it.pass.known.env.now) (λ it. uses_of it.pass.known.uses.now) _ _ (left.transform, left.state) _
-    c.args.scopes c.new-merging.ensures c.args.func.now.body left.func.body (Ok tt) c.in_ok-transform_reactive_function.ensures.walk
+    c.args.scopes c.args.merged c.new-merging.ensures c.args.func.now.body left.func.body (Ok tt)
+    c.in_ok-transform_reactive_function.ensures.walk
 
 pub returns-in_err-transform_reactive_function-clause-refused :
     goal.returns-in_err-transform_reactive_function-clause-refused
@@ -18,5 +19,5 @@ returns-in_err-transform_reactive_function-clause-refused c =
     let p = err_from_is_err_and raised.result raised.ensures.1 in
     let left = c.transform_reactive_function.new in
     rw (p.1, p.2) (walk_refused (λ it. it.pass.known.env.now) (λ it. uses_of it.pass.known.uses.now) _ _
-    (left.transform, left.state) _ c.args.scopes c.new-merging.ensures c.args.func.now.body left.func.body
+    (left.transform, left.state) _ c.args.scopes c.args.merged c.new-merging.ensures c.args.func.now.body left.func.body
     (Err c.in_err-transform_reactive_function.field-0.0) c.in_err-transform_reactive_function.ensures.walk)
