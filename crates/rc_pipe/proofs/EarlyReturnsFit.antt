@@ -1,6 +1,6 @@
 -- The tree and the environment before early returns have room for them, and the next block is above each block number
 -- of the tree, so early returns keep the runs.
-use Rattle.std.proofs.Common.{◌≡◌, ◌∙◌, ◌<◌, ◌≤◌, ◌⊎◌, inl, inr, All, IsTrue, Option, None, Some}
+use Rattle.std.proofs.Common.{◌≡◌, ◌∙◌, ◌<◌, ◌≤◌, ◌⊎◌, inl, inr, All, Bool, IsTrue, Option, None, Some}
 use Rattle.std.proofs.Common.{is_some, length, slice_index_or, arith, false, ap, subst, sym}
 use Rattle.rc_early.proofs.RoomLemmas.{fits_room}
 use Rattle.rc_early.specs.Entries.{has_room}
@@ -28,7 +28,8 @@ no_label : (next : _) (early : Option ReactiveScopeEarlyReturn) → is_some earl
 no_label next None none = tt
 no_label next (Some early) none = absurd (let bad : ⊥ = cc in bad)
 
-module _ {spelled pruned : PassState} {decisions : Decisions} (parts : HasScopesPruned spelled pruned decisions) where
+module _ {explain : Bool} {spelled pruned : PassState} {decisions : Decisions}
+    (parts : HasScopesPruned explain spelled pruned decisions) where
   kept_environment : parts.escaping.env ≡ spelled.env
   kept_environment = parts.escapes.kept_environment ∙ parts.checked.labels.kept_environment
 

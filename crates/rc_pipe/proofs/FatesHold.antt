@@ -1,6 +1,6 @@
 -- The fates that are listed by what the passes decided are those of the rules.
-use Rattle.std.proofs.Common.{◌≡◌, ◌∙◌, ◌↔◌, ◌⊎◌, inl, inr, List, All}
-use Rattle.std.proofs.Common.{Contains, get_or, arith, not, true≢false, sym, ap, subst}
+use Rattle.std.proofs.Common.{◌≡◌, ◌∙◌, ◌↔◌, ◌⊎◌, inl, inr, Bool, IsTrue, List, [], ◌∷◌, All}
+use Rattle.std.proofs.Common.{Contains, get_or, arith, not, true≢false, refl, sym, ap, subst}
 use Rattle.std.proofs.lemmas.List.Elements.{Contains-get_or}
 use Rattle.rc_names.specs.Numbers.{DeclarationId, ScopeId, times}
 use Rattle.rc_tree.proofs.DistinctLemmas.{at_least_once, at_most_once, from_times}
@@ -19,18 +19,24 @@ use Rattle.rc_escape.specs.WholeRecord.{HasWholeRecord}
 use Rattle.rc_memo.specs.Record.{IsRecordOf}
 use Rattle.rc_pipe.proofs.EventsStay.{events_stay, same_needed, same_record}
 use Rattle.rc_pipe.proofs.PassesLemmas.{decided, labels_keep_scopes, not_escaping_first}
+use Rattle.rc_pipe.specs.Explained.{AreTold}
 use Rattle.rc_pipe.specs.Fates.{AreKeptExactly, listed_scopes}
 use Rattle.rc_pipe.specs.Passes.{IsPruned, PassState, fate_rules}
 use Rattle.rc_pipe.specs.declared.passes.Decisions.{Decisions}
 use Rattle.rc_pipe.specs.inside.PrunedParts.{IsPrunedWith}
+
+-- a list of fates is empty where none has a scope
+none_listed : (fates : List ScopeFate) → ((scope : ScopeId) → Contains (listed_scopes fates) scope → ⊥) → fates ≡ []
+none_listed [] none = refl
+none_listed (entry ∷ rest) none = absurd (none entry.scope (0, omega arith, refl))
 
 -- the scope has a scope block at the end exactly if its fate is `Kept`
 abbrev IsLeftExactly : ScopeId → Fate → ReactiveBlock → Type 0
 IsLeftExactly scope fate after = ((fate ≡ Kept) × (times scope (scopes_in after) ≡ 1))
     ⊎ (¬ (fate ≡ Kept) × (times scope (scopes_in after) ≡ 0))
 
-module _ {spelled pruned : PassState} {decisions : Decisions} (parts : IsPrunedWith spelled pruned decisions)
-    (once : HasScopesOnce spelled.func.body) where
+module _ {explain : Bool} {spelled pruned : PassState} {decisions : Decisions}
+    (parts : IsPrunedWith explain spelled pruned decisions) (once : HasScopesOnce spelled.func.body) where
   abbrev passes : IsPruned spelled pruned
   passes = parts.passes
 
@@ -85,6 +91,20 @@ module _ {spelled pruned : PassState} {decisions : Decisions} (parts : IsPrunedW
           λ kept. absurd (is.0 kept),
           λ there. absurd (omega (arith, is.1, at_least_once scope (scopes_in pruned.func.body) there)),
         )
+
+    -- where no scope is spelled, no fate is listed
+    nowhere : decisions.spelled ≡ [] → (scope : ScopeId) → Contains (listed_scopes fates) scope → ⊥
+    nowhere none scope there =
+        let among = subst (λ scopes. Contains scopes scope) none ((listed scope).0 there) in
+        omega (arith, among.1)
+
+    -- where a fate is listed, what was told is what was read
+    pub told_if_listed : IsTrue explain → (fates ≡ []) ⊎ AreTold passes decisions.told
+    told_if_listed asked = by (parts.explained asked)
+      where
+        by : (decisions.spelled ≡ []) ⊎ AreTold passes decisions.told → (fates ≡ []) ⊎ AreTold passes decisions.told
+        by (inl none) = inl (none_listed fates (nowhere none))
+        by (inr told) = inr told
 
     pub among : (scope : ScopeId) → Contains (listed_scopes fates) scope ↔ Contains (scopes_in spelled.func.body) scope
     among = among_spelled

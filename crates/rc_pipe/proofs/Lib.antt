@@ -3,10 +3,10 @@ mod UnopenedScopes
 mod OutsideLemmas
 mod CausesLemmas
 mod BlocksLemmas
-mod EnvironmentStays
+pub mod EnvironmentStays
 mod RunsElsewhere
 mod EventsStay
-mod PassesLemmas
+pub mod PassesLemmas
 mod ScopelessRules
 mod FlowEnds
 mod NoScopes

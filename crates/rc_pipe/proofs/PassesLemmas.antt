@@ -1,6 +1,6 @@
 -- The clauses of the checks and passes, put together into those of the whole sequence.
-use Rattle.std.proofs.Common.{◌≡◌, ◌∙◌, ◌⊎◌, inl, inr, ◌≤◌, true, List, [], ◌++◌, ◌↔◌, All, map, arith, append-nil}
-use Rattle.std.proofs.Common.{refl, sym, ap, subst}
+use Rattle.std.proofs.Common.{◌≡◌, ◌∙◌, ◌⊎◌, inl, inr, ◌≤◌, true, Bool, List, [], ◌++◌, ◌↔◌, All, map, arith}
+use Rattle.std.proofs.Common.{append-nil, refl, sym, ap, subst}
 use Rattle.std.specs.List.{IsDistinct}
 use Rattle.rc_hir.specs.Model.{Environment, Fault, HirFunction}
 use Rattle.rc_hir.specs.declared.fault.Fault.TheVariants as faults
@@ -31,7 +31,9 @@ use Rattle.rc_pipe.specs.Passes.{AfterEarlyReturns, AfterEscape, AfterLabels, Ar
 use Rattle.rc_pipe.specs.Passes.{IsPruned, PassState, fate_rules, other_rules, state}
 use Rattle.rc_pipe.specs.inside.PassFaults.{IsPassFault}
 use Rattle.rc_pipe.specs.declared.passes.Decisions.{Decisions}
-use Rattle.rc_pipe.specs.inside.PrunedParts.{HasScopesPruned, IsChecked, IsPrunedWith}
+use Rattle.rc_order.specs.Order.{AreInOrder}
+use Rattle.rc_pipe.specs.Explained.{AreTold}
+use Rattle.rc_pipe.specs.inside.PrunedParts.{AreOthersTold, HasScopesPruned, IsChecked, IsPrunedWith}
 use Rattle.rc_escape.proofs.NotEscaping.Decided.{not_escaping_decided}
 use Rattle.rc_escape.specs.NotEscaping.{not_escaping_rule}
 use Rattle.rc_escape.specs.Outputs.{is_dissolved}
@@ -90,11 +92,10 @@ runs_after first between last old middle new one other events end =
     (λ run. there.0 (here.0 run), λ run. here.1 (there.1 run))
 
 -- the passes before early returns, and those
-pub all_passes : {spelled between pruned : PassState} {decisions : Decisions}
-    → HasScopesPruned spelled between decisions → AfterEarlyReturns between pruned
-    → IsPrunedWith spelled pruned decisions
-all_passes {spelled} {between} {pruned} {decisions} parts returns = record {
-  passes = record {
+module _ {explain : Bool} {spelled between pruned : PassState} {decisions : Decisions}
+    (parts : HasScopesPruned explain spelled between decisions) (returns : AfterEarlyReturns between pruned) where
+  abbrev every_pass : IsPruned spelled pruned
+  every_pass = record {
     labeled = parts.labeled;
     labels = parts.checked.labels;
     inside = parts.checked.inside;
@@ -105,11 +106,30 @@ all_passes {spelled} {between} {pruned} {decisions} parts returns = record {
     decided = parts.log;
     others = parts.others;
     early_returns = returns;
-  };
-  listed = parts.listed;
-  told = parts.told;
-  needed = parts.needed;
-}
+  }
+
+  -- what was told before early returns is told of all passes
+  explained : (decisions.spelled ≡ [])
+      ⊎ (AreInOrder parts.escapes.scopes.without.set decisions.told.memoized
+      × AreOthersTold parts.others decisions.told.received decisions.told.merged decisions.told.causes)
+      → (decisions.spelled ≡ []) ⊎ AreTold every_pass decisions.told
+  explained (inl none) = inl none
+  explained (inr told) = inr (record {
+    memoized = told.0;
+    received = told.1.received;
+    merged = told.1.merged;
+    causes = told.1.causes;
+    each = told.1.each;
+  })
+
+  pub all_passes : IsPrunedWith explain spelled pruned decisions
+  all_passes = record {
+    passes = every_pass;
+    listed = parts.listed;
+    told = parts.told;
+    explained = λ asked. explained (parts.explained asked);
+    needed = parts.needed;
+  }
 
 -- each pass may run out of memory
 pub memory_fault : (spelled : PassState) (fault : Fault) → fault ≡ faults.NoMemory → IsPassFault spelled fault
@@ -338,11 +358,12 @@ module _ {spelled pruned : PassState} (passes : IsPruned spelled pruned) where
   )
 
 -- the passes decided by their rules, one after the other
-pub decided : {spelled pruned : PassState} {decisions : Decisions} (parts : IsPrunedWith spelled pruned decisions)
-    → HasScopesOnce spelled.func.body
+pub decided : {explain : Bool} {spelled pruned : PassState} {decisions : Decisions}
+    (parts : IsPrunedWith explain spelled pruned decisions) → HasScopesOnce spelled.func.body
     → AreDecidedBy (fate_rules parts.passes) spelled.func.body pruned.func.body decisions.log
-decided {spelled} {pruned} parts once = subst (AreDecidedBy (fate_rules parts.passes) spelled.func.body pruned.func.body)
-    (sym parts.told) (decided_by_all parts.passes once)
+decided {spelled = spelled} {pruned = pruned} parts once =
+    subst (AreDecidedBy (fate_rules parts.passes) spelled.func.body pruned.func.body) (sym parts.told)
+    (decided_by_all parts.passes once)
 
 -- a function has the header of a graph
 abbrev IsHeaded : HirFunction → ReactiveFunction → Type 0

@@ -8,10 +8,13 @@ ghost use Rattle.rc_hir.specs.KeptNumbers.{KeepsNumbers};
 ghost use Rattle.rc_hir.specs.Model.{Environment};
 ghost use Rattle.rc_hir.specs.Names.{NamesInTables};
 ghost use Rattle.rc_tree.specs.Model.{ReactiveFunction};
+ghost use Rattle.rc_pipe.specs.Explained.{IsExplained};
 ghost use Rattle.rc_pipe.specs.Headline.{HasAnswer, IsAccepted, IsAnswer, IsCause};
 ghost use Rattle.rc_pipe.specs.declared.pipeline.Pruned.{Pruned as Answer};
+ghost use Rattle.rc_pipe.specs.inside.PrunedParts.{IsExplainedIf};
 
 use crate::causes::{first_early_return, has_room};
+use crate::explaining::Told;
 use crate::fates::fates_of;
 use crate::passes::prune;
 use rc_build::{USUAL_STACK, build_known_function};
@@ -25,6 +28,13 @@ use std::alloc::Global;
 pub struct Pruned {
     pub func: ReactiveFunction,
     pub fates: List<ScopeFate>,
+}
+
+/// A pruned function, and what the passes told of the fates. Where no scope has a fate, nothing is told.
+#[derive(Drop)]
+pub struct Explained {
+    pub pruned: Pruned,
+    pub told: Told,
 }
 
 /// Builds the one tree that a graph spells and prunes it: its unused labels, its scopes that don't escape, the
@@ -85,11 +95,65 @@ pub fn build_and_prune_within(
     ensures complete { (func : ReactiveFunction) → IsAccepted hir.now env.old → HasAnswer hir.now env.old func
         → IsOk result ⊎ (result ≡ Err Fault.NoMemory) }
 {
+    let explained = answer(alloc, hir, env, stack, false)?;
+    Ok(explained.pruned)
+}
+
+/// The same as `build_and_prune`, and what the passes read where they decided the fates. No other steps are taken, so
+/// the faults are those of `build_and_prune`, and so is their order.
+pub fn explain(alloc: Global, hir: &HirFunction, env: &mut Environment) -> Result<Explained, Fault>
+    ensures ok { IfOk result (λ it. IsAnswer hir.now env.old env.new it.pruned) }
+    ensures told { IfOk result (IsExplained hir.now env.old env.new) }
+    ensures refused { IfErr result (IsCause hir.now env.old) }
+    ensures kept_environment { IfErr result (λ fault. (fault ≡ Fault.NoMemory) ⊎ (env.new ≡ env.old)) }
+    ensures kept_numbers { KeepsNumbers env.old env.new }
+    ensures complete { (func : ReactiveFunction) → IsAccepted hir.now env.old → HasAnswer hir.now env.old func
+        → IsOk result ⊎ (result ≡ Err Fault.NoMemory) }
+{
+    explain_within(alloc, hir, env, USUAL_STACK)
+}
+
+/// The same where nesting may take that many bytes of stack. A graph that nests deeper is refused with `NoMemory`.
+pub fn explain_within(
+    alloc: Global,
+    hir: &HirFunction,
+    env: &mut Environment,
+    stack: usize,
+) -> Result<Explained, Fault>
+    ensures ok { IfOk result (λ it. IsAnswer hir.now env.old env.new it.pruned) }
+    ensures told { IfOk result (IsExplained hir.now env.old env.new) }
+    ensures refused { IfErr result (IsCause hir.now env.old) }
+    ensures kept_environment { IfErr result (λ fault. (fault ≡ Fault.NoMemory) ⊎ (env.new ≡ env.old)) }
+    ensures kept_numbers { KeepsNumbers env.old env.new }
+    ensures complete { (func : ReactiveFunction) → IsAccepted hir.now env.old → HasAnswer hir.now env.old func
+        → IsOk result ⊎ (result ≡ Err Fault.NoMemory) }
+{
+    answer(alloc, hir, env, stack, true)
+}
+
+/// The pruned function and, if `explain` is set, what the passes told.
+fn answer(
+    alloc: Global,
+    hir: &HirFunction,
+    env: &mut Environment,
+    stack: usize,
+    explain: bool,
+) -> Result<Explained, Fault>
+    ensures ok { IfOk result (IsExplainedIf explain hir.now env.old env.new) }
+    ensures refused { IfErr result (IsCause hir.now env.old) }
+    ensures kept_environment { IfErr result (λ fault. (fault ≡ Fault.NoMemory) ⊎ (env.new ≡ env.old)) }
+    ensures kept_numbers { KeepsNumbers env.old env.new }
+    ensures known_names { NamesInTables hir.now env.old → NamesInTables hir.now env.new }
+    ensures complete { (func : ReactiveFunction) → IsAccepted hir.now env.old → HasAnswer hir.now env.old func
+        → IsOk result ⊎ (result ≡ Err Fault.NoMemory) }
+{
     accept(hir, env)?;
     let mut func = build_known_function(alloc, hir, env, stack)?;
-    let decided = prune(alloc, hir, &mut func, env)?;
+    let decided = prune(alloc, hir, &mut func, env, explain)?;
     let fates = fates_of(alloc, decided.spelled.as_slice(), decided.log.as_slice())?;
-    Ok(Pruned { func, fates })
+    let pruned = Pruned { func, fates };
+    let told = decided.told;
+    Ok(Explained { pruned, told })
 }
 
 /// Refuses a graph for its numbers, its early returns or its room for numbers, in this order. This takes no memory.

@@ -1,5 +1,5 @@
 -- The clauses of the parts of the passes before early returns, put together.
-use Rattle.std.proofs.Common.{◌≡◌, ◌∙◌, [], Err, ap, inl, refl, rules, sym}
+use Rattle.std.proofs.Common.{◌≡◌, ◌∙◌, [], Err, ap, inl, inr, refl, rules, sym}
 use Rattle.std.proofs.lemmas.Result.{err_from_is_err_and}
 use Rattle.rc_checks.proofs.MembershipCheck.WithoutBlocks.{inside_without_blocks}
 use Rattle.rc_checks.proofs.ScopeBlocks.SpelledOnce.{spelled_once}
@@ -14,19 +14,20 @@ use Rattle.rc_pipe.proofs.passes.prune_scopes.Goals as goal
 pub returns-clause-ok : goal.returns-clause-ok
 returns-clause-ok c =
     let before = c.in_ok-spelled.ensures in
-    let escape = c.in_ok-log.ensures in
+    let escape = c.in_ok-escape.ensures in
     record {
       labeled = state c.check.new.func c.args.env.now;
       checked = checked c.args.env.now c.args.func.now c.check.new.func before.ok before.kept_visits
           c.in_ok-assert_known_instructions_within_scopes.ensures.ok;
-      escaping = state c.decide_non_escaping_scopes.new.func c.args.env.now;
-      not_escaping = c.in_ok-log.log;
-      escapes = record { scopes = escape.ok; header = escape.header; kept_environment = refl };
-      log = c.in_ok-others.others;
-      others = c.in_ok-others.ensures.ok;
+      escaping = state c.escape_decisions.new.func c.args.env.now;
+      not_escaping = c.in_ok-escape.escape.log;
+      escapes = record { scopes = escape.ok.0; header = escape.header; kept_environment = refl };
+      log = c.in_ok-others.others.log;
+      others = c.in_ok-others.ensures.ok.0;
       kept_erased = c.in_ok-others.ensures.kept_erased ∙ escape.kept_erased;
       listed = before.listed ∙ labels_keep_scopes before.ok;
       told = c.in_ok-append.ensures.ok;
+      explained = λ asked. inr (escape.ok.1 asked, c.in_ok-others.ensures.ok.1 asked);
       needed = escape.needed;
     }
 
@@ -51,6 +52,7 @@ returns-then-is_empty-clause-ok c =
       kept_erased = escape.kept_erased;
       listed = before.listed ∙ labels_keep_scopes before.ok;
       told = search rules;
+      explained = λ asked. inl empty;
       needed = escape.needed;
     }
 
@@ -73,10 +75,10 @@ flag_memoizations-requires c =
 pub decide_others-requires-clause-once : goal.decide_others-requires-clause-once
 decide_others-requires-clause-once c =
     let spelled = spelled_once c.args.hir.now c.args.env.now c.args.func.now c.requires.spelled in
-    c.in_ok-log.ensures.scopes_once (labels_keep_once c.in_ok-spelled.ensures.ok spelled)
+    c.in_ok-escape.ensures.scopes_once (labels_keep_once c.in_ok-spelled.ensures.ok spelled)
 
 pub decide_others-requires-clause-known : goal.decide_others-requires-clause-known
-decide_others-requires-clause-known c = c.in_ok-log.ensures.known c.in_ok-spelled.ensures.still_known
+decide_others-requires-clause-known c = c.in_ok-escape.ensures.known c.in_ok-spelled.ensures.still_known
 
 pub returns-clause-still_known : goal.returns-clause-still_known
 returns-clause-still_known c = c.in_ok-others.ensures.still_known
@@ -84,9 +86,9 @@ returns-clause-still_known c = c.in_ok-others.ensures.still_known
 pub returns-clause-kept_runs : goal.returns-clause-kept_runs
 returns-clause-kept_runs c = λ none.
     runs_through c.args.env.now c.decide_others.new.env c.args.func.now c.check.new.func
-    c.decide_non_escaping_scopes.new.func c.decide_others.new.func c.in_ok-others.others
-    (c.in_ok-spelled.ensures.kept_runs none) c.in_ok-log.ensures.kept_erased c.in_ok-others.ensures.kept_erased
-    c.in_ok-others.ensures.ok none
+    c.escape_decisions.new.func c.decide_others.new.func c.in_ok-others.others.log
+    (c.in_ok-spelled.ensures.kept_runs none) c.in_ok-escape.ensures.kept_erased c.in_ok-others.ensures.kept_erased
+    c.in_ok-others.ensures.ok.0 none
 
 pub returns-then-is_empty-clause-kept_runs : goal.returns-then-is_empty-clause-kept_runs
 unfolding returns-then-is_empty-clause-ok
@@ -125,15 +127,15 @@ returns-in_err-flag_memoizations-clause-refused c =
     (inside_without_blocks c.args.env.now c.check.new.func before.still_known (sym before.listed ∙ empty)))
     c.in_err-flag_memoizations.field-0.0 c.in_err-flag_memoizations.ensures.refused)
 
-pub returns-in_err-log-clause-refused : goal.returns-in_err-log-clause-refused
-returns-in_err-log-clause-refused c =
-    let exit = c.from_residual-in_err-log in
+pub returns-in_err-escape-clause-refused : goal.returns-in_err-escape-clause-refused
+returns-in_err-escape-clause-refused c =
+    let exit = c.from_residual-in_err-escape in
     let before = c.in_ok-spelled.ensures in
     let p = err_from_is_err_and exit.result exit.ensures.1 in
     rw (p.1, p.2) (escape_fault c.args.env.now c.args.func.now c.check.new.func
     (checked c.args.env.now c.args.func.now c.check.new.func before.ok before.kept_visits
-    c.in_ok-assert_known_instructions_within_scopes.ensures.ok) c.in_err-log.field-0.0
-    c.in_err-log.ensures.refused)
+    c.in_ok-assert_known_instructions_within_scopes.ensures.ok) c.in_err-escape.field-0.0
+    c.in_err-escape.ensures.refused)
 
 -- pruning of other scopes refuses nothing that a graph spells, unless memory runs out
 pub returns-in_err-others-clause-refused : goal.returns-in_err-others-clause-refused
@@ -171,5 +173,5 @@ returns-in_err-spelled-clause-kept_numbers c = keeps_own c.args.env.now
 pub returns-in_err-flag_memoizations-clause-kept_numbers : goal.returns-in_err-flag_memoizations-clause-kept_numbers
 returns-in_err-flag_memoizations-clause-kept_numbers c = keeps_own c.args.env.now
 
-pub returns-in_err-log-clause-kept_numbers : goal.returns-in_err-log-clause-kept_numbers
-returns-in_err-log-clause-kept_numbers c = keeps_own c.args.env.now
+pub returns-in_err-escape-clause-kept_numbers : goal.returns-in_err-escape-clause-kept_numbers
+returns-in_err-escape-clause-kept_numbers c = keeps_own c.args.env.now
