@@ -1,2 +1,13 @@
 mod EachLemmas
 mod WholeLemmas
+mod CountedLemmas
+mod FirstRules
+mod FactsFit
+mod KnownScopes
+mod OnceLemmas
+mod ZipLemmas
+mod PlacesLemmas
+mod NamesLemmas
+mod ReasonLemmas
+mod FactsHold
+mod ReasonsHold

@@ -3,7 +3,7 @@ use Rattle.std.proofs.Common.{◌≡◌, ◌∙◌, ◌<◌, Contains, List, ap,
 use Rattle.std.proofs.lemmas.List.{get_or-map, length-map}
 use Rattle.rc_names.specs.Numbers.{DeclarationId}
 use Rattle.rc_why.specs.Pairs.{IsWhole, whole}
-use Rattle.rc_why.specs.declared.reason.DepPair.{DepPair}
+use Rattle.rc_merge.specs.declared.facts.DepPair.{DepPair}
 
 -- a pair that is whole is the whole value of its declaration
 is_its_whole : (pair : DepPair) → IsWhole pair → whole pair.declaration ≡ pair

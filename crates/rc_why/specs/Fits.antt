@@ -4,12 +4,12 @@ use Rattle.rc_names.specs.Numbers.{DeclarationId, EvaluationOrder, ScopeId}
 use Rattle.rc_tree.specs.declared.fate.Fate.{Fate}
 use Rattle.rc_tree.specs.declared.fate.Fate.TheVariants as fates
 use Rattle.rc_why.specs.Pairs.{HaveSamePairs, IsWhole, whole}
-use Rattle.rc_why.specs.declared.reason.DepPair.{DepPair}
+use Rattle.rc_merge.specs.declared.facts.DepPair.{DepPair}
 use Rattle.rc_why.specs.declared.reason.Facts.{Facts}
 use Rattle.rc_why.specs.declared.reason.Facts.TheVariants as facts
-use Rattle.rc_why.specs.declared.reason.MergeCondition.{MergeCondition}
-use Rattle.rc_why.specs.declared.reason.MergeCondition.TheVariants as conditions
-use Rattle.rc_why.specs.declared.reason.NotedUse.{NotedUse}
+use Rattle.rc_merge.specs.declared.facts.MergeCondition.{MergeCondition}
+use Rattle.rc_merge.specs.declared.facts.MergeCondition.TheVariants as conditions
+use Rattle.rc_merge.specs.declared.facts.NotedUse.{NotedUse}
 use Rattle.rc_why.specs.declared.reason.Reason.{Reason}
 
 -- There are outputs, and none of them is memoized.

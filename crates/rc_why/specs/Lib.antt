@@ -1,2 +1,5 @@
 pub mod Pairs
 pub mod Fits
+pub mod CountedReturns
+pub mod ReasonOf
+pub mod inside

@@ -1,7 +1,7 @@
 -- What a scope depends on, as pairs of a declaration and a path; and which lists of pairs are the same.
 use Rattle.std.specs.Prelude.{◌≡◌, All, Contains, List, [], length}
 use Rattle.rc_names.specs.Numbers.{DeclarationId}
-use Rattle.rc_why.specs.declared.reason.DepPair.{DepPair}
+use Rattle.rc_merge.specs.declared.facts.DepPair.{DepPair}
 
 -- the pair is a whole value
 abbrev pub IsWhole : DepPair → Type 0

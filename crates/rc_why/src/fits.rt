@@ -5,8 +5,9 @@ ghost use Rattle.rc_why.specs.Fits as spec;
 ghost use Rattle.rc_why.specs.Pairs.{IsWhole};
 
 use crate::names::{are_among, are_outside};
-use crate::pairs::{are_whole_values, have_same_pairs};
-use crate::reason::{DepPair, Facts, MergeCondition, NotedUse, Reason};
+use crate::pairs::{are_whole_values, have_same_pairs, is_whole};
+use crate::reason::{Facts, Reason};
+use rc_merge::{DepPair, MergeCondition, NotedUse};
 use rc_names::{DeclarationId, EvaluationOrder, List, ScopeId};
 use rc_tree::Fate;
 
@@ -113,7 +114,7 @@ fn are_whole(pairs: &[DepPair]) -> bool
     ensures { IsTrue result ↔ All IsWhole pairs.now }
 {
     for pair in pairs {
-        if !pair.is_whole() {
+        if !is_whole(pair) {
             return false;
         }
     }

@@ -5,6 +5,9 @@ mod fits;
 mod names;
 mod pairs;
 mod reason;
+mod reasons;
 
 pub use fits::check_reason;
-pub use reason::{DepPair, Facts, MergeCondition, NotedUse, Reason};
+pub use rc_merge::{DepPair, MergeCondition, NotedUse};
+pub use reason::{Facts, Reason};
+pub use reasons::{why, why_within};

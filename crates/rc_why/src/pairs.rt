@@ -4,9 +4,9 @@ ghost use Rattle.std.specs.Prelude.{◌≡◌, ◌↔◌, IsTrue, All, Contains,
 ghost use Rattle.rc_why.specs.Pairs as spec;
 
 use crate::names::is_among;
-use crate::reason::DepPair;
 use rc_equality::Equals;
 use rc_hir::DependencyPathEntry;
+use rc_merge::DepPair;
 use rc_names::DeclarationId;
 
 /// Whether two lists have the same pairs: they are equally long, and each pair of either is in the other. This takes no
@@ -43,7 +43,7 @@ fn is_one_of(pair: &DepPair, others: &[DepPair]) -> bool
     ensures { IsTrue result ↔ Contains others.now pair.now }
 {
     for other in others {
-        if other.equals(pair) {
+        if are_equal_pairs(other, pair) {
             return true;
         }
     }
@@ -67,7 +67,7 @@ fn has_pair(declaration: DeclarationId, pairs: &[DepPair]) -> bool
     ensures { IsTrue result ↔ Contains pairs.now (spec.whole declaration) }
 {
     for pair in pairs {
-        if pair.is_whole() && pair.declaration == declaration {
+        if is_whole(pair) && pair.declaration == declaration {
             return true;
         }
     }
@@ -90,23 +90,22 @@ fn are_declared(pairs: &[DepPair], declarations: &[DeclarationId]) -> bool
 fn is_declared(pair: &DepPair, declarations: &[DeclarationId]) -> bool
     ensures { IsTrue result ↔ (spec.IsWhole pair.now × Contains declarations.now pair.now.declaration) }
 {
-    pair.is_whole() && is_among(pair.declaration, declarations)
+    is_whole(pair) && is_among(pair.declaration, declarations)
 }
 
-impl DepPair {
-    /// Whether the pair is a whole value.
-    pub(crate) fn is_whole(&self) -> bool
-        ensures { IsTrue result ↔ spec.IsWhole self.now }
-    {
-        self.path.is_empty()
-    }
+/// Whether the pair is a whole value.
+pub(crate) fn is_whole(pair: &DepPair) -> bool
+    ensures { IsTrue result ↔ spec.IsWhole pair.now }
+{
+    pair.path.is_empty()
 }
 
-impl Equals for DepPair {
-    fn equals(&self, other: &DepPair) -> bool {
-        self.declaration == other.declaration
-            && are_equal_paths(self.path.as_slice(), other.path.as_slice())
-    }
+/// Whether the pairs have the same declaration and equal paths.
+fn are_equal_pairs(pair: &DepPair, other: &DepPair) -> bool
+    ensures { IsTrue result ↔ (pair.now ≡ other.now) }
+{
+    pair.declaration == other.declaration
+        && are_equal_paths(pair.path.as_slice(), other.path.as_slice())
 }
 
 /// Whether two paths have equal steps.

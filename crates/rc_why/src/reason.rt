@@ -1,33 +1,8 @@
 //! The fate of a scope, with the facts that the rule of that fate read.
 
-use rc_hir::DependencyPathEntry;
+use rc_merge::{DepPair, MergeCondition, NotedUse};
 use rc_names::{DeclarationId, EvaluationOrder, IdentifierId, List, ScopeId};
 use rc_tree::Fate;
-
-/// What a scope depends on: a declaration, with the path from its value to a part of it.
-#[derive(Drop)]
-pub struct DepPair {
-    pub declaration: DeclarationId,
-    pub path: List<DependencyPathEntry>,
-}
-
-/// The first of the three conditions of merging that holds.
-#[derive(Clone, Copy, Debug, PartialEq, Eq)]
-pub enum MergeCondition {
-    /// The next scope has the dependencies of the head.
-    Same,
-    /// The next scope depends on exactly the values that the head declares.
-    Outputs,
-    /// The next scope depends on values that are new each time, each of which the head declares, or a copy of one.
-    Sources,
-}
-
-/// A name that is written between two scope blocks, and the id of its last use, if there is one.
-#[derive(Clone, Copy, Debug, PartialEq, Eq)]
-pub struct NotedUse {
-    pub declaration: DeclarationId,
-    pub last: Option<EvaluationOrder>,
-}
 
 /// What the rule of a fate read where it judged a scope. The outputs of a scope are its declarations, and then its
 /// reassignments.
