@@ -11,17 +11,21 @@ use Rattle.rc_runs.specs.Event.{End, Event, has_throw}
 use Rattle.rc_program.specs.declared.command.Command.{Command}
 use Rattle.rc_program.specs.declared.status.Status.{Status}
 use Rattle.rc_program.specs.declared.status.Status.TheVariants.{Done, Refused}
-use Rattle.rc_program.specs.declared.command.Command.TheVariants.{Tree, Fates, Slots, Json, Replay, Generate}
+use Rattle.rc_program.specs.declared.command.Command.TheVariants.{Tree, Fates, Why, Slots, Json, Replay}
+use Rattle.rc_program.specs.declared.command.Command.TheVariants.{Generate}
 use Rattle.rc_program.specs.declared.given.Given.{Given}
 use Rattle.rc_program.specs.declared.stop.Stop.{Stop}
 use Rattle.rc_program.specs.declared.stop.Stop.TheVariants as stops
 use Rattle.rc_program.specs.Command.{IsCommand, IsTextOf, origin_of}
 use Rattle.rc_program.specs.DueStatus.{Exceeds, IsTooMuchFor}
+use Rattle.rc_program.specs.ReasonLines.{reason_lines}
 use Rattle.rc_program.specs.ReplayLines.{AnswersBody, IsReplayText}
 use Rattle.rc_program.specs.inside.Replay.{AnswersGraph, HasBodyLine, IsTextAfter}
 use Rattle.rc_program.specs.inside.Stop.{HasNoText, status_of}
-use Rattle.rc_slots.specs.Slots.{slots_of}
 use Rattle.rc_program.specs.Status.{HasDocument, IsOutcome, IsTextFor}
+use Rattle.rc_slots.specs.Slots.{slots_of}
+use Rattle.rc_why.specs.ReasonOf.{AreReasons}
+use Rattle.rc_why.specs.declared.reason.Reason.{Reason}
 
 -- a number of 32 bits isn't too large
 pub within : {total : ℕ} → total < 2 ^ 32 → ¬ (2 ^ 32 ≤ total)
@@ -61,6 +65,7 @@ module _ (given : Given) (pruned : Pruned) (answered : Environment)
       pruned text → IsTextOf command given answered pruned text
   text_after Tree in_graph text graph it = it
   text_after Fates in_graph text graph it = it
+  text_after Why in_graph text graph it = absurd it
   text_after Slots in_graph text graph it = it
   text_after Json in_graph text graph it = it
   text_after (Generate units) in_graph text graph it = it
@@ -90,11 +95,28 @@ text_of_answer command given pruned answered answer status text done only fits i
         let one = only much.answered much.pruned much.answer in
         fits (exceeds_alike command much.answered answered much.pruned pruned one.0 one.1 much.exceeds)
 
+-- the lines of a document's reasons are the text of `why`, with `Done`
+pub text_of_reasons : (given : Given) (reasons : List Reason) (status : Status) (text : List ℕ)
+    → AreReasons given.doc.hir given.doc.env reasons → status ≡ Done → text ≡ reason_lines reasons
+    → IsTextFor Why given status text
+text_of_reasons given reasons status text are done same =
+    subst (λ it. IsTextFor Why given it text) (sym done) (record {
+      pruned = are.pruned;
+      answered = are.answered;
+      answer = are.answer;
+      fits = λ much. much.exceeds;
+      says = record { reasons = reasons; explained = are; listed = are.fates; same = same };
+    })
+
 -- what stops the text of an answer stops that of its document
 pub no_text : {much more : Type 0} (stop : Stop) → HasNoText much stop → (much → more) → HasNoText more stop
 no_text stops.NoMemory none gives = tt
 no_text stops.TooManySlots many gives = gives many
 no_text _ none gives = absurd none
+
+-- want of memory stops any text
+pub no_memory : (much : Type 0) (stop : Stop) → stop ≡ stops.NoMemory → HasNoText much stop
+no_memory much stop same = subst (HasNoText much) (sym same) tt
 
 -- what stops the text gives the outcome with its status
 pub outcome_of_no_text : (words : List (List ℕ)) (command : Command) (left left' written : Option (List ℕ))

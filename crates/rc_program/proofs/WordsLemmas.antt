@@ -5,7 +5,7 @@ use Rattle.std.proofs.lemmas.Fmt.{decimal_is_IsNumeral}
 use Rattle.std.specs.Str.Parse.{digits_value}
 use Rattle.rc_gen.specs.Generated.{most_units}
 use Rattle.rc_program.specs.declared.command.Command.{Command}
-use Rattle.rc_program.specs.declared.command.Command.TheVariants.{Tree, Fates, Slots, Json, Replay}
+use Rattle.rc_program.specs.declared.command.Command.TheVariants.{Tree, Fates, Why, Slots, Json, Replay}
 use Rattle.rc_program.specs.declared.command.Command.TheVariants.{Generate}
 use Rattle.rc_program.specs.Command.{AreWords, IsCommand, IsInRange, words_of}
 
@@ -21,6 +21,7 @@ abbrev named : List (List ℕ) → Command
 named words =
     if letter words == 116 then Tree else
     if letter words == 102 then Fates else
+    if letter words == 119 then Why else
     if letter words == 115 then Slots else
     if letter words == 106 then Json else
     if letter words == 114 then Replay else
@@ -29,6 +30,7 @@ named words =
 named_again : (command : Command) → IsInRange command → named (words_of command) ≡ command
 named_again Tree range = refl
 named_again Fates range = refl
+named_again Why range = refl
 named_again Slots range = refl
 named_again Json range = refl
 named_again Replay range = refl
@@ -44,6 +46,7 @@ one_command words one other is is' =
 pub one_or_two : (words : List (List ℕ)) → AreWords words → (length words ≡ 1) ⊎ (length words ≡ 2)
 one_or_two words (Tree, is) = inl (ap length is.same)
 one_or_two words (Fates, is) = inl (ap length is.same)
+one_or_two words (Why, is) = inl (ap length is.same)
 one_or_two words (Slots, is) = inl (ap length is.same)
 one_or_two words (Json, is) = inl (ap length is.same)
 one_or_two words (Replay, is) = inl (ap length is.same)
@@ -51,13 +54,14 @@ one_or_two words (Generate n, is) = inr (ap length is.same)
 
 -- a command of one word
 pub alone : (first : List ℕ) → AreWords (first ∷ [])
-    → (first ≡ codes "tree") ⊎ ((first ≡ codes "fates") ⊎ ((first ≡ codes "slots") ⊎ ((first ≡ codes "json")
-    ⊎ (first ≡ codes "replay"))))
+    → (first ≡ codes "tree") ⊎ ((first ≡ codes "fates") ⊎ ((first ≡ codes "why") ⊎ ((first ≡ codes "slots")
+    ⊎ ((first ≡ codes "json") ⊎ (first ≡ codes "replay")))))
 alone first (Tree, is) = inl (ap (word 0) is.same)
 alone first (Fates, is) = inr (inl (ap (word 0) is.same))
-alone first (Slots, is) = inr (inr (inl (ap (word 0) is.same)))
-alone first (Json, is) = inr (inr (inr (inl (ap (word 0) is.same))))
-alone first (Replay, is) = inr (inr (inr (inr (ap (word 0) is.same))))
+alone first (Why, is) = inr (inr (inl (ap (word 0) is.same)))
+alone first (Slots, is) = inr (inr (inr (inl (ap (word 0) is.same))))
+alone first (Json, is) = inr (inr (inr (inr (inl (ap (word 0) is.same)))))
+alone first (Replay, is) = inr (inr (inr (inr (inr (ap (word 0) is.same)))))
 alone first (Generate n, is) = absurd (let e : 1 ≡ 2 = ap length is.same in omega arith)
 
 -- a command of a word and a number
@@ -65,6 +69,7 @@ pub with_number : (first second : List ℕ) → AreWords (first ∷ (second ∷ 
     → (first ≡ codes "gen") × ((units : ℕ) × (1 ≤ units) × (units ≤ most_units) × (second ≡ decimal units))
 with_number first second (Tree, is) = absurd (let e : 2 ≡ 1 = ap length is.same in omega arith)
 with_number first second (Fates, is) = absurd (let e : 2 ≡ 1 = ap length is.same in omega arith)
+with_number first second (Why, is) = absurd (let e : 2 ≡ 1 = ap length is.same in omega arith)
 with_number first second (Slots, is) = absurd (let e : 2 ≡ 1 = ap length is.same in omega arith)
 with_number first second (Json, is) = absurd (let e : 2 ≡ 1 = ap length is.same in omega arith)
 with_number first second (Replay, is) = absurd (let e : 2 ≡ 1 = ap length is.same in omega arith)

@@ -6,12 +6,13 @@ use Rattle.rc_hir.specs.Model.{Environment}
 use Rattle.rc_pipe.specs.declared.pipeline.Pruned.{Pruned}
 use Rattle.rc_gen.specs.Generated.{generated, most_units}
 use Rattle.rc_program.specs.declared.command.Command.{Command}
-use Rattle.rc_program.specs.declared.command.Command.TheVariants.{Tree, Fates, Slots, Json, Replay}
+use Rattle.rc_program.specs.declared.command.Command.TheVariants.{Tree, Fates, Why, Slots, Json, Replay}
 use Rattle.rc_program.specs.declared.command.Command.TheVariants.{Generate}
 use Rattle.rc_program.specs.Counts.{count_lines}
 use Rattle.rc_program.specs.FunctionLines.{fate_lines, lines_of}
 use Rattle.rc_program.specs.Given.{without_run}
 use Rattle.rc_program.specs.JsonLine.{IsJsonLine}
+use Rattle.rc_program.specs.ReasonLines.{IsReasonText}
 use Rattle.rc_program.specs.ReplayLines.{IsReplayText}
 use Rattle.rc_program.specs.SlotLines.{slot_lines}
 use Rattle.rc_program.specs.declared.given.Given.{Given}
@@ -23,6 +24,7 @@ use Rattle.rc_slots.specs.Slots.{slots_of}
 abbrev pub words_of : Command → List (List ℕ)
 words_of Tree = codes "tree" ∷ []
 words_of Fates = codes "fates" ∷ []
+words_of Why = codes "why" ∷ []
 words_of Slots = codes "slots" ∷ []
 words_of Json = codes "json" ∷ []
 words_of Replay = codes "replay" ∷ []
@@ -51,6 +53,7 @@ pub data Origin : Type 0 where
 abbrev pub origin_of : Command → Origin
 origin_of Tree = Read Alone
 origin_of Fates = Read Alone
+origin_of Why = Read Alone
 origin_of Slots = Read Alone
 origin_of Json = Read Alone
 origin_of Replay = Read WithRun
@@ -69,6 +72,7 @@ ReadNothing words = (command : Command) → IsCommand words command → IsMade (
 abbrev pub IsTextOf : Command → Given → Environment → Pruned → List ℕ → Type 0
 IsTextOf Tree given env pruned text = text ≡ lines_of pruned.func pruned.fates
 IsTextOf Fates given env pruned text = text ≡ fate_lines pruned.fates 0
+IsTextOf Why given env pruned text = IsReasonText given.doc pruned text
 IsTextOf Slots given env pruned text = text ≡ slot_lines (slots_of env pruned.func)
 IsTextOf Json given env pruned text = IsJsonLine env pruned text
 IsTextOf Replay given env pruned text = IsReplayText given env pruned.func text

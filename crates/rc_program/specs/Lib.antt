@@ -6,6 +6,7 @@ pub mod JsonLine
 pub mod ValueLines
 pub mod Lines
 pub mod FunctionLines
+pub mod ReasonLines
 pub mod SlotLines
 pub mod Given
 pub mod ReplayLines

@@ -2,6 +2,8 @@
 
 ghost use Rattle.std.specs.Prelude.{◌≡◌, ◌≤◌, ◌^◌, ◌↔◌, IsTrue, MatchResult};
 ghost use Rattle.rc_program.specs.DueStatus.{Exceeds, IsTooMuchFor};
+ghost use Rattle.rc_program.specs.FaultLine.{fault_line};
+ghost use Rattle.rc_program.specs.ReasonLines.{reason_lines};
 ghost use Rattle.rc_program.specs.ReplayLines.{AnswersBody, replay_lines};
 ghost use Rattle.rc_program.specs.SlotLines.{slot_lines};
 ghost use Rattle.rc_program.specs.Status.{IsTextFor};
@@ -14,16 +16,18 @@ use crate::command::Command;
 use crate::given::Given;
 use crate::note::{Note, note_fault, note_nesting};
 use crate::printing::{
-    count_lines, fates_alone, fault_line, json_line, lines, replay_lines, slot_lines,
+    count_lines, fates_alone, fault_line, json_line, lines, reason_lines, replay_lines, slot_lines,
 };
 use crate::status::Status;
 use crate::stop::Stop;
+use rc_doc::Doc;
 use rc_hir::{Environment, Fault};
-use rc_names::Text;
+use rc_names::{List, Text};
 use rc_pipe::{Pruned, build_and_prune_within};
 use rc_replay::{GivenRun, has_throw, replay_body, replay_graph};
 use rc_slots::{SlotFault, plan_slots};
 use rc_tree::ReactiveFunction;
+use rc_why::{Reason, why_within};
 use std::alloc::Global;
 use std::mem::forget;
 
@@ -49,12 +53,13 @@ pub fn answer_for(
     ensures { MatchResult result (λ answer. IsTextFor command given answer.status answer.text)
         (HasNoText (IsTooMuchFor command given.doc)) }
 {
-    let answer = graph_answer(alloc, command, &mut given, note, stack)?;
+    let answer = document_answer(alloc, command, &mut given, note, stack)?;
     forget(given);
     Ok(answer)
 }
 
-fn graph_answer(
+/// The same for a document that is kept.
+fn document_answer(
     alloc: Global,
     command: Command,
     given: &mut Given,
@@ -64,22 +69,84 @@ fn graph_answer(
     ensures { MatchResult result (λ answer. IsTextFor command given.old answer.status answer.text)
         (HasNoText (IsTooMuchFor command given.old.doc)) }
 {
+    if asks_why(command) {
+        why_answer(alloc, given, note, stack)
+    } else {
+        graph_answer(alloc, command, given, note, stack)
+    }
+}
+
+/// Whether the command asks why scopes have their fates.
+fn asks_why(command: Command) -> bool
+    ensures { IsTrue result ↔ (command ≡ Command.Why) }
+{
+    matches!(command, Command::Why)
+}
+
+/// The lines of why each scope of a document has its fate. The passes work on a copy of its environment.
+fn why_answer(alloc: Global, given: &Given, note: &mut Note, stack: usize) -> Result<Answer, Stop>
+    ensures { MatchResult result (λ answer. IsTextFor Command.Why given.now answer.status answer.text)
+        (λ stop. stop ≡ Stop.NoMemory) }
+{
+    match why_within(alloc, &given.doc.hir, &given.doc.env, stack) {
+        Ok(reasons) => reasons_answer(alloc, reasons),
+        Err(fault) => refusal(alloc, note, &fault, &given.doc, stack),
+    }
+}
+
+/// The lines of reasons, which are left to the system too.
+fn reasons_answer(alloc: Global, reasons: List<Reason>) -> Result<Answer, Stop>
+    ensures { MatchResult result (λ answer. (answer.status ≡ Status.Done) × (answer.text ≡ reason_lines reasons))
+        (λ stop. stop ≡ Stop.NoMemory) }
+{
+    let text = reason_lines(alloc, &reasons)?;
+    forget(reasons);
+    Ok(Answer {
+        text,
+        status: Status::Done,
+    })
+}
+
+/// The text of a command that asks no reasons.
+fn graph_answer(
+    alloc: Global,
+    command: Command,
+    given: &mut Given,
+    note: &mut Note,
+    stack: usize,
+) -> Result<Answer, Stop>
+    requires { ¬ (command ≡ Command.Why) }
+    ensures { MatchResult result (λ answer. IsTextFor command given.old answer.status answer.text)
+        (HasNoText (IsTooMuchFor command given.old.doc)) }
+{
     // The passes change the environment, and a run of the graph is one with its environment as handed in.
     let in_graph = replay_in_graph(alloc, command, given)?;
     match build_and_prune_within(alloc, &given.doc.hir, &mut given.doc.env, stack) {
         Ok(pruned) => pruned_answer(alloc, command, in_graph, given, pruned),
-        Err(fault) => {
-            if is_want_of_memory(&fault) {
-                note_nesting(alloc, note, &given.doc.hir.body, stack);
-                return Err(Stop::NoMemory);
-            }
-            note_fault(alloc, note, &fault, &given.doc);
-            Ok(Answer {
-                text: fault_line(alloc, &fault)?,
-                status: Status::Refused,
-            })
-        }
+        Err(fault) => refusal(alloc, note, &fault, &given.doc, stack),
     }
+}
+
+/// The line of the fault with which a document's graph is refused, which it notes.
+fn refusal(
+    alloc: Global,
+    note: &mut Note,
+    fault: &Fault,
+    doc: &Doc,
+    stack: usize,
+) -> Result<Answer, Stop>
+    ensures { MatchResult result (λ answer. (answer.status ≡ Status.Refused) × (answer.text ≡ fault_line fault.now)
+        × ¬ (fault.now ≡ Fault.NoMemory)) (λ stop. stop ≡ Stop.NoMemory) }
+{
+    if is_want_of_memory(fault) {
+        note_nesting(alloc, note, &doc.hir.body, stack);
+        return Err(Stop::NoMemory);
+    }
+    note_fault(alloc, note, fault, doc);
+    Ok(Answer {
+        text: fault_line(alloc, fault)?,
+        status: Status::Refused,
+    })
 }
 
 /// Whether the run is one of the graph, for the command that asks it.
@@ -93,8 +160,12 @@ fn replay_in_graph(alloc: Global, command: Command, given: &Given) -> Result<boo
                 Err(_) => Err(Stop::NoMemory),
             }
         }
-        Command::Tree | Command::Fates | Command::Slots | Command::Json | Command::Generate(_) =>
-            Ok(false),
+        Command::Tree
+        | Command::Fates
+        | Command::Why
+        | Command::Slots
+        | Command::Json
+        | Command::Generate(_) => Ok(false),
     }
 }
 
@@ -106,7 +177,8 @@ fn pruned_answer(
     given: &Given,
     pruned: Pruned,
 ) -> Result<Answer, Stop>
-    requires { TreeInTables pruned.func given.now.doc.env }
+    requires inside { TreeInTables pruned.func given.now.doc.env }
+    requires other { ¬ (command ≡ Command.Why) }
     ensures { MatchResult result
         (λ answer. (answer.status ≡ Status.Done) × ¬ Exceeds command given.now.doc.env pruned
         × IsTextAfter command in_graph given.now pruned answer.text)
@@ -120,7 +192,8 @@ fn pruned_answer(
     })
 }
 
-/// The text of a command for a document and its answer. For a replay, `in_graph` is the answer on the graph.
+/// The text of a command that asks no reasons, for a document and its answer. For a replay, `in_graph` is the answer on
+/// the graph.
 fn text_of(
     alloc: Global,
     command: Command,
@@ -128,7 +201,8 @@ fn text_of(
     given: &Given,
     pruned: &Pruned,
 ) -> Result<Text, Stop>
-    requires { TreeInTables pruned.now.func given.now.doc.env }
+    requires inside { TreeInTables pruned.now.func given.now.doc.env }
+    requires other { ¬ (command ≡ Command.Why) }
     ensures { MatchResult result
         (λ text. ¬ Exceeds command given.now.doc.env pruned.now
         × IsTextAfter command in_graph given.now pruned.now text)
@@ -137,6 +211,7 @@ fn text_of(
     match command {
         Command::Tree => Ok(lines(alloc, &pruned.func, &pruned.fates)?),
         Command::Fates => Ok(fates_alone(alloc, &pruned.fates)?),
+        Command::Why => unreachable!(),
         Command::Slots => slot_text(alloc, &pruned.func, &given.doc.env),
         Command::Json => Ok(json_line(alloc, &given.doc.env, pruned)?),
         Command::Replay => {

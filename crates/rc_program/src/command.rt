@@ -17,6 +17,8 @@ pub enum Command {
     Tree,
     /// The fates alone.
     Fates,
+    /// The fates, each with what its rule read.
+    Why,
     /// The slots of the scope blocks in a memo cache.
     Slots,
     /// The whole answer as JSON.
@@ -48,6 +50,8 @@ fn command_alone(word: &Text) -> Option<Command>
         Some(Command::Tree)
     } else if is_word(word, "fates") {
         Some(Command::Fates)
+    } else if is_word(word, "why") {
+        Some(Command::Why)
     } else if is_word(word, "slots") {
         Some(Command::Slots)
     } else if is_word(word, "json") {

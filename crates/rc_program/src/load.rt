@@ -49,7 +49,7 @@ pub fn document_of<S: Source>(
     ensures untouched { IsMade (origin_of command) → source.new ≡ source.old }
 {
     match command {
-        Command::Tree | Command::Fates | Command::Slots | Command::Json => {
+        Command::Tree | Command::Fates | Command::Why | Command::Slots | Command::Json => {
             load(alloc, Form::Alone, source, note)
         }
         Command::Replay => load(alloc, Form::WithRun, source, note),

@@ -6,6 +6,7 @@ ghost use Rattle.rc_program.specs.Code.{code_of};
 /// How the program is called.
 const USAGE: &str = "usage: rc tree < DOCUMENT
 rc:        rc fates < DOCUMENT
+rc:        rc why < DOCUMENT
 rc:        rc slots < DOCUMENT
 rc:        rc json < DOCUMENT
 rc:        rc replay < DOCUMENT

@@ -5,6 +5,7 @@ mod commands;
 mod devices;
 mod library;
 mod lines;
+mod reasons;
 mod replays;
 mod want_of_memory;
 

@@ -29,7 +29,8 @@ pub fn write_fates(page: &mut Page, fates: &[ScopeFate], indent: usize) -> Resul
     Ok(())
 }
 
-fn write_scope_fate(page: &mut Page, scope: ScopeFate) -> Result<(), AllocError>
+/// A scope and its fate.
+pub fn write_scope_fate(page: &mut Page, scope: ScopeFate) -> Result<(), AllocError>
     ensures { OnOk result (page.new ≡ page.old ++ scope_fate_text scope) }
 {
     page.push("scope ")?;

@@ -1,9 +1,10 @@
 //! The slots of the scope blocks in a memo cache, a line each.
 
-ghost use Rattle.std.specs.Prelude.{◌≡◌, ◌++◌, IfOk, OnOk, decimal, flat_map};
+ghost use Rattle.std.specs.Prelude.{◌≡◌, ◌++◌, IfOk, OnOk, flat_map};
 ghost use Rattle.rc_program.specs.SlotLines.{scope_slots_line, slot_lines};
 
 use crate::printing::page::Page;
+use crate::printing::text::write_number;
 use rc_names::Text;
 use rc_slots::{ScopeSlots, SlotPlan};
 use std::alloc::{AllocError, Global};
@@ -40,12 +41,4 @@ fn write_scope(page: &mut Page, entry: ScopeSlots) -> Result<(), AllocError>
     write_number(page, " declarations ", entry.declarations)?;
     write_number(page, " reassignments ", entry.reassignments)?;
     page.push("\n")
-}
-
-/// A number after its name.
-fn write_number(page: &mut Page, name: &str, number: u32) -> Result<(), AllocError>
-    ensures { OnOk result (page.new ≡ page.old ++ (name.now ++ decimal number)) }
-{
-    page.push(name)?;
-    page.number(number)
 }

@@ -1,12 +1,20 @@
 //! The words that lines are made of.
 
-ghost use Rattle.std.specs.Prelude.{◌≡◌, ◌++◌, OnOk};
+ghost use Rattle.std.specs.Prelude.{◌≡◌, ◌++◌, OnOk, decimal};
 ghost use Rattle.rc_program.specs.LineText.{bool_text, json_text, span_text, label_text, id_text};
 
 use crate::printing::page::Page;
 use rc_names::{EvaluationOrder, Span, Text};
 use rc_tree::ReactiveLabel;
 use std::alloc::AllocError;
+
+/// A number after its name.
+pub fn write_number(page: &mut Page, name: &str, number: u32) -> Result<(), AllocError>
+    ensures { OnOk result (page.new ≡ page.old ++ (name.now ++ decimal number)) }
+{
+    page.push(name)?;
+    page.number(number)
+}
 
 /// A truth value.
 pub fn write_bool(page: &mut Page, b: bool) -> Result<(), AllocError>

@@ -98,7 +98,7 @@ pub fn ends(
 fn other_words_read_and_write_nothing(rt: HostRuntime) -> Result<(), Fail> {
     let alloc = rt.alloc();
     let alone = [
-        "", "Tree", "tree ", " tree", "fate", "slot", "JSON", "replays", "gen", "gen 1", "1",
+        "", "Tree", "tree ", " tree", "fate", "wh", "slot", "JSON", "replays", "gen", "gen 1", "1",
         "--help",
     ];
     for word in alone {
@@ -137,7 +137,9 @@ fn other_words_read_and_write_nothing(rt: HostRuntime) -> Result<(), Fail> {
             "gen '{number}'"
         );
     }
-    for word in ["tree", "fates", "slots", "json", "replay", "", "Gen", "1"] {
+    for word in [
+        "tree", "fates", "why", "slots", "json", "replay", "", "Gen", "1",
+    ] {
         assert!(rt;
             ends(alloc, &[word, "1"], None, Status::Usage, "")?,
             "'{word}' and a number"
@@ -159,6 +161,17 @@ fn fates_are_printed_alone(rt: HostRuntime) -> Result<(), Fail> {
     assert!(rt; ends(alloc, &["fates"], Some(DOCUMENT), Status::Done, "")?);
     assert!(rt; ends(alloc, &["fates"], None, Status::ReadFault, "")?);
     assert!(rt; ends(alloc, &["fates"], Some("{}"), Status::NotDoc, "")?);
+    Ok(())
+}
+
+#[test]
+fn fates_are_printed_with_reasons(rt: HostRuntime) -> Result<(), Fail> {
+    let alloc = rt.alloc();
+    let reasons = "scope 0 kept output 1\nscope 1 merged into 0 by sources end 8\n";
+    assert!(rt; ends(alloc, &["why"], Some(MERGED), Status::Done, reasons)?);
+    assert!(rt; ends(alloc, &["why"], Some(DOCUMENT), Status::Done, "")?);
+    assert!(rt; ends(alloc, &["why"], None, Status::ReadFault, "")?);
+    assert!(rt; ends(alloc, &["why"], Some("{}"), Status::NotDoc, "")?);
     Ok(())
 }
 

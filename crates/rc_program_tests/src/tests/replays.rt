@@ -50,7 +50,7 @@ const RETURNS: &str =
 "config":{},"next_block":6}"#;
 
 /// The text of these parts.
-fn joined(alloc: Global, parts: &[&str]) -> Result<String, AllocError> {
+pub fn joined(alloc: Global, parts: &[&str]) -> Result<String, AllocError> {
     let mut text = String::new(alloc);
     for part in parts {
         text.push_str(part)?;

@@ -1,10 +1,8 @@
--- The text of an answer is that of the command. A graph that is refused, but not for memory, has no answer, and its
--- fault has a line.
-use Rattle.std.proofs.Common.{◌≡◌, refl, Err, true, false}
+-- The text of an answer is that of the command, and a graph that is refused gives the line of its fault.
+use Rattle.std.proofs.Common.{refl, Err}
 use Rattle.std.proofs.lemmas.Result.{MatchResult-weaker}
-use Rattle.rc_hir.specs.declared.fault.Fault.TheVariants as faults
-use Rattle.rc_program.proofs.AnswerLemmas.{no_text, text_after, text_of_answer}
-use Rattle.rc_program.proofs.RefusalLemmas.{line_of_cause, no_answer_of}
+use Rattle.rc_program.proofs.AnswerLemmas.{no_memory, no_text, text_after, text_of_answer}
+use Rattle.rc_program.proofs.RefusalLemmas.{text_of_refusal}
 use Rattle.rc_program.proofs.answer.graph_answer.Goals as goal
 
 pub returns-in-Ok : goal.returns-in-Ok
@@ -21,17 +19,9 @@ returns-in-Ok c =
       exceeds = much;
     }))
 
-pub returns-in_ok-fault_line-in-Err : goal.returns-in_ok-fault_line-in-Err
-returns-in_ok-fault_line-in-Err c = record {
-  fault = c.in-Err.fault;
-  named = line_of_cause c.args.given.now.doc c.in-Err.fault c.in-Err.ensures.refused other;
-  cause = c.in-Err.ensures.refused;
-  no_answer = no_answer_of c.args.given.now.doc (Err c.in-Err.fault) c.in-Err.fault refl other c.in-Err.ensures.complete;
-  line = c.in_ok-fault_line-in-Err.ensures;
-}
-  where
-    other : c.in-Err.fault ≡ faults.NoMemory → ⊥
-    other same =
-        let yes : c.is_want_of_memory.result ≡ true = c.is_want_of_memory.ensures.1 same in
-        let no : c.is_want_of_memory.result ≡ false = c.if-is_want_of_memory.false in
-        cc
+pub returns-in-Err : goal.returns-in-Err
+returns-in-Err c =
+    MatchResult-weaker c.refusal.result c.refusal.ensures
+    (λ answer it. text_of_refusal c.args.command c.args.given.now (Err c.in-Err.fault) c.in-Err.fault answer.status
+    answer.text refl c.in-Err.ensures.refused c.in-Err.ensures.complete it.0 it.1 it.2)
+    (λ stop same. no_memory _ stop same)
