@@ -84,9 +84,20 @@ def explains(printed, fates, document):
     """Whether this may be the text of the reasons of a document with these fates."""
     env = printing_form.printed("Environment", json.loads(document)["env"])
     scopes = [Scope(number, entry, env["identifiers"]) for number, entry in enumerate(env["scopes"])]
+    grow_heads(scopes, fates.decode())
     lines, due = printed.decode().split("\n"), fates.decode().split("\n")
     return (len(lines) == len(due) and lines.pop() == due.pop() == ""
             and all(is_reason(*it, scopes) for it in zip(lines, due)) and is_one_set(lines))
+
+
+def grow_heads(scopes, fates):
+    """Lets the range of each head end no sooner than those of the scopes that are merged into it: a head that is merged
+    later itself has grown by then.
+    """
+    merged = [(int(it), int(head)) for it, head in re.findall(r"^scope (\d+) merged into (\d+)$", fates, re.MULTILINE)]
+    for _ in merged:
+        for it, head in merged:
+            scopes[head].end = max(scopes[head].end, scopes[it].end)
 
 
 def is_reason(line, fate, scopes):
