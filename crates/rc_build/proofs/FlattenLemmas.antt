@@ -3,6 +3,8 @@ use Rattle.std.proofs.Common.{ℕ, suc, ◌<◌, arith, ◌≡◌, List, ◌++�
 use Rattle.std.proofs.lemmas.List.{append-nil}
 use Rattle.rc_names.specs.Numbers.{EvaluationOrder}
 use Rattle.rc_tree.specs.Model.{ReactiveInstruction, ReactiveValue}
+use Rattle.rc_tree.specs.Opened.{IsOpened}
+use Rattle.rc_tree.specs.declared.value.Opened.TheVariants as opened
 use Rattle.rc_tree.specs.declared.value.ReactiveValue.{out-ReactiveValue}
 use Rattle.rc_tree.specs.declared.value.ReactiveValue.TheVariants as reactive_values
 use Rattle.rc_tree.specs.declared.value.ReactiveValue.TheOpen as value_layers
@@ -11,8 +13,7 @@ use Rattle.rc_runs.specs.TreeOf.{instructions_of, value_of}
 use Rattle.rc_runs.specs.Flattened.{flat_rows, final_value}
 use Rattle.rc_runs.proofs.EveryBlockIsPlain.{every_value_is_plain}
 use Rattle.rc_runs.proofs.TreeOfLemmas.{value_of-injective}
-use Rattle.rc_build.specs.declared.flatten.Opened.TheVariants as opened
-use Rattle.rc_build.specs.inside.Flattening.{FlatSoFar, IsOpened}
+use Rattle.rc_build.specs.inside.Flattening.{FlatSoFar}
 use Rattle.rc_build.proofs.ValueRowsLemmas.{instructions_of-rows_join}
 
 -- how many sequences are inside each other

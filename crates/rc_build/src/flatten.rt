@@ -6,12 +6,11 @@ ghost use Rattle.std.specs.Prelude.{◌≡◌, ◌++◌, IfOk};
 ghost use Rattle.rc_runs.specs.Flattened as spec;
 ghost use Rattle.rc_runs.specs.PlainTree.{Base, Value};
 ghost use Rattle.rc_runs.specs.TreeOf.{instructions_of, value_of};
-ghost use Rattle.rc_build.specs.inside.Flattening.{IsOpened};
 
 use crate::value_rows::base_value;
 use rc_hir::{InstructionValue, Place, PrimitiveValue};
 use rc_names::{Boxed, EvaluationOrder, List, Span};
-use rc_tree::{ReactiveInstruction, ReactiveValue};
+use rc_tree::{Opened, ReactiveInstruction, ReactiveValue};
 use std::alloc::{AllocError, Global};
 
 /// The value flattened, in a loop with that span. The only error is out of memory.
@@ -54,7 +53,7 @@ fn flat_rows(alloc: Global, value: Boxed<ReactiveValue>) -> Result<FlatValue, Al
     let mut rows = List::new(alloc);
     let mut value = value.into_inner();
     'rows: loop {
-        match open_sequence(value) {
+        match value.open_sequence() {
             Opened::Sequence {
                 mut instructions,
                 behind,
@@ -64,35 +63,6 @@ fn flat_rows(alloc: Global, value: Boxed<ReactiveValue>) -> Result<FlatValue, Al
             }
             Opened::Last { value } => return Ok(FlatValue { rows, value }),
         }
-    }
-}
-
-/// A sequence with its parts, or another value.
-#[derive(Drop)]
-enum Opened {
-    Sequence {
-        instructions: List<ReactiveInstruction>,
-        behind: Boxed<ReactiveValue>,
-    },
-    Last {
-        value: ReactiveValue,
-    },
-}
-
-/// The parts of a value, if it is a sequence.
-fn open_sequence(value: ReactiveValue) -> Opened
-    ensures { IsOpened value result }
-{
-    match value {
-        ReactiveValue::SequenceExpression {
-            instructions,
-            value,
-            ..
-        } => Opened::Sequence {
-            instructions,
-            behind: value,
-        },
-        value => Opened::Last { value },
     }
 }
 

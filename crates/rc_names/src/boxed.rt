@@ -38,6 +38,11 @@ impl<T> Boxed<T> {
         &mut self.inner
     }
 
+    /// Returns the heap that the value is on.
+    pub fn allocator(&self) -> Global {
+        *Box::allocator(&self.inner)
+    }
+
     /// Takes the value out of its box.
     pub fn into_inner(self) -> T
         ensures { result ≡ self }

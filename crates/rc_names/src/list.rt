@@ -1,7 +1,7 @@
 //! A list that grows at its end.
 
 ghost use Rattle.std.specs.Prelude.{◌≡◌, [], ◌∷◌, ◌++◌, ◌↔◌, length, slice_get, reverse, IsTrue, IsOk, IsNone, IfOk};
-ghost use Rattle.std.specs.Prelude.{IfSome, IfNone, OnOk, OnErr};
+ghost use Rattle.std.specs.Prelude.{IfSome, IfNone, IfErr, OnOk, OnErr};
 ghost use Rattle.std.specs.Borrow.{sem};
 ghost use Rattle.std.specs.Option.{option_copied, option_copied_mut};
 ghost use Rattle.rc_names.specs.Lends.list.{lends_item};
@@ -117,6 +117,18 @@ impl<T> List<T> {
             return Ok(());
         }
         self.items.append(&mut more.items)
+    }
+
+    /// Appends an entry. Out of memory nothing changes, and the entry is handed back.
+    pub fn try_push(&mut self, t: T) -> Result<(), T>
+        ensures ok { OnOk result (self.new ≡ self.old ++ t ∷ []) }
+        ensures err { OnErr result (self.new ≡ self.old) }
+        ensures back { IfErr result (λ back. back ≡ t) }
+    {
+        match self.items.push(t) {
+            Ok(()) => Ok(()),
+            Err(failed) => Err(failed.value),
+        }
     }
 
     /// Returns the entries, for a loop over them.

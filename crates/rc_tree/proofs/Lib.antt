@@ -41,3 +41,4 @@ pub mod FateLemmas
 pub mod TestedLemmas
 pub mod StatementsRefineLemmas
 pub mod DropLemmas
+pub mod ValueDropLemmas

@@ -1,5 +1,6 @@
 pub mod Model
 pub mod Kind
+pub mod Opened
 pub mod Unrolled
 pub mod Step
 pub mod ReadSteps

@@ -25,4 +25,4 @@ pub use statement::{ReactiveBlock, ReactiveStatement};
 pub use terminal::{
     ReactiveLabel, ReactiveSwitchCase, ReactiveTerminal, ReactiveTerminalStatement,
 };
-pub use value::{ReactiveInstruction, ReactiveValue};
+pub use value::{Opened, ReactiveInstruction, ReactiveValue};

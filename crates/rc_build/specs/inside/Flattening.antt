@@ -1,20 +1,9 @@
 -- How far a value is flattened.
 use Rattle.std.specs.Prelude.{◌≡◌, ◌++◌, List}
-use Rattle.rc_names.specs.Numbers.{EvaluationOrder}
 use Rattle.rc_tree.specs.Model.{ReactiveInstruction, ReactiveValue}
-use Rattle.rc_tree.specs.declared.value.ReactiveValue.TheVariants as reactive_values
 use Rattle.rc_runs.specs.PlainTree.{Value}
 use Rattle.rc_runs.specs.TreeOf.{instructions_of, value_of}
 use Rattle.rc_runs.specs.Flattened.{flat_rows, final_value}
-use Rattle.rc_build.specs.declared.flatten.Opened.{Opened}
-use Rattle.rc_build.specs.declared.flatten.Opened.TheVariants as opened
-
--- the parts of a sequence, or another value
-abbrev pub IsOpened : ReactiveValue → Opened → Type 0
-IsOpened value (opened.Sequence rows behind) =
-    (id : EvaluationOrder) × (value ≡ reactive_values.SequenceExpression rows id behind)
-IsOpened value (opened.Last last) = (last ≡ value) × ((rows : List ReactiveInstruction) (id : EvaluationOrder)
-    (behind : ReactiveValue) → value ≡ reactive_values.SequenceExpression rows id behind → ⊥)
 
 -- these rows come before the rest of the value
 pub record FlatSoFar (plain : Value) (rows : List ReactiveInstruction) (value : ReactiveValue) : Type 0 where

@@ -1,5 +1,6 @@
 use Rattle.std.proofs.Common.{sym, ap, subst, arith}
-use Rattle.rc_build.specs.inside.Flattening.{FlatSoFar, IsOpened}
+use Rattle.rc_tree.specs.Opened.{IsOpened}
+use Rattle.rc_build.specs.inside.Flattening.{FlatSoFar}
 use Rattle.rc_build.proofs.FlattenLemmas.{flat_done, flat_further, sequences, sequences_fewer}
 use Rattle.rc_build.proofs.flatten.flat_rows.Goals as goal
 
