@@ -139,6 +139,7 @@ fn walk_rows<V: ReactiveFunctionVisitor>(
 }
 
 /// Visits the operands of an instruction; those of a nested function are its context.
+#[inline(never)]
 #[tactic(auto, using(rc_tree::proofs::ReadLemmas::reading, crate::proofs::HeldContexts::operands_of_held))]
 fn visit_operands<V: ReactiveFunctionVisitor>(
     alloc: Global,
@@ -179,6 +180,7 @@ fn visit_held<V: ReactiveFunctionVisitor>(
 }
 
 /// Visits a row's target, if it has one.
+#[inline(never)]
 fn visit_target<V: ReactiveFunctionVisitor>(
     visitor: &V,
     id: EvaluationOrder,
@@ -195,6 +197,7 @@ fn visit_target<V: ReactiveFunctionVisitor>(
 }
 
 /// Visits the places that a row writes besides its target.
+#[inline(never)]
 fn visit_value_targets<V: ReactiveFunctionVisitor>(
     alloc: Global,
     visitor: &V,
