@@ -18,7 +18,7 @@ use Rattle.rc_program.specs.declared.given.Form.{Form}
 
 -- more bytes were taken than a document may have, by at most one buffer
 abbrev pub HasTakenTooMany : Option (List ℕ) → Option (List ℕ) → Type 0
-HasTakenTooMany = HasTaken (λ count. (most_bytes < count) × (count ≤ most_bytes + 4096))
+HasTakenTooMany = HasTaken (λ count. (most_bytes < count) × (count ≤ most_bytes + 65536))
 
 -- at most as many bytes were taken as a document may have
 abbrev pub HasTakenSome : Option (List ℕ) → Option (List ℕ) → Type 0

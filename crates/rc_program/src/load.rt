@@ -24,11 +24,7 @@ use std::mem::forget;
 const MAX_BYTES: usize = 16_777_216;
 
 /// The size of the buffer, which is the most that one call of the source may give.
-const BUFFER_BYTES: usize = 4096;
-
-/// The largest document, in bytes, whose JSON value isn't freed before the process ends. Freeing it takes a tenth of a
-/// whole run; leaving that of a larger document would raise the most memory that any document needs.
-const LEFT_BYTES: usize = 4_194_304;
+const BUFFER_BYTES: usize = 65_536;
 
 /// The largest document, in bytes, whose bytes stay until it is read, so that lines and columns can be told of what is
 /// misread. Most memory is taken by larger ones.
@@ -74,7 +70,9 @@ fn load<S: Source>(
     document(alloc, form, bytes, note)
 }
 
-/// The bytes of a source, up to its end. It stops as soon as there are more than a document may have.
+/// The bytes of a source, up to its end. It stops as soon as there are more than a document may have. The buffer is on
+/// the stack only as long as this runs.
+#[inline(never)]
 fn read_to_end<S: Source>(alloc: Global, source: &mut S) -> Result<Vec<u8>, Stop>
     ensures outcome { IsReadOrStop (λ bytes. bytes.items) (S.left source.old) (S.left source.new) result }
     ensures later { S.faults source.old ≤ S.faults source.new }
@@ -102,14 +100,12 @@ fn document(alloc: Global, form: Form, mut bytes: Vec<u8>, note: &mut Note) -> R
 {
     // The room for bytes has doubled on the way, and most memory is taken while their value is made.
     bytes.shrink_to_fit();
-    let is_left = bytes.len() <= LEFT_BYTES;
     let value = parse(alloc, bytes.as_slice(), note)?;
     let text = if_kept(bytes);
     match read_given(alloc, form, &value) {
         Ok(given) => {
-            if is_left {
-                forget(value);
-            }
+            // Freeing the value takes a tenth of a whole run, and the process ends soon.
+            forget(value);
             Ok(given)
         }
         Err(Refusal::NotDoc) => {

@@ -6,8 +6,8 @@ use Rattle.rc_program.proofs.load.read_to_end.Given as goal
 
 abbrev pub invariant-loop-buffer : goal.invariant-loop-buffer
 invariant-loop-buffer g l = record {
-  size : length l.buffer ≡ 4096;
-  few : vec_len l.bytes ≤ most_bytes + 4096;
+  size : length l.buffer ≡ 65536;
+  few : vec_len l.bytes ≤ most_bytes + 65536;
   taken : Consumes (g.S.Source.left l.fn.source) (g.S.Source.left l.source) l.bytes.items;
   later : g.S.Source.faults l.fn.source ≤ g.S.Source.faults l.source;
 }
