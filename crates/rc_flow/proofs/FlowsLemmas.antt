@@ -1,10 +1,11 @@
 -- The steps of each form of statement and of terminal: one equation a form.
-use Rattle.std.proofs.Common.{◌≡◌, ◌∙◌, ◌+◌, ◌<◌, ℕ, List, [], ◌∷◌, ◌++◌, Option, None, Some, map, drop, get_or, length}
+use Rattle.std.proofs.Common.{◌≡◌, ◌∙◌, ◌+◌, ◌<◌, ℕ, List, [], ◌∷◌, ◌++◌, Option, None, Some, drop, get_or, length}
 use Rattle.std.proofs.Common.{append_assoc, sym, ap}
 use Rattle.std.proofs.lemmas.List.{append-nil, drop_more}
 use Rattle.rc_hir.specs.Model.{Environment, Place}
 use Rattle.rc_names.specs.Numbers.{BlockId, EvaluationOrder}
 use Rattle.rc_names.specs.declared.span.Span.{Span}
+use Rattle.rc_tree.specs.Collected.{of_statement}
 use Rattle.rc_tree.specs.TreeFold.{parts_of_statement, parts_of_terminal}
 use Rattle.rc_tree.specs.Unrolled.{UnrolledStatement, UnrolledTerminal}
 use Rattle.rc_tree.specs.Model.{PrunedReactiveScopeBlock, ReactiveBlock, ReactiveInstruction, ReactiveScopeBlock}
@@ -18,16 +19,17 @@ use Rattle.rc_tree.specs.declared.statement.ReactiveStatement.TheViews.{roll-out
 use Rattle.rc_tree.specs.declared.terminal.ReactiveTerminal.TheVariants as tree
 use Rattle.rc_tree.proofs.TreeFoldLemmas.{over_statement-roll, over_terminal-roll, over_case-roll, over_block-parts}
 use Rattle.rc_tree.proofs.TreeFoldLemmas.{over_labeled-parts, over_scope-parts, over_pruned_scope-parts}
-use Rattle.rc_flow.specs.Flows.{all_steps, flowing, flows_in, of_statement, of_terminal}
-use Rattle.rc_flow.specs.Flows.Values.{steps_of_row, steps_of_value, steps_of_value_if}
+use Rattle.rc_flow.specs.Flows.{flow_parts, flowing, flows_in, of_terminal}
 use Rattle.rc_flow.specs.declared.step.Step.{Step}
 use Rattle.rc_flow.specs.declared.step.Step.TheVariants.{Ends}
-use Rattle.rc_flow.specs.inside.PartFlows.{flows_if, flows_of_case, flows_of_statement, flows_of_terminal}
+use Rattle.rc_flow.specs.inside.PartFlows.{flows_if, flows_of_case, flows_of_cases, flows_of_list, flows_of_statement}
+use Rattle.rc_flow.specs.inside.PartFlows.{flows_of_terminal, steps_of_row, steps_of_value, steps_of_value_if}
 
 module _ (env : Environment) where
   -- each form of statement and of terminal, unfolded
   opened_statement : (x : UnrolledStatement)
-      → flows_of_statement env (roll-ReactiveStatement x) ≡ of_statement env (parts_of_statement (flowing env) x)
+      → flows_of_statement env (roll-ReactiveStatement x)
+      ≡ of_statement (flow_parts env) (parts_of_statement (flowing env) x)
   unfolding flows_of_statement
   opened_statement = over_statement-roll (flowing env)
 
@@ -36,16 +38,17 @@ module _ (env : Environment) where
   unfolding flows_of_terminal
   opened_terminal = over_terminal-roll (flowing env)
 
-  pub flows-block : (x : ReactiveBlock)
-      → flows_in env x ≡ all_steps (map (flows_of_statement env) x.statements)
+  pub flows-block : (x : ReactiveBlock) → flows_in env x ≡ flows_of_list env x.statements
   unfolding flows_in flows_of_statement
   flows-block = over_block-parts (flowing env)
 
-  pub flows-case : (test : Option Place) (body : Option ReactiveBlock)
-      → flows_of_case env (roll-ReactiveSwitchCase (record { test = test; block = body })) ≡ flows_if env body
+  pub flows-case : (test : Option Place) (body : Option ReactiveBlock) (id : EvaluationOrder)
+      → flows_of_case env (roll-ReactiveSwitchCase (record { test = test; block = body })) id ≡ flows_if env body
   unfolding flows_in flows_of_case
-  flows-case test None = over_case-roll (flowing env) (record { test = test; block = None })
-  flows-case test (Some body) = over_case-roll (flowing env) (record { test = test; block = Some body })
+  flows-case test None id =
+      ap (λ steps. steps id) (over_case-roll (flowing env) (record { test = test; block = None }))
+  flows-case test (Some body) id =
+      ap (λ steps. steps id) (over_case-roll (flowing env) (record { test = test; block = Some body }))
 
   -- statements
   pub flows-Instruction : (x : ReactiveInstruction)
@@ -91,7 +94,7 @@ module _ (env : Environment) where
       ∙ opened_terminal (layer.Throw place id)
 
   pub flows-Switch : (test : Place) (cases : List ReactiveSwitchCase) (id : EvaluationOrder)
-      → flows_of_terminal env (tree.Switch test cases id) ≡ all_steps (map (flows_of_case env) cases)
+      → flows_of_terminal env (tree.Switch test cases id) ≡ flows_of_cases env id cases
   unfolding flows_of_case
   flows-Switch test cases id = ap (flows_of_terminal env) (sym (tree.rolls-Switch test cases id))
       ∙ opened_terminal (layer.Switch test cases id)
@@ -152,22 +155,22 @@ module _ (env : Environment) where
 
 -- the steps of the next case are added
 pub added_case : (env : Environment) (found new all : List Step) (cases : List ReactiveSwitchCase) (place : ℕ)
-    (case : ReactiveSwitchCase) → place < length cases → case ≡ get_or cases place case
+    (case : ReactiveSwitchCase) (id : EvaluationOrder) → place < length cases → case ≡ get_or cases place case
     → new ≡ found ++ flows_if env (out-ReactiveSwitchCase case).block
-    → found ++ all_steps (map (flows_of_case env) (drop place cases)) ≡ all
-    → new ++ all_steps (map (flows_of_case env) (drop (place + 1) cases)) ≡ all
-added_case env found new all cases place case below at here so_far =
+    → found ++ flows_of_cases env id (drop place cases) ≡ all
+    → new ++ flows_of_cases env id (drop (place + 1) cases) ≡ all
+added_case env found new all cases place case id below at here so_far =
     let inner = flows_if env (out-ReactiveSwitchCase case).block in
-    let rest = all_steps (map (flows_of_case env) (drop (place + 1) cases)) in
+    let rest = flows_of_cases env id (drop (place + 1) cases) in
     let next : drop place cases ≡ case ∷ drop (place + 1) cases =
     drop_more cases place case below ∙ ap (λ x. x ∷ drop (place + 1) cases) (sym at)
     in
-    let held : flows_of_case env case ≡ inner =
-    ap (flows_of_case env) (sym (roll-out-ReactiveSwitchCase case))
-    ∙ flows-case env (out-ReactiveSwitchCase case).test (out-ReactiveSwitchCase case).block
+    let held : flows_of_case env case id ≡ inner =
+    ap (λ x. flows_of_case env x id) (sym (roll-out-ReactiveSwitchCase case))
+    ∙ flows-case env (out-ReactiveSwitchCase case).test (out-ReactiveSwitchCase case).block id
     in
-    let whole : all_steps (map (flows_of_case env) (drop place cases)) ≡ inner ++ rest =
-    ap (λ xs. all_steps (map (flows_of_case env) xs)) next ∙ ap (λ it. it ++ rest) held
+    let whole : flows_of_cases env id (drop place cases) ≡ inner ++ rest =
+    ap (flows_of_cases env id) next ∙ ap (λ it. it ++ rest) held
     in
     ap (λ steps. steps ++ rest) here ∙ append_assoc found inner rest ∙ ap (λ steps. found ++ steps) (sym whole) ∙ so_far
 

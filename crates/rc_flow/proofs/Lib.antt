@@ -4,6 +4,7 @@ mod SpreadSteps
 mod ReachedLemmas
 mod SpreadLemmas
 mod ToldLemmas
+mod RecordingLemmas
 mod TakenLemmas
 mod PositionLemmas
 mod FlowsLemmas

@@ -1,5 +1,5 @@
--- A fault of the collecting walk names a number of the tree that is outside its table.
-use Rattle.std.proofs.Common.{inl, inr, ℕ, List, [], ◌∷◌, ◌++◌, Option, None, Some, Result, Ok, Err, All, Any}
+-- A fault of the collecting steps names a number of the tree that is outside its table.
+use Rattle.std.proofs.Common.{inl, inr, ℕ, List, [], ◌∷◌, ◌++◌, Result, Ok, Err, All, Any}
 use Rattle.std.proofs.Common.{IfErr, flat_map, arith, refl, sym, length, slice_get, subst}
 use Rattle.std.proofs.lemmas.List.Elements.{All-append}
 use Rattle.std.proofs.lemmas.Option.{slice_get_cases}
@@ -8,75 +8,53 @@ use Rattle.rc_hir.specs.EnvironmentNames.{environment_names}
 use Rattle.rc_hir.specs.GraphNames.{function_names}
 use Rattle.rc_hir.specs.Names.{FunctionInTables, IsInTable, IsOutside, NamesOutsideIn, lengths}
 use Rattle.rc_hir.specs.Operands.{context_found, operands}
-use Rattle.rc_hir.specs.PartNames.{Name, names_if, parameter_names, place_names, scope_name}
+use Rattle.rc_hir.specs.PartNames.{Name, parameter_names, scope_name}
 use Rattle.rc_hir.specs.ValueNames.{value_names}
 use Rattle.rc_hir.specs.Model.{Environment, Fault, InstructionValue, LoweredFunction, Place}
 use Rattle.rc_hir.specs.declared.fault.TableName.TheVariants.{Functions}
 use Rattle.rc_hir.specs.declared.instruction.InstructionValue.TheVariants as kinds
-use Rattle.rc_names.specs.Numbers.{EvaluationOrder, ScopeId}
+use Rattle.rc_names.specs.Numbers.{ScopeId}
 use Rattle.rc_tree.proofs.AnyLemmas.{Any-left, Any-right, none_of}
-use Rattle.rc_tree.proofs.ReadFollowed.{FollowedParts, block_followed}
-use Rattle.rc_tree.proofs.ReadFollowedValues.{FollowedInTurn, FollowedValues, rows_followed, values_followed_if}
-use Rattle.rc_tree.specs.Joining.{lists}
-use Rattle.rc_tree.specs.Read.{read_block}
-use Rattle.rc_tree.specs.Read.Values.{inside_base}
-use Rattle.rc_tree.specs.ReadSteps.{ReadSteps, targets_of}
-use Rattle.rc_tree.specs.Step.{Walk, bind, each, next_to, perhaps}
+use Rattle.rc_tree.proofs.CollectedRelated.{RelatedParts, RelatedValues, collected_related, rows_related}
+use Rattle.rc_tree.proofs.CollectedRelated.{values_related_if}
+use Rattle.rc_tree.specs.Step.{bind}
 use Rattle.rc_tree.specs.TreeNames.{TreeInTables, TreeNamesOutside, names_in, names_of_parts, names_of_values}
 use Rattle.rc_tree.specs.Model.{ReactiveFunction}
-use Rattle.rc_flow.specs.Collected.{place_steps, recorded_steps, recording}
+use Rattle.rc_flow.specs.Collected.{Recorded, joined, marked, place_steps, pruned_scope_steps, recorded_parts}
+use Rattle.rc_flow.specs.Collected.{recorded_steps, recorded_values, written}
 use Rattle.rc_flow.specs.declared.step.Step.{Step}
 
-abbrev Steps : Type 0
-Steps = List Step
-
 module _ (env : Environment) where
-  abbrev hooks : ReadSteps Steps
-  hooks = recording env
-
   -- the fault names one of the numbers, which is outside its table
   abbrev Outside : List Name → Fault → Type 0
   Outside names fault = Any (IsOutside (lengths env 0) fault) names
 
-  -- the fault of the walk does, if there is one
-  abbrev IsNamed : Walk Steps → List Name → Type 0
-  IsNamed walk names = (s : Steps) → IfErr (walk s) (λ fault. Outside names fault)
+  -- the fault of the steps does, if there is one
+  abbrev IsNamed : Recorded → List Name → Type 0
+  IsNamed recorded names = IfErr recorded (λ fault. Outside names fault)
 
-  next : (first second : Walk Steps) (x y : List Name) → IsNamed first x → IsNamed second y
-      → IsNamed (next_to first second) (x ++ y)
-  next first second x y h k s = by (first s) (h s)
-    where
-      by : (r : Result (Unit {0} × Steps) Fault) → IfErr r (λ fault. Outside x fault)
-          → IfErr (bind r (λ a. second a.1)) (λ fault. Outside (x ++ y) fault)
-      by (Ok a) none = IfErr-weaker (second a.1) (λ fault. Outside y fault) (λ fault. Outside (x ++ y) fault)
-          (λ fault. Any-right (IsOutside (lengths env 0) fault) x y) (k a.1)
-      by (Err fault) named = Any-left (IsOutside (lengths env 0) fault) x y named
+  both : (first second : Recorded) (x y : List Name) → IsNamed first x → IsNamed second y
+      → IsNamed (joined first second) (x ++ y)
+  both (Ok steps) (Ok more) x y none other = tt
+  both (Ok steps) (Err fault) x y none named = Any-right (IsOutside (lengths env 0) fault) x y named
+  both (Err fault) second x y named other = Any-left (IsOutside (lengths env 0) fault) x y named
 
-  to_end : (inside : Walk Steps) (end : Steps → Steps) (names : List Name) → IsNamed inside names
-      → IsNamed (λ s. bind (inside s) (λ r. Ok (tt, end r.1))) names
-  to_end inside end names h s = by (inside s) (h s)
-    where
-      by : (r : Result (Unit {0} × Steps) Fault) → IfErr r (λ fault. Outside names fault)
-          → IfErr (bind {B = Unit {0} × Steps} r (λ r. Ok (tt, end r.1))) (λ fault. Outside names fault)
-      by (Ok a) none = tt
-      by (Err fault) named = named
+  -- steps without a fault, before others and after them
+  in_front : (steps : List Step) (last : Recorded) (names : List Name) → IsNamed last names
+      → IsNamed (joined (Ok steps) last) names
+  in_front steps (Ok more) names none = tt
+  in_front steps (Err fault) names named = named
 
-  in_scope : (scope : ScopeId) (inside : Walk Steps) (end : Steps → Steps) (names : List Name) → IsNamed inside names
-      → IsNamed (λ s. bind (inside s) (λ r. Ok (tt, end r.1))) (scope_name scope ++ names)
-  in_scope scope inside end names h =
-      next (λ s. Ok (tt, s)) (λ s. bind (inside s) (λ r. Ok (tt, end r.1))) (scope_name scope) names (λ s. tt)
-      (to_end inside end names h)
+  behind : (first : Recorded) (steps : List Step) (names : List Name) → IsNamed first names
+      → IsNamed (joined first (Ok steps)) names
+  behind (Ok more) steps names none = tt
+  behind (Err fault) steps names named = named
 
-  -- visits of places have no fault
-  visits_named : (id : EvaluationOrder) (places : List Place) (names : List Name)
-      → IsNamed (each (hooks.visit_place id) places) names
-  visits_named id [] names s = tt
-  visits_named id (place ∷ places) names s = visits_named id places names (s ++ place_steps place)
-
-  visit_named : (id : EvaluationOrder) (place : Option Place) (names : List Name)
-      → IsNamed (perhaps (hooks.visit_place id) place) names
-  visit_named id None names s = tt
-  visit_named id (Some place) names s = tt
+  in_scope : (scope : ScopeId) (inside : Recorded) (names : List Name) → IsNamed inside names
+      → IsNamed inside (scope_name scope ++ names)
+  in_scope scope inside names =
+      IfErr-weaker inside (λ fault. Outside names fault) (λ fault. Outside (scope_name scope ++ names) fault)
+      (λ fault. Any-right (IsOutside (lengths env 0) fault) (scope_name scope) names)
 
   -- the operands of a value can't be read where its function is outside the table
   context_named : (lowered : LoweredFunction)
@@ -95,57 +73,42 @@ module _ (env : Environment) where
   operands_named (kinds.FunctionExpression name lowered span) = context_named lowered
   operands_named _ = tt
 
-  base : (id : EvaluationOrder) (x : InstructionValue)
-      → IsNamed (inside_base hooks env.functions x id) (value_names x)
-  base id x s = by (operands env.functions x) (operands_named x)
-    where
-      by : (r : Result (List Place) Fault) → IfErr r (λ fault. Outside (value_names x) fault)
-          → IfErr (bind r (λ places. each (hooks.visit_place id) places s)) (λ fault. Outside (value_names x) fault)
-      by (Ok places) none = visits_named id places (value_names x) s
-      by (Err fault) named = named
+  read_named : (read : Result (List Place) Fault) (names : List Name) → IfErr read (λ fault. Outside names fault)
+      → IsNamed (bind read marked) names
+  read_named (Ok places) names none = tt
+  read_named (Err fault) names named = named
 
-  in_turn : FollowedInTurn IsNamed lists
-  in_turn = record { none = λ s. tt; next = next }
-
-  values_named : FollowedValues hooks IsNamed env.functions names_of_values
+  values_named : RelatedValues IsNamed (recorded_values env) names_of_values
   values_named = record {
-    in_turn = in_turn;
-    operands = base;
-    value = λ id x inside held h. to_end inside (λ s. s) held h;
-    row = λ x inside held h. to_end inside (λ s. s) held h;
-    target = λ x inside held h.
-        let targets = each (hooks.visit_lvalue x.id) (targets_of x.value) in
-        next (perhaps (hooks.visit_lvalue x.id) x.lvalue) (next_to targets inside) (names_if place_names x.lvalue) held
-        (visit_named x.id x.lvalue (names_if place_names x.lvalue))
-        (next targets inside [] held (visits_named x.id (targets_of x.value) []) h);
+    joined = record { nothing = tt; both = both };
+    instruction = λ id x. read_named (operands env.functions x) (value_names x) (operands_named x);
+    target = λ id x. tt;
+    row = λ x inside names. in_front (flat_map place_steps (written x)) inside names;
   }
 
-  parts_named : FollowedParts hooks IsNamed env.functions names_of_parts
+  parts_named : RelatedParts IsNamed (recorded_parts env) names_of_parts
   parts_named = record {
-    in_turn = in_turn;
-    row = rows_followed hooks IsNamed env.functions names_of_values values_named;
-    value = values_followed_if hooks IsNamed env.functions names_of_values values_named;
-    place = λ id x. visit_named id x (names_if place_names x);
-    returned = λ id x s. tt;
-    jump = λ id target s. tt;
-    at = λ id inside held h. h;
-    block = λ x inside held h. to_end inside (λ s. s) held h;
-    scope = λ x inside held h. in_scope x.scope inside (λ s. s) held h;
-    pruned_scope = λ x inside held h. in_scope x.scope inside (λ s. s ++ _) held h;
-    terminal = λ x inside held h. to_end inside (λ s. s) held h;
+    joined = values_named.joined;
+    row = rows_related IsNamed (recorded_values env) names_of_values values_named;
+    value = values_related_if IsNamed (recorded_values env) names_of_values values_named;
+    place = λ id x. tt;
+    returned = λ id x. tt;
+    jump = λ target. tt;
+    label = λ label. tt;
+    scope = in_scope;
+    pruned_scope = λ scope inside names named. in_scope scope (joined inside (Ok (pruned_scope_steps env scope))) names
+        (behind inside (pruned_scope_steps env scope) names named);
   }
 
   -- the fault of the collecting steps names a number of the tree
   pub recorded_named : (func : ReactiveFunction)
       → IfErr (recorded_steps env func.body) (λ fault. TreeNamesOutside func env fault)
-  recorded_named func = by (read_block hooks env.functions func.body [])
-      (block_followed hooks IsNamed env.functions names_of_parts parts_named func.body [])
-    where
-      by : (r : Result (Unit {0} × Steps) Fault) → IfErr r (λ fault. Outside (names_in func.body) fault)
-          → IfErr (bind {B = Steps} r (λ walked. Ok walked.1)) (λ fault. TreeNamesOutside func env fault)
-      by (Ok a) none = tt
-      by (Err fault) named = inl (Any-right (IsOutside (lengths env 0) fault)
-          (flat_map parameter_names func.params) (names_in func.body) named)
+  recorded_named func =
+      IfErr-weaker (recorded_steps env func.body) (λ fault. Outside (names_in func.body) fault)
+      (λ fault. TreeNamesOutside func env fault)
+      (λ fault named. inl (Any-right (IsOutside (lengths env 0) fault) (flat_map parameter_names func.params)
+      (names_in func.body) named))
+      (collected_related IsNamed (recorded_parts env) names_of_parts parts_named func.body)
 
 -- where every number of the tree is in its table, no fault names one that isn't
 pub no_name_outside : (func : ReactiveFunction) (env : Environment) (fault : Fault) → TreeInTables func env

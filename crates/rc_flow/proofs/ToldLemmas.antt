@@ -9,10 +9,11 @@ use Rattle.rc_hir.specs.declared.fault.TableName.TheVariants.{Functions}
 use Rattle.rc_names.specs.Numbers.{EvaluationOrder, FunctionId}
 use Rattle.rc_tree.proofs.StepLemmas.{Ok-injective, not_err}
 use Rattle.rc_tree.specs.Step.{each}
-use Rattle.rc_flow.specs.Collected.{place_steps, recording}
+use Rattle.rc_flow.specs.Collected.{place_steps}
 use Rattle.rc_flow.specs.declared.step.Step.{Step}
 use Rattle.rc_flow.specs.declared.told.Told.{Told}
 use Rattle.rc_flow.specs.declared.told.Told.TheVariants as told
+use Rattle.rc_flow.specs.inside.Recording.{recording}
 use Rattle.rc_flow.specs.inside.Told.{context_if, steps_told, steps_told_at}
 
 -- one thing more
@@ -28,7 +29,7 @@ told_step functions before after step is = told_one functions before after (told
 
 module _ (env : Environment) (id : EvaluationOrder) where
   -- visits of places add their steps
-  visited : (places : List Place) (s : List Step)
+  pub visited : (places : List Place) (s : List Step)
       → each ((recording env).visit_place id) places s ≡ Ok (tt, s ++ flat_map place_steps places)
   visited [] s = ap (λ steps. Ok (tt, steps)) (sym (append-nil s))
   visited (place ∷ places) s =

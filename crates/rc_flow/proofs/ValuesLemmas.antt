@@ -9,8 +9,9 @@ use Rattle.rc_tree.specs.Joining.{all_of, lists}
 use Rattle.rc_tree.specs.Model.{ReactiveInstruction, ReactiveValue}
 use Rattle.rc_tree.specs.declared.value.ReactiveValue.TheVariants as reactive_values
 use Rattle.rc_flow.proofs.ListLemmas.{added, added_three}
-use Rattle.rc_flow.specs.Flows.Values.{row_flows, steps_of_row, steps_of_value}
+use Rattle.rc_flow.specs.Flows.Values.{row_flows}
 use Rattle.rc_flow.specs.declared.step.Step.{Step}
+use Rattle.rc_flow.specs.inside.PartFlows.{steps_of_row, steps_of_value}
 
 module _ (env : Environment) (id : EvaluationOrder) where
   abbrev steps : ReactiveValue → List Step

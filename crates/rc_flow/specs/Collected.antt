@@ -1,16 +1,20 @@
--- The steps by which names are collected as reactive, in the order of the read walk, and the names that they reach.
+-- The steps by which names are collected as reactive, in the order of the text, and the names that they reach.
 use Rattle.std.specs.Prelude.{◌≡◌, ◌↔◌, Bool, true, false, List, [], ◌∷◌, ◌++◌, Option, None, Some, Result, Ok}
 use Rattle.std.specs.Prelude.{length, slice_get, if◌then◌else◌}
 use Rattle.std.specs.List.{flat_map}
+use Rattle.std.specs.Option.{option_map_or}
 use Rattle.rc_hir.specs.Environment.{type_of}
 use Rattle.rc_hir.specs.Model.{DeclarationEntry, Environment, Fault, HirType, Place, ReactiveScope}
+use Rattle.rc_hir.specs.Operands.{operands, value_targets}
+use Rattle.rc_hir.specs.TerminalOperands.{perhaps_place}
 use Rattle.rc_hir.specs.Types.{is_ref_type}
 use Rattle.rc_hir.specs.declared.types.HirType.TheVariants.{Primitive}
 use Rattle.rc_names.specs.Numbers.{IdentifierId, ScopeId, is_among}
-use Rattle.rc_tree.specs.Read.{read_block}
-use Rattle.rc_tree.specs.ReadSteps.{ReadSteps, idle}
+use Rattle.rc_tree.specs.Collected.{Contributions, collected}
+use Rattle.rc_tree.specs.CollectedValues.{ValueContributions, collected_row, collected_value_if, instruction_of}
+use Rattle.rc_tree.specs.Joining.{Joining}
+use Rattle.rc_tree.specs.Model.{ReactiveBlock, ReactiveInstruction}
 use Rattle.rc_tree.specs.Step.{bind}
-use Rattle.rc_tree.specs.Model.{ReactiveBlock}
 use Rattle.rc_flow.specs.Reached.{IsReached}
 use Rattle.rc_flow.specs.declared.step.Step.{Step}
 use Rattle.rc_flow.specs.declared.step.Step.TheVariants.{Marks, Carries}
@@ -38,28 +42,60 @@ step_by_type entry (Some type) =
 abbrev pub declaration_steps : Environment → DeclarationEntry → List Step
 declaration_steps env entry = step_by_type entry (type_of env entry.value.identifier)
 
--- the declarations of a scope, if it is in its table
-abbrev pub declarations_if : Option ReactiveScope → List DeclarationEntry
-declarations_if None = []
-declarations_if (Some scope) = scope.declarations
+-- the steps of the declarations of a scope
+abbrev pub declared_steps : Environment → ReactiveScope → List Step
+declared_steps env scope = flat_map (declaration_steps env) scope.declarations
 
--- the steps at the end of a pruned scope block
+-- the steps at the end of a pruned scope block: none where its scope is outside the table
 abbrev pub pruned_scope_steps : Environment → ScopeId → List Step
-pruned_scope_steps env scope =
-    flat_map (declaration_steps env) (declarations_if (slice_get env.scopes scope.0))
+pruned_scope_steps env scope = option_map_or (declared_steps env) (slice_get env.scopes scope.0) []
 
--- the read walk that lists the steps: places and targets mark, and so do declarations at the end of a pruned scope
--- block
-abbrev pub recording : Environment → ReadSteps (List Step)
-recording env = record idle {
-  visit_place = λ id place steps. Ok (tt, steps ++ place_steps place);
-  visit_lvalue = λ id place steps. Ok (tt, steps ++ place_steps place);
-  leave_pruned_scope = λ block steps. Ok (tt, steps ++ pruned_scope_steps env block.scope);
-}
+-- the steps of a part, or the fault of an operand that can't be read
+abbrev pub Recorded : Type 0
+Recorded = Result (List Step) Fault
 
--- the steps of a body, or the fault of an operand that can't be read
-abbrev pub recorded_steps : Environment → ReactiveBlock → Result (List Step) Fault
-recorded_steps env body = bind (read_block (recording env) env.functions body []) (λ walked. Ok walked.1)
+-- the steps of one part, and then of another; of two faults, the first
+abbrev pub joined : Recorded → Recorded → Recorded
+joined first second = bind first (λ steps. bind second (λ more. Ok (steps ++ more)))
+
+abbrev pub recorded_joining : Joining Recorded
+recorded_joining = record { nothing = Ok []; both = joined }
+
+-- the steps of places, each of which marks its name if it is reactive
+abbrev pub marked : List Place → Recorded
+marked places = Ok (flat_map place_steps places)
+
+-- the places that a row writes: its target, and those of its instruction
+abbrev pub written : ReactiveInstruction → List Place
+written row = perhaps_place row.lvalue ++ option_map_or value_targets (instruction_of row.value) []
+
+module _ (env : Environment) where
+  -- what a row writes is marked before what its value reads
+  abbrev pub recorded_values : ValueContributions Recorded
+  recorded_values = record {
+    joining = recorded_joining;
+    instruction = λ id x. bind (operands env.functions x) marked;
+    target = λ id x. Ok [];
+    row = λ row inside. joined (marked (written row)) inside;
+  }
+
+  -- a pruned scope block marks what its scope declares, after its inside
+  abbrev pub recorded_parts : Contributions Recorded
+  recorded_parts = record {
+    joining = recorded_joining;
+    row = collected_row recorded_values;
+    value = collected_value_if recorded_values;
+    place = λ id x. marked (perhaps_place x);
+    returned = λ id x. Ok (place_steps x);
+    jump = λ target. Ok [];
+    label = λ label. Ok [];
+    scope = λ scope inside. inside;
+    pruned_scope = λ scope inside. joined inside (Ok (pruned_scope_steps env scope));
+  }
+
+  -- the steps of a body
+  abbrev pub recorded_steps : ReactiveBlock → Recorded
+  recorded_steps = collected recorded_parts
 
 -- the names that the collecting steps of a body reach
 pub record AreCollected (env : Environment) (body : ReactiveBlock) (names : List IdentifierId) : Type 0 where

@@ -1,6 +1,7 @@
 -- Which names are reactive at a place of a walk: those that a step before it marks, and those to which a chain of steps
 -- at rising places leads from such a name.
-use Rattle.std.specs.Prelude.{◌≡◌, ◌<◌, ℕ, true, List, [], ◌++◌, Option, None, Some, map, slice_get}
+use Rattle.std.specs.Prelude.{◌≡◌, ◌<◌, ℕ, true, List, [], ◌++◌, Option, Some, map, slice_get}
+use Rattle.std.specs.Option.{option_map_or}
 use Rattle.rc_hir.specs.Model.{DeclarationEntry, Environment, ReactiveScope, ReactiveScopeDependency}
 use Rattle.rc_names.specs.Numbers.{IdentifierId, is_among}
 use Rattle.rc_flow.specs.declared.step.Step.{Step}
@@ -17,12 +18,10 @@ output_names scope =
 
 -- the same of a scope that was looked up; there are none where its number is outside the table
 abbrev pub dependencies_if : Option ReactiveScope → List IdentifierId
-dependencies_if None = []
-dependencies_if (Some scope) = dependency_names scope
+dependencies_if scope = option_map_or dependency_names scope []
 
 abbrev pub outputs_if : Option ReactiveScope → List IdentifierId
-outputs_if None = []
-outputs_if (Some scope) = output_names scope
+outputs_if scope = option_map_or output_names scope []
 
 module _ (env : Environment) where
   -- the names from which a step carries reactivity on, and those to which

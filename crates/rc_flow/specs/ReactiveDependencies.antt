@@ -1,19 +1,14 @@
 -- The dependencies that stay: those whose names are reactive wherever a block of their scope ends.
-use Rattle.std.specs.Prelude.{◌≡◌, ◌+◌, ◌↔◌, ℕ, Bool, true, List, [], ◌∷◌, ◌++◌, Some, Result, Ok, slice_get}
+use Rattle.std.specs.Prelude.{◌≡◌, ◌+◌, ◌↔◌, ℕ, Bool, true, List, [], ◌∷◌, ◌++◌, Some, Ok, slice_get}
 use Rattle.std.specs.List.{filter}
-use Rattle.rc_hir.specs.Model.{Environment, Fault, ReactiveScope, ReactiveScopeDependency}
+use Rattle.rc_hir.specs.Model.{Environment, ReactiveScope, ReactiveScopeDependency}
 use Rattle.rc_names.specs.Numbers.{ScopeId, to_id}
 use Rattle.rc_tree.specs.Model.{ReactiveBlock}
-use Rattle.rc_tree.specs.Step.{bind}
 use Rattle.rc_flow.specs.Collected.{recorded_steps}
 use Rattle.rc_flow.specs.Flows.{flows_in}
 use Rattle.rc_flow.specs.Reached.{IsReached}
 use Rattle.rc_flow.specs.declared.step.Step.{Step}
 use Rattle.rc_flow.specs.declared.step.Step.TheVariants.{Ends}
-
--- the collecting steps of a body, and then its flows
-abbrev pub all_steps_of : Environment → ReactiveBlock → Result (List Step) Fault
-all_steps_of env body = bind (recorded_steps env body) (λ steps. Ok (steps ++ flows_in env body))
 
 module _ (env : Environment) (steps : List Step) where
   -- the dependency's name is reactive wherever a block of its scope ends
@@ -34,9 +29,10 @@ module _ (env : Environment) (steps : List Step) where
       KeepsReactive (to_id number) old new × KeepReactive (number + 1) olds news
   KeepReactive number _ _ = ⊥
 
--- the second environment is the first one, where each scope keeps exactly the dependencies that stay
+-- the second environment is the first one, where each scope keeps exactly the dependencies that stay over the
+-- collecting steps of the body and then its flows
 pub record HasReactiveDependencies (body : ReactiveBlock) (old new : Environment) : Type 0 where
-  pub steps : List Step
-  pub listed : all_steps_of old body ≡ Ok steps
+  pub collecting : List Step
+  pub recorded : recorded_steps old body ≡ Ok collecting
   pub others : new ≡ record old { scopes = new.scopes }
-  pub scopes : KeepReactive old steps 0 old.scopes new.scopes
+  pub scopes : KeepReactive old (collecting ++ flows_in old body) 0 old.scopes new.scopes

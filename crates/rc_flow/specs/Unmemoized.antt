@@ -42,12 +42,9 @@ module _ (env : Environment) (steps : List ValueStep) where
     pub unmemoized : IsUnmemoized place cause
 
   -- the answers for the scope blocks that end from that place on, in the order in which they end
-  pub data AreAnswers : ℕ → List ValueStep → List Bool → Type 0 where
-    no_more : {place : ℕ} → AreAnswers place [] []
-    makes : {place : ℕ} {name : IdentifierId} {in_scope : Bool} {rest : List ValueStep} {answers : List Bool}
-        → AreAnswers (place + 1) rest answers → AreAnswers place (Makes name in_scope ∷ rest) answers
-    copies : {place : ℕ} {from to : IdentifierId} {rest : List ValueStep} {answers : List Bool}
-        → AreAnswers (place + 1) rest answers → AreAnswers place (Copies from to ∷ rest) answers
-    ends : {place : ℕ} {scope : ScopeId} {answer : Bool} {rest : List ValueStep} {answers : List Bool}
-        → (answer ≡ true) ↔ HasUnmemoized place scope → AreAnswers (place + 1) rest answers
-        → AreAnswers place (Ends scope ∷ rest) (answer ∷ answers)
+  abbrev pub AreAnswers : ℕ → List ValueStep → List Bool → Type 0
+  AreAnswers place [] answers = answers ≡ []
+  AreAnswers place (Ends scope ∷ rest) [] = ⊥
+  AreAnswers place (Ends scope ∷ rest) (answer ∷ answers) =
+      ((answer ≡ true) ↔ HasUnmemoized place scope) × AreAnswers (place + 1) rest answers
+  AreAnswers place (_ ∷ rest) answers = AreAnswers (place + 1) rest answers

@@ -1,4 +1,5 @@
 -- What private functions say of each other.
+pub mod Recording
 pub mod Spread
 pub mod Told
 pub mod PartFlows

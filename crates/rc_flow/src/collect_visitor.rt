@@ -3,6 +3,7 @@
 ghost use Rattle.std.specs.Prelude.{◌≡◌, [], ◌∷◌, ◌++◌, List as Entries, IfOk, OnOk};
 ghost use Rattle.rc_flow.specs.Collected as spec;
 ghost use Rattle.rc_flow.specs.declared.step.Step.{Step};
+ghost use Rattle.rc_flow.specs.inside.Recording.{recording};
 ghost use Rattle.rc_flow.specs.inside.Told.{steps_told};
 
 use crate::step::Step;
@@ -96,7 +97,7 @@ impl<'a> ReactiveFunctionVisitor for CollectVisitor<'a> {
 
     ghost view = { λ it told. steps_told it.env.now.functions told };
 
-    ghost steps = { λ it. spec.recording it.env.now };
+    ghost steps = { λ it. recording it.env.now };
 
     ghost functions = { λ it. it.env.now.functions };
 

@@ -4,7 +4,8 @@
 
 ghost use Rattle.std.specs.Prelude.{◌≡◌, ◌⊎◌, IfErr, IfOk};
 ghost use Rattle.rc_hir.specs.Fault.{IsExpected};
-ghost use Rattle.rc_flow.specs.Collected.{AreCollected, recorded_steps};
+ghost use Rattle.rc_flow.specs.Collected.{AreCollected};
+ghost use Rattle.rc_flow.specs.inside.Recording.{walked_steps};
 ghost use Rattle.rc_flow.specs.inside.Spread.{spread_over};
 ghost use Rattle.rc_flow.specs.inside.Told.{IsTold};
 ghost use Rattle.rc_hir.specs.declared.fault.Fault.TheVariants as faults;
@@ -57,7 +58,7 @@ pub(crate) fn collected(
 
 /// What the collecting walk tells.
 fn recorded(alloc: Global, func: &ReactiveFunction, env: &Environment) -> Result<List<Told>, Fault>
-    ensures { IsTold env.now.functions (recorded_steps env.now func.now.body) result }
+    ensures { IsTold env.now.functions (walked_steps env.now func.now.body) result }
 {
     let mut told = List::new(alloc);
     visit_reactive_function(alloc, func, &CollectVisitor { alloc, env }, &mut told)?;

@@ -5,9 +5,11 @@
 
 mod values;
 
-ghost use Rattle.std.specs.Prelude.{◌≡◌, ◌++◌, map, IfOk, OnOk};
-ghost use Rattle.rc_flow.specs.Flows.{all_steps, flows_in};
-ghost use Rattle.rc_flow.specs.inside.PartFlows.{flows_if, flows_of_case, flows_of_statement, flows_of_terminal};
+ghost use Rattle.std.specs.Prelude.{◌≡◌, ◌++◌, IfOk, OnOk};
+ghost use Rattle.rc_flow.specs.Flows.{flows_in};
+ghost use Rattle.rc_flow.specs.inside.PartFlows.{flows_if, flows_of_cases, flows_of_list, flows_of_statement};
+ghost use Rattle.rc_flow.specs.inside.PartFlows.{flows_of_terminal};
+ghost use Rattle.rc_names.specs.Numbers.{EvaluationOrder as Order};
 
 use crate::step::Step;
 use rc_hir::Environment;
@@ -51,7 +53,7 @@ impl<'a> PruneVisitor<'a> {
         steps: &mut List<Step>,
         all: &[ReactiveStatement],
     ) -> Result<(), AllocError>
-        ensures { OnOk result (steps.new ≡ steps.old ++ all_steps (map (flows_of_statement self.now.env.now) all.now)) }
+        ensures { OnOk result (steps.new ≡ steps.old ++ flows_of_list self.now.env.now all.now) }
     {
         for statement in all {
             self.add_statement(steps, statement)?;
@@ -165,7 +167,8 @@ impl<'a> PruneVisitor<'a> {
         steps: &mut List<Step>,
         cases: &[ReactiveSwitchCase],
     ) -> Result<(), AllocError>
-        ensures { OnOk result (steps.new ≡ steps.old ++ all_steps (map (flows_of_case self.now.env.now) cases.now)) }
+        ensures { OnOk result
+            ((id : Order) → steps.new ≡ steps.old ++ flows_of_cases self.now.env.now id cases.now) }
     {
         for case in cases {
             self.add_block_if(steps, &case.block)?;

@@ -1,11 +1,12 @@
 -- What the passes leave of the environment: no table gets shorter, and where no scope has an early return, none has one
 -- after the pass on dependencies.
-use Rattle.std.proofs.Common.{◌≡◌, ℕ, suc, ◌+◌, List, [], ◌∷◌, length, arith, refl, sym, ap, subst}
+use Rattle.std.proofs.Common.{◌≡◌, ℕ, suc, ◌+◌, List, [], ◌∷◌, ◌++◌, length, arith, refl, sym, ap, subst}
 use Rattle.std.specs.List.{position_or_len}
 use Rattle.rc_hir.specs.KeptNumbers.{KeepsNumbers}
 use Rattle.rc_hir.specs.Model.{Environment, ReactiveScope}
 use Rattle.rc_tree.specs.Model.{ReactiveBlock}
 use Rattle.rc_runs.specs.EarlyReturns.{NoEarlyReturnSet, returns_early}
+use Rattle.rc_flow.specs.Flows.{flows_in}
 use Rattle.rc_flow.specs.ReactiveDependencies.{HasReactiveDependencies, KeepReactive}
 use Rattle.rc_flow.specs.declared.step.Step.{Step}
 
@@ -24,8 +25,8 @@ module _ (env : Environment) (steps : List Step) where
 -- so none has one after it
 pub still_none : (old new : Environment) {body : ReactiveBlock} → HasReactiveDependencies body old new
     → NoEarlyReturnSet old → NoEarlyReturnSet new
-still_none old new parts none =
-    let same = same_place old parts.steps 0 old.scopes new.scopes parts.scopes in
+still_none old new {body} parts none =
+    let same = same_place old (parts.collecting ++ flows_in old body) 0 old.scopes new.scopes parts.scopes in
     rw (same.0, same.1) none
 
 -- an environment keeps its own numbers
@@ -54,8 +55,8 @@ keeps_through before after = record {
 -- and the pass on dependencies keeps them
 pub dependencies_keep_numbers : (old new : Environment) {body : ReactiveBlock} → HasReactiveDependencies body old new
     → KeepsNumbers old new
-dependencies_keep_numbers old new parts =
-    let same = same_place old parts.steps 0 old.scopes new.scopes parts.scopes in
+dependencies_keep_numbers old new {body} parts =
+    let same = same_place old (parts.collecting ++ flows_in old body) 0 old.scopes new.scopes parts.scopes in
     subst (KeepsNumbers old) (sym parts.others) (record {
       identifiers = omega arith;
       types = omega arith;

@@ -1,9 +1,10 @@
 -- The scopes of the blocks that end in the flows of a tree are those of its scope blocks.
 use Rattle.std.proofs.Common.{◌≡◌, ◌∙◌, List, [], ◌∷◌, ◌++◌, Option, None, Some, append-nil, map, refl, sym, ap}
-use Rattle.rc_flow.specs.Flows.{all_steps, flowing, flows_in, of_statement, of_terminal}
-use Rattle.rc_flow.specs.Flows.Values.{own_steps, row_flows, row_steps, steps_of_value, steps_of_value_if}
+use Rattle.rc_flow.specs.Flows.{flow_parts, flowing, flows_in, of_terminal}
+use Rattle.rc_flow.specs.Flows.Values.{own_steps, row_flows}
 use Rattle.rc_flow.specs.declared.step.Step.{Step}
 use Rattle.rc_flow.specs.declared.step.Step.TheVariants.{Carries, Ends, Marks}
+use Rattle.rc_flow.specs.inside.PartFlows.{row_steps, steps_of_value, steps_of_value_if}
 use Rattle.rc_hir.specs.Model.{Environment, InstructionValue, Place}
 use Rattle.rc_hir.specs.declared.instruction.InstructionValue.TheVariants as kinds
 use Rattle.rc_names.specs.Numbers.{EvaluationOrder, ScopeId}
@@ -17,7 +18,8 @@ use Rattle.rc_tree.proofs.TreeFoldLemmas.{over_block-parts, over_case-roll, over
 use Rattle.rc_tree.proofs.TreeFoldLemmas.{over_scope-parts, over_statement-roll, over_terminal-roll}
 use Rattle.rc_tree.proofs.TreeInduction.{IsInductive, TreeClaims, of_every_block}
 use Rattle.rc_tree.specs.Collected.{collected_case, collected_cases, collected_list, collected_statement}
-use Rattle.rc_tree.specs.Collected.{collected_terminal}
+use Rattle.rc_tree.specs.Collected.{collected_terminal, of_statement}
+use Rattle.rc_tree.specs.Joining.{all_of, lists}
 use Rattle.rc_tree.specs.Model.{ReactiveBlock, ReactiveStatement, ReactiveTerminal, ReactiveValue}
 use Rattle.rc_tree.specs.ScopesIn.{scope_parts, scopes_in}
 use Rattle.rc_tree.specs.TreeFold.{TreeFold, over_block, over_case, over_statement, over_terminal, parts_of_statement}
@@ -48,7 +50,7 @@ ended-append (Ends scope ∷ xs) ys = ap (λ l. scope ∷ l) (ended-append xs ys
 pub without_first : (xs ys : List Step) → ended xs ≡ [] → ended (xs ++ ys) ≡ ended ys
 without_first xs ys none = ended-append xs ys ∙ ap (λ l. l ++ ended ys) none
 
-pub without_last : (xs ys : List Step) → ended ys ≡ [] → ended (xs ++ ys) ≡ ended xs
+without_last : (xs ys : List Step) → ended ys ≡ [] → ended (xs ++ ys) ≡ ended xs
 without_last xs ys none = ended-append xs ys ∙ ap (λ l. ended xs ++ l) none ∙ append-nil (ended xs)
 
 module _ (env : Environment) where
@@ -81,11 +83,12 @@ module _ (env : Environment) where
   value_none id x = values_related EndNone (row_flows env) (row_flows env) rows_end_none x id
 
   -- what ends in a statement and in a terminal, unfolded
-  abbrev flows : TreeFold (List Step) (List Step) (List Step) (List Step) (List Step) (List Step) (List Step)
+  abbrev flows : TreeFold (List Step) (List Step) (List Step) (List Step) (List Step) (EvaluationOrder → List Step)
+      (List Step)
   flows = flowing env
 
   statement : {x : ReactiveStatement} (u : UnrolledStatement) → roll-ReactiveStatement u ≡ x
-      → ended (over_statement flows x) ≡ ended (of_statement env (parts_of_statement flows u))
+      → ended (over_statement flows x) ≡ ended (of_statement (flow_parts env) (parts_of_statement flows u))
   statement u is = ap (λ y. ended (over_statement flows y)) (sym is) ∙ ap ended (over_statement-roll flows u)
 
   terminal : {x : ReactiveTerminal} (u : UnrolledTerminal) → roll-ReactiveTerminal u ≡ x
@@ -132,12 +135,12 @@ module _ (env : Environment) where
   abbrev claims : TreeClaims
   claims = record {
     Block = λ x. ended (over_block flows x) ≡ scopes_in x;
-    Statements = λ xs. ended (all_steps (map (over_statement flows) xs)) ≡ collected_list scope_parts xs;
+    Statements = λ xs. ended (all_of lists (map (over_statement flows) xs)) ≡ collected_list scope_parts xs;
     Statement = λ x. ended (over_statement flows x) ≡ collected_statement scope_parts x;
     Terminal = λ x. ended (over_terminal flows x) ≡ collected_terminal scope_parts x;
-    Case = λ x. (id : EvaluationOrder) → ended (over_case flows x) ≡ collected_case scope_parts x id;
+    Case = λ x. (id : EvaluationOrder) → ended (over_case flows x id) ≡ collected_case scope_parts x id;
     Cases = λ xs. (id : EvaluationOrder)
-        → ended (all_steps (map (over_case flows) xs)) ≡ collected_cases scope_parts id xs;
+        → ended (all_of lists (map (λ case. case id) (map (over_case flows) xs))) ≡ collected_cases scope_parts id xs;
   }
 
   inductive : IsInductive claims
@@ -163,12 +166,14 @@ module _ (env : Environment) where
         ∙ sym (collected-two scope_parts shape x y ∙ two_have shape (scopes_in x) (scopes_in y));
     switch = λ test cases id k. terminal (layer.Switch test cases id) (tree.rolls-Switch test cases id) ∙ k id
         ∙ sym (collected-Switch scope_parts test cases id);
-    empty_case = λ test id. ap ended (over_case-roll flows (record { test = test; block = None }))
+    empty_case = λ test id.
+        ap (λ steps. ended (steps id)) (over_case-roll flows (record { test = test; block = None }))
         ∙ sym (collected-case scope_parts test None id);
-    case = λ test x k id. ap ended (over_case-roll flows (record { test = test; block = Some x })) ∙ k
+    case = λ test x k id.
+        ap (λ steps. ended (steps id)) (over_case-roll flows (record { test = test; block = Some x })) ∙ k
         ∙ sym (collected-case scope_parts test (Some x) id);
     no_cases = λ id. refl;
-    more_cases = λ x xs k l id. ended-append (over_case flows x) _ ∙ (λ i. k id i ++ l id i);
+    more_cases = λ x xs k l id. ended-append (over_case flows x id) _ ∙ (λ i. k id i ++ l id i);
   }
 
   -- the blocks that end are those of the tree

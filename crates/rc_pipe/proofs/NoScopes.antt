@@ -4,9 +4,11 @@ use Rattle.std.proofs.Common.{◌≡◌, ◌∙◌, ◌+◌, ℕ, zero, suc, Boo
 use Rattle.std.proofs.Common.{Result, Ok, Err, All, IsOk, ap, arith, if◌then◌else◌, refl, slice_get, sym}
 use Rattle.std.proofs.lemmas.List.Elements.{All-weaker}
 use Rattle.std.specs.List.{filter, flat_map}
+use Rattle.std.specs.Option.{option_map_or}
 use Rattle.rc_checks.specs.Membership.{IsInside}
-use Rattle.rc_flow.specs.Collected.{declaration_steps, declarations_if, key_follows, place_steps, pruned_scope_steps}
-use Rattle.rc_flow.specs.Collected.{is_primitive, recording, step_by_type}
+use Rattle.rc_flow.specs.Collected.{Recorded, declaration_steps, declared_steps, is_primitive, joined, key_follows}
+use Rattle.rc_flow.specs.Collected.{marked, place_steps, pruned_scope_steps, recorded_parts, recorded_values}
+use Rattle.rc_flow.specs.Collected.{step_by_type, written}
 use Rattle.rc_flow.specs.Flows.{flows_in}
 use Rattle.rc_flow.specs.ReactiveDependencies.{HasReactiveDependencies, KeepReactive}
 use Rattle.rc_flow.specs.declared.step.Step.{Step}
@@ -15,71 +17,53 @@ use Rattle.rc_hir.specs.Environment.{type_of}
 use Rattle.rc_hir.specs.Model.{DeclarationEntry, Environment, Fault, HirType, Place}
 use Rattle.rc_hir.specs.Model.{ReactiveScope, ReactiveScopeDependency}
 use Rattle.rc_hir.specs.Operands.{operands}
+use Rattle.rc_hir.specs.TerminalOperands.{perhaps_place}
 use Rattle.rc_hir.specs.Types.{is_ref_type}
 use Rattle.rc_names.specs.Numbers.{EvaluationOrder, ScopeId}
 use Rattle.rc_runs.proofs.AllLemmas.{All-left, All-right}
-use Rattle.rc_tree.proofs.ReadFollowed.{FollowedParts, block_followed}
-use Rattle.rc_tree.proofs.ReadFollowedValues.{FollowedInTurn, FollowedValues, rows_followed, values_followed_if}
+use Rattle.rc_tree.proofs.CollectedRelated.{RelatedParts, RelatedValues, collected_related, rows_related}
+use Rattle.rc_tree.proofs.CollectedRelated.{values_related_if}
 use Rattle.rc_tree.specs.Model.{ReactiveBlock}
-use Rattle.rc_tree.specs.ReadSteps.{targets_of}
 use Rattle.rc_tree.specs.ScopesIn.{scopes_in}
-use Rattle.rc_tree.specs.Step.{Walk, bind, each, next_to, perhaps}
-use Rattle.rc_tree.specs.Visits.{Visit, Visits, of_operands, visits_joining, visits_of, visits_of_parts}
-use Rattle.rc_tree.specs.Visits.{visits_of_values}
-use Rattle.rc_pipe.proofs.FlowEnds.{ended, flows_end, without_first, without_last}
+use Rattle.rc_tree.specs.Step.{bind}
+use Rattle.rc_tree.specs.Visits.{Visit, Visits, of_operands, visits_of, visits_of_parts, visits_of_values}
+use Rattle.rc_pipe.proofs.FlowEnds.{ended, flows_end, without_first}
 use Rattle.rc_pipe.specs.Passes.{AreInside}
 
--- the walk comes to its end, and no scope block ends in the steps that it adds
-abbrev Goes : Walk (List Step) → Type 0
-Goes walk = (s : List Step) → (t : List Step) × (walk s ≡ Ok (tt, t)) × (ended t ≡ ended s)
+-- the steps of a part are there, and no scope block ends in them
+abbrev Goes : Recorded → Type 0
+Goes recorded = (steps : List Step) × (recorded ≡ Ok steps) × (ended steps ≡ [])
 
--- it does where each operand can be read, whatever scopes are around
-abbrev IsFollowed : Walk (List Step) → Visits → Type 0
-IsFollowed walk visits = (around : List ScopeId) → All IsOk (visits around) → Goes walk
+-- so it is where each operand can be read, whatever scopes are around
+abbrev IsFollowed : Recorded → Visits → Type 0
+IsFollowed recorded visits = (around : List ScopeId) → All IsOk (visits around) → Goes recorded
 
-after : (first second : Walk (List Step)) → Goes first → Goes second → Goes (next_to first second)
-after first second go on s =
-    let one = go s in
-    let two = on one.0 in
-    (two.0, ap (λ r. bind r (λ c. second c.1)) one.1 ∙ two.1, two.2 ∙ one.2)
+nothing : Goes (Ok [])
+nothing = ([], refl, refl)
 
-adds_goes : (steps : List Step) → ended steps ≡ [] → Goes (λ s. Ok (tt, s ++ steps))
-adds_goes steps none s = (s ++ steps, refl, without_last s steps none)
+after : (first second : Recorded) → Goes first → Goes second → Goes (joined first second)
+after first second go on =
+    (go.0 ++ on.0, (λ i. joined (go.1 i) (on.1 i)), without_first go.0 on.0 go.2 ∙ on.2)
 
-abbrev marks : Place → Walk (List Step)
-marks place s = Ok (tt, s ++ place_steps place)
-
-mark_goes : (place : Place) → Goes (marks place)
-mark_goes place = adds_goes (place_steps place) (if_marked place.reactive)
+mark_none : (place : Place) → ended (place_steps place) ≡ []
+mark_none place = if_marked place.reactive
   where
     if_marked : (b : Bool) → ended (if b then Marks place.identifier ∷ [] else []) ≡ []
     if_marked true = refl
     if_marked false = refl
 
-places_go : (places : List Place) → Goes (each marks places)
-places_go [] s = (s, refl, refl)
-places_go (place ∷ places) s = after (marks place) (each marks places) (mark_goes place) (places_go places) s
+marks_none : (places : List Place) → ended (flat_map place_steps places) ≡ []
+marks_none [] = refl
+marks_none (place ∷ places) = without_first (place_steps place) _ (mark_none place) ∙ marks_none places
 
-place_goes : (place : Option Place) → Goes (perhaps marks place)
-place_goes None s = (s, refl, refl)
-place_goes (Some place) s = mark_goes place s
+places_go : (places : List Place) → Goes (marked places)
+places_go places = (flat_map place_steps places, refl, marks_none places)
 
 operands_go : (id : EvaluationOrder) (read : Result (List Place) Fault)
-    → IsFollowed (λ s. bind read (λ places. each marks places s)) (of_operands id read)
+    → IsFollowed (bind read marked) (of_operands id read)
 operands_go id (Ok places) around all = places_go places
 operands_go id (Err fault) around all =
     let ok : false ≡ true = all 0 (Err fault) (omega arith) in absurd (let bad : ⊥ = cc in bad)
-
-in_turn : FollowedInTurn IsFollowed visits_joining
-in_turn = record {
-  none = λ around all s. (s, refl, refl);
-  next = λ first second x y go on around all. after first second
-      (go around (All-left IsOk (x around) (y around) all)) (on around (All-right IsOk (x around) (y around) all));
-}
-
--- a part, whose hook at its end adds nothing
-to_end : (inside : Walk (List Step)) → Goes inside → Goes (next_to inside (λ s. Ok (tt, s)))
-to_end inside go = after inside (λ s. Ok (tt, s)) go (λ s. (s, refl, refl))
 
 -- no scope block ends where a pruned one declares names
 by_tests : (entry : DeclarationEntry) (primitive ref : Bool)
@@ -114,33 +98,37 @@ filter_all [] = refl
 filter_all (x ∷ xs) = ap (λ l. x ∷ l) (filter_all xs)
 
 module _ (env : Environment) where
-  values_followed : FollowedValues (recording env) IsFollowed env.functions (visits_of_values env.functions)
+  scope_none : (scope : Option ReactiveScope) → ended (option_map_or (declared_steps env) scope []) ≡ []
+  scope_none None = refl
+  scope_none (Some scope) = declared env scope.declarations
+
+  pruned_scope_goes : (scope : ScopeId) → Goes (Ok (pruned_scope_steps env scope))
+  pruned_scope_goes scope = (pruned_scope_steps env scope, refl, scope_none (slice_get env.scopes scope.0))
+
+  values_followed : RelatedValues IsFollowed (recorded_values env) (visits_of_values env.functions)
   values_followed = record {
-    in_turn = in_turn;
-    operands = λ id x. operands_go id (operands env.functions x);
-    value = λ id x inside held go around all. to_end inside (go around all);
-    row = λ x inside held go around all. to_end inside (go around all);
-    target = λ x inside held go around all.
-        let targets : Walk (List Step) = each marks (targets_of x.value) in
-        after (perhaps marks x.lvalue) (next_to targets inside) (place_goes x.lvalue)
-        (after targets inside (places_go (targets_of x.value)) (go around all));
+    joined = record {
+      nothing = λ around all. nothing;
+      both = λ first second x y go on around all. after first second
+          (go around (All-left IsOk (x around) (y around) all)) (on around (All-right IsOk (x around) (y around) all));
+    };
+    instruction = λ id x. operands_go id (operands env.functions x);
+    target = λ id x around all. nothing;
+    row = λ x inside visits go around all. after (marked (written x)) inside (places_go (written x)) (go around all);
   }
 
-  parts_followed : FollowedParts (recording env) IsFollowed env.functions (visits_of_parts env.functions)
+  parts_followed : RelatedParts IsFollowed (recorded_parts env) (visits_of_parts env.functions)
   parts_followed = record {
-    in_turn = in_turn;
-    row = rows_followed (recording env) IsFollowed env.functions (visits_of_values env.functions) values_followed;
-    value = values_followed_if (recording env) IsFollowed env.functions (visits_of_values env.functions)
-        values_followed;
-    place = λ id x around all. place_goes x;
-    returned = λ id x around all. place_goes (Some x);
-    jump = λ id target around all s. (s, refl, refl);
-    at = λ id inside held go. go;
-    block = λ x inside held go around all. to_end inside (go around all);
-    scope = λ x inside held go around all. to_end inside (go (x.scope ∷ around) all);
-    pruned_scope = λ x inside held go around all. after inside _ (go around all)
-        (adds_goes (pruned_scope_steps env x.scope) (declared env (declarations_if (slice_get env.scopes x.scope.0))));
-    terminal = λ x inside held go around all. to_end inside (go around all);
+    joined = values_followed.joined;
+    row = rows_related IsFollowed (recorded_values env) (visits_of_values env.functions) values_followed;
+    value = values_related_if IsFollowed (recorded_values env) (visits_of_values env.functions) values_followed;
+    place = λ id x around all. places_go (perhaps_place x);
+    returned = λ id x around all. (place_steps x, refl, mark_none x);
+    jump = λ target around all. nothing;
+    label = λ label around all. nothing;
+    scope = λ scope inside visits go around all. go (scope ∷ around) all;
+    pruned_scope = λ scope inside visits go around all. after inside (Ok (pruned_scope_steps env scope)) (go around all)
+        (pruned_scope_goes scope);
   }
 
   read : (scopes : List ScopeId) (visit : Visit) → IsInside env scopes visit → IsOk visit
@@ -163,14 +151,14 @@ module _ (env : Environment) where
   pub no_dependencies : (body : ReactiveBlock) → scopes_in body ≡ [] → AreInside env body
       → HasReactiveDependencies body env env
   no_dependencies body none inside =
-      let walked = block_followed (recording env) IsFollowed env.functions (visits_of_parts env.functions)
-      parts_followed body [] (All-weaker (IsInside env (scopes_in body)) IsOk (read (scopes_in body))
-      (visits_of env.functions body) inside) [] in
+      let all = collected_related IsFollowed (recorded_parts env) (visits_of_parts env.functions) parts_followed body []
+      (All-weaker (IsInside env (scopes_in body)) IsOk (read (scopes_in body)) (visits_of env.functions body) inside)
+      in
       let flows = flows_in env body in
       record {
-        steps = walked.0 ++ flows;
-        listed = ap (λ r. bind (bind {B = List Step} r (λ c. Ok c.1)) (λ s. Ok (s ++ flows))) walked.1;
+        collecting = all.0;
+        recorded = all.1;
         others = refl;
-        scopes = all_stay (walked.0 ++ flows) 0 env.scopes
-            (without_last walked.0 flows (flows_end env body ∙ none) ∙ walked.2);
+        scopes = all_stay (all.0 ++ flows) 0 env.scopes
+            (without_first all.0 flows all.2 ∙ flows_end env body ∙ none);
       }

@@ -9,7 +9,7 @@ use Rattle.rc_checks.specs.UnusedScopes.{LosesUnusedScopes, unused_scope_rules}
 use Rattle.rc_early.specs.EarlyReturned.{HasEarlyReturns, Progress, early_return_rules, nothing_met, terminal_at}
 use Rattle.rc_flow.proofs.AlwaysInvalidating.EndedScopes.{ended, same_ends}
 use Rattle.rc_flow.specs.AlwaysInvalidating.{PrunesInvalidating, always_invalidating, dropped_scopes, dropping_rules}
-use Rattle.rc_flow.specs.Unmemoized.{AreAnswers, no_more, makes, copies}
+use Rattle.rc_flow.specs.Unmemoized.{AreAnswers}
 use Rattle.rc_flow.specs.ValueSteps.{value_steps_in}
 use Rattle.rc_flow.specs.declared.value_step.ValueStep.{ValueStep}
 use Rattle.rc_flow.specs.declared.value_step.ValueStep.TheVariants.{Makes, Copies, Ends}
@@ -94,9 +94,9 @@ module _ (env : Environment) (body : ReactiveBlock) (none : scopes_in body ≡ [
   -- no scope always invalidates
   no_answers : (place : ℕ) (steps : List ValueStep) → ended steps ≡ []
       → AreAnswers env (value_steps_in body) place steps []
-  no_answers place [] e = no_more
-  no_answers place (Makes name in_scope ∷ steps) e = makes (no_answers (place + 1) steps e)
-  no_answers place (Copies from to ∷ steps) e = copies (no_answers (place + 1) steps e)
+  no_answers place [] e = refl
+  no_answers place (Makes name in_scope ∷ steps) e = no_answers (place + 1) steps e
+  no_answers place (Copies from to ∷ steps) e = no_answers (place + 1) steps e
   no_answers place (Ends scope ∷ steps) e = absurd (let bad : ⊥ = cc in bad)
 
   pub none_invalidating : PrunesInvalidating env body body []

@@ -1,14 +1,15 @@
 -- The scopes of the blocks that end in the steps of a tree are those of its scope blocks.
 use Rattle.std.proofs.Common.{◌≡◌, ◌∙◌, Bool, true, false, List, [], ◌∷◌, ◌++◌, Option, None, Some, refl, ap}
+use Rattle.std.specs.Option.{option_map_or}
 use Rattle.rc_hir.specs.Model.{InstructionValue, Place}
 use Rattle.rc_hir.specs.declared.instruction.InstructionValue.TheVariants as kinds
 use Rattle.rc_names.specs.Numbers.{ScopeId}
 use Rattle.rc_tree.proofs.CollectedRelated.{RelatedParts, collected_related}
+use Rattle.rc_tree.specs.CollectedValues.{instruction_of}
 use Rattle.rc_tree.specs.Model.{ReactiveBlock, ReactiveValue}
 use Rattle.rc_tree.specs.ScopesIn.{scope_parts, scopes_in}
 use Rattle.rc_tree.specs.declared.value.ReactiveValue.TheVariants as reactive_values
-use Rattle.rc_flow.specs.ValueSteps.{Steps, copied, listed, made, step_of, step_of_instruction, value_step_parts}
-use Rattle.rc_flow.specs.ValueSteps.{value_steps_in}
+use Rattle.rc_flow.specs.ValueSteps.{Steps, copied, made, steps_of_instruction, value_step_parts, value_steps_in}
 use Rattle.rc_flow.specs.declared.value_step.ValueStep.{ValueStep}
 use Rattle.rc_flow.specs.declared.value_step.ValueStep.TheVariants.{Makes, Copies, Ends}
 
@@ -26,16 +27,16 @@ ended-append (Copies from to ∷ xs) ys = ended-append xs ys
 ended-append (Ends scope ∷ xs) ys = ap (λ l. scope ∷ l) (ended-append xs ys)
 
 -- no row is the end of a scope block
-made_none : (in_scope : Bool) (target : Option Place) → ended (listed (made in_scope target)) ≡ []
+made_none : (in_scope : Bool) (target : Option Place) → ended (made in_scope target) ≡ []
 made_none in_scope None = refl
 made_none in_scope (Some target) = refl
 
-copied_none : (from : Place) (target : Option Place) → ended (listed (copied from target)) ≡ []
+copied_none : (from : Place) (target : Option Place) → ended (copied from target) ≡ []
 copied_none from None = refl
 copied_none from (Some target) = refl
 
 instruction_none : (in_scope : Bool) (target : Option Place) (x : InstructionValue)
-    → ended (listed (step_of_instruction in_scope target x)) ≡ []
+    → ended (steps_of_instruction in_scope target x) ≡ []
 instruction_none in_scope target (kinds.ArrayExpression elements span) = made_none in_scope target
 instruction_none in_scope target (kinds.ObjectExpression properties span) = made_none in_scope target
 instruction_none in_scope target (kinds.JsxExpression tag props children span) = made_none in_scope target
@@ -46,7 +47,7 @@ instruction_none in_scope target (kinds.LoadLocal place span) = copied_none plac
 instruction_none in_scope target _ = refl
 
 row_none : (in_scope : Bool) (target : Option Place) (x : ReactiveValue)
-    → ended (listed (step_of in_scope target x)) ≡ []
+    → ended (option_map_or (steps_of_instruction in_scope target) (instruction_of x) []) ≡ []
 row_none in_scope target (reactive_values.Instruction x) = instruction_none in_scope target x
 row_none in_scope target _ = refl
 

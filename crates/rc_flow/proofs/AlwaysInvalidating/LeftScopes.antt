@@ -10,7 +10,7 @@ use Rattle.rc_tree.specs.ScopesIn.{scopes_in}
 use Rattle.rc_flow.proofs.AlwaysInvalidating.EndedScopes.{ended, same_ends}
 use Rattle.rc_flow.proofs.AlwaysInvalidating.StayingBlocks.{rebuilt_staying, staying, stays_or_dropped}
 use Rattle.rc_flow.specs.AlwaysInvalidating.{IsInvalidating, IsWithoutInvalidating, LeavesOthers, dropped_scopes}
-use Rattle.rc_flow.specs.Unmemoized.{AreAnswers, no_more, makes, copies, ends, HasUnmemoized}
+use Rattle.rc_flow.specs.Unmemoized.{AreAnswers, HasUnmemoized}
 use Rattle.rc_flow.specs.ValueSteps.{value_steps_in}
 use Rattle.rc_flow.specs.declared.value_step.ValueStep.{ValueStep}
 use Rattle.rc_flow.specs.declared.value_step.ValueStep.TheVariants.{Makes, Copies, Ends}
@@ -47,24 +47,24 @@ module _ (env : Environment) (steps : List ValueStep) where
   -- a scope of which no block stays does so
   none_stays : (k : ℕ) (rest : List ValueStep) (answers : List Bool) → AreAnswers env steps k rest answers
       → (scope : ScopeId) → times scope (staying (ended rest) answers) ≡ 0 → Everywhere k rest scope
-  none_stays k [] answers no_more scope none = λ j e. absurd (nothing j e)
+  none_stays k [] answers all scope none = λ j e. absurd (nothing j e)
     where
       nothing : (j : ℕ) → slice_get [] j ≡ Some (Ends scope) → ⊥
       nothing zero e = let bad : ⊥ = cc in bad
       nothing (suc j) e = let bad : ⊥ = cc in bad
-  none_stays k (Makes name in_scope ∷ rest) answers (makes all) scope none =
+  none_stays k (Makes name in_scope ∷ rest) answers all scope none =
       everywhere k (Makes name in_scope) rest scope (λ e. absurd (not_made name in_scope scope e))
       (none_stays (k + 1) rest answers all scope none)
-  none_stays k (Copies from to ∷ rest) answers (copies all) scope none =
+  none_stays k (Copies from to ∷ rest) answers all scope none =
       everywhere k (Copies from to) rest scope (λ e. absurd (not_copied from to scope e))
       (none_stays (k + 1) rest answers all scope none)
-  none_stays k (Ends other ∷ rest) [] all scope none = elim all [ ]
-  none_stays k (Ends other ∷ rest) (true ∷ answers) (ends judged all) scope none =
-      everywhere k (Ends other) rest scope (λ e. subst (Unmemoized k) (same_end other scope e) (judged.0 refl))
-      (none_stays (k + 1) rest answers all scope none)
-  none_stays k (Ends other ∷ rest) (false ∷ answers) (ends judged all) scope none =
+  none_stays k (Ends other ∷ rest) [] all scope none = absurd all
+  none_stays k (Ends other ∷ rest) (true ∷ answers) all scope none =
+      everywhere k (Ends other) rest scope (λ e. subst (Unmemoized k) (same_end other scope e) (all.0.0 refl))
+      (none_stays (k + 1) rest answers all.1 scope none)
+  none_stays k (Ends other ∷ rest) (false ∷ answers) all scope none =
       everywhere k (Ends other) rest scope (λ e. absurd (there (same_end other scope e)))
-      (none_stays (k + 1) rest answers all scope (omega (arith, none)))
+      (none_stays (k + 1) rest answers all.1 scope (omega (arith, none)))
     where
       there : other ≡ scope → ⊥
       there same =
@@ -84,16 +84,16 @@ module _ (env : Environment) (steps : List ValueStep) where
   -- a scope of which a block stays has one
   one_stays : (k : ℕ) (rest : List ValueStep) (answers : List Bool) → AreAnswers env steps k rest answers
       → (scope : ScopeId) → 1 ≤ times scope (staying (ended rest) answers) → Somewhere k rest scope
-  one_stays k [] answers no_more scope some = absurd (omega (arith, some))
-  one_stays k (Makes name in_scope ∷ rest) answers (makes all) scope some =
+  one_stays k [] answers all scope some = absurd (omega (arith, some))
+  one_stays k (Makes name in_scope ∷ rest) answers all scope some =
       somewhere k (Makes name in_scope) rest scope (one_stays (k + 1) rest answers all scope some)
-  one_stays k (Copies from to ∷ rest) answers (copies all) scope some =
+  one_stays k (Copies from to ∷ rest) answers all scope some =
       somewhere k (Copies from to) rest scope (one_stays (k + 1) rest answers all scope some)
-  one_stays k (Ends other ∷ rest) [] all scope some = elim all [ ]
-  one_stays k (Ends other ∷ rest) (true ∷ answers) (ends judged all) scope some =
-      somewhere k (Ends other) rest scope (one_stays (k + 1) rest answers all scope some)
-  one_stays k (Ends other ∷ rest) (false ∷ answers) (ends judged all) scope some =
-      by (one_stays (k + 1) rest answers all scope) (same_id scope other) refl some
+  one_stays k (Ends other ∷ rest) [] all scope some = absurd all
+  one_stays k (Ends other ∷ rest) (true ∷ answers) all scope some =
+      somewhere k (Ends other) rest scope (one_stays (k + 1) rest answers all.1 scope some)
+  one_stays k (Ends other ∷ rest) (false ∷ answers) all scope some =
+      by (one_stays (k + 1) rest answers all.1 scope) (same_id scope other) refl some
     where
       later : List ScopeId
       later = staying (ended rest) answers
@@ -104,7 +104,7 @@ module _ (env : Environment) (steps : List ValueStep) where
           let same : other ≡ scope = sym (same_id-eq scope other is) in (
             0,
             ap (λ s. Some (Ends s)) same,
-            λ all. true≢false (sym (judged.1 (subst (Unmemoized k) (sym same) (moved (add-zero k) all)))),
+            λ there. true≢false (sym (all.0.1 (subst (Unmemoized k) (sym same) (moved (add-zero k) there)))),
           )
       by in_rest false is enough = somewhere k (Ends other) rest scope (in_rest (omega (arith, enough)))
 

@@ -11,7 +11,7 @@ use Rattle.rc_flow.specs.declared.always_invalidating.marks.Marks.{Marks}
 use Rattle.rc_flow.specs.declared.value_step.ValueStep.{ValueStep}
 use Rattle.rc_flow.specs.declared.value_step.ValueStep.TheVariants.{Makes, Copies, Ends}
 use Rattle.rc_flow.specs.Reached.{dependencies_if, outputs_if}
-use Rattle.rc_flow.specs.Unmemoized.{AreAnswers, no_more, makes, copies, ends, IsAlwaysNew, made, copied, IsUnmemoized}
+use Rattle.rc_flow.specs.Unmemoized.{AreAnswers, IsAlwaysNew, made, copied, IsUnmemoized}
 use Rattle.rc_flow.specs.Unmemoized.{outside, passed_on, dropped}
 use Rattle.rc_flow.specs.AlwaysInvalidating.{always_invalidating, dropped_scopes, IsRebuiltBy, PrunesInvalidating}
 use Rattle.rc_flow.specs.ValueSteps.{value_steps_in}
@@ -257,18 +257,18 @@ module _ (env : Environment) where
       answers = [];
       answered = sym (append-nil s.dropped);
       decided = sym (append-nil s.decided);
-      right = no_more;
+      right = refl;
     }
     adds k (Makes name in_scope ∷ xs) s stands fits =
         let step = Makes name in_scope in
         let it = adds (k + 1) xs (next step s) (rest_at steps k step xs stands)
         (fits_next k step s (first_at steps k step xs stands) fits) in
-        record { answers = it.answers; answered = it.answered; decided = it.decided; right = makes it.right }
+        record { answers = it.answers; answered = it.answered; decided = it.decided; right = it.right }
     adds k (Copies from to ∷ xs) s stands fits =
         let step = Copies from to in
         let it = adds (k + 1) xs (next step s) (rest_at steps k step xs stands)
         (fits_next k step s (first_at steps k step xs stands) fits) in
-        record { answers = it.answers; answered = it.answered; decided = it.decided; right = copies it.right }
+        record { answers = it.answers; answered = it.answered; decided = it.decided; right = it.right }
     adds k (Ends scope ∷ xs) s stands fits =
         let step = Ends scope in
         let o = slice_get env.scopes scope.0 in
@@ -280,12 +280,14 @@ module _ (env : Environment) where
           answered = it.answered ∙ ap (λ all. all ++ it.answers) (ended_dropped scope o s)
               ∙ append_assoc s.dropped (answer ∷ []) it.answers;
           decided = it.decided ∙ ended_decided scope o s (dropped_scopes (ended xs) it.answers);
-          right = ends (
-            (λ h. let a = answer_cases o s.unmemoized h in
-                record { cause = a.0; among = a.1; unmemoized = (fits.unmemoized a.0).0 a.2 }),
-            (λ h. answer_new o s.unmemoized h.cause h.among ((fits.unmemoized h.cause).1 h.unmemoized)),
-          )
-              it.right;
+          right = (
+            (
+              (λ h. let a = answer_cases o s.unmemoized h in
+                  record { cause = a.0; among = a.1; unmemoized = (fits.unmemoized a.0).0 a.2 }),
+              (λ h. answer_new o s.unmemoized h.cause h.among ((fits.unmemoized h.cause).1 h.unmemoized)),
+            ),
+            it.right,
+          );
         }
 
     -- the answers of all the steps, and what they decide

@@ -9,7 +9,7 @@ use Rattle.rc_tree.specs.declared.statement.ReactiveStatement.TheViews.{out-Reac
 use Rattle.rc_tree.specs.declared.statement.ReactiveStatement.TheViews.{roll-out-ReactiveSwitchCase}
 use Rattle.rc_tree.specs.declared.terminal.ReactiveTerminal.TheVariants as tree
 use Rattle.rc_tree.specs.Model.{ReactiveBlock, ReactiveSwitchCase, ReactiveTerminal, ReactiveValue}
-use Rattle.rc_flow.specs.ValueSteps.{steps_joining, value_step_parts}
+use Rattle.rc_flow.specs.ValueSteps.{value_step_parts}
 use Rattle.rc_flow.specs.declared.value_step.ValueStep.{ValueStep}
 
 -- what is added for the form of a terminal is added for it
@@ -50,8 +50,8 @@ added_case in_scope found new all cases place case id below at here so_far =
     ap (λ x. collected_case value_step_parts x id) (sym (roll-out-ReactiveSwitchCase case))
     ∙ collected-case value_step_parts (out-ReactiveSwitchCase case).test (out-ReactiveSwitchCase case).block id
     in
-    let whole : collected_cases value_step_parts id (drop place cases) ≡ steps_joining.both inner rest =
-    ap (collected_cases value_step_parts id) next ∙ ap (λ it. steps_joining.both it rest) held
+    let whole : collected_cases value_step_parts id (drop place cases) ≡ value_step_parts.joining.both inner rest =
+    ap (collected_cases value_step_parts id) next ∙ ap (λ it. value_step_parts.joining.both it rest) held
     in
     ap (λ steps. steps ++ rest in_scope) here ∙ append_assoc found (inner in_scope) (rest in_scope)
     ∙ ap (λ steps. found ++ steps) (sym (ap (λ steps. steps in_scope) whole)) ∙ so_far

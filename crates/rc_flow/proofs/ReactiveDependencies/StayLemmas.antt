@@ -12,8 +12,9 @@ use Rattle.rc_tree.specs.Step.{bind}
 use Rattle.rc_tree.specs.TreeNames.{TreeInTables, TreeNamesOutside}
 use Rattle.rc_tree.specs.Model.{ReactiveBlock, ReactiveFunction}
 use Rattle.rc_flow.proofs.RecordedFaults.{no_name_outside, recorded_named}
+use Rattle.rc_flow.proofs.RecordingLemmas.{steps_walked}
 use Rattle.rc_flow.proofs.SpreadLemmas.{good_all, steps-append}
-use Rattle.rc_flow.specs.Collected.{AreCollected, recorded_steps}
+use Rattle.rc_flow.specs.Collected.{AreCollected, Recorded, recorded_steps}
 use Rattle.rc_flow.specs.Flows.{flows_in}
 use Rattle.rc_flow.specs.Reached.{IsReached}
 use Rattle.rc_flow.specs.ReactiveDependencies.{HasReactiveDependencies, KeepReactive, Stays}
@@ -58,11 +59,17 @@ module _ (env : Environment) (body : ReactiveBlock) where
   abbrev AreReached : List Step → Spread → Type 0
   AreReached steps s = (name : IdentifierId) → (is_among s.names name ≡ true) ↔ IsReached env steps (length steps) name
 
+  -- the state after steps, and after those that the walk lists
+  abbrev spread_of : Recorded → Result Spread Fault
+  spread_of recorded = bind recorded (λ steps. Ok (after_steps env steps nothing))
+
+  same_spread : spread_of (recorded_steps env body) ≡ spread_over body env
+  same_spread = ap spread_of (steps_walked env body)
+
   pub set_collected : (s : Spread) → spread_over body env ≡ Ok s → AreCollected env body s.names
-  set_collected s = by (recorded_steps env body) refl
+  set_collected s e = by (recorded_steps env body) refl (same_spread ∙ e)
     where
-      by : (r : Result (List Step) Fault) → recorded_steps env body ≡ r
-          → bind r (λ steps. Ok (after_steps env steps nothing)) ≡ Ok s → AreCollected env body s.names
+      by : (r : Recorded) → recorded_steps env body ≡ r → spread_of r ≡ Ok s → AreCollected env body s.names
       by (Ok steps) is e = record {
         steps = steps;
         recorded = is;
@@ -76,10 +83,9 @@ module _ (env : Environment) (body : ReactiveBlock) where
   -- the scopes keep the dependencies that stay
   pub scopes_right : (scopes : List ReactiveScope) → scopes_after body env ≡ Ok scopes
       → HasReactiveDependencies body env (record env { scopes = scopes })
-  scopes_right scopes = by (recorded_steps env body) refl
+  scopes_right scopes e = by (recorded_steps env body) refl (ap (λ s. bind s flowed) same_spread ∙ e)
     where
-      by : (r : Result (List Step) Fault) → recorded_steps env body ≡ r
-          → bind (bind r (λ steps. Ok (after_steps env steps nothing))) flowed ≡ Ok scopes
+      by : (r : Recorded) → recorded_steps env body ≡ r → bind (spread_of r) flowed ≡ Ok scopes
           → HasReactiveDependencies body env (record env { scopes = scopes })
       by (Ok steps) is e =
           let all = steps ++ flows_in env body in
@@ -87,8 +93,8 @@ module _ (env : Environment) (body : ReactiveBlock) where
           ap (λ s. pruned_from s 0 env.scopes) (steps-append env steps (flows_in env body) nothing)
           ∙ Ok-injective _ scopes e in
           record {
-            steps = all;
-            listed = ap (λ r. bind r (λ steps. Ok (steps ++ flows_in env body))) is;
+            collecting = steps;
+            recorded = is;
             others = refl;
             scopes = subst (KeepReactive env all 0 env.scopes) whole (keep_from env all 0 env.scopes);
           }
@@ -111,10 +117,10 @@ module _ (env : Environment) (func : ReactiveFunction) where
 
   -- each fault of the two definitions does
   pub set_named : IfErr (spread_over func.body env) Outside
-  set_named = by (recorded_steps env func.body) (recorded_named env func)
+  set_named = subst (λ r. IfErr r Outside) (same_spread env func.body)
+      (by (recorded_steps env func.body) (recorded_named env func))
     where
-      by : (r : Result (List Step) Fault) → IfErr r Outside
-          → IfErr (bind r (λ steps. Ok (after_steps env steps nothing))) Outside
+      by : (r : Recorded) → IfErr r Outside → IfErr (spread_of env func.body r) Outside
       by (Ok steps) none = tt
       by (Err fault) named = named
 

@@ -1,17 +1,16 @@
--- The steps by which rows carry reactivity on, and those of the rows in a value.
-use Rattle.std.specs.Prelude.{Bool, false, not, List, [], ◌∷◌, ◌++◌, Option, None, Some, map}
+-- The steps by which rows carry reactivity on, each after those of the rows in its value.
+use Rattle.std.specs.Prelude.{Bool, false, not, List, [], ◌∷◌, ◌++◌, Option, map}
 use Rattle.std.specs.List.{filter}
 use Rattle.std.specs.Option.{option_map_or}
 use Rattle.rc_hir.specs.Environment.{type_of}
 use Rattle.rc_hir.specs.Model.{Environment, InstructionValue, Place}
 use Rattle.rc_hir.specs.Operands.{pattern_places}
+use Rattle.rc_hir.specs.TerminalOperands.{perhaps_place}
 use Rattle.rc_hir.specs.Types.{is_stable_type}
 use Rattle.rc_hir.specs.declared.instruction.InstructionValue.TheVariants as kinds
-use Rattle.rc_names.specs.Numbers.{EvaluationOrder, IdentifierId}
-use Rattle.rc_tree.specs.CollectedValues.{ValueContributions, collected_row, collected_value, collected_value_if}
+use Rattle.rc_names.specs.Numbers.{IdentifierId}
+use Rattle.rc_tree.specs.CollectedValues.{ValueContributions, instruction_of}
 use Rattle.rc_tree.specs.Joining.{lists}
-use Rattle.rc_tree.specs.Model.{ReactiveInstruction, ReactiveValue}
-use Rattle.rc_tree.specs.declared.value.ReactiveValue.TheVariants as reactive_values
 use Rattle.rc_flow.specs.declared.step.Step.{Step}
 use Rattle.rc_flow.specs.declared.step.Step.TheVariants.{Carries}
 
@@ -25,8 +24,7 @@ names_of places = map (λ (place : Place). place.identifier) places
 
 -- the name of a row's target, if it has one
 abbrev pub target_name : Option Place → List IdentifierId
-target_name None = []
-target_name (Some place) = place.identifier ∷ []
+target_name target = names_of (perhaps_place target)
 
 -- those of the names that aren't of a stable type
 abbrev pub unstable : Environment → List IdentifierId → List IdentifierId
@@ -46,26 +44,11 @@ own_steps env target (kinds.ComputedLoad object property span) =
     Carries (object.identifier ∷ property.identifier ∷ []) (target_name target) ∷ []
 own_steps env target _ = []
 
--- the same for a row's value, which is an expression for many rows
-abbrev pub row_steps : Environment → Option Place → ReactiveValue → List Step
-row_steps env target (reactive_values.Instruction x) = own_steps env target x
-row_steps env target _ = []
-
--- a row has the steps of the rows in its value, and then its own
+-- a row has the steps of the rows in its value, and then its own; its value is an expression for many rows
 abbrev pub row_flows : Environment → ValueContributions (List Step)
 row_flows env = record {
   joining = lists;
   instruction = λ id x. [];
   target = λ id x. [];
-  row = λ x inside. inside ++ row_steps env x.lvalue x.value;
+  row = λ x inside. inside ++ option_map_or (own_steps env x.lvalue) (instruction_of x.value) [];
 }
-
--- the steps of a row, and those of a value and of an optional one, whatever the id
-abbrev pub steps_of_row : Environment → ReactiveInstruction → List Step
-steps_of_row env = collected_row (row_flows env)
-
-abbrev pub steps_of_value : Environment → EvaluationOrder → ReactiveValue → List Step
-steps_of_value env id x = collected_value (row_flows env) x id
-
-abbrev pub steps_of_value_if : Environment → EvaluationOrder → Option ReactiveValue → List Step
-steps_of_value_if env = collected_value_if (row_flows env)

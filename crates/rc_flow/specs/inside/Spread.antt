@@ -9,10 +9,10 @@ use Rattle.rc_hir.specs.Model.{DeclarationEntry, Environment, Fault, ReactiveSco
 use Rattle.rc_names.specs.Numbers.{IdentifierId, ScopeId, is_among, same_id}
 use Rattle.rc_tree.specs.Model.{ReactiveBlock}
 use Rattle.rc_tree.specs.Step.{bind}
-use Rattle.rc_flow.specs.Collected.{recorded_steps}
 use Rattle.rc_flow.specs.declared.spread.Spread.{Spread}
 use Rattle.rc_flow.specs.declared.step.Step.{Step}
 use Rattle.rc_flow.specs.declared.step.Step.TheVariants.{Marks, Carries, Ends}
+use Rattle.rc_flow.specs.inside.Recording.{walked_steps}
 
 -- a set of names
 abbrev pub Names : Type 0
@@ -77,7 +77,7 @@ after_steps env (step ∷ steps) s = after_steps env steps (after_step env step 
 
 -- the state after the collecting steps of a body
 abbrev pub spread_over : ReactiveBlock → Environment → Result Spread Fault
-spread_over body env = bind (recorded_steps env body) (λ steps. Ok (after_steps env steps nothing))
+spread_over body env = bind (walked_steps env body) (λ steps. Ok (after_steps env steps nothing))
 
 -- the name is among the first `n` of the set; without a number, it holds of every name
 abbrev pub is_early : Names → IdentifierId → Option ℕ → Bool

@@ -3,7 +3,7 @@
 //! Statements that follow each other are a loop, so that the call stack grows with the nesting alone.
 #![tactic(auto, using(crate::proofs::AlwaysInvalidating::ValueStepsLemmas::holding))]
 
-ghost use Rattle.std.specs.Prelude.{◌≡◌, ◌++◌, IfOk, OnOk};
+ghost use Rattle.std.specs.Prelude.{◌≡◌, ◌++◌, IfOk, OnOk, option_to_list};
 ghost use Rattle.rc_flow.specs.ValueSteps as spec;
 ghost use Rattle.rc_flow.specs.ValueSteps.{value_step_parts as parts};
 ghost use Rattle.rc_names.specs.Numbers.{EvaluationOrder as Order};
@@ -151,18 +151,18 @@ fn add_row(
 ) -> Result<(), AllocError>
     ensures { OnOk result (steps.new ≡ steps.old ++ spec.steps_of_row row.now in_scope) }
 {
-    if let Some(step) = step_of(in_scope, &row.lvalue, &row.value) {
+    if let Some(step) = step_of(in_scope, row) {
         steps.push(step)?;
     }
     Ok(())
 }
 
 /// The step of a row, if it makes or copies such a value.
-fn step_of(in_scope: bool, target: &Option<Place>, value: &ReactiveValue) -> Option<ValueStep>
-    ensures { result ≡ spec.step_of in_scope target.now value.now }
+fn step_of(in_scope: bool, row: &ReactiveInstruction) -> Option<ValueStep>
+    ensures { option_to_list result ≡ spec.steps_of_row row.now in_scope }
 {
-    match value {
-        ReactiveValue::Instruction(value) => step_of_instruction(in_scope, *target, value),
+    match &row.value {
+        ReactiveValue::Instruction(value) => step_of_instruction(in_scope, row.lvalue, value),
         ReactiveValue::LogicalExpression { .. }
         | ReactiveValue::ConditionalExpression { .. }
         | ReactiveValue::SequenceExpression { .. }
@@ -172,7 +172,7 @@ fn step_of(in_scope: bool, target: &Option<Place>, value: &ReactiveValue) -> Opt
 
 /// The same of an instruction.
 fn step_of_instruction(in_scope: bool, target: Option<Place>, value: &Kind) -> Option<ValueStep>
-    ensures { result ≡ spec.step_of_instruction in_scope target value.now }
+    ensures { option_to_list result ≡ spec.steps_of_instruction in_scope target value.now }
 {
     match value {
         Kind::ArrayExpression { .. } => made(in_scope, target),
@@ -191,7 +191,7 @@ fn step_of_instruction(in_scope: bool, target: Option<Place>, value: &Kind) -> O
 
 /// The target gets a new value, if there is one.
 fn made(in_scope: bool, target: Option<Place>) -> Option<ValueStep>
-    ensures { result ≡ spec.made in_scope target }
+    ensures { option_to_list result ≡ spec.made in_scope target }
 {
     match target {
         Some(place) => Some(ValueStep::Makes {
@@ -204,7 +204,7 @@ fn made(in_scope: bool, target: Option<Place>) -> Option<ValueStep>
 
 /// The target gets the value of a place, if there is one.
 fn copied(from: Place, target: Option<Place>) -> Option<ValueStep>
-    ensures { result ≡ spec.copied from target }
+    ensures { option_to_list result ≡ spec.copied from target }
 {
     match target {
         Some(place) => Some(ValueStep::Copies {

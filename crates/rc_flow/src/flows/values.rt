@@ -7,6 +7,7 @@ ghost use Rattle.rc_names.specs.Numbers.{EvaluationOrder as Order};
 ghost use Rattle.rc_tree.specs.Joining.{all_of, lists};
 ghost use Rattle.rc_flow.specs.Flows.Values as spec;
 ghost use Rattle.rc_flow.specs.declared.step.Step.TheVariants.{Carries};
+ghost use Rattle.rc_flow.specs.inside.PartFlows as parts;
 
 use crate::flows::PruneVisitor;
 use crate::step::Step;
@@ -23,7 +24,7 @@ impl<'a> PruneVisitor<'a> {
     #[cycle(value_flows)]
     fn add_value(&self, steps: &mut List<Step>, value: &ReactiveValue) -> Result<(), AllocError>
         ensures { OnOk result
-            ((id : Order) → steps.new ≡ steps.old ++ spec.steps_of_value self.now.env.now id value.now) }
+            ((id : Order) → steps.new ≡ steps.old ++ parts.steps_of_value self.now.env.now id value.now) }
     {
         match value {
             ReactiveValue::Instruction(_) => Ok(()),
@@ -60,7 +61,7 @@ impl<'a> PruneVisitor<'a> {
         rows: &[ReactiveInstruction],
     ) -> Result<(), AllocError>
         ensures { OnOk result
-            (steps.new ≡ steps.old ++ all_of lists (map (spec.steps_of_row self.now.env.now) rows.now)) }
+            (steps.new ≡ steps.old ++ all_of lists (map (parts.steps_of_row self.now.env.now) rows.now)) }
     {
         for row in rows {
             self.add_row(steps, row)?;
@@ -75,7 +76,7 @@ impl<'a> PruneVisitor<'a> {
         steps: &mut List<Step>,
         row: &ReactiveInstruction,
     ) -> Result<(), AllocError>
-        ensures { OnOk result (steps.new ≡ steps.old ++ spec.steps_of_row self.now.env.now row.now) }
+        ensures { OnOk result (steps.new ≡ steps.old ++ parts.steps_of_row self.now.env.now row.now) }
     {
         self.add_value(steps, &row.value)?;
         self.add_own(steps, &row.lvalue, &row.value)
@@ -88,7 +89,7 @@ impl<'a> PruneVisitor<'a> {
         value: &Boxed<ReactiveValue>,
     ) -> Result<(), AllocError>
         ensures { OnOk result
-            ((id : Order) → steps.new ≡ steps.old ++ spec.steps_of_value self.now.env.now id value.now) }
+            ((id : Order) → steps.new ≡ steps.old ++ parts.steps_of_value self.now.env.now id value.now) }
     {
         self.add_value(steps, value.get())
     }
@@ -100,7 +101,7 @@ impl<'a> PruneVisitor<'a> {
         value: &Option<Boxed<ReactiveValue>>,
     ) -> Result<(), AllocError>
         ensures { OnOk result
-            ((id : Order) → steps.new ≡ steps.old ++ spec.steps_of_value_if self.now.env.now id value.now) }
+            ((id : Order) → steps.new ≡ steps.old ++ parts.steps_of_value_if self.now.env.now id value.now) }
     {
         match value {
             Some(value) => self.add_loop_value(steps, value),
@@ -115,7 +116,7 @@ impl<'a> PruneVisitor<'a> {
         target: &Option<Place>,
         value: &ReactiveValue,
     ) -> Result<(), AllocError>
-        ensures { OnOk result (steps.new ≡ steps.old ++ spec.row_steps self.now.env.now target.now value.now) }
+        ensures { OnOk result (steps.new ≡ steps.old ++ parts.row_steps self.now.env.now target.now value.now) }
     {
         match value {
             ReactiveValue::Instruction(value) => self.add_instruction(steps, target, value),

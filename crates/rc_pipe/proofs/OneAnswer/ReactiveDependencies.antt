@@ -1,10 +1,11 @@
 -- The pass on dependencies has one result: which dependencies stay is decided by their names.
-use Rattle.std.proofs.Common.{◌≡◌, ◌∙◌, ◌+◌, ℕ, Bool, List, [], ◌∷◌, ap, refl, subst, sym}
+use Rattle.std.proofs.Common.{◌≡◌, ◌∙◌, ◌+◌, ℕ, Bool, List, [], ◌∷◌, ◌++◌, ap, refl, subst, sym}
 use Rattle.std.specs.List.{filter}
 use Rattle.rc_hir.specs.Model.{Environment, ReactiveScope, ReactiveScopeDependency}
 use Rattle.rc_names.specs.Numbers.{ScopeId}
 use Rattle.rc_tree.specs.Model.{ReactiveBlock}
 use Rattle.rc_tree.proofs.StepLemmas.{Ok-injective}
+use Rattle.rc_flow.specs.Flows.{flows_in}
 use Rattle.rc_flow.specs.ReactiveDependencies.{HasReactiveDependencies, KeepReactive, KeepsReactive}
 use Rattle.rc_flow.specs.declared.step.Step.{Step}
 use Rattle.rc_pipe.proofs.OneAnswer.Unique.{one_truth}
@@ -31,7 +32,9 @@ module _ (env : Environment) (steps : List Step) where
 pub one_environment : (body : ReactiveBlock) (old new new1 : Environment) → HasReactiveDependencies body old new
     → HasReactiveDependencies body old new1 → new ≡ new1
 one_environment body old new new1 is is1 =
-    let steps = Ok-injective is.steps is1.steps (sym is.listed ∙ is1.listed) in
-    let kept = subst (λ s. KeepReactive old s 0 old.scopes new1.scopes) (sym steps) is1.scopes in
-    let tables = one_table old is.steps 0 old.scopes new.scopes new1.scopes is.scopes kept in
+    let same = Ok-injective is.collecting is1.collecting (sym is.recorded ∙ is1.recorded) in
+    let kept = subst (λ steps. KeepReactive old (steps ++ flows_in old body) 0 old.scopes new1.scopes) (sym same)
+    is1.scopes in
+    let tables = one_table old (is.collecting ++ flows_in old body) 0 old.scopes new.scopes new1.scopes is.scopes
+    kept in
     is.others ∙ ap (λ (scopes : List ReactiveScope). record old { scopes = scopes }) tables ∙ sym is1.others

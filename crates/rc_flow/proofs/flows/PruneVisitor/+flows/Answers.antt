@@ -1,19 +1,19 @@
-use Rattle.std.proofs.Common.{◌∙◌, [], ◌∷◌, ap}
+use Rattle.std.proofs.Common.{◌∙◌, [], ◌∷◌, ◌++◌, ap, sym}
 use Rattle.std.proofs.lemmas.Result.{on_ok_weaker}
 use Rattle.rc_flow.proofs.FlowsLemmas.{added_case, flows-DoWhile, flows-For, flows-ForIn, flows-ForOf, flows-If}
-use Rattle.rc_flow.proofs.FlowsLemmas.{flows-Scope, flows-Try, flows-While}
+use Rattle.rc_flow.proofs.FlowsLemmas.{flows-Scope, flows-Switch, flows-Try, flows-While}
 use Rattle.rc_flow.proofs.ListLemmas.{added, added_four, added_three}
 use Rattle.rc_flow.proofs.flows.PruneVisitor.+flows.Goals as goal
 use Rattle.rc_flow.specs.Flows.{flows_in}
-use Rattle.rc_flow.specs.Flows.Values.{steps_of_value, steps_of_value_if}
 use Rattle.rc_flow.specs.declared.step.Step.TheVariants.{Ends}
-use Rattle.rc_flow.specs.inside.PartFlows.{flows_if, flows_of_statement, flows_of_terminal}
+use Rattle.rc_flow.specs.inside.PartFlows.{flows_if, flows_of_cases, flows_of_statement, flows_of_terminal}
+use Rattle.rc_flow.specs.inside.PartFlows.{steps_of_value, steps_of_value_if}
 
 pub add_cases-loop-case-preserved : goal.add_cases-loop-case-preserved
-add_cases-loop-case-preserved t c =
+add_cases-loop-case-preserved t c id =
     added_case c.args.self.now.env.now c.loop-case.steps c.add_block_if.new.steps _ c.args.cases.now
-    c.loop-case.case-index c.case-item.result c.loop-case-test.true c.case-item.is c.in_ok-add_block_if.ensures
-    c.loop-case.invariant
+    c.loop-case.case-index c.case-item.result id c.loop-case-test.true c.case-item.is c.in_ok-add_block_if.ensures
+    (c.loop-case.invariant id)
 
 pub add_statement-returns-in_ok-add_block-in-Scope : goal.add_statement-returns-in_ok-add_block-in-Scope
 add_statement-returns-in_ok-add_block-in-Scope t c =
@@ -24,6 +24,16 @@ add_statement-returns-in_ok-add_block-in-Scope t c =
     (Ends block.scope ∷ []) (flows_of_statement env c.args.statement.now) c.in_ok-add_block-in-Scope.ensures
     (ap (flows_of_statement env) c.in-Scope.is ∙ flows-Scope env block))
     c.push.ensures.ok
+
+pub add_terminal-returns-in-Switch : goal.add_terminal-returns-in-Switch
+add_terminal-returns-in-Switch t c =
+    let arm = c.in-Switch in
+    let env = c.args.self.now.env.now in
+    on_ok_weaker c.add_cases.result
+    (λ all. all arm.id ∙ ap (λ steps. c.args.steps.now ++ steps)
+    (sym (ap (flows_of_terminal env) arm.is ∙ flows-Switch env arm.test arm.cases arm.id
+    ∙ ap (flows_of_cases env arm.id) (sym c.as_slice.ensures))))
+    c.add_cases.ensures
 
 pub add_terminal-returns-in_ok-add_block-in-DoWhile : goal.add_terminal-returns-in_ok-add_block-in-DoWhile
 add_terminal-returns-in_ok-add_block-in-DoWhile t c =

@@ -3,7 +3,8 @@ use Rattle.rc_tree.proofs.CollectedLemmas.{collected-row}
 use Rattle.rc_flow.proofs.ListLemmas.{added}
 use Rattle.rc_flow.proofs.ValuesLemmas.{added-Conditional, added-Logical, added-Sequence}
 use Rattle.rc_flow.proofs.flows.PruneVisitor.+value_flows.Goals as goal
-use Rattle.rc_flow.specs.Flows.Values.{row_flows, row_steps, steps_of_row, steps_of_value}
+use Rattle.rc_flow.specs.Flows.Values.{row_flows}
+use Rattle.rc_flow.specs.inside.PartFlows.{row_steps, steps_of_row, steps_of_value}
 
 pub add_row-returns : goal.add_row-returns
 add_row-returns t c =

@@ -1,6 +1,6 @@
 use Rattle.std.proofs.Common.{◌≡◌, ◌++◌, drop, map}
 use Rattle.rc_tree.specs.Joining.{all_of, lists}
-use Rattle.rc_flow.specs.Flows.Values.{steps_of_row}
+use Rattle.rc_flow.specs.inside.PartFlows.{steps_of_row}
 use Rattle.rc_flow.proofs.flows.PruneVisitor.+value_flows.Given as goal
 
 -- the steps added so far and those still to come are all the steps
