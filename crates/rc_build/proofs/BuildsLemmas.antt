@@ -51,6 +51,11 @@ is_built answer b same = record {
   frames = same;
 }
 
+-- something is built, in a box
+pub boxed_built : {A : Type 0} {old new : Builder} {site : Site} {Built : A → Type 0} {N : Type 0} {answer boxed : A}
+    → boxed ≡ answer → Built answer → setting_of new site ≡ setting_of old site → Builds old new site Built N (Ok boxed)
+boxed_built {Built = Built} {boxed = boxed} is b same = is_built boxed (subst Built (sym is) b) same
+
 -- a rule is broken
 pub breaks_rule : {A : Type 0} {old new : Builder} {site : Site} {Built : A → Type 0} {N : Type 0} {fault : Fault}
     (block : BlockId) (rule : Rule) → fault ≡ faults.Malformed block rule → N → RuleFact old.hir.now rule block

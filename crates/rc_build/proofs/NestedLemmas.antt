@@ -1,9 +1,9 @@
 -- What the builder ensures of the four value terminals, once their parts are built.
 use Rattle.std.proofs.Common.{◌≡◌, Bool, true, false, List, [], ◌∷◌, ◌++◌, Option, Some, None, refl, sym, ap, ◌∙◌}
-use Rattle.std.proofs.Common.{subst, Result, arith}
+use Rattle.std.proofs.Common.{subst, Result, arith, IfOk}
 use Rattle.rc_names.specs.Numbers.{BlockId, EvaluationOrder}
 use Rattle.rc_names.specs.declared.span.Span.{Span}
-use Rattle.rc_hir.specs.Model.{LogicalOperator, Fault, HirFunction, Environment}
+use Rattle.rc_hir.specs.Model.{LogicalOperator, Fault, HirFunction, Environment, Place}
 use Rattle.rc_hir.specs.declared.terminal.Terminal.TheVariants as terminals
 use Rattle.rc_tree.specs.Model.{ReactiveValue}
 use Rattle.rc_tree.specs.declared.value.ReactiveValue.TheVariants as reactive_values
@@ -13,6 +13,7 @@ use Rattle.rc_runs.specs.ShortArms.{shares_alternate}
 use Rattle.rc_runs.specs.ValueGrammar.{SpellsNested, sequence_value, ternary_value, logical_value, optional_value}
 use Rattle.rc_build.specs.declared.builder.Builder.{Builder}
 use Rattle.rc_build.specs.declared.builder.Site.{Site}
+use Rattle.rc_build.specs.declared.short_arms.ShortArm.{ShortArm}
 use Rattle.rc_build.specs.declared.values.Around.{Around}
 use Rattle.rc_build.specs.declared.values.BuiltValue.{BuiltValue}
 use Rattle.rc_build.specs.declared.values.TestArms.{TestArms}
@@ -72,14 +73,17 @@ module _ {hir : HirFunction} {env : Environment} {fallthrough : BlockId} {id : E
   sequence_refused used none nested blocks (sequence_value {value = v} {end = e} d g) sound = none v e blocks d g sound
 
   module _ {test : BlockId} {arms : TestArms} {tested first : BuiltValue} {old mid late : Progress} where
-    module _ {second : BuiltValue} {new : Progress} {value : ReactiveValue}
+    module _ {second : BuiltValue} {new : Progress}
         (b : ConditionBuilt hir env test span handler false arms tested old mid)
         (f : ArmBuilt hir env arms.consequent fallthrough span handler first mid late)
         (s : ArmBuilt hir env arms.alternate fallthrough span handler second late new) where
-      pub ternary_built : value ≡ reactive_values.ConditionalExpression tested.value first.value second.value
-          → NestedBuilt hir env handler (with_kind (kinds.Ternary test) fallthrough id span)
-          (record { value = value; answer = first.answer; short = None }) old new
-      ternary_built is = record {
+      pub ternary_built : NestedBuilt hir env handler (with_kind (kinds.Ternary test) fallthrough id span)
+          (record {
+            value = reactive_values.ConditionalExpression tested.value first.value second.value;
+            answer = first.answer;
+            short = None;
+          }) old new
+      ternary_built = record {
         nested = record {
           fallthrough = fallthrough;
           id = id;
@@ -90,7 +94,7 @@ module _ {hir : HirFunction} {env : Environment} {fallthrough : BlockId} {id : E
         };
         newly = b.newly ++ (f.newly ++ s.newly);
         is = record {
-          is = is ∙ ap (λ z. reactive_values.ConditionalExpression z first.value second.value) b.is.is
+          is = ap (λ z. reactive_values.ConditionalExpression z first.value second.value) b.is.is
               ∙ ap (λ z. reactive_values.ConditionalExpression (value_of b.value) z second.value) f.is.is
               ∙ ap (λ z. reactive_values.ConditionalExpression (value_of b.value) (value_of f.value) z) s.is.is;
           answer = f.is.answer;
@@ -102,13 +106,16 @@ module _ {hir : HirFunction} {env : Environment} {fallthrough : BlockId} {id : E
         kept = s.kept ∙ f.kept ∙ b.kept;
       }
 
-      pub logical_built : {operator : LogicalOperator} {left : ReactiveValue}
-          → left ≡ value_of (Sequence (Row b.end.id (Some b.end.answer) b.value span NoRows) f.end.id f.value)
-          → AreArmBlocks hir env f.newly
-          → value ≡ reactive_values.LogicalExpression operator left second.value
+      pub logical_built : {operator : LogicalOperator} → AreArmBlocks hir env f.newly
           → NestedBuilt hir env handler (with_kind (kinds.Logical operator test) fallthrough id span)
-          (record { value = value; answer = first.answer; short = None }) old new
-      logical_built {operator} {left} before silent is = record {
+          (record {
+            value = reactive_values.LogicalExpression operator
+                (value_of (Sequence (Row b.end.id (Some b.end.answer) b.value span NoRows) f.end.id f.value))
+                second.value;
+            answer = first.answer;
+            short = None;
+          }) old new
+      logical_built {operator} silent = record {
         nested = record {
           fallthrough = fallthrough;
           id = id;
@@ -120,8 +127,7 @@ module _ {hir : HirFunction} {env : Environment} {fallthrough : BlockId} {id : E
         };
         newly = b.newly ++ (f.newly ++ s.newly);
         is = record {
-          is = is ∙ ap (λ z. reactive_values.LogicalExpression operator z second.value) before
-              ∙ ap (λ z. reactive_values.LogicalExpression operator
+          is = ap (λ z. reactive_values.LogicalExpression operator
               (value_of (Sequence (Row b.end.id (Some b.end.answer) b.value span NoRows) f.end.id f.value)) z) s.is.is;
           answer = f.is.answer;
           left = refl;
@@ -133,19 +139,19 @@ module _ {hir : HirFunction} {env : Environment} {fallthrough : BlockId} {id : E
         kept = s.kept ∙ f.kept ∙ b.kept;
       }
 
-    module _ {value : ReactiveValue} {optional : Bool}
+    module _ {optional : Bool}
         (b : ConditionBuilt hir env test span handler true arms tested old mid)
         (f : ArmBuilt hir env arms.consequent fallthrough span handler first mid late) where
-      pub optional_built : {inner : ReactiveValue} → shares_alternate (alternate_of tested.left_open) arms.alternate ≡ true
-          → inner ≡ value_of (Sequence (Row b.end.id (Some b.end.answer) b.value arms.span NoRows) f.end.id f.value)
-          → value ≡ reactive_values.OptionalExpression inner optional
+      pub optional_built : shares_alternate (alternate_of tested.left_open) arms.alternate ≡ true
           → NestedBuilt hir env handler (with_kind (kinds.Optional optional test) fallthrough id span)
           (record {
-            value = value;
+            value = reactive_values.OptionalExpression
+                (value_of (Sequence (Row b.end.id (Some b.end.answer) b.value arms.span NoRows) f.end.id f.value))
+                optional;
             answer = first.answer;
             short = Some (record { alternate = arms.alternate; branch = tested.block });
           }) old late
-      optional_built {inner} shared before is = record {
+      optional_built shared = record {
         nested = record {
           fallthrough = fallthrough;
           id = id;
@@ -156,7 +162,7 @@ module _ {hir : HirFunction} {env : Environment} {fallthrough : BlockId} {id : E
         };
         newly = b.newly ++ f.newly;
         is = record {
-          is = is ∙ ap (λ z. reactive_values.OptionalExpression z optional) before;
+          is = refl;
           answer = f.is.answer;
           left = refl;
           short = short_arm b;
@@ -167,6 +173,22 @@ module _ {hir : HirFunction} {env : Environment} {fallthrough : BlockId} {id : E
             (marking_drop hir (λ other. omega arith) (marking_beside hir (arm_marking f)));
         kept = f.kept ∙ b.kept;
       }
+
+-- what is made of a value terminal, by equal parts
+pub made_alike : {E : Type 0} (result : Result NestedValue E) {value other : ReactiveValue} {answer place : Place}
+    {short arm : Option ShortArm} → IfOk result (λ made. made ≡ record { value = value; answer = answer; short = short })
+    → value ≡ other → answer ≡ place → short ≡ arm
+    → IfOk result (λ made. made ≡ record { value = other; answer = place; short = arm })
+made_alike result {value} {other} {answer} {place} {short} {arm} is v a s =
+    subst (λ z. IfOk result (λ made. made ≡ record { value = other; answer = place; short = z })) s
+    (subst (λ z. IfOk result (λ made. made ≡ record { value = other; answer = z; short = short })) a
+    (subst (λ z. IfOk result (λ made. made ≡ record { value = z; answer = answer; short = short })) v is))
+
+-- short arms with equal parts
+pub short_alike : {alternate other branch block : BlockId} → alternate ≡ other → branch ≡ block
+    → ◌≡◌ {A = Option ShortArm} (Some (record { alternate = alternate; branch = branch }))
+    (Some (record { alternate = other; branch = block }))
+short_alike arms blocks = cc
 
 -- what is built of a value terminal, by its kind
 pub nested_of : {old new : Builder} {site : Site} {handler : Option BlockId} {kind : ValueKind}

@@ -32,6 +32,7 @@ use Rattle.rc_build.specs.inside.ValueKinds.{terminal_of}
 use Rattle.rc_build.specs.inside.ValueSteps.{value_at}
 use Rattle.rc_build.specs.inside.ShortArms.{arm_blocks}
 use Rattle.rc_build.specs.inside.StepRows.{CanBuildRow, IsRow, RowBuilt}
+use Rattle.rc_build.specs.inside.ValueLoops.{row_behind}
 use Rattle.rc_build.specs.inside.ValueTerminals.{CanBuildNested, NestedBuilt}
 use Rattle.rc_build.specs.inside.ValueRows.{HasRows, row_of}
 use Rattle.rc_build.specs.inside.Values.{HasNoValue, any_end}
@@ -132,22 +133,11 @@ module _ {hir : HirFunction} {marks : Marks} (key : BlockId) (terminal : ValueTe
         (refused_back hir old.marks.used (key ∷ []) (x ++ (y ++ z)) sound u m.marking.used) refl)
 
     -- the row of a value terminal whose parts are built
-    pub row_built : {env : Environment} {around : Around} {made whole : List ReactiveInstruction}
-        {nested : NestedValue} {late : Progress} → same_id block.id key ≡ true → HasRows hir block.instructions made
+    pub row_built : {env : Environment} {around : Around} {made : List ReactiveInstruction} {nested : NestedValue}
+        {late : Progress} → same_id block.id key ≡ true → HasRows hir block.instructions made
         → is_unset terminal.id ≡ false → NestedBuilt hir env around.handler terminal nested new late
-        → whole ≡ made ++ record {
-          id = terminal.id;
-          lvalue = Some nested.answer;
-          value = nested.value;
-          span = around.span;
-        } ∷ []
-        → RowBuilt hir (IsRow hir env around key) key (record {
-          rows = whole;
-          next = terminal.fallthrough;
-          answer = Some nested.answer;
-          short = nested.short;
-        }) old late
-    row_built {env} {around} {made} {whole} {nested} {late} own rows set b e =
+        → RowBuilt hir (IsRow hir env around key) key (row_behind made terminal around.span nested) old late
+    row_built {env} {around} {made} {nested} {late} own rows set b =
         let all : has_all_ids (filled block rows.rows) ≡ true =
         ap (λ b. not b && not (is_unset (evaluation_order block.terminal))) rows.set
         ∙ ap (λ b. true && not b) (ap is_unset order ∙ set) in
@@ -160,7 +150,7 @@ module _ {hir : HirFunction} {marks : Marks} (key : BlockId) (terminal : ValueTe
             usable = usable_made hir key block rows.rows found own rows.filled all;
             spelled = subst (λ t. SpellsNested hir env around.handler t b.nested b.newly) (sym row_terminal) b.spelled;
             used_is = refl;
-            rows = e ∙ ap (λ z. z ++ row terminal.id nested.answer nested.value ∷ []) rows.is
+            rows = ap (λ z. z ++ row terminal.id nested.answer nested.value ∷ []) rows.is
                 ∙ ap (λ z. map row_of rows.rows ++ row z nested.answer nested.value ∷ []) (sym ends.id)
                 ∙ ap (λ z. map row_of rows.rows ++ row b.nested.id z nested.value ∷ []) b.is.answer
                 ∙ ap (λ z. map row_of rows.rows ++ row b.nested.id b.nested.answer z ∷ []) b.is.is

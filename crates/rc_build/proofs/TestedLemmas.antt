@@ -4,7 +4,8 @@ use Rattle.std.proofs.Common.{◌≡◌, Bool, [], ◌∷◌, Option, Result, Ok
 use Rattle.std.proofs.Common.{drop, length, ℕ}
 use Rattle.rc_names.specs.Numbers.{BlockId}
 use Rattle.rc_hir.specs.Model.{Fault}
-use Rattle.rc_runs.specs.ValueEnd.{GoesTo}
+use Rattle.rc_runs.specs.ListContext.{ValueContext}
+use Rattle.rc_runs.specs.ValueEnd.{GoesTo, ValueEnd}
 use Rattle.rc_build.specs.declared.builder.Builder.{Builder}
 use Rattle.rc_build.specs.declared.builder.Site.{Site}
 use Rattle.rc_build.specs.declared.values.Around.{Around}
@@ -26,6 +27,19 @@ use Rattle.rc_build.proofs.SilentValueLemmas.{blocks_since}
 use Rattle.rc_build.specs.inside.TestParts.{TestParts, ArmBuilt, HasNoArm, Tests}
 use Rattle.rc_build.proofs.TestPartLemmas.{one_first, arm_at, first_can, first_refused, second_can, second_refused}
 use Rattle.rc_build.proofs.TestPartLemmas.{silent_can, test_refused, tested_parts}
+
+module _ {old new : Builder} {site : Site} {context : ValueContext} {Q : ValueEnd → Type 0}
+    {result : Result BuiltValue Fault} {seen condition : Condition} (is : seen ≡ condition) where
+  -- an arm of a condition as it is seen in its box
+  pub first_seen : BuildsValue old new site seen.arms.consequent context Q result
+      → BuildsValue old new site condition.arms.consequent context Q result
+  first_seen built =
+      subst (λ (z : Condition). BuildsValue old new site z.arms.consequent context Q result) is built
+
+  pub second_seen : BuildsValue old new site seen.arms.alternate context Q result
+      → BuildsValue old new site condition.arms.alternate context Q result
+  second_seen built =
+      subst (λ (z : Condition). BuildsValue old new site z.arms.alternate context Q result) is built
 
 module _ {old mid : Builder} {there : Site} {test : BlockId} {around : Around} {is_test : Bool} {condition : Condition}
     (tested : BuildsCondition old mid there test (value_at around is_test) (Ok condition)) where

@@ -50,6 +50,11 @@ only_ends : (rows : List Instruction) (terminal : Terminal) → only_goes rows t
 only_ends [] (terminals.Goto block variant id span) only = refl
 only_ends rows terminal only = let bad : ⊥ = cc in absurd bad
 
+-- what was built, out of its box
+pub opened_built : {hir : HirFunction} {value : Value} {end : ValueEnd} {built opened : BuiltValue} → opened ≡ built
+    → IsBuilt hir value end built → IsBuilt hir value end opened
+opened_built {hir} {value} {end} same is = subst (IsBuilt hir value end) (sym same) is
+
 module _ {hir : HirFunction} {env : Environment} where
   -- a value ends in a terminal that ends values
   last_ends : {key : BlockId} {context : ValueContext} {value : Value} {end : ValueEnd} {blocks : List BlockId}

@@ -51,6 +51,11 @@ pub popped_last : (waiting front : List ValueRow) {result : Option ValueRow} {ro
     → IfSome result (λ last. waiting ≡ front ++ last ∷ []) → waiting ≡ front ++ row ∷ []
 popped_last waiting front is last = subst (λ z. IfSome z (λ x. waiting ≡ front ++ x ∷ [])) is last
 
+-- and the same row out of its box
+pub opened_last : (waiting front : List ValueRow) {row opened : ValueRow} → opened ≡ row → waiting ≡ front ++ row ∷ []
+    → waiting ≡ front ++ opened ∷ []
+opened_last waiting front is last = subst (λ z. waiting ≡ front ++ z ∷ []) (sym is) last
+
 pub popped_none : (waiting : List ValueRow) {result : Option ValueRow} → result ≡ None
     → (IsNone result ↔ (waiting ≡ [])) → waiting ≡ []
 popped_none waiting is none = none.0 (ap is_some is)

@@ -117,6 +117,8 @@ impl<'g> Builder<'g> {
 
     /// Refuses a value at the arm if its blocks, which were marked after the first `before` ones, are no silent arm.
     /// `Malformed` with `LoudArm`: a row of them isn't silent, or one ends in a value terminal.
+    // Not inlined, so that the frames of nested values have no room for what it reads.
+    #[inline(never)]
     pub fn check_silent_since(&self, before: usize, arm: BlockId) -> Result<(), Fault>
         requires { CanCheckSilent self.now.hir.now self.now.marks arm }
         ensures ok { OnOk result (AreArmBlocks self.now.hir.now self.now.env.now (drop before self.now.marks.used)) }

@@ -140,6 +140,9 @@ impl<'g> Builder<'g> {
 }
 
 /// Whether no switch may have the cases: two are defaults, or one with a test leads straight to the fallthrough.
+// It isn't inlined, nor are the other functions that go over all cases: the frames of nested switches have no room for
+// what they read.
+#[inline(never)]
 fn has_odd_cases(cases: &List<Case>, fallthrough: BlockId) -> bool
     ensures { result ≡ (not (spec.has_one_default cases.now) || spec.tests_past fallthrough cases.now) }
 {
@@ -147,6 +150,7 @@ fn has_odd_cases(cases: &List<Case>, fallthrough: BlockId) -> bool
 }
 
 /// Whether a switch has no default among the kept cases, and leaving it leads elsewhere than to its fallthrough.
+#[inline(never)]
 fn leaves_elsewhere(
     kept: &List<Case>,
     fallthrough: BlockId,
@@ -205,6 +209,7 @@ fn has_default(cases: &List<Case>) -> bool
 }
 
 /// The cases that are kept. The only error is out of memory.
+#[inline(never)]
 fn kept_cases(
     alloc: Global,
     cases: &List<Case>,

@@ -11,7 +11,7 @@ ghost use Rattle.rc_build.specs.inside.ValueKinds as kinds;
 use crate::builder::{Builder, Site, falls_to, malformed};
 use crate::value_terminals::{NestedValue, ValueTerminal, value_terminal};
 use rc_hir::{Fault, Rule, Terminal};
-use rc_names::BlockId;
+use rc_names::{BlockId, Boxed};
 use rc_tree::{ReactiveInstruction, ReactiveStatement};
 
 impl<'g> Builder<'g> {
@@ -53,7 +53,7 @@ impl<'g> Builder<'g> {
             terminal.fallthrough,
             site.handler,
             false,
-            nested.short,
+            nested.get().short,
             None,
         )?;
         self.out.push(value_statement(terminal, nested))?;
@@ -62,7 +62,7 @@ impl<'g> Builder<'g> {
 }
 
 /// The row of a value terminal.
-fn value_statement(terminal: ValueTerminal, nested: NestedValue) -> ReactiveStatement
+fn value_statement(terminal: ValueTerminal, nested: Boxed<NestedValue>) -> ReactiveStatement
     ensures { result ≡ reactive.Instruction (record {
       id = terminal.id;
       lvalue = Some nested.answer;
@@ -70,6 +70,7 @@ fn value_statement(terminal: ValueTerminal, nested: NestedValue) -> ReactiveStat
       span = terminal.span;
     }) }
 {
+    let nested = nested.into_inner();
     ReactiveStatement::Instruction(ReactiveInstruction {
         id: terminal.id,
         lvalue: Some(nested.answer),

@@ -17,9 +17,9 @@ ghost use Rattle.rc_build.specs.inside.ValueSteps.{around_parts};
 ghost use Rattle.rc_build.specs.inside.ShortArms.{other_arm_of};
 ghost use Rattle.rc_build.specs.inside.Values.{IsBuilt};
 
-use crate::builder::{Builder, malformed};
+use crate::builder::{Builder, let_go, malformed};
 use crate::short_arms::ShortArm;
-use crate::values::{Around, BuiltValue, Condition};
+use crate::values::{Around, BuiltValue, Condition, TestArms};
 use rc_hir::{Fault, LogicalOperator, Place, Rule, Terminal};
 use rc_names::{BlockId, Boxed, EvaluationOrder, List, Span};
 use rc_tree::{ReactiveInstruction, ReactiveValue};
@@ -104,7 +104,7 @@ impl<'g> Builder<'g> {
         &mut self,
         terminal: ValueTerminal,
         handler: Option<BlockId>,
-    ) -> Result<NestedValue, Fault>
+    ) -> Result<Boxed<NestedValue>, Fault>
         requires { CanBuildNested self.old.hir.now self.old.marks terminal }
         ensures { (site : Site) → BuildsNested self.old self.new site handler terminal result }
     {
@@ -129,18 +129,14 @@ impl<'g> Builder<'g> {
         terminal: ValueTerminal,
         block: BlockId,
         handler: Option<BlockId>,
-    ) -> Result<NestedValue, Fault>
+    ) -> Result<Boxed<NestedValue>, Fault>
         requires { CanBuildNested self.old.hir.now self.old.marks (record terminal { kind = kinds.Sequence block }) }
         ensures { (site : Site) →
             BuildsNested self.old self.new site handler (record terminal { kind = kinds.Sequence block }) result }
     {
         let around = terminal.around(handler);
         let built = self.build_arm(block, terminal.fallthrough, around)?;
-        Ok(NestedValue {
-            value: built.value,
-            answer: built.answer,
-            short: None,
-        })
+        Ok(in_sequence(self.alloc, built)?)
     }
 
     /// Builds a test and the two arms between which it chooses.
@@ -151,26 +147,33 @@ impl<'g> Builder<'g> {
         terminal: ValueTerminal,
         test: BlockId,
         handler: Option<BlockId>,
-    ) -> Result<NestedValue, Fault>
+    ) -> Result<Boxed<NestedValue>, Fault>
         requires { CanBuildNested self.old.hir.now self.old.marks (record terminal { kind = kinds.Ternary test }) }
         ensures { (site : Site) →
             BuildsNested self.old self.new site handler (record terminal { kind = kinds.Ternary test }) result }
     {
-        let ValueTerminal { fallthrough, .. } = terminal;
         let around = terminal.around(handler);
         let condition = self.build_condition(test, around, false)?;
-        let first = self.build_arm(condition.arms.consequent, fallthrough, around)?;
-        let second = self.build_arm(condition.arms.alternate, fallthrough, around)?;
-        Ok(NestedValue {
-            value: conditional(
-                self.alloc,
-                condition.tested.value,
-                first.value,
-                second.value,
-            )?,
-            answer: first.answer,
-            short: None,
-        })
+        let TestArms {
+            consequent,
+            alternate,
+            ..
+        } = condition.get().arms;
+        let first = match self.build_arm(consequent, terminal.fallthrough, around) {
+            Ok(first) => first,
+            Err(fault) => {
+                let_go(condition);
+                return Err(fault);
+            }
+        };
+        match self.build_arm(alternate, terminal.fallthrough, around) {
+            Ok(second) => Ok(conditional(self.alloc, condition, first, second)?),
+            Err(fault) => {
+                let_go(condition);
+                let_go(first);
+                Err(fault)
+            }
+        }
     }
 
     /// Builds a test and two arms, of which the first only hands the answer of the test on.
@@ -184,27 +187,40 @@ impl<'g> Builder<'g> {
         operator: LogicalOperator,
         test: BlockId,
         handler: Option<BlockId>,
-    ) -> Result<NestedValue, Fault>
+    ) -> Result<Boxed<NestedValue>, Fault>
         requires { CanBuildNested self.old.hir.now self.old.marks
             (record terminal { kind = kinds.Logical operator test }) }
         ensures { (site : Site) →
             BuildsNested self.old self.new site handler (record terminal { kind = kinds.Logical operator test }) result }
     {
-        let ValueTerminal { fallthrough, .. } = terminal;
         let around = terminal.around(handler);
         let condition = self.build_condition(test, around, false)?;
-        let arms = condition.arms;
+        let TestArms {
+            consequent,
+            alternate,
+            ..
+        } = condition.get().arms;
         let before = self.marks.used.len();
-        let first = self.build_arm(arms.consequent, fallthrough, around)?;
-        self.check_silent_since(before, arms.consequent)?;
-        let second = self.build_arm(arms.alternate, fallthrough, around)?;
-        let answer = first.answer;
-        let left = tested_then(self.alloc, condition.tested, terminal.span, first)?;
-        Ok(NestedValue {
-            value: logical(self.alloc, operator, left, second.value)?,
-            answer,
-            short: None,
-        })
+        let first = match self.build_arm(consequent, terminal.fallthrough, around) {
+            Ok(first) => first,
+            Err(fault) => {
+                let_go(condition);
+                return Err(fault);
+            }
+        };
+        if let Err(fault) = self.check_silent_since(before, consequent) {
+            let_go(condition);
+            let_go(first);
+            return Err(fault);
+        }
+        match self.build_arm(alternate, terminal.fallthrough, around) {
+            Ok(second) => Ok(logical(self.alloc, operator, around.span, condition, first, second)?),
+            Err(fault) => {
+                let_go(condition);
+                let_go(first);
+                Err(fault)
+            }
+        }
     }
 
     /// Builds a test and one arm; the other one is its short arm.
@@ -218,40 +234,35 @@ impl<'g> Builder<'g> {
         optional: bool,
         test: BlockId,
         handler: Option<BlockId>,
-    ) -> Result<NestedValue, Fault>
+    ) -> Result<Boxed<NestedValue>, Fault>
         requires { CanBuildNested self.old.hir.now self.old.marks
             (record terminal { kind = kinds.Optional optional test }) }
         ensures { (site : Site) →
             BuildsNested self.old self.new site handler (record terminal { kind = kinds.Optional optional test }) result }
     {
-        let ValueTerminal { fallthrough, .. } = terminal;
         let around = terminal.around(handler);
         let condition = self.build_condition(test, around, true)?;
-        let arms = condition.arms;
-        if let Some(branch) = other_arm(condition.tested.left_open, arms.alternate) {
+        if let Some(branch) = other_arm(condition.get()) {
+            let_go(condition);
             return Err(malformed(branch, Rule::ShortArm));
         }
-        let first = self.build_arm(arms.consequent, fallthrough, around)?;
-        let answer = first.answer;
-        let branch = condition.tested.block;
-        let value = tested_then(self.alloc, condition.tested, arms.span, first)?;
-        Ok(NestedValue {
-            value: optional_value(self.alloc, value, optional)?,
-            answer,
-            short: Some(ShortArm {
-                alternate: arms.alternate,
-                branch,
-            }),
-        })
+        let consequent = condition.get().arms.consequent;
+        match self.build_arm(consequent, terminal.fallthrough, around) {
+            Ok(first) => Ok(optional_value(self.alloc, optional, condition, first)?),
+            Err(fault) => {
+                let_go(condition);
+                Err(fault)
+            }
+        }
     }
 }
 
-/// The block of the `Branch` that leaves another arm open than this one, if there is one.
-fn other_arm(left_open: Option<ShortArm>, alternate: BlockId) -> Option<BlockId>
-    ensures { result ≡ other_arm_of left_open alternate }
+/// The block of the `Branch` that leaves another arm open than the condition's alternate, if there is one.
+fn other_arm(condition: &Condition<'_>) -> Option<BlockId>
+    ensures { result ≡ other_arm_of condition.now.tested.left_open condition.now.arms.alternate }
 {
-    match left_open {
-        Some(left) => if left.alternate == alternate {
+    match condition.tested.get().left_open {
+        Some(left) => if left.alternate == condition.arms.alternate {
             None
         } else {
             Some(left.branch)
@@ -260,69 +271,155 @@ fn other_arm(left_open: Option<ShortArm>, alternate: BlockId) -> Option<BlockId>
     }
 }
 
-/// The value of a ternary. The only error is out of memory.
-// It isn't inlined, nor are the functions that make other values: a value takes no room in the frames of nested ones.
+/// What is built of a sequence. The only error is out of memory.
+// It isn't inlined, nor are the functions for other value terminals: what is in a box takes no room in the frames of
+// nested values.
+#[inline(never)]
+fn in_sequence(
+    alloc: Global,
+    built: Boxed<BuiltValue<'_>>,
+) -> Result<Boxed<NestedValue>, AllocError>
+    ensures { IfOk result (λ made. made ≡ record {
+      value = built.entry.value;
+      answer = built.entry.answer;
+      short = None;
+    }) }
+{
+    let BuiltValue { value, answer, .. } = built.into_inner();
+    let nested = NestedValue {
+        value,
+        answer,
+        short: None,
+    };
+    Boxed::new(alloc, nested)
+}
+
+/// What is built of a ternary. The only error is out of memory.
 #[inline(never)]
 fn conditional(
     alloc: Global,
-    test: Boxed<ReactiveValue>,
-    consequent: Boxed<ReactiveValue>,
-    alternate: Boxed<ReactiveValue>,
-) -> Result<Boxed<ReactiveValue>, AllocError>
-    ensures { IfOk result (λ made. made ≡ reactive.ConditionalExpression test consequent alternate) }
+    condition: Boxed<Condition<'_>>,
+    first: Boxed<BuiltValue<'_>>,
+    second: Boxed<BuiltValue<'_>>,
+) -> Result<Boxed<NestedValue>, AllocError>
+    ensures { IfOk result (λ made. made ≡ record {
+      value = reactive.ConditionalExpression condition.entry.tested.value first.entry.value second.entry.value;
+      answer = first.entry.answer;
+      short = None;
+    }) }
 {
+    let Condition { tested, .. } = condition.into_inner();
+    let BuiltValue { value, answer, .. } = first.into_inner();
     let whole = ReactiveValue::ConditionalExpression {
-        test,
-        consequent,
-        alternate,
+        test: value_in(tested),
+        consequent: value,
+        alternate: value_in(second),
     };
-    Boxed::new(alloc, whole)
+    boxed_nested(alloc, whole, answer, None)
 }
 
-/// The value of a logical. The only error is out of memory.
+/// What is built of a logical with that span. The only error is out of memory.
 #[inline(never)]
 fn logical(
     alloc: Global,
     operator: LogicalOperator,
-    left: Boxed<ReactiveValue>,
-    right: Boxed<ReactiveValue>,
-) -> Result<Boxed<ReactiveValue>, AllocError>
-    ensures { IfOk result (λ made. made ≡ reactive.LogicalExpression operator left right) }
+    span: Option<Span>,
+    condition: Boxed<Condition<'_>>,
+    first: Boxed<BuiltValue<'_>>,
+    second: Boxed<BuiltValue<'_>>,
+) -> Result<Boxed<NestedValue>, AllocError>
+    ensures { (hir : HirFunction) (test value : Value) (test_end end : ValueEnd) →
+        IsBuilt hir test test_end condition.entry.tested → IsBuilt hir value end first.entry →
+        IfOk result (λ made. made ≡ record {
+          value = reactive.LogicalExpression operator
+              (value_of (Sequence (Row test_end.id (Some test_end.answer) test span NoRows) end.id value))
+              second.entry.value;
+          answer = first.entry.answer;
+          short = None;
+        }) }
 {
+    let Condition { tested, .. } = condition.into_inner();
+    let answer = first.get().answer;
     let whole = ReactiveValue::LogicalExpression {
         operator,
-        left,
-        right,
+        left: tested_then(alloc, tested, span, first)?,
+        right: value_in(second),
     };
-    Boxed::new(alloc, whole)
+    boxed_nested(alloc, whole, answer, None)
 }
 
-/// The value of an optional. The only error is out of memory.
+/// What is built of an optional. The only error is out of memory.
 #[inline(never)]
 fn optional_value(
     alloc: Global,
-    value: Boxed<ReactiveValue>,
     optional: bool,
-) -> Result<Boxed<ReactiveValue>, AllocError>
-    ensures { IfOk result (λ made. made ≡ reactive.OptionalExpression value optional) }
+    condition: Boxed<Condition<'_>>,
+    first: Boxed<BuiltValue<'_>>,
+) -> Result<Boxed<NestedValue>, AllocError>
+    ensures { (hir : HirFunction) (test value : Value) (test_end end : ValueEnd) →
+        IsBuilt hir test test_end condition.entry.tested → IsBuilt hir value end first.entry →
+        IfOk result (λ made. made ≡ record {
+          value = reactive.OptionalExpression
+              (value_of (Sequence (Row test_end.id (Some test_end.answer) test condition.entry.arms.span NoRows) end.id
+              value)) optional;
+          answer = first.entry.answer;
+          short = Some (record {
+            alternate = condition.entry.arms.alternate;
+            branch = condition.entry.tested.block;
+          });
+        }) }
 {
-    let whole = ReactiveValue::OptionalExpression { value, optional };
-    Boxed::new(alloc, whole)
+    let Condition { tested, arms } = condition.into_inner();
+    let answer = first.get().answer;
+    let short = ShortArm {
+        alternate: arms.alternate,
+        branch: tested.get().block,
+    };
+    let whole = ReactiveValue::OptionalExpression {
+        value: tested_then(alloc, tested, arms.span, first)?,
+        optional,
+    };
+    boxed_nested(alloc, whole, answer, Some(short))
+}
+
+/// The value that was built.
+fn value_in(built: Boxed<BuiltValue<'_>>) -> Boxed<ReactiveValue>
+    ensures { result ≡ built.entry.value }
+{
+    let BuiltValue { value, .. } = built.into_inner();
+    value
+}
+
+/// What is built of a value terminal with that value. The only error is out of memory.
+fn boxed_nested(
+    alloc: Global,
+    whole: ReactiveValue,
+    answer: Place,
+    short: Option<ShortArm>,
+) -> Result<Boxed<NestedValue>, AllocError>
+    ensures { IfOk result (λ made. made ≡ record { value = whole; answer = answer; short = short }) }
+{
+    let nested = NestedValue {
+        value: Boxed::new(alloc, whole)?,
+        answer,
+        short,
+    };
+    Boxed::new(alloc, nested)
 }
 
 /// The sequence of a test, as its only row, and the value after it. The only error is out of memory.
-#[inline(never)]
 fn tested_then(
     alloc: Global,
-    tested: BuiltValue<'_>,
+    tested: Boxed<BuiltValue<'_>>,
     span: Option<Span>,
-    behind: BuiltValue<'_>,
+    behind: Boxed<BuiltValue<'_>>,
 ) -> Result<Boxed<ReactiveValue>, AllocError>
     ensures { (hir : HirFunction) (condition value : Value) (condition_end end : ValueEnd) →
         IsBuilt hir condition condition_end tested.entry → IsBuilt hir value end behind.entry →
         IfOk result (λ whole. whole ≡ value_of
         (Sequence (Row condition_end.id (Some condition_end.answer) condition span NoRows) end.id value)) }
 {
+    let tested = tested.into_inner();
     let mut instructions = List::new(alloc);
     instructions.push(ReactiveInstruction {
         id: tested.id,
@@ -330,6 +427,7 @@ fn tested_then(
         value: tested.value.into_inner(),
         span,
     })?;
+    let behind = behind.into_inner();
     let sequence = ReactiveValue::SequenceExpression {
         instructions,
         id: behind.id,

@@ -15,21 +15,23 @@ ghost use Rattle.rc_runs.specs.TreeOf.{value_of};
 ghost use Rattle.rc_runs.specs.ValueEnd.{GoesTo, ValueEnd};
 ghost use Rattle.rc_runs.specs.LoopValues.{SpellsGoing, SpellsTest};
 ghost use Rattle.rc_runs.specs.LoopValues as loop_values;
+ghost use Rattle.rc_build.specs.declared.builder.Builder.{Builder};
 ghost use Rattle.rc_build.specs.declared.builder.Site.{Site};
+ghost use Rattle.rc_build.specs.declared.values.Around.{Around};
 ghost use Rattle.rc_build.specs.inside.Built.{Builds};
 ghost use Rattle.rc_build.specs.inside.Setting.{setting_of};
 ghost use Rattle.rc_build.specs.inside.Task.{progress_of};
 ghost use Rattle.rc_build.specs.inside.ValueSteps as steps;
 ghost use Rattle.rc_build.specs.inside.ShortArms.{CanBuildShort};
 ghost use Rattle.rc_build.specs.inside.StepRows.{CanBuildRow, CanBuildStep, CanBuildThrowing};
-ghost use Rattle.rc_build.specs.inside.StepRows.{IsRow, IsStep, IsThrowing, RowBuilt};
+ghost use Rattle.rc_build.specs.inside.StepRows.{IsRow, IsStep, IsThrowing, RowBegun, RowBuilt};
 ghost use Rattle.rc_build.specs.inside.ValueLoops as loops;
 ghost use Rattle.rc_build.specs.inside.ValueRows.{behind_rows};
 ghost use Rattle.rc_build.specs.inside.Values as spec;
 
 use crate::answered_test::{answers_test, same_declaration};
 use crate::blocks::{block_with_id, find_block};
-use crate::builder::{Builder, Site, malformed};
+use crate::builder::{Builder, Site, let_go, malformed};
 use crate::flatten::flattened;
 use crate::handlers::{MayThrow, is_current, is_empty_goto, may_throw};
 use crate::nesting::{ROW_LEVEL, VALUE_LEVEL, left_inside};
@@ -60,7 +62,7 @@ pub struct BuiltValue<'g> {
 /// A value that chooses between two blocks by its answer.
 #[derive(Drop)]
 pub struct Condition<'g> {
-    pub tested: BuiltValue<'g>,
+    pub tested: Boxed<BuiltValue<'g>>,
     pub arms: TestArms,
 }
 
@@ -126,7 +128,7 @@ impl<'g> Builder<'g> {
             spec.BuildsShown self.old self.new site key Spelled result }
     {
         let built = self.build_arm(key, next, showing.around(site))?;
-        Ok(built.shown(self.alloc, showing)?)
+        Ok(built.into_inner().shown(self.alloc, showing)?)
     }
 
     /// Builds the value from a block on, which chooses between these two blocks by its answer, as a loop shows it.
@@ -149,29 +151,32 @@ impl<'g> Builder<'g> {
             spec.BuildsShown self.old self.new site key Spelled result }
     {
         let condition = self.build_condition(key, showing.around(site), false)?;
-        if !condition.arms.are(consequent, alternate) {
-            return Err(refuse(condition.tested, Rule::ValueEnd));
+        let Condition { tested, arms } = condition.into_inner();
+        if !arms.are(consequent, alternate) {
+            return Err(refuse(tested, Rule::ValueEnd));
         }
-        Ok(condition.tested.shown(self.alloc, showing)?)
+        Ok(tested.into_inner().shown(self.alloc, showing)?)
     }
 
     /// Builds the value from a block on, after which the graph goes on at the next block.
     ///
     /// - `Malformed` with `ValueEnd`: it goes on elsewhere.
     /// - `Malformed`, `Todo`, `BadName`: as for a value.
+    // Inlined, so that a level of nested values has a frame less.
+    #[inline(always)]
     #[cycle(values)]
     pub fn build_arm(
         &mut self,
         key: BlockId,
         next: BlockId,
         around: Around,
-    ) -> Result<BuiltValue<'g>, Fault>
+    ) -> Result<Boxed<BuiltValue<'g>>, Fault>
         requires { spec.CanBuildValue self.old.hir.now self.old.marks key }
         ensures { (site : Site) →
             spec.BuildsValue self.old self.new site key (steps.value_at around false) (GoesTo next) result }
     {
         let built = self.build_value(key, around, false)?;
-        if !goes_to(built.last, next) {
+        if !built.get().leads_to(next) {
             return Err(refuse(built, Rule::ValueEnd));
         }
         Ok(built)
@@ -180,8 +185,7 @@ impl<'g> Builder<'g> {
     /// Builds the value from a block on, which chooses between two blocks by its answer; `is_test`: the test of an
     /// optional.
     ///
-    /// - `Malformed` with `ValueEnd`: it doesn't end in a `Branch`.
-    /// - `Malformed` with `Tested`: the `Branch` tests another declaration than that of the answer.
+    /// - `Malformed` with `ValueEnd` or `Tested`: it doesn't choose by its answer.
     /// - `Malformed`, `Todo`, `BadName`: as for a value.
     // Inlined, so that a level of nested values has a frame less.
     #[inline(always)]
@@ -191,19 +195,33 @@ impl<'g> Builder<'g> {
         key: BlockId,
         around: Around,
         is_test: bool,
-    ) -> Result<Condition<'g>, Fault>
+    ) -> Result<Boxed<Condition<'g>>, Fault>
         requires { spec.CanBuildValue self.old.hir.now self.old.marks key }
         ensures { (site : Site) →
             spec.BuildsCondition self.old self.new site key (steps.value_at around is_test) result }
     {
         let tested = self.build_value(key, around, is_test)?;
-        let Some(arms) = arms_of(tested.last) else {
+        self.choosing(tested)
+    }
+
+    /// The condition that a built value is.
+    ///
+    /// - `Malformed` with `ValueEnd`: the value doesn't end in a `Branch`.
+    /// - `Malformed` with `Tested`: the `Branch` tests another declaration than that of the answer.
+    // Not inlined, so that the frames of nested values have no room for the arms.
+    #[inline(never)]
+    fn choosing(&self, tested: Boxed<BuiltValue<'g>>) -> Result<Boxed<Condition<'g>>, Fault>
+        ensures { (old : Builder) (site : Site) (key : BlockId) (context : ValueContext) →
+            spec.IsBuiltSince old self.now site key context tested.entry →
+            spec.BuildsCondition old self.now site key context result }
+    {
+        let Some(arms) = arms_of(tested.get().last) else {
             return Err(refuse(tested, Rule::ValueEnd));
         };
-        if !same_declaration(self.env, arms.test, tested.answer) {
+        if !same_declaration(self.env, arms.test, tested.get().answer) {
             return Err(refuse(tested, Rule::Tested));
         }
-        Ok(Condition { tested, arms })
+        Ok(Boxed::new(self.alloc, Condition { tested, arms })?)
     }
 
     /// Builds the value from a block on, in the value of a terminal with that span; `is_test`: the test of an optional.
@@ -215,7 +233,7 @@ impl<'g> Builder<'g> {
         key: BlockId,
         around: Around,
         is_test: bool,
-    ) -> Result<BuiltValue<'g>, Fault>
+    ) -> Result<Boxed<BuiltValue<'g>>, Fault>
         requires { spec.CanBuildValue self.old.hir.now self.old.marks key }
         ensures { (site : Site) →
             spec.BuildsValue self.old self.new site key (steps.value_at around is_test) spec.any_end result }
@@ -224,10 +242,17 @@ impl<'g> Builder<'g> {
         let mut pending = List::new(self.alloc);
         let mut at = key;
         'rows: while let Some(step) = self.step_at(at) {
-            let row = self.build_step(at, step, around)?;
+            match self.build_step(at, step, around) {
+                Ok(row) => {
+                    at = row.get().next;
+                    pending.push(row)?;
+                }
+                Err(fault) => {
+                    let_go(pending);
+                    return Err(fault);
+                }
+            }
             self.stack = left_inside(self.stack, ROW_LEVEL)?;
-            at = row.next;
-            pending.push(row)?;
         }
         self.stack = stack;
         self.build_back(pending, at, around, is_test)
@@ -240,27 +265,32 @@ impl<'g> Builder<'g> {
     #[inline(never)]
     fn build_back(
         &mut self,
-        rows: List<ValueRow>,
+        rows: List<Boxed<ValueRow>>,
         at: BlockId,
         around: Around,
         is_test: bool,
-    ) -> Result<BuiltValue<'g>, Fault>
+    ) -> Result<Boxed<BuiltValue<'g>>, Fault>
         requires { loops.CanBuildBack self.old rows at around }
         ensures { loops.BuildsBack self.old self.new rows at around is_test result }
     {
         let mut pending = rows;
         let mut built = self.build_last(at, around.handler)?;
         'back: while let Some(row) = pending.pop() {
-            built = self.put_behind(row, built, is_test, around.handler)?;
+            built = self.put_behind(row.into_inner(), built, is_test, around.handler)?;
         }
-        Ok(built)
+        Ok(Boxed::new(self.alloc, built)?)
     }
 
     /// Builds the rows of a block after which the value goes on.
     ///
     /// `Malformed`, `Todo`, `BadName`: as for a value terminal's row, or for a block that may throw.
     #[cycle(values)]
-    fn build_step(&mut self, key: BlockId, step: Step, around: Around) -> Result<ValueRow, Fault>
+    fn build_step(
+        &mut self,
+        key: BlockId,
+        step: Step,
+        around: Around,
+    ) -> Result<Boxed<ValueRow>, Fault>
         requires { CanBuildStep self.old.hir.now self.old.marks key step }
         ensures { (site : Site) (is_test : Bool) → Builds self.old self.new site
             (λ row. RowBuilt self.old.hir.now (IsStep self.old.hir.now self.old.env.now around key) key row
@@ -276,7 +306,7 @@ impl<'g> Builder<'g> {
 
     /// Builds the value terminal of a block as a row, after the rows of the block.
     ///
-    /// - `Malformed`, `BadName`: as for a block of a value.
+    /// - `Malformed`, `BadName`: as for the rows of the block.
     /// - `Malformed`, `Todo`, `BadName`: as for the value terminal.
     #[cycle(values)]
     fn build_row(
@@ -284,7 +314,7 @@ impl<'g> Builder<'g> {
         key: BlockId,
         terminal: ValueTerminal,
         around: Around,
-    ) -> Result<ValueRow, Fault>
+    ) -> Result<Boxed<ValueRow>, Fault>
         requires { CanBuildRow self.old.hir.now self.old.marks key terminal }
         ensures { (site : Site) (is_test : Bool) → Builds self.old self.new site
             (λ row. RowBuilt self.old.hir.now (IsRow self.old.hir.now self.old.env.now around key) key row
@@ -292,40 +322,60 @@ impl<'g> Builder<'g> {
             (spec.HasNoValue self.old.hir.now self.old.env.now key (steps.value_at around is_test) spec.any_end
             self.old.marks.used) result }
     {
+        let stack = self.stack;
+        self.stack = left_inside(stack, VALUE_LEVEL)?;
+        let rows = self.begin_row(key, &terminal)?;
+        match self.build_nested(terminal, around.handler) {
+            Ok(nested) => {
+                self.stack = stack;
+                Ok(end_row(self.alloc, rows, &terminal, around.span, nested)?)
+            }
+            Err(fault) => {
+                let_go(rows);
+                Err(fault)
+            }
+        }
+    }
+
+    /// Makes the rows of a block that ends in a value terminal, and marks the block.
+    ///
+    /// - `Malformed` with `UnsetId`: a row or the terminal has no id.
+    /// - `Malformed` with another rule, `BadName`: as for a block of a list.
+    // Not inlined, so that the frames of nested values have no room for what it looks up.
+    #[inline(never)]
+    fn begin_row(
+        &mut self,
+        key: BlockId,
+        terminal: &ValueTerminal,
+    ) -> Result<List<ReactiveInstruction>, Fault>
+        requires { CanBuildRow self.old.hir.now self.old.marks key terminal.now }
+        ensures { (site : Site) (around : Around) (is_test : Bool) → Builds self.old self.new site
+            (λ rows. RowBegun self.old.hir.now key terminal.now rows (progress_of self.old) (progress_of self.new))
+            (spec.HasNoValue self.old.hir.now self.old.env.now key (steps.value_at around is_test) spec.any_end
+            self.old.marks.used) result }
+    {
         let hir = self.hir;
         let found = find_block(hir, key, self.next_place())?;
-        let mut rows = sequence_rows(self.alloc, hir, key, found.block.instructions.as_slice())?;
+        let rows = sequence_rows(self.alloc, hir, key, found.block.instructions.as_slice())?;
         if terminal.id.0 == 0 {
             return Err(malformed(key, Rule::UnsetId));
         }
         self.mark_block(key, found)?;
-        let stack = self.stack;
-        self.stack = left_inside(stack, VALUE_LEVEL)?;
-        let NestedValue {
-            value,
-            answer,
-            short,
-        } = self.build_nested(terminal, around.handler)?;
-        self.stack = stack;
-        put_row(&mut rows, terminal.id, &answer, value, around.span)?;
-        Ok(ValueRow {
-            rows,
-            next: terminal.fallthrough,
-            answer: Some(answer),
-            short,
-        })
+        Ok(rows)
     }
 
     /// Builds the rows of a block that may throw, after which the value goes on.
     ///
     /// - `Malformed` with `Handler`: it names a handler that isn't the current one.
     /// - `Malformed`, `BadName`: as for a block of a value.
+    // Not inlined, as `begin_row` isn't.
+    #[inline(never)]
     fn build_throwing(
         &mut self,
         key: BlockId,
         throw: MayThrow,
         handler: Option<BlockId>,
-    ) -> Result<ValueRow, Fault>
+    ) -> Result<Boxed<ValueRow>, Fault>
         requires { CanBuildThrowing self.old.hir.now self.old.marks key throw }
         ensures { (site : Site) (context : ValueContext) → context.handler ≡ handler → Builds self.old self.new site
             (λ row. RowBuilt self.old.hir.now (IsThrowing self.old.hir.now handler key) key row
@@ -339,12 +389,13 @@ impl<'g> Builder<'g> {
             return Err(malformed(key, Rule::Handler));
         }
         self.mark_block(key, found)?;
-        Ok(ValueRow {
+        let row = ValueRow {
             rows,
             next: throw.continuation,
             answer: None,
             short: None,
-        })
+        };
+        Ok(Boxed::new(self.alloc, row)?)
     }
 
     /// The value of a row and of the built value after it, with the short arm of the row.
@@ -374,6 +425,8 @@ impl<'g> Builder<'g> {
     }
 
     /// How a value goes on after the block under a key, if there is such a block and it isn't the value's last one.
+    // Not inlined, so that the frames of nested values have no room for what it looks up.
+    #[inline(never)]
     fn step_at(&self, key: BlockId) -> Option<Step>
         ensures { result ≡ steps.step_at self.now.hir.now key }
     {
@@ -407,6 +460,15 @@ impl TestArms {
 }
 
 impl<'g> BuiltValue<'g> {
+    /// Whether the graph goes on at the block after the value.
+    // Not inlined, so that the frames of nested values have no room for what it reads.
+    #[inline(never)]
+    fn leads_to(&self, next: BlockId) -> bool
+        ensures { result ≡ spec.goes_to self.now.last.now next }
+    {
+        goes_to(self.last, next)
+    }
+
     /// The value after these rows, if there are any, with the arm that both leave open. The only error is out of
     /// memory.
     fn behind(
@@ -458,10 +520,38 @@ impl<'g> BuiltValue<'g> {
 /// The fault of a value whose last block breaks a rule; the value is let go.
 // Not inlined, so that the frames of nested values have no room for what letting go takes.
 #[inline(never)]
-fn refuse(built: BuiltValue<'_>, rule: Rule) -> Fault
+fn refuse(built: Boxed<BuiltValue<'_>>, rule: Rule) -> Fault
     ensures { result ≡ faults.Malformed built.entry.block rule }
 {
-    malformed(built.block, rule)
+    malformed(built.get().block, rule)
+}
+
+/// The row of a value terminal, after the rows of its block. The only error is out of memory.
+// Not inlined, so that the frames of nested values have no room for its parts.
+#[inline(never)]
+fn end_row(
+    alloc: Global,
+    rows: List<ReactiveInstruction>,
+    terminal: &ValueTerminal,
+    span: Option<Span>,
+    nested: Boxed<NestedValue>,
+) -> Result<Boxed<ValueRow>, AllocError>
+    ensures { IfOk result (λ row. row ≡ loops.row_behind rows terminal.now span nested) }
+{
+    let NestedValue {
+        value,
+        answer,
+        short,
+    } = nested.into_inner();
+    let mut rows = rows;
+    put_row(&mut rows, terminal.id, &answer, value, span)?;
+    let row = ValueRow {
+        rows,
+        next: terminal.fallthrough,
+        answer: Some(answer),
+        short,
+    };
+    Boxed::new(alloc, row)
 }
 
 /// Appends a row with that value. The only error is out of memory.

@@ -1,12 +1,14 @@
 -- The row of each block after which a value goes on.
 use Rattle.std.specs.Prelude.{◌≡◌, true, false, List, [], ◌∷◌, Option, Some, None}
-use Rattle.rc_names.specs.Numbers.{BlockId, EvaluationOrder}
+use Rattle.rc_names.specs.Numbers.{BlockId, EvaluationOrder, same_id}
 use Rattle.rc_names.specs.declared.span.Span.{Span}
-use Rattle.rc_hir.specs.Model.{HirFunction, Environment}
+use Rattle.rc_hir.specs.Model.{BasicBlock, HirFunction, Environment}
 use Rattle.rc_hir.specs.declared.terminal.Terminal.TheVariants as terminals
-use Rattle.rc_runs.specs.Graph.{Block, block_at, is_empty_goto, usable_block}
+use Rattle.rc_tree.specs.Model.{ReactiveInstruction}
+use Rattle.rc_runs.specs.Graph.{Block, basic_block, block_at, is_empty_goto, usable_block}
 use Rattle.rc_runs.specs.ListContext.{is_current}
 use Rattle.rc_runs.specs.PlainTree.{NoRows, Row}
+use Rattle.rc_runs.specs.Silent.{is_unset}
 use Rattle.rc_runs.specs.TreeOf.{instructions_of}
 use Rattle.rc_runs.specs.LastRow.{rows_then}
 use Rattle.rc_runs.specs.ValueGrammar.{Nested, SpellsNested}
@@ -17,10 +19,11 @@ use Rattle.rc_build.specs.declared.values.Step.{Step}
 use Rattle.rc_build.specs.declared.values.ValueRow.{ValueRow}
 use Rattle.rc_build.specs.declared.value_terminals.ValueTerminal.{ValueTerminal}
 use Rattle.rc_build.specs.BlockFacts.{BlockIs, IsValueReferenced}
-use Rattle.rc_build.specs.inside.Marks.{MarksBlocks}
+use Rattle.rc_build.specs.inside.Marks.{Marked, MarksBlocks}
 use Rattle.rc_build.specs.inside.Task.{Progress}
 use Rattle.rc_build.specs.inside.Throws.{may_throw}
 use Rattle.rc_build.specs.inside.ValueKinds.{terminal_of}
+use Rattle.rc_build.specs.inside.ValueRows.{HasRows}
 use Rattle.rc_build.specs.inside.ValueSteps.{step_behind}
 use Rattle.rc_build.specs.inside.ShortArms.{AreShort, alternate_of, arm_blocks}
 use Rattle.rc_build.specs.inside.Values.{CanBuildValue}
@@ -72,6 +75,16 @@ pub record RowBuilt (hir : HirFunction) (Is : ValueRow → List BlockId → Type
   pub is : Is row newly
   pub marking : MarksBlocks hir (key ∷ []) (row.next ∷ arm_blocks row.short) old.marks new.marks newly
   pub kept : new.out ≡ old.out
+
+-- the rows of a block that ends in the value terminal are made, and the block is marked
+pub record RowBegun (hir : HirFunction) (key : BlockId) (terminal : ValueTerminal) (made : List ReactiveInstruction)
+    (old new : Progress) : Type 0 where
+  pub block : BasicBlock
+  pub found : basic_block hir key ≡ Some block
+  pub own : same_id block.id key ≡ true
+  pub rows : HasRows hir block.instructions made
+  pub set : is_unset terminal.id ≡ false
+  pub marked : Marked hir key block.terminal old new
 
 -- the value terminal of a block can be built as a row
 pub record CanBuildRow (hir : HirFunction) (marks : Marks) (key : BlockId) (terminal : ValueTerminal) : Type 0 where

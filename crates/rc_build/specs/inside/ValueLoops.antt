@@ -16,6 +16,8 @@ use Rattle.rc_build.specs.declared.builder.Site.{Site}
 use Rattle.rc_build.specs.declared.values.Around.{Around}
 use Rattle.rc_build.specs.declared.values.BuiltValue.{BuiltValue}
 use Rattle.rc_build.specs.declared.values.ValueRow.{ValueRow}
+use Rattle.rc_build.specs.declared.value_terminals.NestedValue.{NestedValue}
+use Rattle.rc_build.specs.declared.value_terminals.ValueTerminal.{ValueTerminal}
 use Rattle.rc_build.specs.References.{referenced_blocks}
 use Rattle.rc_build.specs.BlockFacts.{IsValueReferenced}
 use Rattle.rc_build.specs.inside.Marks.{MarksBlocks}
@@ -38,6 +40,15 @@ pub data RowsLead (hir : HirFunction) (env : Environment) (around : Around) (key
 -- the row of a value terminal with that value, which answers with the place
 abbrev pub row_with : EvaluationOrder → Place → ReactiveValue → Option Span → ReactiveInstruction
 row_with id answer value span = record { id = id; lvalue = Some answer; value = value; span = span }
+
+-- the row of a value terminal of which that is built, after the rows of its block
+abbrev pub row_behind : List ReactiveInstruction → ValueTerminal → Option Span → NestedValue → ValueRow
+row_behind rows terminal span nested = record {
+  rows = rows ++ row_with terminal.id nested.answer nested.value span ∷ [];
+  next = terminal.fallthrough;
+  answer = Some nested.answer;
+  short = nested.short;
+}
 
 -- the blocks of the short arms of these rows
 abbrev pub arms_of_rows : List ValueRow → List BlockId

@@ -22,6 +22,7 @@ use Rattle.rc_build.specs.References.{referenced_blocks}
 use Rattle.rc_build.specs.BlockFacts.{IsValueReferenced, ValueBlockIs}
 use Rattle.rc_build.specs.inside.CanBuild.{CanBuildList}
 use Rattle.rc_build.specs.inside.Marks.{MarksBlocks}
+use Rattle.rc_build.specs.inside.Setting.{setting_of}
 use Rattle.rc_build.specs.inside.Task.{Progress, progress_of}
 use Rattle.rc_build.specs.inside.Built.{Builds, BuiltPart, Refused}
 use Rattle.rc_build.specs.inside.ShortArms.{alternate_of, AreShort}
@@ -87,6 +88,12 @@ abbrev pub BuildsValue : Builder → Builder → Site → BlockId → ValueConte
 BuildsValue old new site key context Q result = Builds old new site
     (λ built. ValueBuilt old.hir.now old.env.now key context Q built (progress_of old) (progress_of new))
     (HasNoValue old.hir.now old.env.now key context Q old.marks.used) result
+
+-- the value from a block on was built, from the old builder to this one
+pub record IsBuiltSince (old now : Builder) (site : Site) (key : BlockId) (context : ValueContext) (built : BuiltValue)
+    : Type 0 where
+  pub ok : ValueBuilt old.hir.now old.env.now key context any_end built (progress_of old) (progress_of now)
+  pub frames : setting_of now site ≡ setting_of old site
 
 -- the value ends in that `Branch`, which tests its answer
 pub record HasArms (env : Environment) (arms : TestArms) (end : ValueEnd) : Type 0 where

@@ -1,40 +1,36 @@
-use Rattle.std.proofs.Common.{[], refl, sym, ap, ◌∙◌, subst, arith, length, true, Some, Err, ◌≡◌, eq-eqb}
-use Rattle.std.proofs.Common.{ne_eqb}
+use Rattle.std.proofs.Common.{refl, sym, ap, ◌∙◌, subst, arith, length, true, false, Err, ◌≡◌}
 use Rattle.rc_hir.specs.declared.fault.Rule.TheVariants as rules
-use Rattle.rc_runs.specs.PlainTree.{NoRows, Row, Sequence}
-use Rattle.rc_runs.specs.Silent.{is_unset}
-use Rattle.rc_runs.specs.TreeOf.{value_of}
 use Rattle.rc_runs.specs.ValueEnd.{GoesTo}
 use Rattle.rc_runs.specs.ValueGrammar.{SpellsNested}
 use Rattle.rc_build.specs.declared.value_terminals.ValueKind.TheVariants as kinds
-use Rattle.rc_build.specs.declared.values.Around.{Around}
+use Rattle.rc_build.specs.declared.values.BuiltValue.{BuiltValue}
+use Rattle.rc_build.specs.declared.values.Condition.{Condition}
+use Rattle.rc_build.specs.declared.values.ValueRow.{ValueRow}
 use Rattle.rc_build.specs.inside.Setting.{Setting}
+use Rattle.rc_build.specs.inside.ShortArms.{other_arm_of}
+use Rattle.rc_build.specs.inside.SilentArms.{CanCheckSilent}
 use Rattle.rc_build.specs.inside.Task.{progress_of}
+use Rattle.rc_build.specs.inside.TestParts.{logical_tests, optional_tests, ternary_tests}
 use Rattle.rc_build.specs.inside.ValueKinds.{terminal_of}
-use Rattle.rc_build.specs.inside.ValueSteps.{value_at}
 use Rattle.rc_build.specs.inside.ValueLoops.{RowsSoFar}
+use Rattle.rc_build.specs.inside.ValueSteps.{value_at}
 use Rattle.rc_build.specs.inside.ValueTerminals.{CanBuildNested, NestedBuilt}
-use Rattle.rc_build.specs.inside.ValueRows.{HasRows}
-use Rattle.rc_build.specs.inside.Values.{IsChoice, any_end}
-use Rattle.rc_build.proofs.BuildsLemmas.{any_site, breaks_rule, builds_at, fails, fails_at, is_built, passes_on}
+use Rattle.rc_build.specs.inside.Values.{CanBuildValue, goes_to}
+use Rattle.rc_build.proofs.BuildsLemmas.{any_site, boxed_built, breaks_rule, builds_at, fails_at, is_built, passes_on}
 use Rattle.rc_build.proofs.BuildsLemmas.{refused_in, same_graph}
 use Rattle.rc_build.proofs.ListLemmas.{as_few_left, fewer_left, same_blocks, used_longer}
-use Rattle.rc_build.proofs.MarksLemmas.{referenced_once}
 use Rattle.rc_build.proofs.NestedLemmas.{logical_built, nested_around, nested_of, optional_built, sequence_built}
 use Rattle.rc_build.proofs.NestedLemmas.{sequence_refused, ternary_built}
-use Rattle.rc_build.proofs.RowBuiltLemmas.{row_built, row_can_mark, row_nested_can, row_refused, row_unset}
-use Rattle.rc_build.proofs.RowBuiltLemmas.{row_unset_refused}
+use Rattle.rc_build.proofs.RowBuiltLemmas.{row_built, row_nested_can, row_refused}
 use Rattle.rc_build.proofs.ShortArmLemmas.{other_none, other_some, short_fact}
 use Rattle.rc_build.proofs.SilentValueLemmas.{arm_silent}
 use Rattle.rc_build.proofs.StepLemmas.{row_can, row_step, throwing_can, throwing_step}
-use Rattle.rc_build.specs.inside.TestParts.{logical_tests, optional_tests, ternary_tests}
 use Rattle.rc_build.proofs.TestPartLemmas.{arm_at, logical_parts, shares_same, tested_parts}
-use Rattle.rc_build.proofs.TestedLemmas.{arm_there, first_arm_can, first_fails, first_silent, same_behind}
-use Rattle.rc_build.proofs.TestedLemmas.{second_arm_can, second_fails, silent_arm_can, silent_since, test_fails}
-use Rattle.rc_build.proofs.ValueEndLemmas.{arms_as, arms_none, arms_unlike, declared_in, end_elsewhere, ends_as}
-use Rattle.rc_build.proofs.ValueEndLemmas.{ends_not, goes_as, goes_not, tested_fact}
+use Rattle.rc_build.proofs.TestedLemmas.{arm_there, first_arm_can, first_fails, first_seen, first_silent, same_behind}
+use Rattle.rc_build.proofs.TestedLemmas.{second_arm_can, second_fails, second_seen, silent_arm_can, silent_since}
+use Rattle.rc_build.proofs.TestedLemmas.{test_fails}
+use Rattle.rc_build.proofs.ValueEndLemmas.{end_elsewhere, ends_as, ends_not, goes_as, goes_not}
 use Rattle.rc_build.proofs.ValueKindLemmas.{nested_can}
-use Rattle.rc_build.proofs.ValueLemmas.{spells_unusable, value_has_rows}
 use Rattle.rc_build.proofs.ValueLoopLemmas.{any_stack, further_can}
 use Rattle.rc_build.proofs.ValueLoopLemmas.{rows_further, rows_refused, rows_start}
 use Rattle.rc_build.proofs.ValueRowLemmas.{step_starts}
@@ -50,17 +46,20 @@ build_arm-returns-in_err-built t c = λ site.
     passes_on c.from_residual.ensures.1 refl (c.in_err-built.ensures site)
     (λ none value end blocks d asked sound. none value end blocks d tt sound)
 
-pub build_arm-returns-then-not-goes_to : goal.build_arm-returns-then-not-goes_to
-build_arm-returns-then-not-goes_to t c = λ site.
+pub build_arm-returns-then-not-leads_to : goal.build_arm-returns-then-not-leads_to
+build_arm-returns-then-not-leads_to t c = λ site.
     let built = c.in_ok-built.ensures site in
+    let not = subst (λ (z : BuiltValue). goes_to z.last.now c.args.next ≡ false) c.get.ensures
+    (sym c.leads_to.ensures ∙ c.if-not-leads_to.true) in
     breaks_rule _ rules.ValueEnd c.refuse.ensures
-    (ends_not built.ok (GoesTo c.args.next) c.args.self.now.marks.used
-    (goes_not built.ok (sym c.goes_to.ensures ∙ c.if-not-goes_to.true))) (end_elsewhere built.ok)
+    (ends_not built.ok (GoesTo c.args.next) c.args.self.now.marks.used (goes_not built.ok not)) (end_elsewhere built.ok)
 
 pub build_arm-returns : goal.build_arm-returns
 build_arm-returns t c = λ site.
     let built = c.in_ok-built.ensures site in
-    is_built _ (ends_as built.ok (goes_as built.ok (sym c.goes_to.ensures ∙ c.if-not-goes_to.false))) built.frames
+    let goes = subst (λ (z : BuiltValue). goes_to z.last.now c.args.next ≡ true) c.get.ensures
+    (sym c.leads_to.ensures ∙ c.if-not-leads_to.false) in
+    is_built _ (ends_as built.ok (goes_as built.ok goes)) built.frames
 
 -- a condition
 
@@ -72,30 +71,11 @@ build_condition-returns-in_err-tested t c = λ site.
     passes_on c.from_residual.ensures.1 refl (c.in_err-tested.ensures site)
     (λ none value end blocks d asked sound. none value end blocks d tt sound)
 
-pub build_condition-returns-in_default : goal.build_condition-returns-in_default
-build_condition-returns-in_default t c = λ site.
-    let built = c.in_ok-tested.ensures site in
-    breaks_rule _ rules.ValueEnd c.refuse.ensures
-    (ends_not built.ok (IsChoice c.args.self.now.env.now) c.args.self.now.marks.used
-    (arms_none built.ok (sym c.arms_of.ensures ∙ c.in_default.is)))
-    (end_elsewhere built.ok)
-
-pub build_condition-returns-then-not-same_declaration : goal.build_condition-returns-then-not-same_declaration
-build_condition-returns-then-not-same_declaration t c = λ site.
-    let built = c.in_ok-tested.ensures site in
-    let found = sym c.arms_of.ensures ∙ c.in-Some.is in
-    breaks_rule _ rules.Tested c.refuse-then-not-same_declaration.ensures
-    (ends_not built.ok (IsChoice c.args.self.now.env.now) c.args.self.now.marks.used
-    (arms_unlike built.ok found (declared_in c.in-Some.arms.test c.in_ok-tested.tested.answer built.frames
-    (sym c.same_declaration.ensures ∙ c.if-not-same_declaration.true)))) (tested_fact built.ok found)
-
 pub build_condition-returns : goal.build_condition-returns
 build_condition-returns t c = λ site.
     let built = c.in_ok-tested.ensures site in
-    let found = sym c.arms_of.ensures ∙ c.in-Some.is in
-    is_built _ (ends_as built.ok (arms_as built.ok found (declared_in c.in-Some.arms.test
-    c.in_ok-tested.tested.answer built.frames (sym c.same_declaration.ensures ∙ c.if-not-same_declaration.false))))
-    built.frames
+    c.choosing.ensures c.args.self.now site c.args.key (value_at c.args.around c.args.is_test)
+    (record { ok = built.ok; frames = built.frames })
 
 -- a value: forward
 
@@ -110,24 +90,25 @@ build_value-build_step-requires t c =
       further_can s c.requires site c.in-Some.step (sym c.step_at.ensures ∙ c.in-Some.is),
     )
 
-pub build_value-returns-in_err-row : goal.build_value-returns-in_err-row
-build_value-returns-in_err-row t c = λ site.
+pub build_value-returns-in-Err : goal.build_value-returns-in-Err
+build_value-returns-in-Err t c = λ site.
     let s = c.rows.invariant in
-    passes_on c.from_residual.ensures.1 (same_graph (s.setting site))
-    (c.in_err-row.ensures site c.args.is_test) (rows_refused site s)
+    passes_on refl (same_graph (s.setting site)) (c.in-Err.ensures site c.args.is_test) (rows_refused site s)
 
 pub build_value-rows-preserved : goal.build_value-rows-preserved
 build_value-rows-preserved t c =
     let site = any_site c.args.key in
-    let row = c.in_ok-row.ensures in
-    any_stack _ (subst (λ z. RowsSoFar c.args.self.now c.build_step.new.self c.args.key c.args.around z
-    c.in_ok-row.row.next) (sym c.in_ok-push.ensures.ok)
-    (rows_further site (λ site. (row site c.args.is_test).frames) c.rows.invariant (row site c.args.is_test).ok))
+    let row = c.in-Ok.ensures in
+    any_stack _ (subst (λ (z : ValueRow). RowsSoFar c.args.self.now c.build_step.new.self c.args.key c.args.around
+    c.push.new.self z.next) (sym c.get.ensures)
+    (subst (λ z. RowsSoFar c.args.self.now c.build_step.new.self c.args.key c.args.around z c.in-Ok.row.next)
+    (sym c.in_ok-push-in-Ok.ensures.ok)
+    (rows_further site (λ site. (row site c.args.is_test).frames) c.rows.invariant (row site c.args.is_test).ok)))
 
 pub build_value-rows-smaller : goal.build_value-rows-smaller
 build_value-rows-smaller t c =
     let site = any_site c.args.key in
-    let row = c.in_ok-row.ensures site c.args.is_test in
+    let row = c.in-Ok.ensures site c.args.is_test in
     let used = ap length (step_starts row.ok.is).1 in
     omega (arith, fewer_left row row.ok.marking.marked (omega (arith, used_longer row.ok.marking, used)))
 
@@ -169,80 +150,41 @@ build_step-returns-in-Throws t c = λ site is_test. builds_at site.block (λ row
 
 -- a row
 
-pub build_row-find_block-requires : goal.build_row-find_block-requires
-build_row-find_block-requires t c =
-    referenced_once c.args.self.now.hir.now c.args.self.now.marks.used c.args.key [] c.requires.can.can.referenced
-
 pub build_row-returns-in_err-rows : goal.build_row-returns-in_err-rows
 build_row-returns-in_err-rows t c = λ site is_test.
-    let block = c.in_ok-found.found.block.now in
-    fails c.from_residual-in_err-rows.ensures.1 c.in_err-rows.ensures.facts
-    (λ named rule e value end blocks d asked sound.
-    let has = value_has_rows c.args.key block c.in_ok-found.ensures.found d in
-    c.in_err-rows.ensures.refused named rule (ap Err e) has.0
-    (subst (λ z. HasRows c.args.self.now.hir.now z has.0) (sym c.as_slice.ensures) has.1))
-
-pub build_row-returns-then-terminal-eq0 : goal.build_row-returns-then-terminal-eq0
-build_row-returns-then-terminal-eq0 t c = λ site is_test.
-    let block = c.in_ok-found.found.block.now in
-    let found = c.in_ok-found.ensures.found in
-    let unset : is_unset c.args.terminal.id ≡ true = eq-eqb c.args.terminal.id.0 0 c.if-terminal-eq0.true in
-    breaks_rule c.args.key rules.UnsetId c.malformed.ensures
-    (row_unset_refused c.args.key c.args.terminal block found c.requires c.args.self.now.env.now c.args.around is_test
-    unset)
-    (row_unset c.args.key c.args.terminal block found c.requires unset)
-
-pub build_row-mark_block-requires-clause-can : goal.build_row-mark_block-requires-clause-can
-build_row-mark_block-requires-clause-can t c =
-    let block = c.in_ok-found.found.block.now in
-    row_can_mark c.args.key c.args.terminal block c.in_ok-found.ensures.found c.requires c.in_ok-rows.rows
-    (subst (λ z. HasRows c.args.self.now.hir.now z c.in_ok-rows.rows) c.as_slice.ensures c.in_ok-rows.ensures.ok)
-    (ne_eqb c.args.terminal.id.0 0 c.if-terminal-eq0.false)
-
-pub build_row-returns-in_err-mark_block : goal.build_row-returns-in_err-mark_block
-build_row-returns-in_err-mark_block t c = λ site is_test.
-    passes_on c.from_residual-in_err-mark_block.ensures.1 refl (c.in_err-mark_block.ensures site)
-    (spells_unusable c.args.key c.args.self.now.marks (value_at c.args.around is_test) any_end)
+    passes_on c.from_residual-in_err-rows.ensures.1 refl (c.in_err-rows.ensures site c.args.around is_test) (λ none. none)
 
 pub build_row-build_nested-requires : goal.build_row-build_nested-requires
 build_row-build_nested-requires t c =
-    let old = c.args.self.now in
-    let mid = c.mark_block.new.self in
-    let site = any_site c.args.key in
-    let marked = c.in_ok-mark_block.ensures site in
-    let block = c.in_ok-found.found.block.now in (
-      omega (arith, fewer_left marked marked.ok.marking.marked (omega (arith, used_longer marked.ok.marking))),
-      subst (λ (z : Setting). CanBuildNested z.hir mid.marks c.args.terminal) (sym marked.frames)
-          (row_nested_can c.args.key c.args.terminal block c.in_ok-found.ensures.found c.requires refl marked.ok),
+    let mid = c.begin_row.new.self in
+    let begun = c.in_ok-rows.ensures (any_site c.args.key) c.args.around false in
+    let b = begun.ok in (
+      omega (arith, fewer_left begun b.marked.marking.marked (omega (arith, used_longer b.marked.marking))),
+      subst (λ (z : Setting). CanBuildNested z.hir mid.marks c.args.terminal) (sym begun.frames)
+          (row_nested_can c.args.key c.args.terminal b.block b.found c.requires refl b.marked),
     )
 
-pub build_row-returns-in_err-value : goal.build_row-returns-in_err-value
-build_row-returns-in_err-value t c = λ site is_test.
+pub build_row-returns-in-Err : goal.build_row-returns-in-Err
+build_row-returns-in-Err t c = λ site is_test.
     let old = c.args.self.now in
-    let mid = c.mark_block.new.self in
-    let marked = c.in_ok-mark_block.ensures site in
-    let block = c.in_ok-found.found.block.now in
-    passes_on c.from_residual-in_err-value.ensures.1 (same_graph marked.frames)
-    (c.in_err-value.ensures site)
-    (λ none. row_refused c.args.key c.args.terminal block c.in_ok-found.ensures.found c.requires refl marked.ok
-    old.env.now c.args.around is_test (refused_in (λ z. SpellsNested z.hir z.env c.args.around.handler
-    (terminal_of c.args.terminal)) mid.marks.used marked.frames none))
+    let mid = c.begin_row.new.self in
+    let begun = c.in_ok-rows.ensures site c.args.around is_test in
+    let b = begun.ok in
+    passes_on refl (same_graph begun.frames) (c.in-Err.ensures site)
+    (λ none. row_refused c.args.key c.args.terminal b.block b.found c.requires refl b.marked old.env.now c.args.around
+    is_test (refused_in (λ z. SpellsNested z.hir z.env c.args.around.handler (terminal_of c.args.terminal))
+    mid.marks.used begun.frames none))
 
-pub build_row-returns : goal.build_row-returns
-build_row-returns t c = λ site is_test.
-    let mid = c.mark_block.new.self in
-    let late = c.build_nested.new.self in
-    let marked = c.in_ok-mark_block.ensures site in
-    let nested = c.in_ok-value.ensures site in
-    let block = c.in_ok-found.found.block.now in
-    let made = c.in_ok-rows.rows in
-    is_built _ (row_built c.args.key c.args.terminal block c.in_ok-found.ensures.found c.requires refl marked.ok
-    c.in_ok-found.ensures.own
-    (subst (λ z. HasRows c.args.self.now.hir.now z made) c.as_slice.ensures c.in_ok-rows.ensures.ok)
-    (ne_eqb c.args.terminal.id.0 0 c.if-terminal-eq0.false)
-    (subst (λ (z : Setting). NestedBuilt z.hir z.env c.args.around.handler c.args.terminal c.in_ok-value.field-0
-    (progress_of mid) (progress_of late)) marked.frames nested.ok)
-    c.in_ok-put_row.ensures) (nested.frames ∙ marked.frames)
+pub build_row-returns-in_ok-end_row-in-Ok : goal.build_row-returns-in_ok-end_row-in-Ok
+build_row-returns-in_ok-end_row-in-Ok t c = λ site is_test.
+    let begun = c.in_ok-rows.ensures site c.args.around is_test in
+    let b = begun.ok in
+    let nested = c.in-Ok.ensures site in
+    boxed_built c.in_ok-end_row-in-Ok.ensures
+    (row_built c.args.key c.args.terminal b.block b.found c.requires refl b.marked b.own b.rows b.set
+    (subst (λ (z : Setting). NestedBuilt z.hir z.env c.args.around.handler c.args.terminal c.in-Ok.nested
+    (progress_of c.begin_row.new.self) (progress_of c.build_nested.new.self)) begun.frames nested.ok))
+    (nested.frames ∙ begun.frames)
 
 -- the value of a value terminal
 
@@ -275,7 +217,7 @@ pub build_sequence-returns : goal.build_sequence-returns
 build_sequence-returns t c = λ site.
     let built = c.in_ok-built.ensures site in
     nested_around c.args.terminal c.args.handler (kinds.Sequence c.args.block) c.around-around.ensures
-    (is_built _ (sequence_built built.ok) built.frames)
+    (boxed_built c.in_ok-in_sequence.ensures (sequence_built built.ok) built.frames)
 
 -- a ternary
 
@@ -291,35 +233,40 @@ pub build_ternary-build_arm-requires : goal.build_ternary-build_arm-requires
 build_ternary-build_arm-requires t c =
     let tested = c.in_ok-condition.ensures (any_site c.args.test) in
     let can = first_arm_can tested c.args.terminal.fallthrough c.requires.referenced in
-    (omega (arith, as_few_left tested tested.ok.marking), can)
+    let mid = c.build_condition.new.self in (
+      omega (arith, as_few_left tested tested.ok.marking),
+      subst (λ (z : Condition). CanBuildValue mid.hir.now mid.marks z.arms.consequent) (sym c.get.ensures) can,
+    )
 
-pub build_ternary-returns-in_err-first : goal.build_ternary-returns-in_err-first
-build_ternary-returns-in_err-first t c = λ site.
-    first_fails ternary_tests c.args.terminal c.around-around.ensures c.from_residual-in_err-first.ensures.1
-    (c.in_ok-condition.ensures site) (c.in_err-first.ensures site)
+pub build_ternary-returns-in-Err : goal.build_ternary-returns-in-Err
+build_ternary-returns-in-Err t c = λ site.
+    first_fails ternary_tests c.args.terminal c.around-around.ensures refl
+    (c.in_ok-condition.ensures site) (first_seen c.get.ensures (c.in-Err.ensures site))
 
 pub build_ternary-build_arm-requires-2 : goal.build_ternary-build_arm-requires-2
 build_ternary-build_arm-requires-2 t c =
     let tested = c.in_ok-condition.ensures (any_site c.args.test) in
-    let first = c.in_ok-first.ensures (any_site c.args.test) in (
+    let first = first_seen c.get.ensures (c.in-Ok.ensures (any_site c.args.test)) in
+    let late = c.build_arm.new.self in (
       omega (arith, as_few_left tested tested.ok.marking, as_few_left first first.ok.marking),
-      second_arm_can tested first c.requires.referenced,
+      subst (λ (z : Condition). CanBuildValue late.hir.now late.marks z.arms.alternate) (sym c.get.ensures)
+          (second_arm_can tested first c.requires.referenced),
     )
 
-pub build_ternary-returns-in_err-second : goal.build_ternary-returns-in_err-second
-build_ternary-returns-in_err-second t c = λ site.
-    second_fails ternary_tests c.args.terminal c.around-around.ensures c.from_residual-in_err-second.ensures.1
-    (c.in_ok-condition.ensures site) refl (c.in_ok-first.ensures site) (c.in_err-second.ensures site)
+pub build_ternary-returns-in-Err-build_arm : goal.build_ternary-returns-in-Err-build_arm
+build_ternary-returns-in-Err-build_arm t c = λ site.
+    second_fails ternary_tests c.args.terminal c.around-around.ensures refl (c.in_ok-condition.ensures site) refl
+    (first_seen c.get.ensures (c.in-Ok.ensures site)) (second_seen c.get.ensures (c.in-Err-build_arm.ensures site))
 
-pub build_ternary-returns : goal.build_ternary-returns
-build_ternary-returns t c = λ site.
+pub build_ternary-returns-in_ok-conditional-in-Ok-build_arm : goal.build_ternary-returns-in_ok-conditional-in-Ok-build_arm
+build_ternary-returns-in_ok-conditional-in-Ok-build_arm t c = λ site.
     let tested = c.in_ok-condition.ensures site in
-    let first = c.in_ok-first.ensures site in
-    let second = c.in_ok-second.ensures site in
+    let first = first_seen c.get.ensures (c.in-Ok.ensures site) in
+    let second = second_seen c.get.ensures (c.in-Ok-build_arm.ensures site) in
     let same = same_behind tested first in
     nested_around c.args.terminal c.args.handler (kinds.Ternary c.args.test) c.around-around.ensures
-    (is_built _ (ternary_built tested.ok (arm_there tested first) (arm_at same second.ok) c.in_ok-conditional.ensures)
-    (second.frames ∙ same))
+    (boxed_built c.in_ok-conditional-in-Ok-build_arm.ensures
+    (ternary_built tested.ok (arm_there tested first) (arm_at same second.ok)) (second.frames ∙ same))
 
 -- a logical
 
@@ -335,57 +282,60 @@ pub build_logical-build_arm-requires : goal.build_logical-build_arm-requires
 build_logical-build_arm-requires t c =
     let tested = c.in_ok-condition.ensures (any_site c.args.test) in
     let can = first_arm_can tested c.args.terminal.fallthrough c.requires.referenced in
-    (omega (arith, as_few_left tested tested.ok.marking), can)
+    let mid = c.build_condition.new.self in (
+      omega (arith, as_few_left tested tested.ok.marking),
+      subst (λ (z : Condition). CanBuildValue mid.hir.now mid.marks z.arms.consequent) (sym c.get.ensures) can,
+    )
 
-pub build_logical-returns-in_err-first : goal.build_logical-returns-in_err-first
-build_logical-returns-in_err-first t c = λ site.
-    first_fails logical_tests c.args.terminal c.around-around.ensures c.from_residual-in_err-first.ensures.1
-    (c.in_ok-condition.ensures site) (c.in_err-first.ensures site)
+pub build_logical-returns-in-Err : goal.build_logical-returns-in-Err
+build_logical-returns-in-Err t c = λ site.
+    first_fails logical_tests c.args.terminal c.around-around.ensures refl
+    (c.in_ok-condition.ensures site) (first_seen c.get.ensures (c.in-Err.ensures site))
 
 pub build_logical-check_silent_since-requires : goal.build_logical-check_silent_since-requires
 build_logical-check_silent_since-requires t c =
     let site = any_site c.args.test in
-    silent_arm_can (c.in_ok-condition.ensures site) (c.in_ok-first.ensures site) c.requires.referenced
+    let late = c.build_arm.new.self in
+    subst (λ (z : Condition). CanCheckSilent late.hir.now late.marks z.arms.consequent) (sym c.get.ensures)
+    (silent_arm_can (c.in_ok-condition.ensures site) (first_seen c.get.ensures (c.in-Ok.ensures site))
+    c.requires.referenced)
 
-pub build_logical-returns-in_err-check_silent_since : goal.build_logical-returns-in_err-check_silent_since
-build_logical-returns-in_err-check_silent_since t c = λ site.
-    let checked = c.in_err-check_silent_since.ensures in
+pub build_logical-returns-in-Err-check_silent_since : goal.build_logical-returns-in-Err-check_silent_since
+build_logical-returns-in-Err-check_silent_since t c = λ site.
+    let checked = c.in-Err-check_silent_since.ensures in
     let tested = c.in_ok-condition.ensures site in
-    let first = c.in_ok-first.ensures site in
+    let first = first_seen c.get.ensures (c.in-Ok.ensures site) in
     nested_around c.args.terminal c.args.handler (kinds.Logical c.args.operator c.args.test) c.around-around.ensures
-    (fails_at c.build_arm.new.self.hir.now c.from_residual-in_err-check_silent_since.ensures.1
-    (same_graph (same_behind tested first)) checked.facts
+    (fails_at c.build_arm.new.self.hir.now refl (same_graph (same_behind tested first)) checked.facts
     (λ named rule e nested blocks d sound. let p = logical_parts d in checked.refused named rule (ap Err e)
     (silent_since tested first c.len-before.ensures p.0 (arm_silent p.1))))
 
 pub build_logical-build_arm-requires-2 : goal.build_logical-build_arm-requires-2
 build_logical-build_arm-requires-2 t c =
     let tested = c.in_ok-condition.ensures (any_site c.args.test) in
-    let first = c.in_ok-first.ensures (any_site c.args.test) in (
+    let first = first_seen c.get.ensures (c.in-Ok.ensures (any_site c.args.test)) in
+    let late = c.build_arm.new.self in (
       omega (arith, as_few_left tested tested.ok.marking, as_few_left first first.ok.marking),
-      second_arm_can tested first c.requires.referenced,
+      subst (λ (z : Condition). CanBuildValue late.hir.now late.marks z.arms.alternate) (sym c.get.ensures)
+          (second_arm_can tested first c.requires.referenced),
     )
 
-pub build_logical-returns-in_err-second : goal.build_logical-returns-in_err-second
-build_logical-returns-in_err-second t c = λ site.
-    second_fails logical_tests c.args.terminal c.around-around.ensures c.from_residual-in_err-second.ensures.1
-    (c.in_ok-condition.ensures site) refl (c.in_ok-first.ensures site) (c.in_err-second.ensures site)
+pub build_logical-returns-in-Err-build_arm : goal.build_logical-returns-in-Err-build_arm
+build_logical-returns-in-Err-build_arm t c = λ site.
+    second_fails logical_tests c.args.terminal c.around-around.ensures refl (c.in_ok-condition.ensures site) refl
+    (first_seen c.get.ensures (c.in-Ok.ensures site)) (second_seen c.get.ensures (c.in-Err-build_arm.ensures site))
 
-pub build_logical-returns : goal.build_logical-returns
-build_logical-returns t c = λ site.
+pub build_logical-returns-in_ok-logical-in-Ok-build_arm : goal.build_logical-returns-in_ok-logical-in-Ok-build_arm
+build_logical-returns-in_ok-logical-in-Ok-build_arm t c = λ site.
     let tested = c.in_ok-condition.ensures site in
-    let first = c.in_ok-first.ensures site in
-    let second = c.in_ok-second.ensures site in
+    let first = first_seen c.get.ensures (c.in-Ok.ensures site) in
+    let second = second_seen c.get.ensures (c.in-Ok-build_arm.ensures site) in
     let arm = arm_there tested first in
     let same = same_behind tested first in
     nested_around c.args.terminal c.args.handler (kinds.Logical c.args.operator c.args.test) c.around-around.ensures
-    (is_built _ (logical_built tested.ok arm (arm_at same second.ok)
-    (c.in_ok-left.ensures c.args.self.now.hir.now _ _ _ _ tested.ok.is arm.is
-    ∙ ap (λ (z : Around). value_of (Sequence (Row tested.ok.end.id (Some tested.ok.end.answer) tested.ok.value z.span
-    NoRows) arm.end.id arm.value)) (sym c.around-around.ensures))
-    (first_silent tested first c.len-before.ensures c.in_ok-check_silent_since.ensures.ok)
-    c.in_ok-logical.ensures)
-    (second.frames ∙ same))
+    (boxed_built (c.in_ok-logical-in-Ok-build_arm.ensures c.args.self.now.hir.now _ _ _ _ tested.ok.is arm.is)
+    (logical_built tested.ok arm (arm_at same second.ok)
+    (first_silent tested first c.len-before.ensures c.in_default.ensures.ok)) (second.frames ∙ same))
 
 -- an optional
 
@@ -397,38 +347,43 @@ build_optional-returns-in_err-condition t c = λ site.
     test_fails optional_tests c.args.terminal c.around-around.ensures c.from_residual.ensures.1
     (c.in_err-condition.ensures site)
 
+pub build_optional-returns-in-Some : goal.build_optional-returns-in-Some
+build_optional-returns-in-Some t c = λ site.
+    let tested = c.in_ok-condition.ensures site in
+    let condition = c.in_ok-condition.condition in
+    let other = ap (λ (z : Condition). other_arm_of z.tested.left_open z.arms.alternate) (sym c.get.ensures)
+    ∙ sym c.other_arm.ensures ∙ c.in-Some.is in
+    nested_around c.args.terminal c.args.handler (kinds.Optional c.args.optional c.args.test) c.around-around.ensures
+    (breaks_rule c.in-Some.branch rules.ShortArm c.malformed.ensures (λ nested blocks d sound.
+    let yes = shares_same tested.ok (tested_parts c.args.terminal.id optional_tests d) refl in
+    let no = other_some condition.tested.left_open condition.arms.alternate c.in-Some.branch other in
+    let bad : ⊥ = cc in bad)
+    (short_fact c.args.self.now.hir.now condition.tested.left_open condition.arms.alternate c.in-Some.branch
+    tested.ok.is.short other))
+
 pub build_optional-build_arm-requires : goal.build_optional-build_arm-requires
 build_optional-build_arm-requires t c =
     let tested = c.in_ok-condition.ensures (any_site c.args.test) in
     let can = first_arm_can tested c.args.terminal.fallthrough c.requires.referenced in
-    (omega (arith, as_few_left tested tested.ok.marking), can)
+    let mid = c.build_condition.new.self in (
+      omega (arith, as_few_left tested tested.ok.marking),
+      subst (λ (z : Condition). CanBuildValue mid.hir.now mid.marks z.arms.consequent) (sym c.get-2.ensures) can,
+    )
 
-pub build_optional-returns-in_err-first : goal.build_optional-returns-in_err-first
-build_optional-returns-in_err-first t c = λ site.
-    first_fails optional_tests c.args.terminal c.around-around.ensures c.from_residual-in_err-first.ensures.1
-    (c.in_ok-condition.ensures site) (c.in_err-first.ensures site)
+pub build_optional-returns-in-Err : goal.build_optional-returns-in-Err
+build_optional-returns-in-Err t c = λ site.
+    first_fails optional_tests c.args.terminal c.around-around.ensures refl
+    (c.in_ok-condition.ensures site) (first_seen c.get-2.ensures (c.in-Err.ensures site))
 
-pub build_optional-returns-in-Some : goal.build_optional-returns-in-Some
-build_optional-returns-in-Some t c = λ site.
+pub build_optional-returns-in_ok-optional_value-in-Ok : goal.build_optional-returns-in_ok-optional_value-in-Ok
+build_optional-returns-in_ok-optional_value-in-Ok t c = λ site.
     let tested = c.in_ok-condition.ensures site in
-    let arms = c.in_ok-condition.condition.arms in
-    let left = c.in_ok-condition.condition.tested.left_open in
-    let other = sym c.other_arm.ensures ∙ c.in-Some.is in
-    nested_around c.args.terminal c.args.handler (kinds.Optional c.args.optional c.args.test) c.around-around.ensures
-    (breaks_rule c.in-Some.branch rules.ShortArm c.malformed.ensures (λ nested blocks d sound.
-    let yes = shares_same tested.ok (tested_parts c.args.terminal.id optional_tests d) refl in
-    let no = other_some left arms.alternate c.in-Some.branch other in
-    let bad : ⊥ = cc in bad)
-    (short_fact c.args.self.now.hir.now left arms.alternate c.in-Some.branch tested.ok.is.short other))
-
-pub build_optional-returns : goal.build_optional-returns
-build_optional-returns t c = λ site.
-    let tested = c.in_ok-condition.ensures site in
-    let first = c.in_ok-first.ensures site in
+    let condition = c.in_ok-condition.condition in
+    let first = first_seen c.get-2.ensures (c.in-Ok.ensures site) in
     let arm = arm_there tested first in
-    let arms = c.in_ok-condition.condition.arms in
+    let none = ap (λ (z : Condition). other_arm_of z.tested.left_open z.arms.alternate) (sym c.get.ensures)
+    ∙ sym c.other_arm.ensures ∙ c.in_default.is in
     nested_around c.args.terminal c.args.handler (kinds.Optional c.args.optional c.args.test) c.around-around.ensures
-    (is_built _ (optional_built tested.ok arm
-    (other_none c.in_ok-condition.condition.tested.left_open arms.alternate (sym c.other_arm.ensures ∙ c.in_default.is))
-    (c.in_ok-value.ensures c.args.self.now.hir.now _ _ _ _ tested.ok.is arm.is) c.in_ok-optional_value.ensures)
+    (boxed_built (c.in_ok-optional_value-in-Ok.ensures c.args.self.now.hir.now _ _ _ _ tested.ok.is arm.is)
+    (optional_built tested.ok arm (other_none condition.tested.left_open condition.arms.alternate none))
     (same_behind tested first))

@@ -1,7 +1,7 @@
 use Rattle.std.proofs.Common.{[], Err, refl, sym, ap, ◌∙◌, subst}
 use Rattle.rc_build.specs.inside.ValueRows.{HasRows}
 use Rattle.rc_build.specs.inside.Values.{any_end}
-use Rattle.rc_build.proofs.BuildsLemmas.{fails, is_built, passes_on}
+use Rattle.rc_build.proofs.BuildsLemmas.{boxed_built, fails, passes_on}
 use Rattle.rc_build.proofs.MarksLemmas.{referenced_once}
 use Rattle.rc_build.proofs.ThrowingLemmas.{block_throws, other_handler, throwing_built, throwing_can_mark}
 use Rattle.rc_build.proofs.ValueLemmas.{spells_unusable, value_has_rows}
@@ -44,7 +44,7 @@ returns c = λ site context same.
     let block = c.in_ok-found.found.block.now in
     let found = c.in_ok-found.ensures.found in
     let marked = c.in_ok-mark_block.ensures site in
-    is_built _ (throwing_built c.args.self.now.hir.now c.args.key block found c.args.throw
+    boxed_built c.in_ok-new.ensures (throwing_built c.args.self.now.hir.now c.args.key block found c.args.throw
     (block_throws found c.requires.here) c.in_ok-found.ensures.own
     (subst (λ z. HasRows c.args.self.now.hir.now z c.in_ok-rows.rows) c.as_slice.ensures c.in_ok-rows.ensures.ok)
     c.in_ok-found.ensures.set (sym c.is_current.ensures ∙ c.if-not-is_current.false) c.requires.goes_on marked.ok)
