@@ -3,6 +3,11 @@ block with many names."""
 import itertools, json, random
 
 
+def packed(whole):
+    """The bytes of a document."""
+    return json.dumps(whole, separators=(",", ":")).encode()
+
+
 def block(number, terminal, fields):
     """A block without rows, whose terminal has these fields and stands at that number in the order of evaluation."""
     return {"id": number, "terminal": {"k": terminal, **fields, "id": number + 1}}
@@ -28,7 +33,7 @@ def document(blocks, scopes=0, rows=()):
         "config": {},
         "next_block": len(blocks),
     }
-    return json.dumps({"hir": hir, "env": env}, separators=(",", ":")).encode()
+    return packed({"hir": hir, "env": env})
 
 
 def branch(number, to, after):
@@ -81,7 +86,7 @@ def chosen_in_a_row(count):
             part["terminal"][leads] = numbers[part["terminal"][leads]]
     parts["hir"]["body"]["entry"] = numbers[0]
     parts["env"]["next_block"] = numbers[-1] + 1
-    return json.dumps(parts, separators=(",", ":")).encode()
+    return packed(parts)
 
 
 def breaks_to_one_label(count):
@@ -347,7 +352,7 @@ def names_document(values, answered, more=0, functions=()):
            "scopes": [{"range": {"start": count, "end": count + 3}, "declarations": [declared]}],
            "config": {}, "next_block": 3}
     hir = {"params": [{"k": "Place", "v": 0}], "body": {"entry": 0, "blocks": blocks}, "instructions": rows}
-    return json.dumps({"hir": hir, "env": env}, separators=(",", ":")).encode()
+    return packed({"hir": hir, "env": env})
 
 
 def array_of(places):
@@ -403,14 +408,14 @@ def names_in_scopes(count):
     for name in range(1, count):
         whole["env"]["identifiers"][name]["scope"] = name
         whole["env"]["scopes"].append({"range": {"start": name + 1, "end": name + 2}})
-    return json.dumps(whole, separators=(",", ":")).encode()
+    return packed(whole)
 
 
 def names_in_scopes_in_no_order(count):
     """The same, where the places of the context stand in no order."""
     whole = json.loads(names_in_scopes(count))
     random.Random(count).shuffle(whole["env"]["functions"][0]["context"])
-    return json.dumps(whole, separators=(",", ":")).encode()
+    return packed(whole)
 
 
 def names_that_are_loaded(count):
@@ -428,7 +433,7 @@ def functions_in_values(count):
     names = len(whole["env"]["identifiers"])
     whole["env"]["identifiers"] += [{"declaration_id": names + name, "type_": 0} for name in range(count)]
     whole["env"]["functions"] = [function_of([*range(names, names + count)])]
-    return json.dumps(whole, separators=(",", ":")).encode()
+    return packed(whole)
 
 
 def scope_with_array(name, ids):
@@ -457,7 +462,7 @@ def scopes_with_arrays(count, answered, ids=3):
            "instructions": [part[1] for part in parts]}
     env = {"identifiers": [{"declaration_id": 0, "type_": 0}, *[part[2] for part in parts]], "types": ["Other"],
            "scopes": [part[3] for part in parts], "config": {}, "next_block": 2 * count + 1}
-    return json.dumps({"hir": hir, "env": env}, separators=(",", ":")).encode()
+    return packed({"hir": hir, "env": env})
 
 
 def scopes_in_one_function(count):
@@ -472,7 +477,7 @@ def scopes_in_one_function(count):
                                     "value": {"k": "FunctionExpression", "lowered_func": {"func": 0}}})
         env["identifiers"].append({"declaration_id": row + 1, "type_": 0})
     env["functions"] = [function_of([*range(1, count + 1)])]
-    return json.dumps(whole, separators=(",", ":")).encode()
+    return packed(whole)
 
 
 def scopes_that_escape(count):
@@ -488,7 +493,7 @@ def with_returned_names(whole, count, names):
     whole["hir"]["instructions"].append({"id": end["terminal"]["id"], "lvalue": last, "value": array_of(names)})
     whole["env"]["identifiers"].append({"declaration_id": last, "type_": 0})
     end["terminal"] = {"k": "Return", "value": last, "id": end["terminal"]["id"] + 1}
-    return json.dumps(whole, separators=(",", ":")).encode()
+    return packed(whole)
 
 
 def scopes_that_merge(count):
@@ -527,7 +532,7 @@ def nested_scopes_that_dissolve(depth):
             "range": {"start": number + 1, "end": depth + 2 * name + 3},
             "declarations": [{"key": name + 1, "value": {"identifier": name + 1, "scope": number}}],
         }
-    return json.dumps(whole, separators=(",", ":")).encode()
+    return packed(whole)
 
 
 def scopes_with_long_lists(count):
@@ -540,9 +545,204 @@ def scopes_with_long_lists(count):
         it["dependencies"] = [{"identifier": name} for name in dependencies]
     whole["env"]["identifiers"].append({"declaration_id": 3, "type_": 0})
     whole["env"]["identifiers"] += [{"declaration_id": name, "type_": 0} for name in names]
-    return json.dumps(whole, separators=(",", ":")).encode()
+    return packed(whole)
 
 
 def scopes_that_do_not_escape(count):
     """That many scopes with arrays, none of which is returned."""
     return scopes_with_arrays(count, 0)
+
+
+# The shapes below cost the product of two of their parts. They have about as many bytes of one part as of the other, so
+# that few documents of as many bytes cost more in this way.
+
+DEBUGGER = {"id": 1, "lvalue": 0, "value": {"k": "Debugger"}}
+NAMES_THE_FUNCTION = {"id": 1, "lvalue": 0, "value": {"k": "FunctionExpression", "lowered_func": {"func": 0}}}
+LOAD = {"id": 1, "lvalue": 0, "value": {"k": "LoadLocal", "place": 0}}
+
+
+def one_block(rows, listed):
+    """A document of one block, which lists these of the rows."""
+    whole = json.loads(document([answer(0)], rows=rows))
+    whole["hir"]["body"]["blocks"][0]["instructions"] = listed
+    return whole
+
+
+def scopes_around(depth, rows, listed, front=()):
+    """That many scopes one in the other, the innermost of which lists these of the rows; in front of each scope stand
+    those of `front`."""
+    whole = json.loads(nested_scopes(depth))
+    whole["hir"]["instructions"] = rows
+    blocks = whole["hir"]["body"]["blocks"]
+    for head in blocks[:depth]:
+        head["instructions"] = [*front]
+    blocks[depth]["instructions"] = listed
+    return whole
+
+
+def add_parameters(whole, count, scopes=()):
+    """Adds that many parameters and answers their names, the first of which are in these scopes."""
+    identifiers = whole["env"]["identifiers"]
+    names = range(len(identifiers), len(identifiers) + count)
+    identifiers += [{"declaration_id": name, "type_": 0} for name in names]
+    for name, scope in zip(names, scopes):
+        identifiers[name]["scope"] = scope
+    whole["hir"]["params"] += [{"k": "Place", "v": name} for name in names]
+    return names
+
+
+def active_scopes_around(depth, rows, listed):
+    """The same, where all scopes are active at the rows, and the names of as many parameters, each in one of the
+    scopes."""
+    whole = scopes_around(depth, rows, listed)
+    for it in whole["env"]["scopes"]:
+        it["range"] = {"start": 1, "end": 2}
+    return whole, add_parameters(whole, depth, range(depth))
+
+
+def holding(names):
+    """A row that makes an array of names."""
+    return {"id": 1, "lvalue": 0, "value": array_of(names)}
+
+
+def names_reassigned_in_scopes(count):
+    """That many nested scopes, the innermost of which reassigns five times as many names."""
+    whole, _ = active_scopes_around(count, [holding(range(1, count + 1))], [0])
+    whole["env"]["scopes"][-1]["reassignments"] = [*add_parameters(whole, 5 * count)]
+    return packed(whole)
+
+
+def name_reassigned_in_scopes(count):
+    """The same, where one name is among them a hundred times as often."""
+    whole, _ = active_scopes_around(count, [holding(range(1, count + 1))], [0])
+    whole["env"]["scopes"][-1]["reassignments"] = 100 * count * [0]
+    return packed(whole)
+
+
+def function_in_scopes(count):
+    """A row that names a function and is listed a hundred times as often, in that many nested scopes, of each of which
+    the function's context has a name."""
+    whole, names = active_scopes_around(count, [NAMES_THE_FUNCTION], 100 * count * [0])
+    whole["env"]["functions"] = [function_of([*names])]
+    return packed(whole)
+
+
+def function_after_loads(count):
+    """A load and a row that names a function, which a scope lists in turn, ten times as often; the function's context
+    has that many names."""
+    whole = scopes_around(1, [LOAD, NAMES_THE_FUNCTION], 10 * count * [0, 1])
+    whole["env"]["functions"] = [function_of([*add_parameters(whole, count)])]
+    return packed(whole)
+
+
+def function_that_changes_names(count):
+    """A row that names a function, which a scope lists thirty times as often; the function may change each of the that
+    many names of its context."""
+    whole = scopes_around(1, [NAMES_THE_FUNCTION], 30 * count * [0])
+    context = [[name, "Capture", False] for name in add_parameters(whole, count)]
+    whole["env"]["functions"] = [function_of(context)]
+    return packed(whole)
+
+
+def rows_in_scopes(count, front=()):
+    """A row that is listed a hundred times as often, in that many nested scopes, which don't escape: each declares a
+    name that nothing returns."""
+    whole = scopes_around(count, [DEBUGGER], 100 * count * [0], front)
+    (name,) = add_parameters(whole, 1)
+    for scope, it in enumerate(whole["env"]["scopes"]):
+        it["declarations"] = [{"key": name, "value": {"identifier": name, "scope": scope}}]
+    return packed(whole)
+
+
+def rows_in_scopes_after_rows(count):
+    """The same, where each scope stands after a row."""
+    return rows_in_scopes(count, [0])
+
+
+def row_listed_again(count):
+    """One row, which its block lists that many times."""
+    return packed(one_block([DEBUGGER], count * [0]))
+
+
+def wide_row_listed_again(count):
+    """A row of that many places, which its block lists ten times as often."""
+    return packed(one_block([holding(count * [0])], 10 * count * [0]))
+
+
+def rows_in_ifs(count):
+    """A row that is listed a hundred times as often, in that many nested `If`s."""
+    whole = json.loads(nested_ifs(count))
+    whole["hir"]["instructions"] = [DEBUGGER]
+    whole["hir"]["body"]["blocks"][count]["instructions"] = 100 * count * [0]
+    return packed(whole)
+
+
+def else_ifs(count):
+    """A chain of that many `else if`s."""
+    blocks = []
+    for level in range(count):
+        head, after = 2 * level, 3 * count - level
+        arms = {"consequent": head + 1, "alternate": head + 2, "fallthrough": after}
+        blocks += [block(head, "If", {"test": 0, **arms}), jump(head + 1, after)]
+    blocks += [jump(number, number + 1) for number in range(2 * count, 3 * count)]
+    return document([*blocks, answer(3 * count)])
+
+
+def nested_labels_with_breaks(depth):
+    """That many `Label`s one in the other, with a break out of each in front of the next one."""
+    blocks, last = [], 3 * depth
+    for level in range(depth):
+        head, after = 3 * level, last + depth - level
+        blocks += [label(head, head + 1, after), branch(head + 1, head + 2, head + 3), jump(head + 2, after)]
+    blocks += [jump(number, number + 1) for number in range(last, last + depth)]
+    return document([*blocks, answer(last + depth)])
+
+
+def scopes_beside_memoized_names(count):
+    """That many scopes with arrays that don't escape, and as many arrays after them that do."""
+    whole = json.loads(scopes_with_arrays(count, 0))
+    end, names = whole["hir"]["body"]["blocks"][-1], range(count + 1, 2 * count + 1)
+    last = 2 * count + 1
+    order = end["terminal"]["id"]
+    values = [array_of(()) for _ in names] + [array_of(names)]
+    end["instructions"] = [*range(count, last)]
+    end["terminal"] = {"k": "Return", "value": last, "id": order + 1}
+    whole["hir"]["instructions"] += [{"id": order, "lvalue": name, "value": value}
+                                     for name, value in zip((*names, last), values)]
+    whole["env"]["identifiers"] += [{"declaration_id": name, "type_": 0} for name in (*names, last)]
+    return packed(whole)
+
+
+def silent_rows_replayed(count):
+    """A `While` whose body lists a row without an event, ten times as often, and a run that begins that many turns."""
+    whole = json.loads(loops_in_a_row(1))
+    whole["hir"]["instructions"] = [LOAD]
+    whole["hir"]["body"]["blocks"][2]["instructions"] = 10 * count * [0]
+    return packed({**whole, "run": {"events": count * [{"k": "Arm", "v": True}], "end": "Open"}})
+
+
+def scopes_that_declare_again(count):
+    """Scopes that merge, that many, each of which declares the first array's number again, with its own array."""
+    whole = json.loads(scopes_that_merge(count))
+    for name, it in enumerate(whole["env"]["scopes"][1:], 1):
+        it["declarations"].append({"key": 1, "value": {"identifier": name + 1, "scope": name}})
+    return packed(whole)
+
+
+def same_parameters(count):
+    """That many parameters, all of one name."""
+    whole = one_block([], [])
+    whole["hir"]["params"] *= count
+    return packed(whole)
+
+
+def shapes_of_functions(count):
+    """A table of that many shapes of functions, which no type names."""
+    whole = one_block([], [])
+    whole["env"]["shapes"] = count * [{"hook": True}]
+    return packed(whole)
+
+
+def small_objects(count):
+    """That many small objects, which are no document."""
+    return packed({"": count * [{"": 0}]})
