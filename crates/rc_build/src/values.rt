@@ -240,22 +240,44 @@ impl<'g> Builder<'g> {
     {
         let stack = self.stack;
         let mut pending = List::new(self.alloc);
+        match self.build_rows(key, around, &mut pending) {
+            Ok(at) => {
+                self.stack = stack;
+                self.build_back(pending, at, around, is_test)
+            }
+            Err(fault) => {
+                let_go(pending);
+                Err(fault)
+            }
+        }
+    }
+
+    /// Builds the rows of the blocks of a value from one on, but for its last block, which it returns. The rows are put
+    /// into an empty list.
+    ///
+    /// `Malformed`, `Todo`, `BadName`: as for a block after which the value goes on.
+    // Inlined, so that a level of nested values has a frame less; the list is the caller's, so that it isn't let go here.
+    #[inline(always)]
+    #[cycle(values)]
+    fn build_rows(
+        &mut self,
+        key: BlockId,
+        around: Around,
+        pending: &mut List<Boxed<ValueRow>>,
+    ) -> Result<BlockId, Fault>
+        requires { spec.CanBuildValue self.old.hir.now self.old.marks key × (pending.old ≡ []) }
+        ensures { (site : Site) (is_test : Bool) → Builds self.old self.new site
+            (loops.IsAtEnd self.old self.new key around pending.new)
+            (spec.HasNoValue self.old.hir.now self.old.env.now key (steps.value_at around is_test) spec.any_end
+            self.old.marks.used) result }
+    {
         let mut at = key;
         'rows: while let Some(step) = self.step_at(at) {
-            match self.build_step(at, step, around) {
-                Ok(row) => {
-                    at = row.get().next;
-                    pending.push(row)?;
-                }
-                Err(fault) => {
-                    let_go(pending);
-                    return Err(fault);
-                }
-            }
+            let row = self.build_step(at, step, around)?;
+            at = put_waiting(pending, row)?;
             self.stack = left_inside(self.stack, ROW_LEVEL)?;
         }
-        self.stack = stack;
-        self.build_back(pending, at, around, is_test)
+        Ok(at)
     }
 
     /// Builds the last block of a value, and puts the rows that wait before it, from the last to the first.
@@ -524,6 +546,21 @@ fn refuse(built: Boxed<BuiltValue<'_>>, rule: Rule) -> Fault
     ensures { result ≡ faults.Malformed built.entry.block rule }
 {
     malformed(built.get().block, rule)
+}
+
+/// Appends a row to those that wait; returns where the value goes on after it. The only error is out of memory.
+// Not inlined, so that the frames of nested values have no room for what letting the row go takes.
+#[inline(never)]
+fn put_waiting(
+    pending: &mut List<Boxed<ValueRow>>,
+    row: Boxed<ValueRow>,
+) -> Result<BlockId, AllocError>
+    ensures next { IfOk result (λ next. next ≡ row.next) }
+    ensures put { IfOk result (λ _. pending.new ≡ pending.old ++ row ∷ []) }
+{
+    let next = row.get().next;
+    pending.push(row)?;
+    Ok(next)
 }
 
 /// The row of a value terminal, after the rows of its block. The only error is out of memory.

@@ -5,7 +5,6 @@ use Rattle.rc_runs.specs.ValueGrammar.{SpellsNested}
 use Rattle.rc_build.specs.declared.value_terminals.ValueKind.TheVariants as kinds
 use Rattle.rc_build.specs.declared.values.BuiltValue.{BuiltValue}
 use Rattle.rc_build.specs.declared.values.Condition.{Condition}
-use Rattle.rc_build.specs.declared.values.ValueRow.{ValueRow}
 use Rattle.rc_build.specs.inside.Setting.{Setting}
 use Rattle.rc_build.specs.inside.ShortArms.{other_arm_of}
 use Rattle.rc_build.specs.inside.SilentArms.{CanCheckSilent}
@@ -79,58 +78,63 @@ build_condition-returns t c = λ site.
 
 -- a value: forward
 
-pub build_value-rows-init : goal.build_value-rows-init
-build_value-rows-init t c = rows_start c.new-pending.ensures c.requires
+pub build_rows-rows-init : goal.build_rows-rows-init
+build_rows-rows-init t c = rows_start c.requires.1 c.requires.0
 
-pub build_value-build_step-requires : goal.build_value-build_step-requires
-build_value-build_step-requires t c =
+pub build_rows-build_step-requires : goal.build_rows-build_step-requires
+build_rows-build_step-requires t c =
     let s = c.rows.invariant in
     let site = any_site c.args.key in (
       omega (arith, same_blocks c.args.self.now c.rows.self site (s.setting site), used_longer s.marking),
-      further_can s c.requires site c.in-Some.step (sym c.step_at.ensures ∙ c.in-Some.is),
+      further_can s c.requires.0 site c.in-Some.step (sym c.step_at.ensures ∙ c.in-Some.is),
     )
 
-pub build_value-returns-in-Err : goal.build_value-returns-in-Err
-build_value-returns-in-Err t c = λ site.
+pub build_rows-returns-in_err-row : goal.build_rows-returns-in_err-row
+build_rows-returns-in_err-row t c = λ site is_test.
     let s = c.rows.invariant in
-    passes_on refl (same_graph (s.setting site)) (c.in-Err.ensures site c.args.is_test) (rows_refused site s)
+    passes_on c.from_residual.ensures.1 (same_graph (s.setting site)) (c.in_err-row.ensures site is_test)
+    (rows_refused site s)
 
-pub build_value-rows-preserved : goal.build_value-rows-preserved
-build_value-rows-preserved t c =
+pub build_rows-rows-preserved : goal.build_rows-rows-preserved
+build_rows-rows-preserved t c =
     let site = any_site c.args.key in
-    let row = c.in-Ok.ensures in
-    any_stack _ (subst (λ (z : ValueRow). RowsSoFar c.args.self.now c.build_step.new.self c.args.key c.args.around
-    c.push.new.self z.next) (sym c.get.ensures)
-    (subst (λ z. RowsSoFar c.args.self.now c.build_step.new.self c.args.key c.args.around z c.in-Ok.row.next)
-    (sym c.in_ok-push-in-Ok.ensures.ok)
-    (rows_further site (λ site. (row site c.args.is_test).frames) c.rows.invariant (row site c.args.is_test).ok)))
+    let row = c.in_ok-row.ensures in
+    any_stack _ (subst (λ z. RowsSoFar c.args.self.now c.build_step.new.self c.args.key c.args.around
+    c.put_waiting.new.pending z) (sym c.in_ok-at.ensures.next)
+    (subst (λ z. RowsSoFar c.args.self.now c.build_step.new.self c.args.key c.args.around z c.in_ok-row.row.next)
+    (sym c.in_ok-at.ensures.put)
+    (rows_further site (λ site. (row site false).frames) c.rows.invariant (row site false).ok)))
 
-pub build_value-rows-smaller : goal.build_value-rows-smaller
-build_value-rows-smaller t c =
+pub build_rows-rows-smaller : goal.build_rows-rows-smaller
+build_rows-rows-smaller t c =
     let site = any_site c.args.key in
-    let row = c.in-Ok.ensures site c.args.is_test in
+    let row = c.in_ok-row.ensures site false in
     let used = ap length (step_starts row.ok.is).1 in
     omega (arith, fewer_left row row.ok.marking.marked (omega (arith, used_longer row.ok.marking, used)))
 
+pub build_rows-returns : goal.build_rows-returns
+build_rows-returns t c = λ site is_test.
+    let s = c.rows.invariant in
+    is_built _ (record { so_far = s; can = c.requires.0; ends = sym c.step_at.ensures ∙ c.in_default.is }) (s.setting site)
+
 -- and back
 
-pub build_value-build_back-requires : goal.build_value-build_back-requires
-build_value-build_back-requires t c = (
-  c.args.self.now,
-  c.args.key,
-  record {
-    so_far = any_stack _ c.rows.invariant;
-    can = c.requires;
-    ends = sym c.step_at.ensures ∙ c.in_default.is;
-  },
-)
+pub build_value-build_rows-requires : goal.build_value-build_rows-requires
+build_value-build_rows-requires t c = (omega arith, (c.requires, c.new-pending.ensures))
 
-pub build_value-returns : goal.build_value-returns
-build_value-returns t c = c.build_back.ensures c.args.self.now c.args.key (record {
-  so_far = any_stack _ c.rows.invariant;
-  can = c.requires;
-  ends = sym c.step_at.ensures ∙ c.in_default.is;
-})
+pub build_value-returns-in-Err : goal.build_value-returns-in-Err
+build_value-returns-in-Err t c = λ site. passes_on refl refl (c.in-Err.ensures site c.args.is_test) (λ none. none)
+
+pub build_value-build_back-requires : goal.build_value-build_back-requires
+build_value-build_back-requires t c =
+    let end = (c.in-Ok.ensures (any_site c.args.key) c.args.is_test).ok in
+    (c.args.self.now, c.args.key, record { so_far = any_stack _ end.so_far; can = end.can; ends = end.ends })
+
+pub build_value-returns-in-Ok : goal.build_value-returns-in-Ok
+build_value-returns-in-Ok t c =
+    let end = (c.in-Ok.ensures (any_site c.args.key) c.args.is_test).ok in
+    c.build_back.ensures c.args.self.now c.args.key
+    (record { so_far = any_stack _ end.so_far; can = end.can; ends = end.ends })
 
 -- a step
 
