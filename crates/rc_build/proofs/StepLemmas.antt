@@ -8,9 +8,9 @@ use Rattle.rc_runs.specs.Graph.{basic_block, block_at, is_empty_goto}
 use Rattle.rc_build.specs.declared.builder.Marks.{Marks}
 use Rattle.rc_build.specs.declared.handlers.MayThrow.{MayThrow}
 use Rattle.rc_build.specs.declared.values.Around.{Around}
-use Rattle.rc_build.specs.declared.values.Step.{Step}
-use Rattle.rc_build.specs.declared.values.Step.TheVariants as steps
-use Rattle.rc_build.specs.declared.values.ValueRow.{ValueRow}
+use Rattle.rc_build.specs.declared.value_steps.Step.{Step}
+use Rattle.rc_build.specs.declared.value_steps.Step.TheVariants as steps
+use Rattle.rc_build.specs.declared.value_steps.ValueRow.{ValueRow}
 use Rattle.rc_build.specs.declared.value_terminals.ValueKind.TheVariants as kinds
 use Rattle.rc_build.specs.declared.value_terminals.ValueTerminal.{ValueTerminal}
 use Rattle.rc_build.specs.BlockFacts.{BlockIs}

@@ -44,10 +44,12 @@ module _ {old new : Builder} {site : Site} {context : ValueContext} {Q : ValueEn
 module _ {old mid : Builder} {there : Site} {test : BlockId} {around : Around} {is_test : Bool} {condition : Condition}
     (tested : BuildsCondition old mid there test (value_at around is_test) (Ok condition)) where
   -- the first arm after a condition can be built
-  pub first_arm_can : (fallthrough : BlockId) → AreReferenced old.hir.now old.marks.used (test ∷ fallthrough ∷ [])
-      → CanBuildValue mid.hir.now mid.marks condition.arms.consequent
-  first_arm_can fallthrough pending = subst (λ (z : Setting). CanBuildValue z.hir mid.marks condition.arms.consequent)
-      (sym tested.frames) (first_can tested.ok fallthrough pending)
+  pub first_arm_can : (fallthrough : BlockId) {seen : Condition} → seen ≡ condition
+      → AreReferenced old.hir.now old.marks.used (test ∷ fallthrough ∷ [])
+      → CanBuildValue mid.hir.now mid.marks seen.arms.consequent
+  first_arm_can fallthrough is pending = subst (λ (z : Condition). CanBuildValue mid.hir.now mid.marks z.arms.consequent)
+      (sym is) (subst (λ (z : Setting). CanBuildValue z.hir mid.marks condition.arms.consequent)
+      (sym tested.frames) (first_can tested.ok fallthrough pending))
 
   module _ {late : Builder} {first : BuiltValue} {fallthrough : BlockId}
       (f : BuildsValue mid late there condition.arms.consequent (value_at around false) (GoesTo fallthrough) (Ok first))
@@ -62,16 +64,20 @@ module _ {old mid : Builder} {there : Site} {test : BlockId} {around : Around} {
       arm_there = arm_at tested.frames f.ok
 
       -- the second arm can be built
-      pub second_arm_can : AreReferenced old.hir.now old.marks.used (test ∷ fallthrough ∷ [])
-          → CanBuildValue late.hir.now late.marks condition.arms.alternate
-      second_arm_can pending = subst (λ (z : Setting). CanBuildValue z.hir late.marks condition.arms.alternate)
-          (sym same_behind) (second_can tested.ok fallthrough pending arm_there)
+      pub second_arm_can : {seen : Condition} → seen ≡ condition
+          → AreReferenced old.hir.now old.marks.used (test ∷ fallthrough ∷ [])
+          → CanBuildValue late.hir.now late.marks seen.arms.alternate
+      second_arm_can is pending = subst (λ (z : Condition). CanBuildValue late.hir.now late.marks z.arms.alternate)
+          (sym is) (subst (λ (z : Setting). CanBuildValue z.hir late.marks condition.arms.alternate)
+          (sym same_behind) (second_can tested.ok fallthrough pending arm_there))
 
       -- and the blocks of the first one can be looked at
-      pub silent_arm_can : AreReferenced old.hir.now old.marks.used (test ∷ fallthrough ∷ [])
-          → CanCheckSilent late.hir.now late.marks condition.arms.consequent
-      silent_arm_can pending = subst (λ (z : Setting). CanCheckSilent z.hir late.marks condition.arms.consequent)
-          (sym same_behind) (silent_can tested.ok fallthrough pending arm_there)
+      pub silent_arm_can : {seen : Condition} → seen ≡ condition
+          → AreReferenced old.hir.now old.marks.used (test ∷ fallthrough ∷ [])
+          → CanCheckSilent late.hir.now late.marks seen.arms.consequent
+      silent_arm_can is pending = subst (λ (z : Condition). CanCheckSilent late.hir.now late.marks z.arms.consequent)
+          (sym is) (subst (λ (z : Setting). CanCheckSilent z.hir late.marks condition.arms.consequent)
+          (sym same_behind) (silent_can tested.ok fallthrough pending arm_there))
 
       module _ {before : ℕ} (counted : before ≡ length mid.marks.used) where
         newly_since : drop before late.marks.used ≡ arm_there.newly

@@ -22,7 +22,7 @@ use Rattle.rc_runs.proofs.OneValue.{one_value}
 use Rattle.rc_build.specs.declared.short_arms.ShortArm.{ShortArm}
 use Rattle.rc_build.specs.declared.values.BuiltValue.{BuiltValue}
 use Rattle.rc_build.specs.declared.values.TestArms.{TestArms}
-use Rattle.rc_build.specs.declared.values.ValueRow.{ValueRow}
+use Rattle.rc_build.specs.declared.value_steps.ValueRow.{ValueRow}
 use Rattle.rc_build.specs.TerminalForms.{is_branch}
 use Rattle.rc_build.specs.BlockFacts.{ValueBlockIs}
 use Rattle.rc_build.specs.RuleFacts.{RuleFact}

@@ -33,7 +33,7 @@ use Rattle.rc_build.specs.inside.Throws.{may_throw}
 use Rattle.rc_build.specs.inside.ValueKinds.{value_terminal}
 use Rattle.rc_build.specs.inside.ValueRows.{HasRows, row_of}
 use Rattle.rc_build.specs.inside.ValueEnds.{EndsValue, EndFault, SpellsNoValue, place_named}
-use Rattle.rc_build.specs.inside.Values.{HasNoValue, arms_of, goes_to}
+use Rattle.rc_build.specs.inside.Values.{HasNoValue, any_end, arms_of, goes_to}
 use Rattle.rc_build.proofs.BuiltLemmas.{refused_front}
 use Rattle.rc_build.proofs.RowsLemmas.{first_row, both_rows}
 use Rattle.rc_build.specs.inside.Marks.{IsUnusable}
@@ -224,11 +224,12 @@ module _ {hir : HirFunction} {env : Environment} where
           set = not-true (list_any (λ (row : Instruction). is_unset row.id) ids.rows) (and_parts _ _ ids.set).0;
         }
 
--- the rows of a value's block, as rows of a sequence
-pub value_has_rows : {hir : HirFunction} {env : Environment} (key : BlockId) (block : BasicBlock)
-    → basic_block hir key ≡ Some block → {context : ValueContext} {value : Value} {end : ValueEnd}
-    {blocks : List BlockId} → SpellsValue hir env key context value end blocks
-    → (made : List ReactiveInstruction) × HasRows hir block.instructions made
-value_has_rows key block found d =
+-- no value is spelled from a block whose rows can't be made
+pub no_value_of : {hir : HirFunction} {env : Environment} (key : BlockId) (block : BasicBlock)
+    → basic_block hir key ≡ Some block → {context : ValueContext} {numbers : List InstructionId}
+    → numbers ≡ block.instructions → ((made : List ReactiveInstruction) → HasRows hir numbers made → ⊥)
+    → (used : List BlockId) → HasNoValue hir env key context any_end used
+no_value_of {hir = hir} key block found same none used value end blocks d asked sound =
     let front = value_rows key block found d in
-    (map row_of front.rows, record { rows = front.rows; filled = front.filled; set = front.set; is = refl })
+    none (map row_of front.rows) (subst (λ z. HasRows hir z (map row_of front.rows)) (sym same)
+    (record { rows = front.rows; filled = front.filled; set = front.set; is = refl }))

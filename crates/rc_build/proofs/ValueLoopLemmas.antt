@@ -14,8 +14,8 @@ use Rattle.rc_build.specs.declared.builder.Marks.{Marks}
 use Rattle.rc_build.specs.declared.builder.Site.{Site}
 use Rattle.rc_build.specs.declared.values.Around.{Around}
 use Rattle.rc_build.specs.declared.values.BuiltValue.{BuiltValue}
-use Rattle.rc_build.specs.declared.values.Step.{Step}
-use Rattle.rc_build.specs.declared.values.ValueRow.{ValueRow}
+use Rattle.rc_build.specs.declared.value_steps.Step.{Step}
+use Rattle.rc_build.specs.declared.value_steps.ValueRow.{ValueRow}
 use Rattle.rc_build.specs.References.{referenced_blocks}
 use Rattle.rc_build.specs.inside.Built.{Refused}
 use Rattle.rc_build.specs.inside.CanBuild.{AreReferenced}

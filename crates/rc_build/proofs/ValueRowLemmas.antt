@@ -20,7 +20,7 @@ use Rattle.rc_runs.specs.ValueGrammar.{may_throw as throws_on, value_row}
 use Rattle.rc_runs.proofs.GraphLemmas.{is_empty_goto-at, one_continuation, one_held, one_kind}
 use Rattle.rc_runs.proofs.OneValue.{nested_ends_no_value, one_nested, not_empty}
 use Rattle.rc_build.specs.declared.values.Around.{Around}
-use Rattle.rc_build.specs.declared.values.ValueRow.{ValueRow}
+use Rattle.rc_build.specs.declared.value_steps.ValueRow.{ValueRow}
 use Rattle.rc_build.specs.BlockFacts.{IsValueReferenced}
 use Rattle.rc_build.specs.inside.Throws.{may_throw}
 use Rattle.rc_build.specs.inside.ValueSteps.{value_at}

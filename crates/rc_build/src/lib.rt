@@ -31,6 +31,7 @@ mod unreachable;
 mod value_ends;
 mod value_rows;
 mod value_statements;
+mod value_steps;
 mod value_terminals;
 mod values;
 

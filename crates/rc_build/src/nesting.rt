@@ -14,7 +14,7 @@ pub const USUAL_STACK: usize = (6 * 1024 - 256) * 1024;
 pub const STATEMENT_LEVEL: usize = 640;
 
 /// What a value in a value takes, here or in a later call that goes down the tree.
-pub const VALUE_LEVEL: usize = 800;
+pub const VALUE_LEVEL: usize = 600;
 
 /// What a row of a value takes, since the rest of the value is inside its sequence.
 pub const ROW_LEVEL: usize = 320;

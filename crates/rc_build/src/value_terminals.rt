@@ -19,7 +19,7 @@ ghost use Rattle.rc_build.specs.inside.Values.{IsBuilt};
 
 use crate::builder::{Builder, let_go, malformed};
 use crate::short_arms::ShortArm;
-use crate::values::{Around, BuiltValue, Condition, TestArms};
+use crate::values::{Around, BuiltValue, Condition};
 use rc_hir::{Fault, LogicalOperator, Place, Rule, Terminal};
 use rc_names::{BlockId, Boxed, EvaluationOrder, List, Span};
 use rc_tree::{ReactiveInstruction, ReactiveValue};
@@ -154,19 +154,15 @@ impl<'g> Builder<'g> {
     {
         let around = terminal.around(handler);
         let condition = self.build_condition(test, around, false)?;
-        let TestArms {
-            consequent,
-            alternate,
-            ..
-        } = condition.get().arms;
-        let first = match self.build_arm(consequent, terminal.fallthrough, around) {
+        let arms = condition.get().arms;
+        let first = match self.build_arm(arms.consequent, terminal.fallthrough, around) {
             Ok(first) => first,
             Err(fault) => {
                 let_go(condition);
                 return Err(fault);
             }
         };
-        match self.build_arm(alternate, terminal.fallthrough, around) {
+        match self.build_arm(arms.alternate, terminal.fallthrough, around) {
             Ok(second) => Ok(conditional(self.alloc, condition, first, second)?),
             Err(fault) => {
                 let_go(condition);
@@ -195,25 +191,21 @@ impl<'g> Builder<'g> {
     {
         let around = terminal.around(handler);
         let condition = self.build_condition(test, around, false)?;
-        let TestArms {
-            consequent,
-            alternate,
-            ..
-        } = condition.get().arms;
+        let arms = condition.get().arms;
         let before = self.marks.used.len();
-        let first = match self.build_arm(consequent, terminal.fallthrough, around) {
+        let first = match self.build_arm(arms.consequent, terminal.fallthrough, around) {
             Ok(first) => first,
             Err(fault) => {
                 let_go(condition);
                 return Err(fault);
             }
         };
-        if let Err(fault) = self.check_silent_since(before, consequent) {
+        if let Err(fault) = self.check_silent_since(before, arms.consequent) {
             let_go(condition);
             let_go(first);
             return Err(fault);
         }
-        match self.build_arm(alternate, terminal.fallthrough, around) {
+        match self.build_arm(arms.alternate, terminal.fallthrough, around) {
             Ok(second) => Ok(logical(self.alloc, operator, around.span, condition, first, second)?),
             Err(fault) => {
                 let_go(condition);

@@ -15,8 +15,8 @@ use Rattle.rc_runs.specs.ValueGrammar.{Nested, SpellsNested}
 use Rattle.rc_build.specs.declared.builder.Marks.{Marks}
 use Rattle.rc_build.specs.declared.handlers.MayThrow.{MayThrow}
 use Rattle.rc_build.specs.declared.values.Around.{Around}
-use Rattle.rc_build.specs.declared.values.Step.{Step}
-use Rattle.rc_build.specs.declared.values.ValueRow.{ValueRow}
+use Rattle.rc_build.specs.declared.value_steps.Step.{Step}
+use Rattle.rc_build.specs.declared.value_steps.ValueRow.{ValueRow}
 use Rattle.rc_build.specs.declared.value_terminals.ValueTerminal.{ValueTerminal}
 use Rattle.rc_build.specs.BlockFacts.{BlockIs, IsValueReferenced}
 use Rattle.rc_build.specs.inside.Marks.{Marked, MarksBlocks}

@@ -15,7 +15,7 @@ use Rattle.rc_build.specs.declared.builder.Builder.{Builder}
 use Rattle.rc_build.specs.declared.builder.Site.{Site}
 use Rattle.rc_build.specs.declared.values.Around.{Around}
 use Rattle.rc_build.specs.declared.values.BuiltValue.{BuiltValue}
-use Rattle.rc_build.specs.declared.values.ValueRow.{ValueRow}
+use Rattle.rc_build.specs.declared.value_steps.ValueRow.{ValueRow}
 use Rattle.rc_build.specs.declared.value_terminals.NestedValue.{NestedValue}
 use Rattle.rc_build.specs.declared.value_terminals.ValueTerminal.{ValueTerminal}
 use Rattle.rc_build.specs.References.{referenced_blocks}

@@ -8,8 +8,8 @@ use Rattle.rc_runs.specs.Graph.{basic_block, block_at, is_empty_goto}
 use Rattle.rc_runs.specs.ListContext.{ValueContext}
 use Rattle.rc_build.specs.declared.builder.Site.{Site}
 use Rattle.rc_build.specs.declared.values.Around.{Around}
-use Rattle.rc_build.specs.declared.values.Step.{Step}
-use Rattle.rc_build.specs.declared.values.Step.TheVariants as steps
+use Rattle.rc_build.specs.declared.value_steps.Step.{Step}
+use Rattle.rc_build.specs.declared.value_steps.Step.TheVariants as steps
 use Rattle.rc_build.specs.declared.value_terminals.ValueTerminal.{ValueTerminal}
 use Rattle.rc_build.specs.inside.ValueKinds.{value_terminal}
 

@@ -235,11 +235,9 @@ build_ternary-returns-in_err-condition t c = λ site.
 
 pub build_ternary-build_arm-requires : goal.build_ternary-build_arm-requires
 build_ternary-build_arm-requires t c =
-    let tested = c.in_ok-condition.ensures (any_site c.args.test) in
-    let can = first_arm_can tested c.args.terminal.fallthrough c.requires.referenced in
-    let mid = c.build_condition.new.self in (
+    let tested = c.in_ok-condition.ensures (any_site c.args.test) in (
       omega (arith, as_few_left tested tested.ok.marking),
-      subst (λ (z : Condition). CanBuildValue mid.hir.now mid.marks z.arms.consequent) (sym c.get.ensures) can,
+      first_arm_can tested c.args.terminal.fallthrough c.get.ensures c.requires.referenced,
     )
 
 pub build_ternary-returns-in-Err : goal.build_ternary-returns-in-Err
@@ -250,11 +248,9 @@ build_ternary-returns-in-Err t c = λ site.
 pub build_ternary-build_arm-requires-2 : goal.build_ternary-build_arm-requires-2
 build_ternary-build_arm-requires-2 t c =
     let tested = c.in_ok-condition.ensures (any_site c.args.test) in
-    let first = first_seen c.get.ensures (c.in-Ok.ensures (any_site c.args.test)) in
-    let late = c.build_arm.new.self in (
+    let first = first_seen c.get.ensures (c.in-Ok.ensures (any_site c.args.test)) in (
       omega (arith, as_few_left tested tested.ok.marking, as_few_left first first.ok.marking),
-      subst (λ (z : Condition). CanBuildValue late.hir.now late.marks z.arms.alternate) (sym c.get.ensures)
-          (second_arm_can tested first c.requires.referenced),
+      second_arm_can tested first c.get.ensures c.requires.referenced,
     )
 
 pub build_ternary-returns-in-Err-build_arm : goal.build_ternary-returns-in-Err-build_arm
@@ -284,11 +280,9 @@ build_logical-returns-in_err-condition t c = λ site.
 
 pub build_logical-build_arm-requires : goal.build_logical-build_arm-requires
 build_logical-build_arm-requires t c =
-    let tested = c.in_ok-condition.ensures (any_site c.args.test) in
-    let can = first_arm_can tested c.args.terminal.fallthrough c.requires.referenced in
-    let mid = c.build_condition.new.self in (
+    let tested = c.in_ok-condition.ensures (any_site c.args.test) in (
       omega (arith, as_few_left tested tested.ok.marking),
-      subst (λ (z : Condition). CanBuildValue mid.hir.now mid.marks z.arms.consequent) (sym c.get.ensures) can,
+      first_arm_can tested c.args.terminal.fallthrough c.get.ensures c.requires.referenced,
     )
 
 pub build_logical-returns-in-Err : goal.build_logical-returns-in-Err
@@ -299,10 +293,8 @@ build_logical-returns-in-Err t c = λ site.
 pub build_logical-check_silent_since-requires : goal.build_logical-check_silent_since-requires
 build_logical-check_silent_since-requires t c =
     let site = any_site c.args.test in
-    let late = c.build_arm.new.self in
-    subst (λ (z : Condition). CanCheckSilent late.hir.now late.marks z.arms.consequent) (sym c.get.ensures)
-    (silent_arm_can (c.in_ok-condition.ensures site) (first_seen c.get.ensures (c.in-Ok.ensures site))
-    c.requires.referenced)
+    silent_arm_can (c.in_ok-condition.ensures site) (first_seen c.get.ensures (c.in-Ok.ensures site)) c.get.ensures
+    c.requires.referenced
 
 pub build_logical-returns-in-Err-check_silent_since : goal.build_logical-returns-in-Err-check_silent_since
 build_logical-returns-in-Err-check_silent_since t c = λ site.
@@ -317,11 +309,9 @@ build_logical-returns-in-Err-check_silent_since t c = λ site.
 pub build_logical-build_arm-requires-2 : goal.build_logical-build_arm-requires-2
 build_logical-build_arm-requires-2 t c =
     let tested = c.in_ok-condition.ensures (any_site c.args.test) in
-    let first = first_seen c.get.ensures (c.in-Ok.ensures (any_site c.args.test)) in
-    let late = c.build_arm.new.self in (
+    let first = first_seen c.get.ensures (c.in-Ok.ensures (any_site c.args.test)) in (
       omega (arith, as_few_left tested tested.ok.marking, as_few_left first first.ok.marking),
-      subst (λ (z : Condition). CanBuildValue late.hir.now late.marks z.arms.alternate) (sym c.get.ensures)
-          (second_arm_can tested first c.requires.referenced),
+      second_arm_can tested first c.get.ensures c.requires.referenced,
     )
 
 pub build_logical-returns-in-Err-build_arm : goal.build_logical-returns-in-Err-build_arm
@@ -367,11 +357,9 @@ build_optional-returns-in-Some t c = λ site.
 
 pub build_optional-build_arm-requires : goal.build_optional-build_arm-requires
 build_optional-build_arm-requires t c =
-    let tested = c.in_ok-condition.ensures (any_site c.args.test) in
-    let can = first_arm_can tested c.args.terminal.fallthrough c.requires.referenced in
-    let mid = c.build_condition.new.self in (
+    let tested = c.in_ok-condition.ensures (any_site c.args.test) in (
       omega (arith, as_few_left tested tested.ok.marking),
-      subst (λ (z : Condition). CanBuildValue mid.hir.now mid.marks z.arms.consequent) (sym c.get-2.ensures) can,
+      first_arm_can tested c.args.terminal.fallthrough c.get-2.ensures c.requires.referenced,
     )
 
 pub build_optional-returns-in-Err : goal.build_optional-returns-in-Err

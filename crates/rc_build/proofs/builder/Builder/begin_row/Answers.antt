@@ -7,7 +7,7 @@ use Rattle.rc_build.specs.inside.Values.{any_end}
 use Rattle.rc_build.proofs.BuildsLemmas.{breaks_rule, fails, is_built, passes_on}
 use Rattle.rc_build.proofs.MarksLemmas.{referenced_once}
 use Rattle.rc_build.proofs.RowBuiltLemmas.{row_can_mark, row_unset, row_unset_refused}
-use Rattle.rc_build.proofs.ValueLemmas.{spells_unusable, value_has_rows}
+use Rattle.rc_build.proofs.ValueLemmas.{no_value_of, spells_unusable}
 use Rattle.rc_build.proofs.builder.Builder.begin_row.Goals as goal
 
 pub find_block-requires : goal.find_block-requires
@@ -18,10 +18,8 @@ pub returns-in_err-rows : goal.returns-in_err-rows
 returns-in_err-rows c = λ site around is_test.
     let block = c.in_ok-found.found.block.now in
     fails c.from_residual-in_err-rows.ensures.1 c.in_err-rows.ensures.facts
-    (λ named rule e value end blocks d asked sound.
-    let has = value_has_rows c.args.key block c.in_ok-found.ensures.found d in
-    c.in_err-rows.ensures.refused named rule (ap Err e) has.0
-    (subst (λ z. HasRows c.args.self.now.hir.now z has.0) (sym c.as_slice.ensures) has.1))
+    (λ named rule e. no_value_of c.args.key block c.in_ok-found.ensures.found c.as_slice.ensures
+    (c.in_err-rows.ensures.refused named rule (ap Err e)) c.args.self.now.marks.used)
 
 pub returns-then-terminal-eq0 : goal.returns-then-terminal-eq0
 returns-then-terminal-eq0 c = λ site around is_test.

@@ -12,7 +12,7 @@ use Rattle.rc_build.proofs.LastThrowLemmas.{first_can_mark, last_can_mark, last_
 use Rattle.rc_build.proofs.LastThrowLemmas.{last_referenced, last_throw_built, last_unusable, none_listed}
 use Rattle.rc_build.proofs.MarksLemmas.{referenced_once}
 use Rattle.rc_build.proofs.ThrowingLemmas.{other_handler}
-use Rattle.rc_build.proofs.ValueLemmas.{spells_unusable, value_has_rows}
+use Rattle.rc_build.proofs.ValueLemmas.{no_value_of, spells_unusable}
 use Rattle.rc_build.proofs.builder.Builder.build_last_throw.Goals as goal
 
 pub block_with_id-requires : goal.block_with_id-requires
@@ -46,10 +46,8 @@ pub returns-in_err-built : goal.returns-in_err-built
 returns-in_err-built c = λ site context same.
     let block = c.in_ok-found.found.block.now in
     fails c.from_residual-in_err-built.ensures.1 c.in_err-built.ensures.facts
-    (λ named rule e value end blocks d asked sound.
-    let has = value_has_rows c.args.key block c.in_ok-found.ensures.found d in
-    c.in_err-built.ensures.refused named rule (ap Err e) has.0
-    (subst (λ z. HasRows c.args.self.now.hir.now z has.0) (sym c.as_slice.ensures ∙ c.in-Some.ensures.cases.0) has.1))
+    (λ named rule e. no_value_of c.args.key block c.in_ok-found.ensures.found (sym c.in-Some.ensures.cases.0 ∙ c.as_slice.ensures)
+    (c.in_err-built.ensures.refused named rule (ap Err e)) c.args.self.now.marks.used)
 
 pub mark_block-requires-clause-can : goal.mark_block-requires-clause-can
 mark_block-requires-clause-can c = first_can_mark c.requires c.in_ok-found.ensures.found
