@@ -6,7 +6,7 @@ use Rattle.rc_hir.specs.declared.fault.Fault.TheVariants as faults
 use Rattle.rc_tree.specs.Model.{ReactiveFunction}
 use Rattle.rc_pipe.specs.Headline.{HasAnswer, IsAccepted, IsCause}
 use Rattle.rc_doc.specs.declared.document.Doc.{Doc}
-use Rattle.rc_program.specs.FaultLine.{fault_line, fault_name}
+use Rattle.rc_lines.specs.FaultLine.{fault_line, fault_name}
 use Rattle.rc_program.specs.DueStatus.{IsAnswerable}
 use Rattle.rc_program.specs.Status.{IsTextFor}
 use Rattle.rc_program.specs.declared.command.Command.{Command}

@@ -8,8 +8,8 @@ use Rattle.rc_gen.specs.Generated.{generated, most_units}
 use Rattle.rc_program.specs.declared.command.Command.{Command}
 use Rattle.rc_program.specs.declared.command.Command.TheVariants.{Tree, Fates, Why, Slots, Json, Replay}
 use Rattle.rc_program.specs.declared.command.Command.TheVariants.{Generate}
-use Rattle.rc_program.specs.Counts.{count_lines}
-use Rattle.rc_program.specs.FunctionLines.{fate_lines, lines_of}
+use Rattle.rc_lines.specs.Counts.{count_lines}
+use Rattle.rc_lines.specs.FunctionLines.{fate_lines, lines_of}
 use Rattle.rc_program.specs.Given.{without_run}
 use Rattle.rc_program.specs.JsonLine.{IsJsonLine}
 use Rattle.rc_program.specs.ReasonLines.{IsReasonText}

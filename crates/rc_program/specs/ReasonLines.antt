@@ -13,8 +13,8 @@ use Rattle.rc_why.specs.ReasonOf.{AreReasons, fate_of}
 use Rattle.rc_why.specs.declared.reason.Facts.{Facts}
 use Rattle.rc_why.specs.declared.reason.Facts.TheVariants as facts
 use Rattle.rc_why.specs.declared.reason.Reason.{Reason}
-use Rattle.rc_program.specs.FunctionLines.{scope_fate_text}
-use Rattle.rc_program.specs.LineText.{◌&◌, line, quoted_text}
+use Rattle.rc_lines.specs.FunctionLines.{scope_fate_text}
+use Rattle.rc_lines.specs.LineText.{◌&◌, line, quoted_text}
 
 -- an entry of a list after the first
 abbrev pub further_text : List ℕ → List ℕ

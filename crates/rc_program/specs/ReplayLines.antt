@@ -7,7 +7,7 @@ use Rattle.rc_replay.specs.declared.given.GivenRun.{GivenRun}
 use Rattle.rc_runs.specs.BodyRun.{IsBodyRun}
 use Rattle.rc_runs.specs.Event.{has_throw}
 use Rattle.rc_runs.specs.GraphRun.{IsGraphRun}
-use Rattle.rc_program.specs.LineText.{◌&◌, line}
+use Rattle.rc_lines.specs.LineText.{◌&◌, line}
 use Rattle.rc_program.specs.declared.given.Given.{Given}
 
 -- an answer

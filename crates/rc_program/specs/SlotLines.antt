@@ -2,7 +2,7 @@
 use Rattle.std.specs.Prelude.{ℕ, List, codes, decimal, flat_map}
 use Rattle.rc_slots.specs.declared.plan.ScopeSlots.{ScopeSlots}
 use Rattle.rc_slots.specs.declared.plan.SlotPlan.{SlotPlan}
-use Rattle.rc_program.specs.LineText.{◌&◌, line}
+use Rattle.rc_lines.specs.LineText.{◌&◌, line}
 
 -- where the slots of a scope block begin, and how many it has of each kind
 abbrev pub scope_slots_text : ScopeSlots → List ℕ

@@ -10,8 +10,9 @@ use Rattle.rc_program.specs.declared.status.Status.{Status}
 use Rattle.rc_program.specs.declared.status.Status.TheVariants.{Done, Usage, NotJson, NotDoc, Refused, ReadFault}
 use Rattle.rc_program.specs.declared.status.Status.TheVariants.{WriteFault, TooLarge, NoMemory, TooManySlots}
 use Rattle.rc_program.specs.Command.{AreWords, IsCommand, IsTextOf, Made, Origin, Read, origin_of}
-use Rattle.rc_program.specs.FaultLine.{fault_line, fault_name}
-use Rattle.rc_program.specs.Device.{most_bytes, HasTaken, IsReadToEnd, HasAppendedPrefix}
+use Rattle.rc_lines.specs.FaultLine.{fault_line, fault_name}
+use Rattle.rc_lines.specs.Sink.{HasAppendedPrefix}
+use Rattle.rc_program.specs.Device.{most_bytes, HasTaken, IsReadToEnd}
 use Rattle.rc_program.specs.DueStatus.{IsAnswerable, IsDueForBytes, IsJsonOfDoc, IsTooMuchFor}
 use Rattle.rc_program.specs.declared.given.Given.{Given}
 use Rattle.rc_program.specs.declared.given.Form.{Form}

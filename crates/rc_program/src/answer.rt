@@ -2,7 +2,7 @@
 
 ghost use Rattle.std.specs.Prelude.{◌≡◌, ◌≤◌, ◌^◌, ◌↔◌, IsTrue, MatchResult};
 ghost use Rattle.rc_program.specs.DueStatus.{Exceeds, IsTooMuchFor};
-ghost use Rattle.rc_program.specs.FaultLine.{fault_line};
+ghost use Rattle.rc_lines.specs.FaultLine.{fault_line};
 ghost use Rattle.rc_program.specs.ReasonLines.{reason_lines};
 ghost use Rattle.rc_program.specs.ReplayLines.{AnswersBody, replay_lines};
 ghost use Rattle.rc_program.specs.SlotLines.{slot_lines};
@@ -15,14 +15,13 @@ ghost use Rattle.rc_tree.specs.TreeNames.{TreeInTables};
 use crate::command::Command;
 use crate::given::Given;
 use crate::note::{Note, note_fault, note_nesting};
-use crate::printing::{
-    count_lines, fates_alone, fault_line, json_line, lines, reason_lines, replay_lines, slot_lines,
-};
+use crate::printing::{json_line, reason_lines, replay_lines, slot_lines};
 use crate::status::Status;
 use crate::stop::Stop;
 use rc_doc::Doc;
 use rc_hir::{Environment, Fault};
-use rc_names::{List, Text};
+use rc_lines::{Page, count_lines, fates_alone, fault_line, tree_page};
+use rc_names::List;
 use rc_pipe::{Pruned, build_and_prune_within};
 use rc_replay::{GivenRun, has_throw, replay_body, replay_graph};
 use rc_slots::{SlotFault, plan_slots};
@@ -34,7 +33,7 @@ use std::mem::forget;
 /// A finished text, and the status of the program once it is written.
 #[derive(Drop)]
 pub struct Answer {
-    pub text: Text,
+    pub text: Page,
     pub status: Status,
 }
 
@@ -200,7 +199,7 @@ fn text_of(
     in_graph: bool,
     given: &Given,
     pruned: &Pruned,
-) -> Result<Text, Stop>
+) -> Result<Page, Stop>
     requires inside { TreeInTables pruned.now.func given.now.doc.env }
     requires other { ¬ (command ≡ Command.Why) }
     ensures { MatchResult result
@@ -209,7 +208,7 @@ fn text_of(
         (HasNoText (Exceeds command given.now.doc.env pruned.now)) }
 {
     match command {
-        Command::Tree => Ok(lines(alloc, &pruned.func, &pruned.fates)?),
+        Command::Tree => Ok(tree_page(alloc, &pruned.func, &pruned.fates)?),
         Command::Fates => Ok(fates_alone(alloc, &pruned.fates)?),
         Command::Why => unreachable!(),
         Command::Slots => slot_text(alloc, &pruned.func, &given.doc.env),
@@ -230,7 +229,7 @@ fn replay_text(
     func: &ReactiveFunction,
     env: &Environment,
     run: &GivenRun,
-) -> Result<Text, Stop>
+) -> Result<Page, Stop>
     ensures { MatchResult result (HasBodyLine func.now env.now run.now in_graph) (λ stop. stop ≡ Stop.NoMemory) }
 {
     let in_body = replay_in_body(alloc, func, env, run)?;
@@ -257,7 +256,7 @@ fn replay_in_body(
 
 /// The lines of the slots of a function's scope blocks.
 #[tactic(auto, using(crate::proofs::AnswerLemmas::within))]
-fn slot_text(alloc: Global, func: &ReactiveFunction, env: &Environment) -> Result<Text, Stop>
+fn slot_text(alloc: Global, func: &ReactiveFunction, env: &Environment) -> Result<Page, Stop>
     requires { TreeInTables func.now env.now }
     ensures { MatchResult result
         (λ text. ¬ (2 ^ 32 ≤ (slots_of env.now func.now).total) × (text ≡ slot_lines (slots_of env.now func.now)))

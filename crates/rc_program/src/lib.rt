@@ -18,16 +18,14 @@ mod standard;
 mod status;
 mod stop;
 mod top;
-mod write;
 
 pub use command_line::{Words, words};
-pub use device::{Failed, Sink, Source};
+pub use device::Source;
 pub use memory::{MemorySink, MemorySource};
 pub use note::Note;
-pub use printing::lines;
+pub use rc_lines::{Failed, Sink, lines, write_lines};
 pub use rc_pipe::USUAL_STACK;
 pub use stack::stack_for_nesting;
 pub use standard::{StdSink, StdSource};
 pub use status::Status;
 pub use top::program;
-pub use write::write_lines;

@@ -4,7 +4,8 @@
 ghost use Rattle.std.specs.Prelude.{◌≡◌, ◌≤◌, IsErrOf, MatchResult, length};
 ghost use Rattle.serde_json.specs.View.{view};
 ghost use Rattle.rc_program.specs.Command.{IsInRange, IsMade, Read, origin_of};
-ghost use Rattle.rc_program.specs.Device.{HasRisen, most_bytes};
+ghost use Rattle.rc_lines.specs.Sink.{HasRisen};
+ghost use Rattle.rc_program.specs.Device.{most_bytes};
 ghost use Rattle.rc_program.specs.DueStatus.{IsJson, IsJsonOfDoc};
 ghost use Rattle.rc_program.specs.declared.given.Form.{Form as ReadForm};
 ghost use Rattle.rc_program.specs.inside.Stop.{IsDocumentOrStop, IsReadOrStop, IsStopFor};

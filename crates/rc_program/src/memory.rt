@@ -4,9 +4,11 @@ ghost use Rattle.std.specs.Prelude.{◌≡◌, ◌<◌, ◌≤◌, ◌-◌, ◌+
 ghost use Rattle.std.specs.Prelude.{Some, IfOk, OnOk, OnErr, IsErr, Contains};
 ghost use Rattle.std.specs.Io.{ReadsAtMost, WritesAtMost};
 ghost use Rattle.std.specs.Io.KnownBytes.{ReadConsumes, WriteAppends};
-ghost use Rattle.rc_program.specs.Device.{HasRisen, counted};
+ghost use Rattle.rc_lines.specs.Sink.{HasRisen};
+ghost use Rattle.rc_program.specs.Device.{counted};
 
-use crate::device::{Failed, Sink, Source};
+use crate::device::Source;
+use rc_lines::{Failed, Sink};
 use rc_names::List;
 use std::alloc::{AllocError, Global};
 use std::marker::Model;

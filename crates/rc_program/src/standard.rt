@@ -3,9 +3,11 @@
 ghost use Rattle.std.specs.Prelude.{◌≡◌, ◌<◌, ◌≤◌, length, IfOk, OnOk, OnErr};
 ghost use Rattle.std.specs.Io.{ReadsAtMost, WritesAtMost};
 ghost use Rattle.std.specs.Io.KnownBytes.{ReadConsumes, WriteAppends};
-ghost use Rattle.rc_program.specs.Device.{HasRisen, counted};
+ghost use Rattle.rc_lines.specs.Sink.{HasRisen};
+ghost use Rattle.rc_program.specs.Device.{counted};
 
-use crate::device::{Failed, Sink, Source};
+use crate::device::Source;
+use rc_lines::{Failed, Sink};
 use std::io::{Read, Write};
 
 /// A reader that counts its errors.

@@ -1,10 +1,10 @@
 //! The top call: from words and bytes to bytes and a status.
 
 ghost use Rattle.std.specs.Prelude.{◌≡◌, ◌↔◌, ◌⊎◌};
+ghost use Rattle.rc_lines.specs.Sink.{HasRisen};
 ghost use Rattle.rc_program.specs.declared.command.Command.{Command};
 ghost use Rattle.rc_program.specs.declared.status.Status.{Status};
 ghost use Rattle.rc_program.specs.Command.{AreWords, IsCommand, ReadNothing, origin_of};
-ghost use Rattle.rc_program.specs.Device.{HasRisen};
 ghost use Rattle.rc_program.specs.DueStatus.{CanFailToRead, CanReplace, IsDueFor};
 ghost use Rattle.rc_program.specs.Status.{IsOutcome};
 ghost use Rattle.rc_program.specs.inside.Stop.{status_from};
@@ -12,19 +12,19 @@ ghost use Rattle.rc_program.specs.inside.Stop.{status_from};
 use crate::answer::answer_for;
 use crate::command::command_of;
 use crate::command_line::Words;
-use crate::device::{Sink, Source};
+use crate::device::Source;
 use crate::load::document_of;
 use crate::note::Note;
 use crate::status::Status;
 use crate::stop::{Stop, status_from};
-use crate::write::write_lines;
+use rc_lines::Sink;
 use std::alloc::Global;
 
 /// Runs the command that the words name: reads a document from the source, or makes one, and writes the text of the
 /// command to the sink, or the line of the fault with which the document's graph is refused. Returns the status.
 ///
-/// The bytes are read to their end before they are parsed, and the text is made whole before any of it is written.
-/// Nesting may take that many bytes of stack; a graph that nests deeper ends with `NoMemory`. With the statuses
+/// The bytes are read to their end before they are parsed, and what the text wants of memory is had before any of it is
+/// written. Nesting may take that many bytes of stack; a graph that nests deeper ends with `NoMemory`. With the statuses
 /// `NotJson`, `NotDoc`, `Refused` and `NoMemory` the note says why, where memory allows.
 pub fn program<S: Source, K: Sink>(
     alloc: Global,
@@ -80,7 +80,7 @@ fn run<S: Source, K: Sink>(
     };
     let given = document_of(alloc, command, source, note)?;
     let answer = answer_for(alloc, command, given, note, stack)?;
-    match write_lines(sink, &answer.text) {
+    match answer.text.write_to(sink) {
         Ok(()) => Ok(answer.status),
         Err(_) => Err(Stop::WriteFault),
     }

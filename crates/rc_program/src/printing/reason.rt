@@ -5,22 +5,20 @@ ghost use Rattle.rc_program.specs.ReasonLines.{condition_text, dependency_text, 
 ghost use Rattle.rc_program.specs.ReasonLines.{output_text, pair_text, property_text, reason_line, reason_lines};
 ghost use Rattle.rc_program.specs.ReasonLines.{reason_text, step_text, unused_text};
 
-use crate::printing::fates::write_scope_fate;
-use crate::printing::page::Page;
-use crate::printing::text::write_number;
 use rc_hir::{DependencyPathEntry, PropertyLiteral};
-use rc_names::{DeclarationId, Id, IdentifierId, List, ScopeId, Text};
+use rc_lines::{Page, write_number, write_scope_fate};
+use rc_names::{DeclarationId, Id, IdentifierId, List, ScopeId};
 use rc_tree::ScopeFate;
 use rc_why::{DepPair, Facts, MergeCondition, Reason};
 use std::alloc::{AllocError, Global};
 
 /// The lines of reasons. Fails only when out of memory.
-pub fn reason_lines(alloc: Global, reasons: &List<Reason>) -> Result<Text, AllocError>
-    ensures { IfOk result (λ text. text ≡ reason_lines reasons.now) }
+pub fn reason_lines(alloc: Global, reasons: &List<Reason>) -> Result<Page, AllocError>
+    ensures { IfOk result (λ page. page ≡ reason_lines reasons.now) }
 {
     let mut page = Page::new(alloc);
     write_reasons(&mut page, reasons.as_slice())?;
-    Ok(page.finish())
+    Ok(page)
 }
 
 /// A line for each reason.

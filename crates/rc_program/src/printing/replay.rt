@@ -1,11 +1,10 @@
 //! The lines of a replay.
 
 ghost use Rattle.std.specs.Prelude.{◌≡◌, ◌++◌, IfOk, OnOk};
-ghost use Rattle.rc_program.specs.LineText.{line};
+ghost use Rattle.rc_lines.specs.LineText.{line};
 ghost use Rattle.rc_program.specs.ReplayLines.{body_word, replay_lines, yes_or_no};
 
-use crate::printing::page::Page;
-use rc_names::Text;
+use rc_lines::Page;
 use std::alloc::{AllocError, Global};
 
 /// The two lines for the answers on the graph and on the body. Fails only when out of memory.
@@ -13,13 +12,13 @@ pub fn replay_lines(
     alloc: Global,
     in_graph: bool,
     in_body: Option<bool>,
-) -> Result<Text, AllocError>
-    ensures { IfOk result (λ text. text ≡ replay_lines in_graph in_body) }
+) -> Result<Page, AllocError>
+    ensures { IfOk result (λ page. page ≡ replay_lines in_graph in_body) }
 {
     let mut page = Page::new(alloc);
     write_answer(&mut page, "graph ", yes_or_no(in_graph))?;
     write_answer(&mut page, "body ", body_word(in_body))?;
-    Ok(page.finish())
+    Ok(page)
 }
 
 /// The line of an answer after its name.

@@ -3,21 +3,19 @@
 ghost use Rattle.std.specs.Prelude.{◌≡◌, ◌++◌, IfOk, OnOk, flat_map};
 ghost use Rattle.rc_program.specs.SlotLines.{scope_slots_line, slot_lines};
 
-use crate::printing::page::Page;
-use crate::printing::text::write_number;
-use rc_names::Text;
+use rc_lines::{Page, write_number};
 use rc_slots::{ScopeSlots, SlotPlan};
 use std::alloc::{AllocError, Global};
 
 /// The lines of a plan. Fails only when out of memory.
-pub fn slot_lines(alloc: Global, plan: &SlotPlan) -> Result<Text, AllocError>
-    ensures { IfOk result (λ text. text ≡ slot_lines plan.now) }
+pub fn slot_lines(alloc: Global, plan: &SlotPlan) -> Result<Page, AllocError>
+    ensures { IfOk result (λ page. page ≡ slot_lines plan.now) }
 {
     let mut page = Page::new(alloc);
     write_scopes(&mut page, plan.scopes.as_slice())?;
     write_number(&mut page, "total ", plan.total)?;
     page.push("\n")?;
-    Ok(page.finish())
+    Ok(page)
 }
 
 /// A line for each scope block.

@@ -1,7 +1,7 @@
 use Rattle.std.proofs.Common.{◌∙◌, ◌++◌, ap}
 use Rattle.std.proofs.lemmas.Result.{on_ok_weaker}
 use Rattle.std.specs.Prelude.{codes, decimal}
-use Rattle.rc_program.proofs.WrittenLines.{three_written}
+use Rattle.rc_lines.proofs.WrittenLines.{three_written}
 use Rattle.rc_program.specs.ReasonLines.{numbers_text}
 use Rattle.rc_program.proofs.printing.reason.write_unused.Goals as goal
 
