@@ -10,7 +10,7 @@ PHASES = {
     "freeing": r"rc_program::serde_json\+\+value\+\+Value\+Destruct::drop",
     "building": r"rc_build::builder::Builder::build_list",
     "passes": r"rc_pipe::passes::prune",
-    "lines": r"rc_program::printing::statement::write_block",
+    "lines": r"rc_lines::statement::write_block",
 }
 
 
