@@ -13,7 +13,7 @@ use std::test::Fail;
 const ENOUGH: usize = 3_000;
 
 /// More than one level of labels takes, and less than the graphs that nest.
-const LITTLE: usize = 1_000;
+const LITTLE: usize = 900;
 
 /// The block that returns.
 const LAST: u32 = 6;
